@@ -1,0 +1,60 @@
+//! Laws over the definitions that the calls of this crate name. Each function has an empty body, and its clauses are the law.
+ghost use Rattle.std.specs.Prelude.{ℕ, List, codes};
+ghost use Rattle.strkw_text.specs.Bounds.{DerivesAtLeast, DerivesAtMost, DerivesLength};
+ghost use Rattle.strkw_net.specs.Addresses.{IsIpv4, IsIpv6, HasNoBracket};
+ghost use Rattle.strkw_net.specs.HostName.{IsAsciiHostName};
+ghost use Rattle.strkw_net.specs.Uuid.{IsUuid};
+
+/// An IPv4 address has 7 to 15 characters.
+pub fn ipv4_length()
+    ensures at_least { DerivesAtLeast 7 IsIpv4 }
+    ensures at_most { DerivesAtMost 15 IsIpv4 }
+{}
+
+/// An IPv6 address has 2 to 45 characters.
+pub fn ipv6_length()
+    ensures at_least { DerivesAtLeast 2 IsIpv6 }
+    ensures at_most { DerivesAtMost 45 IsIpv6 }
+{}
+
+/// An ASCII host name has 1 to 253 characters.
+pub fn hostname_length()
+    ensures at_least { DerivesAtLeast 1 IsAsciiHostName }
+    ensures at_most { DerivesAtMost 253 IsAsciiHostName }
+{}
+
+/// A UUID has 36 characters.
+pub fn uuid_length()
+    ensures { DerivesLength 36 IsUuid }
+{}
+
+/// An IPv6 address holds no `]`, so that one between brackets ends at the first bracket that closes.
+pub fn ipv6_has_no_bracket()
+    ensures { (text : List ℕ) → IsIpv6 text → HasNoBracket text }
+{}
+
+/// An IPv4 address, one of least and one of greatest length.
+pub fn ipv4_texts()
+    ensures example { IsIpv4 (codes "127.0.0.1") }
+    ensures shortest { IsIpv4 (codes "0.0.0.0") }
+    ensures longest { IsIpv4 (codes "255.255.255.255") }
+{}
+
+/// An IPv6 address, one of least and one of greatest length.
+pub fn ipv6_texts()
+    ensures example { IsIpv6 (codes "::1") }
+    ensures shortest { IsIpv6 (codes "::") }
+    ensures longest { IsIpv6 (codes "0000:0000:0000:0000:0000:0000:255.255.255.255") }
+{}
+
+/// An ASCII host name, one of least and one of greatest length, whose labels have 63, 63, 63 and 61 letters.
+pub fn hostname_texts()
+    ensures example { IsAsciiHostName (codes "example.com") }
+    ensures shortest { IsAsciiHostName (codes "a") }
+    ensures longest { IsAsciiHostName (codes "aaaaaaaaaaaaaaaaaaaaaaaaaaaaaaaaaaaaaaaaaaaaaaaaaaaaaaaaaaaaaaa.aaaaaaaaaaaaaaaaaaaaaaaaaaaaaaaaaaaaaaaaaaaaaaaaaaaaaaaaaaaaaaa.aaaaaaaaaaaaaaaaaaaaaaaaaaaaaaaaaaaaaaaaaaaaaaaaaaaaaaaaaaaaaaa.aaaaaaaaaaaaaaaaaaaaaaaaaaaaaaaaaaaaaaaaaaaaaaaaaaaaaaaaaaaaa") }
+{}
+
+/// A UUID, which is as long as each.
+pub fn uuid_example()
+    ensures { IsUuid (codes "00000000-0000-4000-8000-000000000000") }
+{}

@@ -1,0 +1,6 @@
+pub mod Durations
+pub mod Dates
+pub mod Times
+pub mod Words
+pub mod Windows
+pub mod Examples

@@ -1,0 +1,44 @@
+//! Decimal digits, all bytes tested at once in one word.
+//!
+//! A byte is an ASCII digit exactly where its upper half is 3 and stays 3 when 6 is added.
+ghost use Rattle.std.specs.Prelude.{◌≡◌, length, SomeIff};
+ghost use Rattle.std.specs.Str.Parse.{AllDigits, digits_value};
+
+/// The number that two bytes spell in decimal, from 0 to 99: `Some` exactly where both are ASCII digits.
+///
+/// `bytes` has to be two bytes long. These are the two digits of RFC 3339, section 5.6, as in `date-month = 2DIGIT`.
+pub fn parse_two_digits(bytes: &[u8]) -> Option<u8>
+    requires { length bytes.now ≡ 2 }
+    ensures { SomeIff result (AllDigits 10 bytes.now) (digits_value 10 bytes.now) }
+{
+    let word = u16::from_le_bytes([bytes[0], bytes[1]]);
+    let halves = word & 0xF0F0;
+    let halves_with_six = word.wrapping_add(0x0606) & 0xF0F0;
+    if halves != 0x3030 || halves_with_six != 0x3030 {
+        return None;
+    }
+
+    // The lower halves are the digits: the upper byte of the product is ten times the first and the second.
+    let digits = word & 0x0F0F;
+    Some((digits.wrapping_mul(10 * 256 + 1) >> 8) as u8)
+}
+
+/// The number that four bytes spell in decimal, from 0 to 9999: `Some` exactly where all are ASCII digits.
+///
+/// `bytes` has to be four bytes long. These are the four digits of RFC 3339, section 5.6, `date-fullyear = 4DIGIT`.
+pub fn parse_four_digits(bytes: &[u8]) -> Option<u16>
+    requires { length bytes.now ≡ 4 }
+    ensures { SomeIff result (AllDigits 10 bytes.now) (digits_value 10 bytes.now) }
+{
+    let word = u32::from_le_bytes([bytes[0], bytes[1], bytes[2], bytes[3]]);
+    let halves = word & 0xF0F0_F0F0;
+    let halves_with_six = word.wrapping_add(0x0606_0606) & 0xF0F0_F0F0;
+    if halves != 0x3030_3030 || halves_with_six != 0x3030_3030 {
+        return None;
+    }
+
+    // Digits are multiplied into pairs, as above, and pairs into the number.
+    let digits = word & 0x0F0F_0F0F;
+    let pairs = (digits.wrapping_mul(10 * 256 + 1) >> 8) & 0x00FF_00FF;
+    Some((pairs.wrapping_mul(100 * 65_536 + 1) >> 16) as u16)
+}
