@@ -1,0 +1,290 @@
+-- Runs of ASCII characters, from the bytes.
+use Rattle.std.proofs.Common.{◌≡◌, ℕ, ◌+◌, ◌<◌, ◌≤◌, Bool, true, false, ◌||◌, ◌&&◌, not, ltb, eqb, ◌==◌, zero, suc, List, [], ◌∷◌, ◌++◌, length, get_or, drop, IsUtf8, encode_utf8, encode_utf8_all, codes, inl, inr, refl, sym, ap, subst, ◌∙◌, arith, append_assoc}
+use Rattle.std.specs.Char.{is_ascii_hexdigit}
+use Rattle.std.specs.Str.{chars}
+use Rattle.std.proofs.lemmas.Str.{chars_past_char, IsUtf8-past_char, encode_ascii, encodes-chars}
+use Rattle.std.proofs.lemmas.List.{drop_more, get_or-drop, length-drop, get_or_past}
+use Rattle.std.proofs.lemmas.Bool.{agree_below, agree_below_at, ltb-true, cases_lt, eqb-true}
+use Rattle.std.proofs.lemmas.Bool.Decides.{nat_tests}
+use Rattle.strkw_text.specs.Abnf.{Form, Repeat, OneOf}
+use Rattle.strkw_text.specs.Fronts.{StartsWith, StartsWithNo}
+use Rattle.strkw_text.proofs.Laws.{Repeat-append, starts_one}
+use Rattle.strkw_text.proofs.Runs.{run_start, run_push, then_start, one_stops, no_start_either, start_right}
+use Rattle.strkw_text.specs.Characters.{is_one_of, HexDigit}
+use Rattle.strkw_uri.specs.Characters.{is_unreserved, is_sub_delim, is_ucschar, is_iprivate}
+use Rattle.strkw_uri.specs.Lanes.{is_in, is_escape_at, goes_on, IsRun}
+use Rattle.strkw_uri.specs.Scan.{is_part_char, is_wide_part_char}
+use Rattle.strkw_uri.specs.Uri.{PctEncoded, Encoded}
+use Rattle.strkw_uri.specs.declared.part.Syntax.{Syntax}
+use Rattle.strkw_uri.specs.declared.part.Syntax.TheVariants.{Rfc3986, Rfc3987}
+use Rattle.strkw_uri.specs.declared.part.Part.{Part}
+use Rattle.strkw_uri.specs.declared.part.Part.TheVariants.{RegNameChar, UserinfoChar, PathChar, SegmentNcChar, QueryChar, FragmentChar}
+use Rattle.strkw_uri.proofs.Encodings.{encoded_char, encoded_pct, first_of_pct}
+use Rattle.strkw_uri.proofs.Paths.{or_right, or_other}
+
+-- so many bytes are characters of the class or percent-encoded ones
+pub record AsciiFront (class : ℕ → Bool) (bs : List ℕ) (n : ℕ) : Type 0 where
+  pub utf8 : IsUtf8 (drop n bs)
+  pub run : StartsWith (Repeat (Encoded class)) (chars bs) (chars (drop n bs))
+
+-- a byte that is a character
+record Byte (bs : List ℕ) (n : ℕ) : Type 0 where
+  utf8 : IsUtf8 (drop (n + 1) bs)
+  is : chars (drop n bs) ≡ get_or bs n 0 ∷ chars (drop (n + 1) bs)
+
+one_byte : (bs : List ℕ) (n : ℕ) → IsUtf8 (drop n bs) → n < length bs → get_or bs n 0 < 128 → Byte bs n
+one_byte bs n u l small =
+    let c = get_or bs n 0 in
+    let one : drop n bs ≡ encode_utf8 c ++ drop (n + 1) bs = drop_more bs n 0 l ∙ ap (λ s. s ++ drop (n + 1) bs) (sym (encode_ascii c small)) in
+    record { utf8 = IsUtf8-past_char (drop n bs) (drop (n + 1) bs) c u one; is = chars_past_char (drop n bs) (drop (n + 1) bs) c u one }
+
+one_more : (class : ℕ → Bool) (bs : List ℕ) (n : ℕ) → AsciiFront class bs n → n < length bs → get_or bs n 0 < 128 → class (get_or bs n 0) ≡ true → AsciiFront class bs (n + 1)
+one_more class bs n f l small h =
+    let b = one_byte bs n f.utf8 l small in
+    record { utf8 = b.utf8; run = run_push (Encoded class) (chars bs) _ _ f.run (encoded_char class (get_or bs n 0) _ _ b.is h) }
+
+hex_small : (c : ℕ) → is_ascii_hexdigit c ≡ true → c < 128
+hex_small c h = grind (arith, nat_tests)
+
+and_left : (a b : Bool) → a && b ≡ true → a ≡ true
+and_left true b h = refl
+and_left false b h = cc
+
+and_right : (a b : Bool) → a && b ≡ true → b ≡ true
+and_right true b h = h
+and_right false b h = cc
+
+-- an escape's three bytes
+record Escape (bs : List ℕ) (n : ℕ) : Type 0 where
+  percent : get_or bs n 0 ≡ 37
+  high : is_ascii_hexdigit (get_or bs (n + 1) 0) ≡ true
+  low : is_ascii_hexdigit (get_or bs (n + 2) 0) ≡ true
+
+escape_parts : (bs : List ℕ) (n : ℕ) → is_escape_at bs n ≡ true → Escape bs n
+escape_parts bs n h =
+    let e = eqb (get_or bs n 0) 37 in
+    let a = is_ascii_hexdigit (get_or bs (n + 1) 0) in
+    let b = is_ascii_hexdigit (get_or bs (n + 2) 0) in
+    let front = and_left (e && a) b h in
+    record { percent = eqb-true (get_or bs n 0) 37 (and_left e a front); high = and_right e a front; low = and_right (e && a) b h }
+
+escape_more : (class : ℕ → Bool) (bs : List ℕ) (n : ℕ) → AsciiFront class bs n → n + 3 ≤ length bs → is_escape_at bs n ≡ true → AsciiFront class bs (n + 3)
+escape_more class bs n f l h =
+    let x = escape_parts bs n h in
+    let e : n + 2 ≡ n + 1 + 1 = omega arith in
+    let low : is_ascii_hexdigit (get_or bs (n + 1 + 1) 0) ≡ true = ap (λ k. is_ascii_hexdigit (get_or bs k 0)) (sym e) ∙ x.low in
+    let p = one_byte bs n f.utf8 (omega arith) (omega (arith, x.percent)) in
+    let a = one_byte bs (n + 1) p.utf8 (omega arith) (hex_small (get_or bs (n + 1) 0) x.high) in
+    let b = one_byte bs (n + 1 + 1) a.utf8 (omega arith) (hex_small (get_or bs (n + 1 + 1) 0) low) in
+    let up : n + 1 + 1 + 1 ≡ n + 3 = omega arith in
+    subst (AsciiFront class bs) up (record {
+      utf8 = b.utf8;
+      run = run_push (Encoded class) (chars bs) _ _ f.run (encoded_pct class _ _ _ (p.is ∙ ap (λ c. c ∷ chars (drop (n + 1) bs)) x.percent)
+          (then_start HexDigit HexDigit _ _ _ (starts_one is_ascii_hexdigit _ _ _ x.high a.is) (starts_one is_ascii_hexdigit _ _ _ low b.is)));
+    })
+
+pub implied : (a b : Bool) → not a || b ≡ true → a ≡ true → b ≡ true
+implied true b h e = h
+implied false b h e = cc
+
+-- the classes of RFC 3986 are ASCII
+part_small_below : (p : Part) (c : ℕ) → c < 256 → is_part_char Rfc3986 p c ≡ true → c < 128
+part_small_below RegNameChar c l h = ltb-true c 128 (implied (is_part_char Rfc3986 RegNameChar c) (ltb c 128) (agree_below_at (λ d. not (is_part_char Rfc3986 RegNameChar d) || ltb d 128) (λ _. true) 256 c refl l) h)
+part_small_below UserinfoChar c l h = ltb-true c 128 (implied (is_part_char Rfc3986 UserinfoChar c) (ltb c 128) (agree_below_at (λ d. not (is_part_char Rfc3986 UserinfoChar d) || ltb d 128) (λ _. true) 256 c refl l) h)
+part_small_below PathChar c l h = ltb-true c 128 (implied (is_part_char Rfc3986 PathChar c) (ltb c 128) (agree_below_at (λ d. not (is_part_char Rfc3986 PathChar d) || ltb d 128) (λ _. true) 256 c refl l) h)
+part_small_below SegmentNcChar c l h = ltb-true c 128 (implied (is_part_char Rfc3986 SegmentNcChar c) (ltb c 128) (agree_below_at (λ d. not (is_part_char Rfc3986 SegmentNcChar d) || ltb d 128) (λ _. true) 256 c refl l) h)
+part_small_below QueryChar c l h = ltb-true c 128 (implied (is_part_char Rfc3986 QueryChar c) (ltb c 128) (agree_below_at (λ d. not (is_part_char Rfc3986 QueryChar d) || ltb d 128) (λ _. true) 256 c refl l) h)
+part_small_below FragmentChar c l h = ltb-true c 128 (implied (is_part_char Rfc3986 FragmentChar c) (ltb c 128) (agree_below_at (λ d. not (is_part_char Rfc3986 FragmentChar d) || ltb d 128) (λ _. true) 256 c refl l) h)
+
+part_not_big : (p : Part) (c : ℕ) → 256 ≤ c → is_part_char Rfc3986 p c ≡ true → ⊥
+part_not_big RegNameChar c g h = grind (arith, nat_tests)
+part_not_big UserinfoChar c g h = grind (arith, nat_tests)
+part_not_big PathChar c g h = grind (arith, nat_tests)
+part_not_big SegmentNcChar c g h = grind (arith, nat_tests)
+part_not_big QueryChar c g h = grind (arith, nat_tests)
+part_not_big FragmentChar c g h = grind (arith, nat_tests)
+
+pub part_small : (p : Part) (c : ℕ) → is_part_char Rfc3986 p c ≡ true → c < 128
+part_small p c h = elim (cases_lt c 256) [ inl l ↦ part_small_below p c l h | inr g ↦ absurd (part_not_big p c g h) ]
+
+-- a class is its ASCII characters and those past ASCII
+or_false : (a : Bool) → a ≡ a || false
+or_false true = refl
+or_false false = refl
+
+with_wide : (u w d : Bool) → (u || w) || d ≡ (u || d) || w
+with_wide true w d = refl
+with_wide false true true = refl
+with_wide false true false = refl
+with_wide false false true = refl
+with_wide false false false = refl
+
+with_wide_more : (u w d x : Bool) → ((u || w) || d) || x ≡ ((u || d) || x) || w
+with_wide_more true w d x = refl
+with_wide_more false true true x = refl
+with_wide_more false true false true = refl
+with_wide_more false true false false = refl
+with_wide_more false false true x = refl
+with_wide_more false false false true = refl
+with_wide_more false false false false = refl
+
+with_wide_two : (u w d x y : Bool) → (((u || w) || d) || x) || y ≡ (((u || d) || x) || y) || w
+with_wide_two u w d x y = ap (λ b. b || y) (with_wide_more u w d x) ∙ with_wide (((u || d) || x)) w y
+
+pub part_split : (s : Syntax) (p : Part) (c : ℕ) → is_part_char s p c ≡ is_part_char Rfc3986 p c || is_wide_part_char s p c
+part_split Rfc3986 p c = or_false (is_part_char Rfc3986 p c)
+part_split Rfc3987 RegNameChar c = with_wide (is_unreserved c) (is_ucschar c) (is_sub_delim c)
+part_split Rfc3987 UserinfoChar c = with_wide_more (is_unreserved c) (is_ucschar c) (is_sub_delim c) (c == 58)
+part_split Rfc3987 PathChar c = with_wide_two (is_unreserved c) (is_ucschar c) (is_sub_delim c) (is_one_of (codes ":@") c) (c == 47)
+part_split Rfc3987 SegmentNcChar c = with_wide_more (is_unreserved c) (is_ucschar c) (is_sub_delim c) (c == 64)
+part_split Rfc3987 QueryChar c = query (is_unreserved c) (is_ucschar c) (is_sub_delim c) (is_one_of (codes ":@") c) (is_one_of (codes "/?") c) (is_iprivate c)
+  where
+    query : (u w d x y z : Bool) → ((((u || w) || d) || x) || y) || z ≡ ((((u || d) || x) || y) || false) || (w || z)
+    query u w d x y z = ap (λ b. b || z) (with_wide_two u w d x y) ∙ join (((u || d) || x) || y) w z
+      where
+        join : (a w z : Bool) → (a || w) || z ≡ (a || false) || (w || z)
+        join true w z = refl
+        join false true z = refl
+        join false false z = refl
+part_split Rfc3987 FragmentChar c = with_wide_two (is_unreserved c) (is_ucschar c) (is_sub_delim c) (is_one_of (codes ":@") c) (is_one_of (codes "/?") c)
+
+pub part_from_ascii : (s : Syntax) (p : Part) (c : ℕ) → is_part_char Rfc3986 p c ≡ true → is_part_char s p c ≡ true
+part_from_ascii s p c h = part_split s p c ∙ ap (λ b. b || is_wide_part_char s p c) h
+
+pub part_from_wide : (s : Syntax) (p : Part) (c : ℕ) → is_wide_part_char s p c ≡ true → is_part_char s p c ≡ true
+part_from_wide s p c h = part_split s p c ∙ or_right (is_part_char Rfc3986 p c) (is_wide_part_char s p c) h
+
+pub part_neither : (s : Syntax) (p : Part) (c : ℕ) → is_part_char Rfc3986 p c ≡ false → is_wide_part_char s p c ≡ false → is_part_char s p c ≡ false
+part_neither s p c h k = part_split s p c ∙ ap (λ b. b || is_wide_part_char s p c) h ∙ k
+
+-- hexadecimal digits are of each class
+hex_in_part : (p : Part) (c : ℕ) → is_ascii_hexdigit c ≡ true → is_part_char Rfc3986 p c ≡ true
+hex_in_part p c h = implied (is_ascii_hexdigit c) (is_part_char Rfc3986 p c) (agree_below_at (λ d. not (is_ascii_hexdigit d) || is_part_char Rfc3986 p d) (λ _. true) 128 c (all p) (hex_small c h)) h
+  where
+    all : (p : Part) → agree_below (λ d. not (is_ascii_hexdigit d) || is_part_char Rfc3986 p d) (λ _. true) 128 ≡ true
+    all RegNameChar = refl
+    all UserinfoChar = refl
+    all PathChar = refl
+    all SegmentNcChar = refl
+    all QueryChar = refl
+    all FragmentChar = refl
+
+-- the run of the bytes is a run of the characters
+module _ (s : Syntax) (p : Part) (bs : List ℕ) (n : ℕ) (r : IsRun (goes_on (is_part_char Rfc3986 p) bs) 0 (length bs) n) where
+  abbrev ascii : ℕ → Bool
+  ascii = is_part_char Rfc3986 p
+
+  passed : (k : ℕ) → k < n → goes_on ascii bs k ≡ true
+  passed k l = let e : 0 + k ≡ k = omega arith in subst (λ j. goes_on ascii bs j ≡ true) e (r.passed k l)
+
+  stopped : n < length bs → goes_on ascii bs n ≡ false
+  stopped l = let e : 0 + n ≡ n = omega arith in subst (λ j. goes_on ascii bs j ≡ false) e (r.stopped l)
+
+  -- no escape is cut
+  further : (k : ℕ) → k ≤ n → is_ascii_hexdigit (get_or bs k 0) ≡ true → k < n
+  further k le h = elim (cases_lt k n) [
+    | inl l ↦ l
+    | inr ge ↦
+        let e : n ≡ k = omega arith in
+        let on : goes_on ascii bs n ≡ true = ap (goes_on ascii bs) e ∙ ap (λ b. b || is_escape_at bs k) (hex_in_part p (get_or bs k 0) h) in
+        absurd (elim (cases_lt n (length bs)) [
+          | inl inside ↦ (let off : goes_on ascii bs n ≡ false = stopped inside in cc)
+          | inr outside ↦ (let none : get_or bs k 0 ≡ 0 = get_or_past bs k 0 (omega (arith, e)) in let no : is_ascii_hexdigit 0 ≡ true = ap is_ascii_hexdigit (sym none) ∙ h in cc)
+        ])
+  ]
+
+  walk : (fuel at : ℕ) → n ≤ at + fuel → at ≤ n → AsciiFront (is_part_char s p) bs at → AsciiFront (is_part_char s p) bs n
+  walk zero at full le f = let e : at ≡ n = omega arith in subst (AsciiFront (is_part_char s p) bs) e f
+  walk (suc fuel) at full le f = elim (cases_lt at n) [
+    | inl l ↦ step (walk fuel) (ascii (get_or bs at 0)) refl l
+    | inr ge ↦ (let e : at ≡ n = omega arith in subst (AsciiFront (is_part_char s p) bs) e f)
+  ]
+    where
+      step : ((to : ℕ) → n ≤ to + fuel → to ≤ n → AsciiFront (is_part_char s p) bs to → AsciiFront (is_part_char s p) bs n)
+          → (b : Bool) → ascii (get_or bs at 0) ≡ b → at < n → AsciiFront (is_part_char s p) bs n
+      step on true h l = on (at + 1) (omega arith) (omega arith)
+          (one_more (is_part_char s p) bs at f (omega (arith, r.within)) (part_small p (get_or bs at 0) h) (part_from_ascii s p (get_or bs at 0) h))
+      step on false h l =
+          let escape : is_escape_at bs at ≡ true = or_other (ascii (get_or bs at 0)) (is_escape_at bs at) (passed at l) h in
+          let x = escape_parts bs at escape in
+          let first = further (at + 1) (omega arith) x.high in
+          let second = further (at + 2) (omega arith) x.low in
+          on (at + 3) (omega arith) (omega arith) (escape_more (is_part_char s p) bs at f (omega (arith, r.within)) escape)
+
+  pub part_front : IsUtf8 bs → AsciiFront (is_part_char s p) bs n
+  part_front u = walk n 0 (omega arith) (omega arith) (record { utf8 = u; run = run_start (Encoded (is_part_char s p)) (chars bs) })
+
+-- where the first byte is no character of an ASCII class, the first character is none
+pub first_stops : (class : ℕ → Bool) → ((c : ℕ) → class c ≡ true → c < 128) → (bs : List ℕ) → IsUtf8 bs → (0 < length bs → class (get_or bs 0 0) ≡ false) → StartsWithNo (OneOf class) (chars bs)
+first_stops class small bs u stop rest f =
+    let c = f.is.character in
+    let e : chars bs ≡ c ∷ rest = sym f.joined ∙ ap (λ s. s ++ rest) f.is.is in
+    let whole : c ∷ encode_utf8_all rest ≡ bs = ap (λ s. s ++ encode_utf8_all rest) (sym (encode_ascii c (small c f.is.member))) ∙ sym (ap encode_utf8_all e) ∙ encodes-chars bs u in
+    let first : c ≡ get_or bs 0 0 = ap (λ s. get_or s 0 0) whole in
+    let n : class c ≡ false = ap class first ∙ stop (omega (arith, ap length whole)) in
+    let m : class c ≡ true = f.is.member in
+    cc
+
+or_none : (a b : Bool) → a || b ≡ false → a ≡ false
+or_none true b h = cc
+or_none false b h = refl
+
+escape_from : (bs : List ℕ) (n : ℕ) → get_or bs n 0 ≡ 37 → is_ascii_hexdigit (get_or bs (n + 1) 0) ≡ true → is_ascii_hexdigit (get_or bs (n + 2) 0) ≡ true → is_escape_at bs n ≡ true
+escape_from bs n e h k =
+    ap (λ c. eqb c 37 && is_ascii_hexdigit (get_or bs (n + 1) 0) && is_ascii_hexdigit (get_or bs (n + 2) 0)) e
+    ∙ ap (λ b. b && is_ascii_hexdigit (get_or bs (n + 2) 0)) h ∙ k
+
+-- where the run ends, no more of it begins
+module _ (p : Part) (bs : List ℕ) (n : ℕ) (u : IsUtf8 (drop n bs)) (r : IsRun (goes_on (is_part_char Rfc3986 p) bs) 0 (length bs) n) where
+  ends : n < length bs → goes_on (is_part_char Rfc3986 p) bs n ≡ false
+  ends l = let e : 0 + n ≡ n = omega arith in subst (λ j. goes_on (is_part_char Rfc3986 p) bs j ≡ false) e (r.stopped l)
+
+  no_escape : StartsWithNo PctEncoded (chars (drop n bs))
+  no_escape y f =
+      let digits = f.is.second in
+      let a = digits.first.character in
+      let b = digits.second.character in
+      let pair : f.is.back ≡ a ∷ b ∷ [] = sym digits.joined ∙ ap (λ s. s ++ digits.back) digits.first.is ∙ ap (λ s. a ∷ s) digits.second.is in
+      let text : 37 ∷ a ∷ b ∷ y ≡ chars (drop n bs) = ap (λ s. 37 ∷ (s ++ y)) (sym pair) ∙ first_of_pct (chars (drop n bs)) y f in
+      let whole : 37 ∷ a ∷ b ∷ encode_utf8_all y ≡ drop n bs
+      = sym (ap (λ s. 37 ∷ (s ++ (encode_utf8 b ++ encode_utf8_all y))) (encode_ascii a (hex_small a digits.first.member))
+      ∙ ap (λ s. 37 ∷ a ∷ (s ++ encode_utf8_all y)) (encode_ascii b (hex_small b digits.second.member)))
+      ∙ ap (λ s. s ++ (encode_utf8 a ++ (encode_utf8 b ++ encode_utf8_all y))) (sym (encode_ascii 37 (omega arith))) ∙ ap encode_utf8_all text ∙ encodes-chars (drop n bs) u in
+      let at = λ (k : ℕ). ap (λ s. get_or s k 0) whole ∙ get_or-drop n bs k 0 in
+      let here : n + 0 ≡ n = omega arith in
+      let escape : is_escape_at bs n ≡ true = escape_from bs n (ap (λ k. get_or bs k 0) (sym here) ∙ sym (at 0)) (ap is_ascii_hexdigit (sym (at 1)) ∙ digits.first.member) (ap is_ascii_hexdigit (sym (at 2)) ∙ digits.second.member) in
+      let on : goes_on (is_part_char Rfc3986 p) bs n ≡ true = or_right (is_part_char Rfc3986 p (get_or bs n 0)) (is_escape_at bs n) escape in
+      let off : goes_on (is_part_char Rfc3986 p) bs n ≡ false = ends (omega (arith, ap length whole, length-drop n bs)) in
+      cc
+
+  pub part_stops : StartsWithNo (Encoded (is_part_char Rfc3986 p)) (chars (drop n bs))
+  part_stops = no_start_either (OneOf (is_part_char Rfc3986 p)) PctEncoded (chars (drop n bs))
+      (first_stops (is_part_char Rfc3986 p) (part_small p) (drop n bs) u
+      (λ l.
+      let at : get_or (drop n bs) 0 0 ≡ get_or bs n 0 = get_or-drop n bs 0 0 ∙ ap (λ k. get_or bs k 0) (omega arith) in
+      ap (is_part_char Rfc3986 p) at ∙ or_none (is_part_char Rfc3986 p (get_or bs n 0)) (is_escape_at bs n) (ends (omega (arith, length-drop n bs)))))
+      no_escape
+
+-- where the code's loop ends
+pub part_stops_at : (s : Syntax) (p : Part) (c : ℕ) (text after : List ℕ) → text ≡ c ∷ after → StartsWithNo (Encoded (is_part_char Rfc3986 p)) text → is_wide_part_char s p c ≡ false → StartsWithNo (Encoded (is_part_char s p)) text
+part_stops_at s p c text after e stops wide = no_start_either (OneOf (is_part_char s p)) PctEncoded text
+    (one_stops (is_part_char s p) c text after e (by_class (is_part_char Rfc3986 p c) refl))
+    (λ y f. stops y (start_right (OneOf (is_part_char Rfc3986 p)) PctEncoded text y f))
+  where
+    by_class : (b : Bool) → is_part_char Rfc3986 p c ≡ b → is_part_char s p c ≡ false
+    by_class true h = absurd (stops after (encoded_char (is_part_char Rfc3986 p) c text after e h))
+    by_class false h = part_neither s p c h wide
+
+-- a table's class
+pub table_run : (table : List ℕ) (class : ℕ → Bool) (bs : List ℕ) (n : ℕ) → agree_below (is_in table) class 256 ≡ true → ((k : ℕ) → get_or bs k 0 < 256)
+    → IsRun (goes_on (is_in table) bs) 0 (length bs) n → IsRun (goes_on class bs) 0 (length bs) n
+table_run table class bs n all fit r =
+    let same = λ (i : ℕ). ap (λ b. b || is_escape_at bs i) (sym (agree_below_at (is_in table) class 256 (get_or bs i 0) all (fit i))) in
+    record { within = r.within; passed = λ i l. same (0 + i) ∙ r.passed i l; stopped = λ l. same (0 + n) ∙ r.stopped l }
+
+pub run_more : (A : Form) (text mid rest : List ℕ) → StartsWith (Repeat A) text mid → StartsWith (Repeat A) mid rest → StartsWith (Repeat A) text rest
+run_more A text mid rest p q = record {
+  front = p.front ++ q.front;
+  is = Repeat-append A p.front q.front p.is q.is;
+  joined = append_assoc p.front q.front rest ∙ ap (λ s. p.front ++ s) q.joined ∙ p.joined;
+}

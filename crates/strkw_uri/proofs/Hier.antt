@@ -1,0 +1,117 @@
+-- The forms of a hierarchical or a relative part, by its first characters.
+use Rattle.std.proofs.Common.{◌≡◌, ◌↔◌, ℕ, Bool, false, List, [], ◌∷◌, ◌++◌, inl, inr, refl, sym, ap, subst, ◌∙◌}
+use Rattle.strkw_text.specs.Abnf.{Form, ◌⨾◌, ◌∣◌, Literal, Empty, Optional, Repeat, Repeat1}
+use Rattle.strkw_text.specs.Fronts.{NotFirst}
+use Rattle.strkw_text.proofs.Equivalences.{iff_trans}
+use Rattle.strkw_text.proofs.Laws.{then, assoc, optional_then, either_then, empty_then, literal_at, literal_not, repeat_then, no_start_then}
+use Rattle.strkw_text.proofs.Optionals.{repeat_then_off}
+use Rattle.strkw_text.proofs.Runs.{differ}
+use Rattle.strkw_uri.specs.Uri.{Encoded}
+use Rattle.strkw_uri.specs.Scan.{or_slash}
+use Rattle.strkw_uri.proofs.Encodings.{other_stops}
+use Rattle.strkw_uri.proofs.Paths.{Slashes, segments_then}
+
+-- two slashes
+slashes2_at : (C : Form) (text rest after : List ℕ) → text ≡ 47 ∷ rest → rest ≡ 47 ∷ after → (Literal (47 ∷ 47 ∷ []) ⨾ C) text ↔ C after
+slashes2_at C text rest after e f = (
+  λ h. let t : 47 ∷ 47 ∷ h.back ≡ 47 ∷ 47 ∷ after = ap (λ s. s ++ h.back) (sym h.first) ∙ h.joined ∙ e ∙ ap (λ s. 47 ∷ s) f in let u : h.back ≡ after = cc in subst C u h.second,
+  λ b. then (47 ∷ 47 ∷ []) after text refl b (sym (e ∙ ap (λ s. 47 ∷ s) f)),
+)
+
+slashes2_once : (C : Form) (text rest : List ℕ) → text ≡ 47 ∷ rest → NotFirst 47 rest → (Literal (47 ∷ 47 ∷ []) ⨾ C) text → ⊥
+slashes2_once C text rest e n h = let t : 47 ∷ 47 ∷ h.back ≡ 47 ∷ rest = ap (λ s. s ++ h.back) (sym h.first) ∙ h.joined ∙ e in let u : rest ≡ 47 ∷ h.back = cc in n h.back u
+
+slashes2_not : (C : Form) (text : List ℕ) → NotFirst 47 text → (Literal (47 ∷ 47 ∷ []) ⨾ C) text → ⊥
+slashes2_not C text n h = n (47 ∷ h.back) (sym (ap (λ s. s ++ h.back) (sym h.first) ∙ h.joined))
+
+module _ (n p : ℕ → Bool) (slash : n 47 ≡ false) (B : Form) where
+  abbrev Rootless : Form
+  Rootless = Repeat1 (Encoded n) ⨾ Slashes p
+
+  rootless_regroup : (text : List ℕ) → (Rootless ⨾ B) text ↔ (Encoded n ⨾ Repeat (Encoded n) ⨾ Slashes p ⨾ B) text
+  rootless_regroup text = iff_trans (assoc (Repeat1 (Encoded n)) (Slashes p) B text) (assoc (Encoded n) (Repeat (Encoded n)) (Slashes p ⨾ B) text)
+
+  -- a first segment that is not empty does not begin with a slash
+  rootless_not : (text after : List ℕ) → text ≡ 47 ∷ after → (Rootless ⨾ B) text → ⊥
+  rootless_not text after e h = no_start_then (Encoded n) (Repeat (Encoded n) ⨾ Slashes p ⨾ B) text (other_stops n 47 text after e slash (differ 47 37 refl)) ((rootless_regroup text).0 h)
+
+  -- a rootless path or none, and B
+  rootless_or_empty : (text : List ℕ) → NotFirst 47 text → ((Rootless ⨾ B) ∣ B) text ↔ (Repeat (Encoded n) ⨾ Slashes p ⨾ B) text
+  rootless_or_empty text f =
+      let i = repeat_then (Encoded n) (Slashes p ⨾ B) text in
+      let j = rootless_regroup text in
+      let k = repeat_then_off 47 (Repeat (Encoded p)) B text f in (
+        elim [ inl r ↦ i.1 (inr (j.0 r)) | inr b ↦ i.1 (inl (k.1 b)) ],
+        λ h. elim (i.0 h) [ inl s ↦ inr (k.0 s) | inr r ↦ inl (j.1 r) ],
+      )
+
+-- the forms of a part that may begin with two slashes: A behind these, an absolute path, a rootless path or none
+module _ (A B : Form) (n p : ℕ → Bool) (slash : n 47 ≡ false) (slash_in_p : p 47 ≡ false) (no_slash : (x : List ℕ) → B x → NotFirst 47 x) where
+  abbrev Absolute : Form
+  Absolute = Literal (47 ∷ []) ⨾ Optional (Repeat1 (Encoded p) ⨾ Slashes p)
+
+  abbrev Hier : Form
+  Hier = Literal (47 ∷ 47 ∷ []) ⨾ A ∣ Absolute ∣ Repeat1 (Encoded n) ⨾ Slashes p ∣ Empty
+
+  cases : (text : List ℕ) → (Hier ⨾ B) text ↔ ((Literal (47 ∷ 47 ∷ []) ⨾ A ⨾ B) ∣ (Literal (47 ∷ []) ⨾ Optional (Repeat1 (Encoded p) ⨾ Slashes p) ⨾ B) ∣ ((Repeat1 (Encoded n) ⨾ Slashes p) ⨾ B) ∣ B) text
+  cases text =
+      let i = either_then (Literal (47 ∷ 47 ∷ []) ⨾ A) (Absolute ∣ Repeat1 (Encoded n) ⨾ Slashes p ∣ Empty) B text in
+      let j = either_then Absolute (Repeat1 (Encoded n) ⨾ Slashes p ∣ Empty) B text in
+      let k = either_then (Repeat1 (Encoded n) ⨾ Slashes p) Empty B text in
+      let l = empty_then B text in
+      let a = assoc (Literal (47 ∷ 47 ∷ [])) A B text in
+      let b = assoc (Literal (47 ∷ [])) (Optional (Repeat1 (Encoded p) ⨾ Slashes p)) B text in (
+        λ h. elim (i.0 h) [
+          | inl x ↦ inl (a.0 x)
+          | inr y ↦ elim (j.0 y) [ inl x ↦ inr (inl (b.0 x)) | inr z ↦ elim (k.0 z) [ inl x ↦ inr (inr (inl x)) | inr x ↦ inr (inr (inr (l.0 x))) ] ]
+        ],
+        elim [
+          | inl x ↦ i.1 (inl (a.1 x))
+          | inr y ↦ i.1 (inr (j.1 (elim y [ inl x ↦ inl (b.1 x) | inr z ↦ inr (k.1 (elim z [ inl x ↦ inl x | inr x ↦ inr (l.1 x) ])) ])))
+        ],
+      )
+
+  pub hier_two : (text rest after : List ℕ) → text ≡ 47 ∷ rest → rest ≡ 47 ∷ after → (Hier ⨾ B) text ↔ (A ⨾ B) after
+  hier_two text rest after e f =
+      let i = slashes2_at (A ⨾ B) text rest after e f in
+      let O = Repeat1 (Encoded p) ⨾ Slashes p in (
+        λ h. elim ((cases text).0 h) [
+          | inl a ↦ i.0 a
+          | inr b ↦ elim b [
+            | inl c ↦ absurd (elim ((optional_then O B rest).0 ((literal_at (Optional O ⨾ B) 47 text rest e).0 c)) [
+              | inl r ↦ rootless_not p p slash_in_p B rest after f r
+              | inr t ↦ no_slash rest t after f
+            ])
+            | inr d ↦ absurd (elim d [ inl r ↦ rootless_not n p slash B text rest e r | inr t ↦ no_slash text t rest e ])
+          ]
+        ],
+        λ h. (cases text).1 (inl (i.1 h)),
+      )
+
+  pub hier_one : (text rest : List ℕ) → text ≡ 47 ∷ rest → NotFirst 47 rest → (Hier ⨾ B) text ↔ (Repeat (Encoded (or_slash p)) ⨾ B) rest
+  hier_one text rest e f =
+      let O = Repeat1 (Encoded p) ⨾ Slashes p in
+      let i = iff_trans (literal_at (Optional O ⨾ B) 47 text rest e) (optional_then O B rest) in
+      let k = iff_trans (rootless_or_empty p p slash_in_p B rest f) (segments_then p B rest) in (
+        λ h. elim ((cases text).0 h) [
+          | inl a ↦ absurd (slashes2_once (A ⨾ B) text rest e f a)
+          | inr b ↦ elim b [
+            | inl c ↦ k.0 (i.0 c)
+            | inr d ↦ absurd (elim d [ inl r ↦ rootless_not n p slash B text rest e r | inr t ↦ no_slash text t rest e ])
+          ]
+        ],
+        λ h. (cases text).1 (inr (inl (i.1 (k.1 h)))),
+      )
+
+  pub hier_none : (text : List ℕ) → NotFirst 47 text → (Hier ⨾ B) text ↔ (Repeat (Encoded n) ⨾ Slashes p ⨾ B) text
+  hier_none text f =
+      let i = rootless_or_empty n p slash B text f in (
+        λ h. elim ((cases text).0 h) [
+          | inl a ↦ absurd (slashes2_not (A ⨾ B) text f a)
+          | inr b ↦ elim b [
+            | inl c ↦ absurd (literal_not (Optional (Repeat1 (Encoded p) ⨾ Slashes p) ⨾ B) 47 text f c)
+            | inr d ↦ i.0 d
+          ]
+        ],
+        λ h. (cases text).1 (inr (inr (i.1 h))),
+      )

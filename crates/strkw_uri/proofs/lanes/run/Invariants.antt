@@ -1,0 +1,9 @@
+use Rattle.std.proofs.Common.{ℕ, ◌≡◌, ◌*◌, ◌<◌, true}
+use Rattle.strkw_uri.specs.Lanes.{is_in, goes_on}
+use Rattle.strkw_uri.proofs.lanes.run.Given as goal
+
+abbrev pub invariant-loop-block : goal.invariant-loop-block
+invariant-loop-block l = record {
+  place : l.at ≡ l.block-index * 32;
+  passed : (k : ℕ) → k < l.at → goes_on (is_in l.table) l.bytes k ≡ true;
+}

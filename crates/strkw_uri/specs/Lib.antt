@@ -1,0 +1,6 @@
+pub mod Characters
+pub mod Uri
+pub mod Template
+pub mod Pointer
+pub mod Scan
+pub mod Lanes

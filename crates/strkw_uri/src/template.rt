@@ -1,0 +1,175 @@
+//! URI templates.
+ghost use Rattle.std.specs.Prelude.{◌≡◌, ◌↔◌, ◌<◌, IsTrue, MatchOption, IfSome, IsUtf8, length};
+ghost use Rattle.std.specs.Str.{chars};
+ghost use Rattle.strkw_text.specs.Abnf.{Optional};
+ghost use Rattle.strkw_text.specs.Fronts.{StartsWith, StartsWithNo};
+ghost use Rattle.strkw_uri.specs.Scan.{InVarspec};
+ghost use Rattle.strkw_uri.specs.Template.{is_literal_char, is_varchar, Varchar, FurtherVarchar, MaxLength, ModifierLevel4, Varspec, VariableList, OperatorAndVariables, InExpression, LiteralOrExpression, IsUriTemplate};
+
+use crate::scan::{
+    Class, after_one, after_optional, after_two_hexdigits, first_char, is_end, split_at, strip,
+};
+
+fn is_literal_char(c: char) -> bool
+    ensures { result ≡ is_literal_char c }
+{
+    !matches!(
+        c,
+        '\0'..=' ' | '\u{7F}' | '"' | '<' | '>' | '%' | '\\' | '^' | '{' | '|' | '}' | '`'
+    )
+}
+
+fn is_varchar(c: char) -> bool
+    ensures { result ≡ is_varchar c }
+{
+    c.is_ascii_alphanumeric() || c == '_'
+}
+
+/// What follows a character of a name.
+fn after_varchar(text: &str) -> Option<&str>
+    ensures cases { MatchOption result (StartsWithNo Varchar (chars text.now)) (λ rest. StartsWith Varchar (chars text.now) (chars rest.now)) }
+    ensures shorter { IfSome result (λ rest. length rest.now < length text.now) }
+    ensures utf8 { IfSome result (λ rest. IsUtf8 rest.now) }
+{
+    match first_char(text) {
+        Some((c, rest)) => {
+            if is_varchar(c) {
+                Some(rest)
+            } else if c == '%' {
+                after_two_hexdigits(rest)
+            } else {
+                None
+            }
+        }
+        None => None,
+    }
+}
+
+/// What follows a further character of a name, which a dot may precede.
+fn after_further_varchar(text: &str) -> Option<&str>
+    ensures cases { MatchOption result (StartsWithNo FurtherVarchar (chars text.now)) (λ rest. StartsWith FurtherVarchar (chars text.now) (chars rest.now)) }
+    ensures shorter { IfSome result (λ rest. length rest.now < length text.now) }
+    ensures utf8 { IfSome result (λ rest. IsUtf8 rest.now) }
+{
+    match strip(text, '.') {
+        Some(rest) => after_varchar(rest),
+        None => after_varchar(text),
+    }
+}
+
+fn is_max_length(text: &str) -> bool
+    ensures { IsTrue result ↔ MaxLength (chars text.now) }
+{
+    match after_one(text, Class::NonzeroDecimal) {
+        Some(rest) => {
+            let rest = after_optional(rest, Class::Decimal);
+            let rest = after_optional(rest, Class::Decimal);
+            let rest = after_optional(rest, Class::Decimal);
+            is_end(rest)
+        }
+        None => false,
+    }
+}
+
+fn is_optional_modifier(text: &str) -> bool
+    ensures { IsTrue result ↔ Optional ModifierLevel4 (chars text.now) }
+{
+    match strip(text, ':') {
+        Some(rest) => is_max_length(rest),
+        None => match strip(text, '*') {
+            Some(rest) => is_end(rest),
+            None => is_end(text),
+        },
+    }
+}
+
+/// From within a name on.
+fn is_in_varspec(text: &str) -> bool
+    ensures { IsTrue result ↔ InVarspec (chars text.now) }
+{
+    let mut rest = text;
+    while let Some(after) = after_further_varchar(rest) {
+        rest = after;
+    }
+    is_optional_modifier(rest)
+}
+
+fn is_varspec(text: &str) -> bool
+    ensures { IsTrue result ↔ Varspec (chars text.now) }
+{
+    match after_varchar(text) {
+        Some(rest) => is_in_varspec(rest),
+        None => false,
+    }
+}
+
+fn is_variable_list(text: &str) -> bool
+    ensures { IsTrue result ↔ VariableList (chars text.now) }
+{
+    let mut rest = text;
+    while let Some((varspec, after)) = split_at(rest, ',') {
+        if !is_varspec(varspec) {
+            return false;
+        }
+        rest = after;
+    }
+    is_varspec(rest)
+}
+
+fn is_operator_and_variables(text: &str) -> bool
+    ensures { IsTrue result ↔ OperatorAndVariables (chars text.now) }
+{
+    is_variable_list(after_optional(text, Class::OperatorChar))
+}
+
+/// What follows an expression, after the brace that opens it.
+fn after_in_expression(text: &str) -> Option<&str>
+    ensures cases { MatchOption result (StartsWithNo InExpression (chars text.now)) (λ rest. StartsWith InExpression (chars text.now) (chars rest.now)) }
+    ensures shorter { IfSome result (λ rest. length rest.now < length text.now) }
+    ensures utf8 { IfSome result (λ rest. IsUtf8 rest.now) }
+{
+    match split_at(text, '}') {
+        Some((inside, rest)) => {
+            if is_operator_and_variables(inside) {
+                Some(rest)
+            } else {
+                None
+            }
+        }
+        None => None,
+    }
+}
+
+/// What follows a character of a literal or an expression.
+fn after_literal_or_expression(text: &str) -> Option<&str>
+    ensures cases { MatchOption result (StartsWithNo LiteralOrExpression (chars text.now)) (λ rest. StartsWith LiteralOrExpression (chars text.now) (chars rest.now)) }
+    ensures shorter { IfSome result (λ rest. length rest.now < length text.now) }
+    ensures utf8 { IfSome result (λ rest. IsUtf8 rest.now) }
+{
+    match first_char(text) {
+        Some((c, rest)) => {
+            if is_literal_char(c) {
+                Some(rest)
+            } else if c == '%' {
+                after_two_hexdigits(rest)
+            } else if c == '{' {
+                after_in_expression(rest)
+            } else {
+                None
+            }
+        }
+        None => None,
+    }
+}
+
+/// Whether the text is a URI template: literals and expressions in braces (RFC 6570, section 2). Beside the
+/// RFC's literals it may hold an apostrophe and any character past ASCII.
+pub fn is_valid_uri_template(text: &str) -> bool
+    ensures { IsTrue result ↔ IsUriTemplate (chars text.now) }
+{
+    let mut rest = text;
+    while let Some(after) = after_literal_or_expression(rest) {
+        rest = after;
+    }
+    is_end(rest)
+}
