@@ -1,0 +1,62 @@
+-- Texts that are host names: labels of letters and digits alone.
+use Rattle.std.proofs.Common.{◌≡◌, ℕ, ◌-◌, ◌≤◌, true, List, [], ◌∷◌, length, refl, ap, arith, inl}
+use Rattle.std.specs.Prelude.{codes, slice_index}
+use Rattle.std.specs.Char.{is_ascii_alphanumeric}
+use Rattle.std.specs.List.{list_all, AllByRecursion, join_with_byte}
+use Rattle.std.proofs.lemmas.Bool.Decides.{nat_tests}
+use Rattle.std.proofs.lemmas.List.Sums.{AllPass-from_list_all}
+use Rattle.strkw_text.proofs.Separated.{separated-from_joined}
+use Rattle.strkw_label.specs.HostName.{IsHostName, IsHostNameLabel}
+
+no_hyphen : (c : ℕ) → is_ascii_alphanumeric c ≡ true → c ≡ 45 → ⊥
+no_hyphen c is e = grind (arith, nat_tests)
+
+-- letters and digits, and the third is not beyond the end or a hyphen
+plain_label : (label : List ℕ) → list_all is_ascii_alphanumeric label ≡ true → 1 ≤ length label → length label ≤ 63 → (slice_index label 2 ≡ 45 → ⊥) → IsHostNameLabel label
+plain_label label letters some few third =
+    let all = AllPass-from_list_all is_ascii_alphanumeric label letters in
+    record {
+      ascii = record {
+        size = (some, few);
+        letters = λ k d lt. inl (all k d lt);
+        first = λ e. no_hyphen _ (all 0 0 some) e;
+        last = λ e. no_hyphen _ (all (length label - 1) 0 (omega arith)) e;
+      };
+      xn = record {
+        reserved = λ e _. absurd (third e);
+        encodes = λ p e. absurd (third (ap (λ l. slice_index l 2) e));
+      };
+    }
+
+host_name_of : (labels : List (List ℕ)) (text : List ℕ) → 1 ≤ length labels → AllByRecursion IsHostNameLabel labels → text ≡ join_with_byte 46 labels → length text ≤ 253 → IsHostName text
+host_name_of labels text some each e few = record {
+  labels = separated-from_joined 46 IsHostNameLabel text (record { parts = labels; some = some; each = each; spelled = e });
+  size = few;
+}
+
+pub example_com : IsHostName (codes "example.com")
+example_com =
+    host_name_of (codes "example" ∷ codes "com" ∷ []) (codes "example.com") (omega arith)
+    (plain_label (codes "example") refl (omega arith) (omega arith) (λ e. absurd (omega (arith, e))), (plain_label (codes "com") refl (omega arith) (omega arith) (λ e. absurd (omega (arith, e))), tt))
+    refl (omega arith)
+
+pub shortest : IsHostName (codes "a")
+shortest = host_name_of (codes "a" ∷ []) (codes "a") (omega arith) (plain_label (codes "a") refl (omega arith) (omega arith) (λ e. absurd (omega (arith, e))), tt) refl (omega arith)
+
+abbrev letters_63 : List ℕ
+letters_63 = codes "aaaaaaaaaaaaaaaaaaaaaaaaaaaaaaaaaaaaaaaaaaaaaaaaaaaaaaaaaaaaaaa"
+
+abbrev letters_61 : List ℕ
+letters_61 = codes "aaaaaaaaaaaaaaaaaaaaaaaaaaaaaaaaaaaaaaaaaaaaaaaaaaaaaaaaaaaaa"
+
+label_63 : IsHostNameLabel letters_63
+label_63 = plain_label letters_63 refl (omega arith) (omega arith) (λ e. absurd (omega (arith, e)))
+
+label_61 : IsHostNameLabel letters_61
+label_61 = plain_label letters_61 refl (omega arith) (omega arith) (λ e. absurd (omega (arith, e)))
+
+-- labels of 63, 63, 63 and 61 letters
+pub longest : IsHostName (codes "aaaaaaaaaaaaaaaaaaaaaaaaaaaaaaaaaaaaaaaaaaaaaaaaaaaaaaaaaaaaaaa.aaaaaaaaaaaaaaaaaaaaaaaaaaaaaaaaaaaaaaaaaaaaaaaaaaaaaaaaaaaaaaa.aaaaaaaaaaaaaaaaaaaaaaaaaaaaaaaaaaaaaaaaaaaaaaaaaaaaaaaaaaaaaaa.aaaaaaaaaaaaaaaaaaaaaaaaaaaaaaaaaaaaaaaaaaaaaaaaaaaaaaaaaaaaa")
+longest =
+    host_name_of (letters_63 ∷ letters_63 ∷ letters_63 ∷ letters_61 ∷ []) (codes "aaaaaaaaaaaaaaaaaaaaaaaaaaaaaaaaaaaaaaaaaaaaaaaaaaaaaaaaaaaaaaa.aaaaaaaaaaaaaaaaaaaaaaaaaaaaaaaaaaaaaaaaaaaaaaaaaaaaaaaaaaaaaaa.aaaaaaaaaaaaaaaaaaaaaaaaaaaaaaaaaaaaaaaaaaaaaaaaaaaaaaaaaaaaaaa.aaaaaaaaaaaaaaaaaaaaaaaaaaaaaaaaaaaaaaaaaaaaaaaaaaaaaaaaaaaaa") (omega arith)
+    (label_63, (label_63, (label_63, (label_61, tt)))) refl (omega arith)

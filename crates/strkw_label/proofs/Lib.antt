@@ -1,0 +1,15 @@
+pub mod AsciiCategories
+pub mod BiasAdaptation
+pub mod DeltaCoding
+pub mod DigitValues
+pub mod Examples
+pub mod HostNameExamples
+pub mod HostNames
+pub mod Insertions
+pub mod LabelRules
+pub mod LastHyphen
+pub mod Payloads
+pub mod PlaceAll
+pub mod PointsAndPlaces
+pub mod ReadDelta
+pub mod VariableLengthIntegers

@@ -1,0 +1,43 @@
+-- Host names with internationalised labels (RFC 5890 section 2.3), as lists of characters.
+use Rattle.std.specs.Prelude.{◌≡◌, ℕ, ◌≤◌, List, ◌++◌, length, All, codes, slice_index, ◌==◌}
+use Rattle.std.specs.Char.{IsScalar}
+use Rattle.std.specs.List.{slice_split}
+use Rattle.std.specs.Str.{byte}
+use Rattle.strkw_text.specs.Abnf.{SeparatedBy}
+use Rattle.strkw_net.specs.HostName.{IsLabel}
+use Rattle.strkw_label.specs.Punycode.{punycode, SameUpToCase}
+use Rattle.strkw_label.specs.LabelRules.{IsAdmittedLabel}
+
+-- the label is the prefix `xn--` (RFC 5890 section 2.3.2.5) and then the payload
+abbrev pub IsXnLabel : List ℕ → List ℕ → Type 0
+IsXnLabel label payload = label ≡ codes "xn--" ++ payload
+
+-- the payload is, up to the letter case of its encoded part, the Punycode of a text that the label rules admit
+abbrev pub EncodesAdmitted : List ℕ → Type 0
+EncodesAdmitted payload = (text : List ℕ) × All IsScalar text × SameUpToCase payload (punycode text) × IsAdmittedLabel text
+
+-- hyphens in third and fourth place are reserved to XN-labels, and the payload of an XN-label encodes an admitted text
+-- (RFC 5890 section 2.3.2.1; RFC 5891 section 4.2.3.1)
+pub record KeepsXnRules (label : List ℕ) : Type 0 where
+  pub reserved : slice_index label 2 ≡ byte "-" → slice_index label 3 ≡ byte "-" → (payload : List ℕ) × IsXnLabel label payload
+  pub encodes : (payload : List ℕ) → IsXnLabel label payload → EncodesAdmitted payload
+
+-- an ASCII label that keeps these rules
+pub record IsHostNameLabel (label : List ℕ) : Type 0 where
+  pub ascii : IsLabel label
+  pub xn : KeepsXnRules label
+
+-- such labels with "." between them, 1 to 253 characters
+pub record IsHostName (text : List ℕ) : Type 0 where
+  pub labels : SeparatedBy (byte ".") IsHostNameLabel text
+  pub size : length text ≤ 253
+
+-- ---- what the code reads part by part
+
+-- a label of at most 63 characters that keeps the rules
+abbrev pub KeepsXnRulesWithin63 : List ℕ → Type 0
+KeepsXnRulesWithin63 label = (length label ≤ 63) × KeepsXnRules label
+
+-- the parts between dots
+abbrev pub dot_parts : List ℕ → List (List ℕ)
+dot_parts text = slice_split (λ c. c == byte ".") text

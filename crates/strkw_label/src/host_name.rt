@@ -1,0 +1,60 @@
+//! Host names with internationalised labels (RFC 5890, RFC 5891).
+ghost use Rattle.std.specs.Prelude.{◌≡◌, ◌↔◌, ◌≤◌, List, ℕ, length, IsTrue};
+ghost use Rattle.std.specs.List.{AllByRecursion};
+ghost use Rattle.std.specs.Str.{chars};
+ghost use Rattle.strkw_label.specs.HostName.{IsHostName, KeepsXnRules, EncodesAdmitted, KeepsXnRulesWithin63, dot_parts};
+
+use crate::label_rules::validate_unicode_label;
+use crate::punycode::decode_payload;
+use strkw_net::is_valid_hostname_rfc1034;
+
+/// Whether `hostname` is a host name: an ASCII host name (1 to 253 characters, labels of 1 to 63
+/// letters, digits and hyphens, RFC 1123) in which only labels that begin with `xn--` have hyphens
+/// in third and fourth place (RFC 5891 section 4.2.3.1), and in which what follows `xn--` is, up to
+/// the case of its encoded part, the Punycode of a text that `validate_unicode_label` admits. The
+/// prefix counts in lower case alone.
+pub fn is_valid_hostname(hostname: &str) -> bool
+    ensures { IsTrue result ↔ IsHostName (chars hostname.now) }
+{
+    if !is_valid_hostname_rfc1034(hostname) {
+        return false;
+    }
+    labels_keep_xn_rules(hostname.as_bytes())
+}
+
+/// Whether each part between dots has at most 63 bytes and keeps the rules for XN-labels.
+fn labels_keep_xn_rules(bytes: &[u8]) -> bool
+    ensures { IsTrue result ↔ AllByRecursion KeepsXnRulesWithin63 (dot_parts bytes.now) }
+{
+    bytes
+        .split(|b| *b == b'.')
+        .all(|label| keeps_xn_rules(label))
+}
+
+/// Whether a label has at most 63 bytes, and hyphens in third and fourth place only behind `xn`
+/// and before the Punycode of an admitted text.
+fn keeps_xn_rules(label: &[u8]) -> bool
+    ensures { IsTrue result ↔ KeepsXnRulesWithin63 label.now }
+{
+    if 63 < label.len() {
+        return false;
+    }
+    if label.len() < 4 || label[2] != b'-' || label[3] != b'-' {
+        return true;
+    }
+    if label[0] != b'x' || label[1] != b'n' {
+        return false;
+    }
+    encodes_admitted(&label[4..])
+}
+
+/// Whether the payload of an XN-label encodes a text that the label rules admit.
+fn encodes_admitted(payload: &[u8]) -> bool
+    requires { length payload.now ≤ 59 }
+    ensures { IsTrue result ↔ EncodesAdmitted payload.now }
+{
+    match decode_payload::<59>(payload) {
+        Some(text) => validate_unicode_label(text.as_slice()),
+        None => false,
+    }
+}
