@@ -1,0 +1,70 @@
+-- What a decoder answers, from what the bytes are and what they spell.
+use Rattle.std.proofs.Common.{◌≡◌, List, ℕ, Option, Some, None, Result, Ok, Err, refl, sym, ◌∙◌}
+use Rattle.std.specs.Prelude.{◌↔◌, IfOk, IsErrOf, MatchOption, MatchResult, IsSomeAnd}
+use Rattle.std.specs.Str.{IsUtf8}
+use Rattle.std.specs.declared.alloc.AllocError.{AllocError}
+use Rattle.strkw_coding.specs.Rfc4648.{Encodes, IsEncoding, EncodesNoText, AreBytes, alphabet, code, folded}
+use Rattle.strkw_coding.specs.Blocks.{IsCodeOf, code32}
+use Rattle.strkw_coding.specs.declared.codec.Codec.TheVariants.{Base32, Base32Hex}
+use Rattle.strkw_coding.specs.declared.codec.Codec.{Codec}
+use Rattle.strkw_coding.specs.declared.codec.DecodeError.{DecodeError}
+use Rattle.strkw_coding.specs.declared.codec.DecodeError.TheVariants.{NotUtf8}
+
+-- the text decodes to these bytes, or encodes none
+abbrev pub Reads : {V : Type 0} → (V → List ℕ) → Codec → List ℕ → Option V → Type 0
+Reads items c text o = MatchOption o (IsEncoding c text → ⊥) (λ v. Encodes c text (items v))
+
+-- the text of the bytes, if they are UTF-8
+abbrev pub Spells : {V S : Type 0} → (V → List ℕ) → (S → List ℕ) → Option V → Result (Option S) DecodeError → Type 0
+Spells items bytes o r = MatchOption o (r ≡ Ok None) (λ v. MatchResult r (λ o. IsSomeAnd o (λ s. bytes s ≡ items v)) (λ e. (e ≡ NotUtf8) × (IsUtf8 (items v) → ⊥)))
+
+pub decoded_text : {V S : Type 0} (items : V → List ℕ) (bytes : S → List ℕ) (c : Codec) (text : List ℕ) (o : Option V) (r : Result (Option S) DecodeError)
+    → Reads items c text o → Spells items bytes o r → IfOk r (λ o. MatchOption o (IsEncoding c text → ⊥) (λ s. Encodes c text (bytes s)))
+decoded_text items bytes c text None (Ok None) reads spells = reads
+decoded_text items bytes c text None (Ok (Some s)) reads spells = cc spells
+decoded_text items bytes c text None (Err e) reads spells = tt
+decoded_text items bytes c text (Some v) (Ok None) reads spells = absurd spells
+decoded_text items bytes c text (Some v) (Ok (Some s)) reads spells = rw spells reads
+decoded_text items bytes c text (Some v) (Err e) reads spells = tt
+
+pub decoded_other : {V S : Type 0} (items : V → List ℕ) (bytes : S → List ℕ) (c : Codec) (text : List ℕ) (o : Option V) (r : Result (Option S) DecodeError)
+    → Reads items c text o → Spells items bytes o r → IsErrOf r NotUtf8 → EncodesNoText c text
+decoded_other items bytes c text None (Ok None) reads spells err = cc err
+decoded_other items bytes c text None (Ok (Some s)) reads spells err = cc err
+decoded_other items bytes c text None (Err e) reads spells err = cc spells
+decoded_other items bytes c text (Some v) (Ok o) reads spells err = cc err
+decoded_other items bytes c text (Some v) (Err e) reads spells err = (items v, reads, spells.1)
+
+-- no text both decodes and does not
+pub refused : {E : Type 0} (r : Result (List ℕ) E) (b : List ℕ) (e : E) → r ≡ Ok b → r ≡ Err e → ⊥
+refused r b e ok err = cc (ok, err)
+
+-- an encoder that writes the code
+abbrev pub WritesCode : Codec → (List ℕ → List ℕ) → Type 0
+WritesCode c encoded = (b : List ℕ) → AreBytes b → encoded b ≡ code c b
+
+-- what it wrote is an encoding
+pub encoding_by : (c : Codec) (encoded : List ℕ → List ℕ) (text : List ℕ) → folded c text ≡ text → WritesCode c encoded
+    → IsEncoding c text ↔ IsCodeOf encoded text
+encoding_by c encoded text same is = (
+  λ (b, e). (b, e.are_bytes, sym same ∙ e.is_code ∙ sym (is b e.are_bytes)),
+  λ (b, bytes, e). (b, record { are_bytes = bytes; is_code = same ∙ e ∙ is b bytes }),
+)
+
+-- and what its decoder reads, the text encodes
+pub reads_by : {V : Type 0} (items : V → List ℕ) (c : Codec) (encoded : List ℕ → List ℕ) (text : List ℕ) → folded c text ≡ text → WritesCode c encoded
+    → (r : Result (Option V) AllocError)
+    → IfOk r (λ o. MatchOption o (IsCodeOf encoded text → ⊥) (λ v. AreBytes (items v) × (text ≡ encoded (items v))))
+    → IfOk r (Reads items c text)
+reads_by items c encoded text same is (Ok None) h = λ e. h ((encoding_by c encoded text same is).0 e)
+reads_by items c encoded text same is (Ok (Some v)) h = record { are_bytes = h.0; is_code = same ∙ h.1 ∙ is (items v) h.0 }
+reads_by items c encoded text same is (Err e) h = tt
+
+-- the encoder of five bits a letter, by the letters of base32 and of base32hex
+pub writes_base32 : WritesCode Base32 (code32 (alphabet Base32))
+unfolding code32
+writes_base32 b h = refl
+
+pub writes_base32hex : WritesCode Base32Hex (code32 (alphabet Base32Hex))
+unfolding code32
+writes_base32hex b h = refl

@@ -1,0 +1,149 @@
+-- What a block of eight characters stands for.
+use Rattle.std.proofs.Common.{◌≡◌, ℕ, ◌+◌, ◌-◌, ◌*◌, ◌/◌, ◌%◌, ◌<◌, ◌≤◌, ◌==◌, ◌&&◌, nat_lt, Bool, true, false, not, unwrap_or, List, [], ◌∷◌, ◌++◌, length, replicate, slice_index, refl, arith}
+use Rattle.std.specs.Prelude.{position}
+use Rattle.std.proofs.lemmas.Bool.{and_parts, eqb-true, ltb-true}
+use Rattle.strkw_coding.specs.Rfc4648.{AreBytes}
+use Rattle.strkw_coding.specs.Blocks.{code32, passes_below, value_of, is_letter_at, is_alphabet, is_table, group_len}
+use Rattle.strkw_coding.proofs.Passes.{passes_below-at}
+use Rattle.strkw_coding.proofs.Codes32.{code32-1, code32-2, code32-3, code32-4, code32-5}
+
+-- the test of an alphabet, at one letter
+letter_at : (abc : List ℕ) (d : ℕ) → is_alphabet abc ≡ true → d < 32 → is_letter_at abc d ≡ true
+unfolding is_alphabet
+letter_at abc d alpha lt =
+    let parts = and_parts (passes_below (is_letter_at abc) 32) (unwrap_or (position (λ x. x == 61) abc) 0 == 0) alpha in
+    passes_below-at (is_letter_at abc) 32 d parts.0 lt
+
+-- a letter has its place
+letter_value : (abc : List ℕ) (d : ℕ) → is_alphabet abc ≡ true → d < 32 → value_of abc (slice_index abc d) ≡ d
+unfolding value_of
+letter_value abc d alpha lt = eqb-true _ _ (and_parts _ _ (letter_at abc d alpha lt)).0
+
+-- a letter is no padding
+not_true : (b : Bool) → not b ≡ true → b ≡ false
+not_true true h = cc h
+not_true false h = refl
+
+letter_not_padding : (abc : List ℕ) (d : ℕ) → is_alphabet abc ≡ true → d < 32 → (slice_index abc d == 61) ≡ false
+letter_not_padding abc d alpha lt = not_true _ (and_parts _ _ (letter_at abc d alpha lt)).1
+
+-- padding counts as 0
+padding_value : (abc : List ℕ) → is_alphabet abc ≡ true → value_of abc 61 ≡ 0
+unfolding is_alphabet value_of
+padding_value abc alpha =
+    eqb-true _ _ (and_parts (passes_below (is_letter_at abc) 32) (unwrap_or (position (λ x. x == 61) abc) 0 == 0) alpha).1
+
+-- the five bytes of eight values
+abbrev pub group_bytes : ℕ → ℕ → ℕ → ℕ → ℕ → ℕ → ℕ → ℕ → List ℕ
+group_bytes v0 v1 v2 v3 v4 v5 v6 v7 =
+    (v0 * 8 + v1 / 4) ∷ (v1 % 4 * 64 + v2 * 2 + v3 / 16) ∷ (v3 % 16 * 16 + v4 / 2) ∷ (v4 % 2 * 128 + v5 * 4 + v6 / 8) ∷ (v6 % 8 * 32 + v7) ∷ []
+
+-- the group of a block
+pub record IsGroup (abc block p : List ℕ) : Type 0 where
+  pub len : group_len block ≡ length p
+  pub bytes : group_bytes (value_of abc (slice_index block 0)) (value_of abc (slice_index block 1)) (value_of abc (slice_index block 2)) (value_of abc (slice_index block 3))
+      (value_of abc (slice_index block 4)) (value_of abc (slice_index block 5)) (value_of abc (slice_index block 6)) (value_of abc (slice_index block 7)) ≡ p ++ replicate (5 - length p) 0
+
+cons_same : (a b : ℕ) (xs ys : List ℕ) → a ≡ b → xs ≡ ys → a ∷ xs ≡ b ∷ ys
+cons_same a b xs ys e es = rw (e, es) refl
+
+group-1 : (abc : List ℕ) (a : ℕ) → is_alphabet abc ≡ true → a < 256 → IsGroup abc (code32 abc (a ∷ [])) (a ∷ [])
+group-1 abc a alpha fa =
+    let v0 : value_of abc (slice_index abc (a / 8)) ≡ a / 8 = letter_value abc (a / 8) alpha (omega arith) in
+    let v1 : value_of abc (slice_index abc (a % 8 * 4)) ≡ a % 8 * 4 = letter_value abc (a % 8 * 4) alpha (omega arith) in
+    let pad = padding_value abc alpha in
+    rw (code32-1 abc a fa) record {
+      len = refl;
+      bytes = rw (v0, v1, pad) (cons_same _ _ _ _ (omega arith) (cons_same _ _ _ _ (omega arith) (cons_same _ _ _ _ (omega arith) (cons_same _ _ _ _ (omega arith) (cons_same _ _ _ _ (omega arith) refl)))));
+    }
+
+group-2 : (abc : List ℕ) (a b : ℕ) → is_alphabet abc ≡ true → a < 256 → b < 256 → IsGroup abc (code32 abc (a ∷ b ∷ [])) (a ∷ b ∷ [])
+group-2 abc a b alpha fa fb =
+    let v0 : value_of abc (slice_index abc (a / 8)) ≡ a / 8 = letter_value abc (a / 8) alpha (omega arith) in
+    let v1 : value_of abc (slice_index abc (a % 8 * 4 + b / 64)) ≡ a % 8 * 4 + b / 64 = letter_value abc (a % 8 * 4 + b / 64) alpha (omega arith) in
+    let v2 : value_of abc (slice_index abc (b / 2 % 32)) ≡ b / 2 % 32 = letter_value abc (b / 2 % 32) alpha (omega arith) in
+    let v3 : value_of abc (slice_index abc (b % 2 * 16)) ≡ b % 2 * 16 = letter_value abc (b % 2 * 16) alpha (omega arith) in
+    let n2 : (slice_index abc (b / 2 % 32) == 61) ≡ false = letter_not_padding abc (b / 2 % 32) alpha (omega arith) in
+    let pad = padding_value abc alpha in
+    rw (code32-2 abc a b fa fb) record {
+      len = rw n2 refl;
+      bytes = rw (v0, v1, v2, v3, pad) (cons_same _ _ _ _ (omega arith) (cons_same _ _ _ _ (omega arith) (cons_same _ _ _ _ (omega arith) (cons_same _ _ _ _ (omega arith) (cons_same _ _ _ _ (omega arith) refl)))));
+    }
+
+group-3 : (abc : List ℕ) (a b c : ℕ) → is_alphabet abc ≡ true → a < 256 → b < 256 → c < 256 → IsGroup abc (code32 abc (a ∷ b ∷ c ∷ [])) (a ∷ b ∷ c ∷ [])
+group-3 abc a b c alpha fa fb fc =
+    let v0 : value_of abc (slice_index abc (a / 8)) ≡ a / 8 = letter_value abc (a / 8) alpha (omega arith) in
+    let v1 : value_of abc (slice_index abc (a % 8 * 4 + b / 64)) ≡ a % 8 * 4 + b / 64 = letter_value abc (a % 8 * 4 + b / 64) alpha (omega arith) in
+    let v2 : value_of abc (slice_index abc (b / 2 % 32)) ≡ b / 2 % 32 = letter_value abc (b / 2 % 32) alpha (omega arith) in
+    let v3 : value_of abc (slice_index abc (b % 2 * 16 + c / 16)) ≡ b % 2 * 16 + c / 16 = letter_value abc (b % 2 * 16 + c / 16) alpha (omega arith) in
+    let v4 : value_of abc (slice_index abc (c % 16 * 2)) ≡ c % 16 * 2 = letter_value abc (c % 16 * 2) alpha (omega arith) in
+    let n2 : (slice_index abc (b / 2 % 32) == 61) ≡ false = letter_not_padding abc (b / 2 % 32) alpha (omega arith) in
+    let n4 : (slice_index abc (c % 16 * 2) == 61) ≡ false = letter_not_padding abc (c % 16 * 2) alpha (omega arith) in
+    let pad = padding_value abc alpha in
+    rw (code32-3 abc a b c fa fb fc) record {
+      len = rw (n2, n4) refl;
+      bytes = rw (v0, v1, v2, v3, v4, pad) (cons_same _ _ _ _ (omega arith) (cons_same _ _ _ _ (omega arith) (cons_same _ _ _ _ (omega arith) (cons_same _ _ _ _ (omega arith) (cons_same _ _ _ _ (omega arith) refl)))));
+    }
+
+group-4 : (abc : List ℕ) (a b c d : ℕ) → is_alphabet abc ≡ true → a < 256 → b < 256 → c < 256 → d < 256 → IsGroup abc (code32 abc (a ∷ b ∷ c ∷ d ∷ [])) (a ∷ b ∷ c ∷ d ∷ [])
+group-4 abc a b c d alpha fa fb fc fd =
+    let v0 : value_of abc (slice_index abc (a / 8)) ≡ a / 8 = letter_value abc (a / 8) alpha (omega arith) in
+    let v1 : value_of abc (slice_index abc (a % 8 * 4 + b / 64)) ≡ a % 8 * 4 + b / 64 = letter_value abc (a % 8 * 4 + b / 64) alpha (omega arith) in
+    let v2 : value_of abc (slice_index abc (b / 2 % 32)) ≡ b / 2 % 32 = letter_value abc (b / 2 % 32) alpha (omega arith) in
+    let v3 : value_of abc (slice_index abc (b % 2 * 16 + c / 16)) ≡ b % 2 * 16 + c / 16 = letter_value abc (b % 2 * 16 + c / 16) alpha (omega arith) in
+    let v4 : value_of abc (slice_index abc (c % 16 * 2 + d / 128)) ≡ c % 16 * 2 + d / 128 = letter_value abc (c % 16 * 2 + d / 128) alpha (omega arith) in
+    let v5 : value_of abc (slice_index abc (d / 4 % 32)) ≡ d / 4 % 32 = letter_value abc (d / 4 % 32) alpha (omega arith) in
+    let v6 : value_of abc (slice_index abc (d % 4 * 8)) ≡ d % 4 * 8 = letter_value abc (d % 4 * 8) alpha (omega arith) in
+    let n2 : (slice_index abc (b / 2 % 32) == 61) ≡ false = letter_not_padding abc (b / 2 % 32) alpha (omega arith) in
+    let n4 : (slice_index abc (c % 16 * 2 + d / 128) == 61) ≡ false = letter_not_padding abc (c % 16 * 2 + d / 128) alpha (omega arith) in
+    let n5 : (slice_index abc (d / 4 % 32) == 61) ≡ false = letter_not_padding abc (d / 4 % 32) alpha (omega arith) in
+    let pad = padding_value abc alpha in
+    rw (code32-4 abc a b c d fa fb fc fd) record {
+      len = rw (n2, n4, n5) refl;
+      bytes = rw (v0, v1, v2, v3, v4, v5, v6, pad) (cons_same _ _ _ _ (omega arith) (cons_same _ _ _ _ (omega arith) (cons_same _ _ _ _ (omega arith) (cons_same _ _ _ _ (omega arith) (cons_same _ _ _ _ (omega arith) refl)))));
+    }
+
+group-5 : (abc : List ℕ) (a b c d e : ℕ) → is_alphabet abc ≡ true → a < 256 → b < 256 → c < 256 → d < 256 → e < 256 → IsGroup abc (code32 abc (a ∷ b ∷ c ∷ d ∷ e ∷ [])) (a ∷ b ∷ c ∷ d ∷ e ∷ [])
+group-5 abc a b c d e alpha fa fb fc fd fe =
+    let v0 : value_of abc (slice_index abc (a / 8)) ≡ a / 8 = letter_value abc (a / 8) alpha (omega arith) in
+    let v1 : value_of abc (slice_index abc (a % 8 * 4 + b / 64)) ≡ a % 8 * 4 + b / 64 = letter_value abc (a % 8 * 4 + b / 64) alpha (omega arith) in
+    let v2 : value_of abc (slice_index abc (b / 2 % 32)) ≡ b / 2 % 32 = letter_value abc (b / 2 % 32) alpha (omega arith) in
+    let v3 : value_of abc (slice_index abc (b % 2 * 16 + c / 16)) ≡ b % 2 * 16 + c / 16 = letter_value abc (b % 2 * 16 + c / 16) alpha (omega arith) in
+    let v4 : value_of abc (slice_index abc (c % 16 * 2 + d / 128)) ≡ c % 16 * 2 + d / 128 = letter_value abc (c % 16 * 2 + d / 128) alpha (omega arith) in
+    let v5 : value_of abc (slice_index abc (d / 4 % 32)) ≡ d / 4 % 32 = letter_value abc (d / 4 % 32) alpha (omega arith) in
+    let v6 : value_of abc (slice_index abc (d % 4 * 8 + e / 32)) ≡ d % 4 * 8 + e / 32 = letter_value abc (d % 4 * 8 + e / 32) alpha (omega arith) in
+    let v7 : value_of abc (slice_index abc (e % 32)) ≡ e % 32 = letter_value abc (e % 32) alpha (omega arith) in
+    let n2 : (slice_index abc (b / 2 % 32) == 61) ≡ false = letter_not_padding abc (b / 2 % 32) alpha (omega arith) in
+    let n4 : (slice_index abc (c % 16 * 2 + d / 128) == 61) ≡ false = letter_not_padding abc (c % 16 * 2 + d / 128) alpha (omega arith) in
+    let n5 : (slice_index abc (d / 4 % 32) == 61) ≡ false = letter_not_padding abc (d / 4 % 32) alpha (omega arith) in
+    let n7 : (slice_index abc (e % 32) == 61) ≡ false = letter_not_padding abc (e % 32) alpha (omega arith) in
+    let pad = padding_value abc alpha in
+    rw (code32-5 abc a b c d e fa fb fc fd fe) record {
+      len = rw (n2, n4, n5, n7) refl;
+      bytes = rw (v0, v1, v2, v3, v4, v5, v6, v7) (cons_same _ _ _ _ (omega arith) (cons_same _ _ _ _ (omega arith) (cons_same _ _ _ _ (omega arith) (cons_same _ _ _ _ (omega arith) (cons_same _ _ _ _ (omega arith) refl)))));
+    }
+
+-- the group of the code of one to five bytes
+pub group_only : (abc block p : List ℕ) → is_alphabet abc ≡ true → AreBytes p → 0 < length p → length p ≤ 5 → block ≡ code32 abc p → IsGroup abc block p
+group_only abc block [] alpha h some few is = absurd (omega arith)
+group_only abc block (a ∷ []) alpha h some few is = rw is (group-1 abc a alpha (h 0))
+group_only abc block (a ∷ b ∷ []) alpha h some few is = rw is (group-2 abc a b alpha (h 0) (h 1))
+group_only abc block (a ∷ b ∷ c ∷ []) alpha h some few is = rw is (group-3 abc a b c alpha (h 0) (h 1) (h 2))
+group_only abc block (a ∷ b ∷ c ∷ d ∷ []) alpha h some few is = rw is (group-4 abc a b c d alpha (h 0) (h 1) (h 2) (h 3))
+group_only abc block (a ∷ b ∷ c ∷ d ∷ e ∷ []) alpha h some few is = rw is (group-5 abc a b c d e alpha (h 0) (h 1) (h 2) (h 3) (h 4))
+group_only abc block (a ∷ b ∷ c ∷ d ∷ e ∷ f ∷ rest) alpha h some few is = absurd (omega arith)
+
+-- ---- the table
+
+table_at : (abc places : List ℕ) (c : ℕ) → is_table abc places ≡ true → c < 256
+    → (nat_lt (slice_index places c) 32 && slice_index places c == value_of abc c) ≡ true
+unfolding is_table
+table_at abc places c table lt =
+    passes_below-at (λ c. nat_lt (slice_index places c) 32 && slice_index places c == value_of abc c) 256 c table lt
+
+-- the place of a character is in the table
+pub table_value : (abc places : List ℕ) (c : ℕ) → is_table abc places ≡ true → c < 256 → slice_index places c ≡ value_of abc c
+table_value abc places c table lt = eqb-true _ _ (and_parts _ _ (table_at abc places c table lt)).1
+
+pub table_below : (abc places : List ℕ) (c : ℕ) → is_table abc places ≡ true → c < 256 → slice_index places c < 32
+table_below abc places c table lt = ltb-true _ _ (and_parts _ _ (table_at abc places c table lt)).0

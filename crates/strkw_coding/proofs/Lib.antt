@@ -1,0 +1,11 @@
+pub mod Encoders
+pub mod Passes
+pub mod Base16
+pub mod Codes32
+pub mod Groups
+pub mod GroupCodes
+pub mod FirstBlocks
+pub mod Once32
+pub mod Decoding
+pub mod EncodesOnce
+pub mod Outcomes

@@ -1,0 +1,17 @@
+use Rattle.std.proofs.Common.{refl}
+use Rattle.strkw_coding.specs.Rfc4648.{alphabet}
+use Rattle.strkw_coding.specs.Blocks.{code32, is_alphabet, is_table, value_of}
+use Rattle.strkw_coding.specs.declared.codec.Codec.TheVariants.{Base32}
+use Rattle.strkw_coding.proofs.Decoding.{reads_by, writes_base32}
+use Rattle.strkw_coding.proofs.radix32.bytes_of_base32.Goals as goal
+
+pub decode-requires-clause-alphabet : goal.decode-requires-clause-alphabet
+unfolding is_alphabet
+decode-requires-clause-alphabet c = refl
+
+pub decode-requires-clause-table : goal.decode-requires-clause-table
+unfolding is_table value_of
+decode-requires-clause-table c = refl
+
+pub returns : goal.returns
+returns c = reads_by (λ v. v.items) Base32 (code32 (alphabet Base32)) c.args.text.now refl writes_base32 _ c.decode.ensures

@@ -1,0 +1,298 @@
+//! What no clause says: that the definition is RFC 4648's, that each call can succeed, and what becomes of
+//! a refused growth.
+
+use super::*;
+use std::alloc::{AllocError, Global};
+use std::test::Fail;
+
+const FOOBAR: [&str; 7] = ["", "f", "fo", "foo", "foob", "fooba", "foobar"];
+
+// The test vectors of RFC 4648, section 10; base64url has base64's, whose letters here are the same.
+#[test]
+fn published_vectors(rt: HostRuntime) -> Result<(), Fail> {
+    let base64 = [
+        "", "Zg==", "Zm8=", "Zm9v", "Zm9vYg==", "Zm9vYmE=", "Zm9vYmFy",
+    ];
+    let base32 = [
+        "",
+        "MY======",
+        "MZXQ====",
+        "MZXW6===",
+        "MZXW6YQ=",
+        "MZXW6YTB",
+        "MZXW6YTBOI======",
+    ];
+    let base32hex = [
+        "",
+        "CO======",
+        "CPNG====",
+        "CPNMU===",
+        "CPNMUOG=",
+        "CPNMUOJ1",
+        "CPNMUOJ1E8======",
+    ];
+    let base16 = [
+        "",
+        "66",
+        "666F",
+        "666F6F",
+        "666F6F62",
+        "666F6F6261",
+        "666F6F626172",
+    ];
+    let alloc = rt.alloc();
+    for (codec, texts) in [
+        (Codec::Base64, base64),
+        (Codec::Base64Url, base64),
+        (Codec::Base32, base32),
+        (Codec::Base32Hex, base32hex),
+        (Codec::Base16, base16),
+    ] {
+        for at in 0..7usize {
+            let text = texts[at];
+            assert!(rt; codec.is_encoded(alloc, text)?, "{text}");
+            let decoded = codec.decode(alloc, text)?;
+            assert!(rt; decoded.as_deref() == Some(FOOBAR[at]), "{text}");
+        }
+    }
+    Ok(())
+}
+
+#[test]
+fn base64_checks(rt: HostRuntime) -> Result<(), Fail> {
+    let alloc = rt.alloc();
+    for (text, expected) in [
+        ("", true),
+        ("Zg==", true),
+        ("Zm9vYmFy", true),
+        ("Zh==", false),
+        ("Zm9v====", false),
+        ("Zg==Zg==", false),
+        ("Zg=", false),
+        ("Zg", false),
+        ("Zm9v\n", false),
+        ("PDw_Pz4-", false),
+        ("not valid base64!!!", false),
+    ] {
+        assert!(rt; is_base64(alloc, text)? == expected, "base64 {text}");
+    }
+    for (text, expected) in [
+        ("Zm9vYmFy", true),
+        ("PDw_Pz4-", true),
+        ("PDw/Pz4+", false),
+        ("Zm9v+YmFy", false),
+        ("Zm9v/YmFy", false),
+        ("Zh==", false),
+    ] {
+        assert!(rt; is_base64url(alloc, text)? == expected, "base64url {text}");
+    }
+    Ok(())
+}
+
+#[test]
+fn base32_checks(rt: HostRuntime) -> Result<(), Fail> {
+    let alloc = rt.alloc();
+    for (text, expected) in [
+        ("MY======", true),
+        ("MZXQ====", true),
+        ("MZXW6===", true),
+        ("MZXW6YQ=", true),
+        ("MZXW6YTB", true),
+        ("MZ======", false),
+        ("MY=====", false),
+        ("my======", false),
+        ("74======", true),
+        ("========", false),
+        ("MY======MY======", false),
+        ("M1======", false),
+        ("not valid", false),
+        ("189", false),
+    ] {
+        assert!(rt; is_base32(alloc, text)? == expected, "base32 {text}");
+    }
+    for (text, expected) in [
+        ("CO======", true),
+        ("co======", false),
+        ("CW======", false),
+        ("not valid", false),
+        ("XYZ", false),
+    ] {
+        assert!(rt; is_base32hex(alloc, text)? == expected, "base32hex {text}");
+    }
+    Ok(())
+}
+
+#[test]
+fn base16_and_json_checks(rt: HostRuntime) -> Result<(), Fail> {
+    let alloc = rt.alloc();
+    for (text, expected) in [
+        ("", true),
+        ("6", false),
+        ("666F6F626172", true),
+        ("666f6f626172", true),
+        ("666F6f626172", true),
+        ("6G", false),
+        ("GHIJ", false),
+        ("not valid", false),
+        ("\u{FB00}", false),
+    ] {
+        assert!(rt; is_base16(alloc, text)? == expected, "base16 {text}");
+    }
+    for (text, expected) in [
+        ("{\"a\":1}", true),
+        (" 1 ", true),
+        ("null", true),
+        ("", false),
+        ("{:}", false),
+        ("{", false),
+        ("[1,", false),
+        ("1 2", false),
+    ] {
+        assert!(rt; is_json(alloc, text)? == expected, "json {text}");
+        assert!(rt;
+            BuiltinMediaType::Json.accepts(alloc, text)? == expected,
+            "json {text}"
+        );
+    }
+    Ok(())
+}
+
+#[test]
+fn decoders(rt: HostRuntime) -> Result<(), Fail> {
+    let alloc = rt.alloc();
+    for (codec, text, expected) in [
+        (Codec::Base64, "Zm9vYmFy", Some("foobar")),
+        (Codec::Base64, "eyJhIjoxfQ==", Some("{\"a\":1}")),
+        (Codec::Base64, "invalid!", None),
+        (Codec::Base64, "Zh==", None),
+        (Codec::Base64Url, "Zm9vYmFy", Some("foobar")),
+        (Codec::Base64Url, "PDw_Pz4-", Some("<<??>>")),
+        (Codec::Base64Url, "invalid!", None),
+        (Codec::Base32, "MZXW6YTBOI======", Some("foobar")),
+        (Codec::Base32, "189!!!", None),
+        (Codec::Base32Hex, "CPNMUOJ1E8======", Some("foobar")),
+        (Codec::Base32Hex, "XYZ!!!", None),
+        (Codec::Base16, "666F6F626172", Some("foobar")),
+        (Codec::Base16, "666f6f626172", Some("foobar")),
+        (Codec::Base16, "666F6f626172", Some("foobar")),
+        (Codec::Base16, "666F6f", Some("foo")),
+        (Codec::Base16, "\u{FB00}", None),
+        (Codec::Base16, "GHIJ", None),
+    ] {
+        let decoded = decode_by_name(codec, alloc, text)?;
+        assert!(rt; decoded.as_deref() == expected, "{text}");
+    }
+    Ok(())
+}
+
+fn decode_by_name(codec: Codec, alloc: Global, text: &str) -> Result<Option<String>, DecodeError> {
+    match codec {
+        Codec::Base64 => from_base64(alloc, text),
+        Codec::Base64Url => from_base64url(alloc, text),
+        Codec::Base32 => from_base32(alloc, text),
+        Codec::Base32Hex => from_base32hex(alloc, text),
+        Codec::Base16 => from_base16(alloc, text),
+    }
+}
+
+#[test]
+fn bytes_that_are_not_utf8(rt: HostRuntime) -> Result<(), Fail> {
+    let alloc = rt.alloc();
+    assert!(rt; matches!(from_base64(alloc, "//4="), Err(DecodeError::NotUtf8)));
+    assert!(rt; is_base64(alloc, "//4=")?);
+    assert!(rt; matches!(from_base64url(alloc, "__4="), Err(DecodeError::NotUtf8)));
+    assert!(rt; matches!(from_base32(alloc, "74======"), Err(DecodeError::NotUtf8)));
+    assert!(rt; is_base32(alloc, "74======")?);
+    assert!(rt; matches!(from_base32hex(alloc, "VS======"), Err(DecodeError::NotUtf8)));
+    assert!(rt; matches!(from_base16(alloc, "FF"), Err(DecodeError::NotUtf8)));
+    Ok(())
+}
+
+// All 64 letters, in the order of their values: "AAA" and a letter of the value v stand for two bytes of 0
+// and the byte v, which is ASCII.
+#[test]
+fn all_letters_of_base64(rt: HostRuntime) -> Result<(), Fail> {
+    let alloc = rt.alloc();
+    let standard = "ABCDEFGHIJKLMNOPQRSTUVWXYZabcdefghijklmnopqrstuvwxyz0123456789+/";
+    let url_safe = "ABCDEFGHIJKLMNOPQRSTUVWXYZabcdefghijklmnopqrstuvwxyz0123456789-_";
+    for (codec, letters) in [(Codec::Base64, standard), (Codec::Base64Url, url_safe)] {
+        let mut value = 0u8;
+        for letter in letters.chars() {
+            let text = format!(in alloc; "AAA{letter}")?;
+            let read = codec
+                .decode(alloc, text.as_str())?
+                .unwrap_or(String::new(alloc));
+            assert!(rt; read.as_bytes() == [0, 0, value].as_slice(), "{text}");
+            value = value.wrapping_add(1);
+        }
+        assert!(rt; value == 64);
+    }
+    Ok(())
+}
+
+#[test]
+fn names(rt: HostRuntime) {
+    for (name, expected) in [
+        ("base64", Some(Codec::Base64)),
+        ("base64url", Some(Codec::Base64Url)),
+        ("base32", Some(Codec::Base32)),
+        ("base32hex", Some(Codec::Base32Hex)),
+        ("base16", Some(Codec::Base16)),
+        ("Base64", None),
+        ("base64 ", None),
+        ("quoted-printable", None),
+        ("", None),
+    ] {
+        assert!(rt; Codec::by_name(name) == expected, "{name}");
+    }
+    assert!(rt; BuiltinMediaType::by_name("application/json") == Some(BuiltinMediaType::Json));
+    for name in ["application/JSON", "application/xml", ""] {
+        assert!(rt; BuiltinMediaType::by_name(name).is_none(), "{name}");
+    }
+}
+
+// Want of memory by its own name, or the answer with ample memory.
+fn is_refused_or(answer: Result<bool, AllocError>, ample: bool) -> bool {
+    match answer {
+        Ok(answer) => answer == ample,
+        Err(AllocError) => true,
+    }
+}
+
+fn is_refused_or_text(answer: Result<Option<String>, DecodeError>, ample: Option<&str>) -> bool {
+    match answer {
+        Ok(Some(text)) => Some(text.as_str()) == ample,
+        Ok(None) => ample.is_none(),
+        Err(error) => error == DecodeError::Memory,
+    }
+}
+
+#[test]
+fn checks_under_refusal(rt: HostRuntime) {
+    let alloc = rt.alloc();
+    assert!(rt; is_refused_or(is_base64(alloc, "Zm9v"), true));
+    assert!(rt; is_refused_or(is_base64(alloc, "Zh=="), false));
+    assert!(rt; is_refused_or(is_base64url(alloc, "PDw_Pz4-"), true));
+    assert!(rt; matches!(is_base32(alloc, "MZXW6YTB"), Ok(true)));
+    assert!(rt; matches!(is_base32hex(alloc, "CPNMUOJ1"), Ok(true)));
+    assert!(rt; matches!(is_base16(alloc, "666F6F"), Ok(true)));
+    for (text, ample) in [("{\"a\":[1,\"x\"]}", true), ("[1,", false)] {
+        assert!(rt; is_refused_or(is_json(alloc, text), ample), "{text}");
+        assert!(rt;
+            is_refused_or(BuiltinMediaType::Json.accepts(alloc, text), ample),
+            "{text}"
+        );
+    }
+}
+
+#[test]
+fn decoders_under_refusal(rt: HostRuntime) {
+    let alloc = rt.alloc();
+    assert!(rt; is_refused_or_text(from_base64(alloc, "Zm9v"), Some("foo")));
+    assert!(rt; is_refused_or_text(from_base64(alloc, "Zh=="), None));
+    assert!(rt; is_refused_or_text(from_base64url(alloc, "PDw_Pz4-"), Some("<<??>>")));
+    assert!(rt; is_refused_or_text(from_base32(alloc, "MZXW6YTBOI======"), Some("foobar")));
+    assert!(rt; is_refused_or_text(from_base32(alloc, "MY=====M"), None));
+    assert!(rt; is_refused_or_text(from_base32hex(alloc, "CPNMUOJ1E8======"), Some("foobar")));
+    assert!(rt; is_refused_or_text(from_base16(alloc, "666F6f"), Some("foo")));
+}
