@@ -1,0 +1,9 @@
+pub mod Items
+pub mod Runs
+pub mod Alternatives
+pub mod Analyses
+pub mod Texts
+pub mod Trees
+pub mod Matching
+pub mod Searches
+pub mod Examples

@@ -1,0 +1,7 @@
+pub mod Whitespace
+pub mod Literal
+pub mod Search
+pub mod Reading
+pub mod Analysis
+pub mod Engine
+pub mod Matcher
