@@ -1,0 +1,2 @@
+mod CharStarts
+mod Escaping

@@ -1,0 +1,23 @@
+//! What the string keywords of JSON Schema report: the drafts, the places in a document, the errors of an instance
+//! and the refusals of a schema object, each with its exact text, and the node that an instance is.
+//! Contracts see a place as its JSON Pointer and an error as one record of what it says; all texts are UTF-8.
+#![tactic(auto)]
+
+mod draft;
+mod error;
+mod evaluation;
+mod fraction;
+pub mod laws;
+mod location;
+mod node;
+mod refusal;
+#[cfg(test)]
+mod tests;
+
+pub use draft::Draft;
+pub use error::{ErrorKind, Site, ValidationError, error_at};
+pub use evaluation::EvaluationResult;
+pub use fraction::holds_fraction;
+pub use location::Location;
+pub use node::{Node, char_count};
+pub use refusal::{CompileError, CompileErrorKind};

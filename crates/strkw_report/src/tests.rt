@@ -1,0 +1,424 @@
+use crate::{
+    CompileError, CompileErrorKind, Draft, ErrorKind, EvaluationResult, Location, Node, Site,
+    ValidationError, char_count, error_at, holds_fraction,
+};
+use serde_json::{Error, Value};
+use std::alloc::{AllocError, Global};
+use std::test::Fail;
+
+fn root_site(alloc: Global) -> Site {
+    Site {
+        evaluation: Location::root(alloc),
+        instance: Location::root(alloc),
+    }
+}
+
+// ---- texts
+
+// An error's kind, with a borrowed name.
+#[derive(Clone, Copy)]
+enum Fault {
+    MinLength(u64),
+    MaxLength(u64),
+    Pattern(&'static str),
+    BacktrackLimitExceeded(&'static str),
+    RegexEngineFailure(&'static str),
+    Format(&'static str),
+    ContentEncoding(&'static str),
+    ContentMediaType(&'static str),
+    FromUtf8,
+}
+
+fn owned(alloc: Global, text: &str) -> Result<String, AllocError> {
+    String::from_str(alloc, text)
+}
+
+fn kind(alloc: Global, fault: Fault) -> Result<ErrorKind, AllocError> {
+    match fault {
+        Fault::MinLength(limit) => Ok(ErrorKind::MinLength { limit }),
+        Fault::MaxLength(limit) => Ok(ErrorKind::MaxLength { limit }),
+        Fault::Pattern(it) => Ok(ErrorKind::Pattern {
+            pattern: owned(alloc, it)?,
+        }),
+        Fault::BacktrackLimitExceeded(it) => {
+            Ok(ErrorKind::BacktrackLimitExceeded {
+                pattern: owned(alloc, it)?,
+            })
+        }
+        Fault::RegexEngineFailure(it) => {
+            Ok(ErrorKind::RegexEngineFailure {
+                pattern: owned(alloc, it)?,
+            })
+        }
+        Fault::Format(it) => Ok(ErrorKind::Format {
+            format: owned(alloc, it)?,
+        }),
+        Fault::ContentEncoding(it) => Ok(ErrorKind::ContentEncoding {
+            name: owned(alloc, it)?,
+        }),
+        Fault::ContentMediaType(it) => Ok(ErrorKind::ContentMediaType {
+            name: owned(alloc, it)?,
+        }),
+        Fault::FromUtf8 => Ok(ErrorKind::FromUtf8),
+    }
+}
+
+// What a text fails at, the text, and what is said.
+const ERRORS: [(Fault, &str, &str); 14] = [
+    (
+        Fault::MinLength(5),
+        "abcd",
+        "\"abcd\" is shorter than 5 characters",
+    ),
+    (Fault::MinLength(1), "", "\"\" is shorter than 1 character"),
+    (
+        Fault::MaxLength(3),
+        "abcd",
+        "\"abcd\" is longer than 3 characters",
+    ),
+    (
+        Fault::MaxLength(1),
+        "a\"b",
+        "\"a\\\"b\" is longer than 1 character",
+    ),
+    (
+        Fault::MaxLength(0),
+        "é",
+        "\"é\" is longer than 0 characters",
+    ),
+    (
+        Fault::MinLength(u64::MAX),
+        "\n",
+        "\"\\n\" is shorter than 18446744073709551615 characters",
+    ),
+    (
+        Fault::Pattern("^foo"),
+        "barfoo",
+        "\"barfoo\" does not match \"^foo\"",
+    ),
+    (
+        Fault::Pattern("^\"\\"),
+        "x",
+        "\"x\" does not match \"^\"\\\"",
+    ),
+    (
+        Fault::BacktrackLimitExceeded("a+"),
+        "x",
+        "Error executing regex: Max limit for backtracking count exceeded",
+    ),
+    (
+        Fault::RegexEngineFailure("a+"),
+        "x",
+        "Regex engine failed to evaluate pattern 'a+'",
+    ),
+    (Fault::Format("date"), "abcd", "\"abcd\" is not a \"date\""),
+    (
+        Fault::ContentEncoding("base64"),
+        "{}",
+        "\"{}\" is not compliant with \"base64\" content encoding",
+    ),
+    (
+        Fault::ContentMediaType("application/json"),
+        "ezp9Cg==",
+        "\"ezp9Cg==\" is not compliant with \"application/json\" media type",
+    ),
+    (
+        Fault::FromUtf8,
+        "//4=",
+        "\"//4=\" does not decode to UTF-8 text",
+    ),
+];
+
+// The text of an error at the root.
+fn said(alloc: Global, fault: Fault, text: &str) -> Result<String, AllocError> {
+    let kind = kind(alloc, fault)?;
+    let location = Location::root(alloc);
+    error_at(alloc, kind, "k", text, &location, &None, &root_site(alloc))?.text(alloc)
+}
+
+#[test]
+fn texts_of_errors(rt: HostRuntime) -> Result<(), Fail> {
+    for (fault, text, want) in ERRORS {
+        assert_eq!(rt; said(rt.alloc(), fault, text)?.as_str(), want);
+    }
+    Ok(())
+}
+
+#[test]
+fn texts_of_errors_under_refusal(rt: HostRuntime) {
+    for (fault, text, want) in ERRORS {
+        if let Ok(said) = said(rt.alloc(), fault, text) {
+            assert_eq!(rt; said.as_str(), want);
+        }
+    }
+}
+
+// A refusal's kind, with a borrowed name, or the JSON text of a value that is to be a string.
+#[derive(Clone, Copy)]
+enum Why {
+    NotString(&'static str),
+    Size,
+    UnknownFormat(&'static str, bool),
+    Regex(&'static str),
+    FractionalNumber,
+    Memory,
+}
+
+// What is said of a refusal at the root.
+fn explained(alloc: Global, why: Why) -> Result<String, Error> {
+    let kind = match why {
+        Why::NotString(json) => CompileErrorKind::NotString {
+            value: Value::from_str(alloc, json)?,
+        },
+        Why::Size => CompileErrorKind::Size,
+        Why::UnknownFormat(it, by_dialect) => CompileErrorKind::UnknownFormat {
+            name: owned(alloc, it)?,
+            by_dialect,
+        },
+        Why::Regex(it) => CompileErrorKind::Regex {
+            pattern: owned(alloc, it)?,
+        },
+        Why::FractionalNumber => CompileErrorKind::FractionalNumber,
+        Why::Memory => CompileErrorKind::Memory,
+    };
+    let location = Location::root(alloc);
+    let refusal = CompileError { kind, location };
+    Ok(refusal.text(alloc)?)
+}
+
+const REFUSALS: [(Why, &str); 13] = [
+    (Why::NotString("5"), "5 is not of type \"string\""),
+    (
+        Why::NotString("18446744073709551615"),
+        "18446744073709551615 is not of type \"string\"",
+    ),
+    (
+        Why::NotString("-9223372036854775808"),
+        "-9223372036854775808 is not of type \"string\"",
+    ),
+    (Why::NotString("null"), "null is not of type \"string\""),
+    (
+        Why::NotString("[ true, \"é\" ]"),
+        "[true,\"é\"] is not of type \"string\"",
+    ),
+    (
+        Why::NotString("{ \"b\": 1, \"a\": {} }"),
+        "{\"a\":{},\"b\":1} is not of type \"string\"",
+    ),
+    (
+        Why::Size,
+        "the limit is not a non-negative whole number of 64 bits",
+    ),
+    (
+        Why::UnknownFormat("custom", false),
+        "Unknown format: 'custom'. Adjust configuration to ignore unrecognized formats",
+    ),
+    (
+        Why::UnknownFormat("custom", true),
+        "Unknown format: 'custom'. The meta-schema asserts formats, so unrecognized ones cannot be ignored. Register a check for it or disable format validation",
+    ),
+    (Why::Regex("a+"), "\"a+\" is not a \"regex\""),
+    (Why::Regex("\"\\"), "\"\\\"\\\\\" is not a \"regex\""),
+    (
+        Why::FractionalNumber,
+        "the value holds a number that is no whole number of 64 bits",
+    ),
+    (Why::Memory, "out of memory"),
+];
+
+#[test]
+fn texts_of_refusals(rt: HostRuntime) -> Result<(), Fail> {
+    for (why, want) in REFUSALS {
+        assert_eq!(rt; explained(rt.alloc(), why)?.as_str(), want);
+    }
+    Ok(())
+}
+
+#[test]
+fn texts_of_refusals_under_refusal(rt: HostRuntime) {
+    for (why, want) in REFUSALS {
+        if let Ok(said) = explained(rt.alloc(), why) {
+            assert_eq!(rt; said.as_str(), want);
+        }
+    }
+}
+
+// ---- places
+
+// The segments of a place, and its pointer; the first ten are those of RFC 6901, section 5.
+const PLACES: [(&[&str], &str); 16] = [
+    (&[], ""),
+    (&["foo"], "/foo"),
+    (&["foo", "0"], "/foo/0"),
+    (&[""], "/"),
+    (&["a/b"], "/a~1b"),
+    (&["c%d"], "/c%d"),
+    (&["i\\j"], "/i\\j"),
+    (&["k\"l"], "/k\"l"),
+    (&[" "], "/ "),
+    (&["m~n"], "/m~0n"),
+    (&["foo", "", "bar"], "/foo//bar"),
+    (&["f~o", "b/r"], "/f~0o/b~1r"),
+    (&["~1"], "/~01"),
+    (&["~/~/"], "/~0~1~0~1"),
+    (&["é", "𝄞"], "/é/𝄞"),
+    (&["é/~𝄞"], "/é~1~0𝄞"),
+];
+
+#[test]
+fn pointers_of_places(rt: HostRuntime) -> Result<(), Fail> {
+    for (segments, want) in PLACES {
+        let mut place = Location::root(rt.alloc());
+        for segment in segments {
+            place = place.join(segment)?;
+        }
+        assert_eq!(rt; place.as_str(), want);
+        assert_eq!(rt; place.clone()?.as_str(), want);
+    }
+    Ok(())
+}
+
+// ---- errors
+
+// An error of an item of an array, with an absolute prefix.
+fn error_of_an_item(alloc: Global) -> Result<ValidationError, AllocError> {
+    let evaluation = Location::root(alloc).join("a/b")?;
+    let instance = Location::root(alloc).join("0")?;
+    let prefix = Some(owned(alloc, "https://example.com/s.json")?);
+    error_at(
+        alloc,
+        ErrorKind::MinLength { limit: 20 },
+        "minLength",
+        "secretvalue",
+        &Location::root(alloc),
+        &prefix,
+        &Site {
+            evaluation,
+            instance,
+        },
+    )
+}
+
+#[test]
+fn fields_of_an_error(rt: HostRuntime) -> Result<(), Fail> {
+    let error = error_of_an_item(rt.alloc())?;
+    assert!(rt; matches!(error.kind, ErrorKind::MinLength { limit: 20 }));
+    assert_eq!(rt; error.instance.as_str(), Some("secretvalue"));
+    assert_eq!(rt; error.schema_path.as_str(), "/minLength");
+    assert_eq!(rt; error.evaluation_path.as_str(), "/a~1b/minLength");
+    assert_eq!(rt; error.instance_path.as_str(), "/0");
+    let absolute = error.absolute.as_ref().map(String::as_str);
+    assert_eq!(rt; absolute, Some("https://example.com/s.json#/minLength"));
+    Ok(())
+}
+
+#[test]
+fn result_of_an_evaluation(rt: HostRuntime) -> Result<(), Fail> {
+    let result = EvaluationResult {
+        errors: Vec::new(rt.alloc()),
+        annotation: Some(Value::try_from_str(rt.alloc(), "date")?),
+    };
+    assert!(rt; result.errors.is_empty());
+    assert_eq!(rt;
+        result.annotation.as_ref().and_then(Value::as_str),
+        Some("date")
+    );
+    Ok(())
+}
+
+// ---- nodes
+
+// A JSON text, and the text that it is with its number of characters, or none.
+const NODES: [(&str, Option<(&str, u64)>); 10] = [
+    ("\"abcd\"", Some(("abcd", 4))),
+    ("\"\"", Some(("", 0))),
+    ("\"héllo\"", Some(("héllo", 5))),
+    ("\"aé€𝄞\"", Some(("aé€𝄞", 4))),
+    ("\"\\ud834\\udd1e\"", Some(("𝄞", 1))),
+    ("5", None),
+    ("null", None),
+    ("true", None),
+    ("[\"a\"]", None),
+    ("{\"a\":\"a\"}", None),
+];
+
+fn text_and_length<N: Node>(node: &N) -> (Option<&str>, Option<u64>) {
+    (node.as_text(), node.text_length())
+}
+
+#[test]
+fn nodes_of_values(rt: HostRuntime) -> Result<(), Fail> {
+    for (json, want) in NODES {
+        let value = Value::from_str(rt.alloc(), json)?;
+        let (text, length) = text_and_length(&value);
+        assert_eq!(rt; text, want.map(|it| it.0), "{json}");
+        assert_eq!(rt; length, want.map(|it| it.1), "{json}");
+    }
+    assert_eq!(rt; char_count("héllo"), 5);
+    Ok(())
+}
+
+// A JSON text, and whether it holds a number that is kept neither as a `u64` nor as an `i64`.
+const FRACTIONS: [(&str, bool); 13] = [
+    ("1.5", true),
+    ("2.0", true),
+    ("2e0", true),
+    ("-0", true),
+    ("18446744073709551615", false),
+    ("18446744073709551616", true),
+    ("-9223372036854775808", false),
+    ("-9223372036854775809", true),
+    ("\"1.5\"", false),
+    ("{\"1.5\":[null,true,{}]}", false),
+    ("[1,[2,[3,[]]]]", false),
+    ("{\"a\":[1,{\"b\":1.5}]}", true),
+    ("[[[0.5],1],2]", true),
+];
+
+#[test]
+fn fractions(rt: HostRuntime) -> Result<(), Fail> {
+    for (json, want) in FRACTIONS {
+        let value = Value::from_str(rt.alloc(), json)?;
+        assert_eq!(rt; holds_fraction(&value), want, "{json}");
+    }
+    Ok(())
+}
+
+// ---- drafts
+
+const DRAFTS: [Draft; 5] = [
+    Draft::Draft4,
+    Draft::Draft6,
+    Draft::Draft7,
+    Draft::Draft201909,
+    Draft::Draft202012,
+];
+
+#[test]
+fn order_of_drafts(rt: HostRuntime) -> Result<(), Fail> {
+    for (i, a) in DRAFTS.iter().enumerate() {
+        for (j, b) in DRAFTS.iter().enumerate() {
+            assert_eq!(rt; *a == *b, i == j);
+            assert_eq!(rt; *a < *b, i < j);
+            assert!(rt; a.cmp(b) == i.cmp(&j));
+        }
+        assert!(rt; a.clone()? == *a);
+    }
+    Ok(())
+}
+
+// ---- where growth is refused
+
+#[test]
+fn places_under_refusal(rt: HostRuntime) {
+    let root = Location::root(rt.alloc());
+    for (segment, want) in [("minLength", "/minLength"), ("a/b~é", "/a~1b~0é")] {
+        let Ok(place) = root.join(segment) else {
+            continue;
+        };
+        assert_eq!(rt; place.as_str(), want);
+        if let Ok(copy) = place.clone() {
+            assert_eq!(rt; copy.as_str(), want);
+        }
+    }
+}
