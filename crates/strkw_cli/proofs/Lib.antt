@@ -1,0 +1,9 @@
+pub mod Results
+pub mod Reports
+pub mod Entries
+pub mod Meaning
+pub mod MoveLemmas
+pub mod LineLemmas
+pub mod AnswerLemmas
+pub mod OutcomeLemmas
+pub mod RunLemmas

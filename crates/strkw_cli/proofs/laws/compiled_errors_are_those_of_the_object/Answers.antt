@@ -1,0 +1,5 @@
+use Rattle.strkw_cli.proofs.Meaning.{compiled_errors}
+use Rattle.strkw_cli.proofs.laws.compiled_errors_are_those_of_the_object.Goals as goal
+
+pub returns : goal.returns
+returns c = compiled_errors

@@ -1,0 +1,80 @@
+use Rattle.std.proofs.Common.{◌≡◌, ℕ, ◌+◌, ◌-◌, ◌++◌, List, Some, None, Result, Ok, Err, OnOk, OnErr, is_ok, cond, position, take, drop, arith, sym, ap, ◌∙◌, append-nil, refl, subst, append_assoc, []}
+use Rattle.std.proofs.lemmas.List.{take_rest}
+use Rattle.strkw_cli.specs.Lines.{is_line_feed, ended_lines, last_part}
+use Rattle.strkw_cli.specs.Answer.{AreAnswers, IsAnswer}
+use Rattle.strkw_cli.proofs.AnswerLemmas.{ends_line, goes_on, some_answered, none_ended, one_more}
+use Rattle.strkw_cli.proofs.running.answer_piece.Goals as goal
+use Rattle.strkw_cli.proofs.running.answer_piece.Goals.{In-Some}
+
+always_on_ok : {T E P : Type 0} (r : Result T E) → P → OnOk r P
+always_on_ok (Ok x) p = p
+always_on_ok (Err e) p = tt
+
+always_on_err : {T E P : Type 0} (r : Result T E) → P → OnErr r P
+always_on_err (Ok x) p = tt
+always_on_err (Err e) p = p
+
+-- what an extension leaves, where it succeeds
+extended : {T E : Type 0} (r : Result T E) (new old more whole : List ℕ) → new ≡ cond (is_ok r) (old ++ more) old → old ++ more ≡ whole → OnOk r (new ≡ whole)
+extended (Ok x) new old more whole is e = is ∙ e
+extended (Err x) new old more whole is e = tt
+
+pub loop-offset-init : goal.loop-offset-init
+loop-offset-init c =
+    let start = append-nil c.args.line.now.items in
+    record {
+      within = omega arith;
+      begun = sym (ap last_part start ∙ c.requires);
+      answered = ([], sym (append-nil c.args.out.now.items), rw (start, none_ended c.args.line.now.items c.requires) refl);
+    }
+
+pub returns-in_err-extend_from_slice-clause-err : goal.returns-in_err-extend_from_slice-clause-err
+returns-in_err-extend_from_slice-clause-err c = always_on_err c.from_residual.result
+    (c.loop-offset.invariant.answered.0, c.loop-offset.invariant.answered.1, some_answered c.args.line.now.items c.args.piece.now c.loop-offset.at c.loop-offset.invariant.answered.0 c.loop-offset.invariant.answered.2)
+
+pub returns-in_err-answer-clause-err : goal.returns-in_err-answer-clause-err
+returns-in_err-answer-clause-err c = always_on_err c.from_residual-in_err-answer.result
+    (c.loop-offset.invariant.answered.0, c.in_err-answer.ensures.err ∙ c.loop-offset.invariant.answered.1, some_answered c.args.line.now.items c.args.piece.now c.loop-offset.at c.loop-offset.invariant.answered.0 c.loop-offset.invariant.answered.2)
+
+pub loop-offset-preserved : goal.loop-offset-preserved
+loop-offset-preserved c =
+    let start = c.args.line.now.items in
+    let piece = c.args.piece.now in
+    let at = c.loop-offset.at in
+    let offset = c.in-Some.offset in
+    let found : position is_line_feed (drop at piece) ≡ Some offset = ap (position is_line_feed) (sym (take_rest piece at)) ∙ sym c.find_line_feed.ensures ∙ c.in-Some.is in
+    let line = ends_line start piece at offset found in
+    let count : at + offset - at ≡ offset = omega arith in
+    let whole : c.deref.result.now ≡ last_part (start ++ take at piece) ++ take offset (drop at piece) =
+    c.deref.ensures.value ∙ c.in_ok-extend_from_slice.ensures.items ∙ ap (λ x. x ++ take (at + offset - at) (drop at piece)) c.loop-offset.invariant.begun
+    ∙ ap (λ n. last_part (start ++ take at piece) ++ take n (drop at piece)) count in
+    let (made, is, are) = c.loop-offset.invariant.answered in
+    let (answer, answer_is, answered) = c.in_ok-answer.ensures.ok in
+    record {
+      within = omega (arith, line.within);
+      begun = c.clear.ensures.items ∙ sym line.begun;
+      answered = (
+        made ++ answer,
+        answer_is ∙ ap (λ x. x ++ answer) is ∙ append_assoc c.args.out.now.items made answer,
+        subst (λ x. AreAnswers x (made ++ answer)) (sym line.ended) (one_more (ended_lines (start ++ take at piece)) made _ answer are (subst (λ x. IsAnswer x answer) whole answered)),
+      );
+    }
+
+no_more : (c : goal.After-extend_from_slice-2) → position is_line_feed (drop c.loop-offset.at c.args.piece.now) ≡ None
+no_more c = ap (position is_line_feed) (sym (take_rest c.args.piece.now c.loop-offset.at)) ∙ sym c.find_line_feed.ensures ∙ c.in_default.is
+
+pub returns-clause-answered : goal.returns-clause-answered
+returns-clause-answered c =
+    let on = goes_on c.args.line.now.items c.args.piece.now c.loop-offset.at (no_more c) in
+    let (made, is, are) = c.loop-offset.invariant.answered in
+    always_on_ok c.extend_from_slice-2.result (made, is, subst (λ x. AreAnswers x made) (sym on.0) are)
+
+pub returns-clause-begun : goal.returns-clause-begun
+returns-clause-begun c =
+    let on = goes_on c.args.line.now.items c.args.piece.now c.loop-offset.at (no_more c) in
+    extended c.extend_from_slice-2.result c.extend_from_slice-2.new.self.items c.loop-offset.line.items _ _ c.extend_from_slice-2.ensures.items
+    (ap (λ x. c.loop-offset.line.items ++ x) (take_rest c.args.piece.now c.loop-offset.at) ∙ ap (λ x. x ++ drop c.loop-offset.at c.args.piece.now) c.loop-offset.invariant.begun ∙ sym on.1)
+
+pub returns-clause-err : goal.returns-clause-err
+returns-clause-err c = always_on_err c.extend_from_slice-2.result
+    (c.loop-offset.invariant.answered.0, c.loop-offset.invariant.answered.1, some_answered c.args.line.now.items c.args.piece.now c.loop-offset.at c.loop-offset.invariant.answered.0 c.loop-offset.invariant.answered.2)

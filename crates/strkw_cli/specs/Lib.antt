@@ -1,0 +1,15 @@
+pub mod Keywords
+pub mod Settings
+pub mod Formats
+pub mod Assertions
+pub mod Object
+pub mod Compiled
+pub mod Met
+pub mod Request
+pub mod Borrowed
+pub mod Printed
+pub mod Answer
+pub mod Lines
+pub mod Outcome
+pub mod Serving
+pub mod Faults

@@ -1,0 +1,51 @@
+//! What bytes are read from, and what they are written to.
+
+ghost use Rattle.std.specs.Prelude.{◌≡◌, ℕ, ◌<◌, ◌≤◌, List, Bool, Option, true, length, IfOk, OnOk, OnErr};
+ghost use Rattle.std.specs.Io.KnownBytes.{ReadConsumes, WriteAppends};
+
+/// A source or a sink has failed. The call that answers it moved no byte.
+#[derive(Clone, Copy, Debug, PartialEq, Eq)]
+pub struct DeviceFailed;
+
+/// What bytes are read from.
+pub trait Source {
+    /// The bytes that are left, where the source tells them.
+    ghost left: { Self → Option (List ℕ) };
+
+    /// Whether a read has failed.
+    ghost has_failed: { Self → Bool };
+
+    /// Moves bytes to the front of the buffer and answers their number: for a buffer with room, none only
+    /// at the end. An `Err` moves none.
+    fn read(&mut self, buffer: &mut [u8]) -> Result<usize, DeviceFailed>
+        ensures count { IfOk result (λ count. count ≤ length buffer.new) }
+        ensures moved { ReadConsumes (left self.old) (left self.new) result buffer.new }
+        ensures ok { OnOk result (has_failed self.new ≡ has_failed self.old) }
+        ensures err { OnErr result (has_failed self.new ≡ true) };
+
+    /// Whether a read has failed.
+    fn has_failed(&self) -> bool
+        ensures { result ≡ has_failed self.now };
+}
+
+/// What bytes are written to.
+pub trait Sink {
+    /// The bytes that were taken, where the sink tells them.
+    ghost taken: { Self → Option (List ℕ) };
+
+    /// Whether a write has failed.
+    ghost has_failed: { Self → Bool };
+
+    /// Takes bytes from the front, at least one where there is one, and answers their number. An `Err`
+    /// takes none.
+    fn write(&mut self, bytes: &[u8]) -> Result<usize, DeviceFailed>
+        ensures count { IfOk result (λ count. count ≤ length bytes.now) }
+        ensures some { IfOk result (λ count. 0 < length bytes.now → 0 < count) }
+        ensures moved { WriteAppends (taken self.old) (taken self.new) result bytes.now }
+        ensures ok { OnOk result (has_failed self.new ≡ has_failed self.old) }
+        ensures err { OnErr result (has_failed self.new ≡ true) };
+
+    /// Whether a write has failed.
+    fn has_failed(&self) -> bool
+        ensures { result ≡ has_failed self.now };
+}

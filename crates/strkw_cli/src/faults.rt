@@ -1,0 +1,43 @@
+//! Why a run ended before the end of its input.
+
+ghost use Rattle.std.specs.Prelude.{◌≡◌, codes};
+ghost use Rattle.strkw_cli.specs.declared.faults.RunFault.TheVariants.{Memory};
+ghost use Rattle.strkw_cli.specs.Faults.{fault_text};
+
+use std::alloc::AllocError;
+
+/// Why a run ended before it had answered all of its input.
+#[derive(Clone, Copy, Debug, PartialEq, Eq)]
+pub enum RunFault {
+    /// The source failed.
+    Read,
+    /// The sink failed.
+    Write,
+    /// A growth was refused.
+    Memory,
+    /// As many reads as a `u64` counts each gave bytes.
+    TooLong,
+}
+
+impl RunFault {
+    /// What is said of the fault: `strkw: read failed`, `strkw: write failed`, `strkw: out of memory` or
+    /// `strkw: input too long`.
+    pub fn text(&self) -> &'static str
+        ensures { result.now ≡ fault_text self.now }
+    {
+        match self {
+            RunFault::Read => "strkw: read failed",
+            RunFault::Write => "strkw: write failed",
+            RunFault::Memory => "strkw: out of memory",
+            RunFault::TooLong => "strkw: input too long",
+        }
+    }
+}
+
+impl From<AllocError> for RunFault {
+    ghost from_gives = { λ _ e. e ≡ Memory };
+
+    fn from(_e: AllocError) -> RunFault {
+        RunFault::Memory
+    }
+}

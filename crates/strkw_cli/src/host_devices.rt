@@ -1,0 +1,117 @@
+//! Devices of the host. They tell none of their bytes.
+
+ghost use Rattle.std.specs.Prelude.{◌≡◌, ◌<◌, ◌≤◌, None, IfSome, IfOk, OnOk, OnErr, true, false, length, take};
+ghost use Rattle.std.specs.Io.KnownBytes.{Appends, ReadConsumes, WriteAppends};
+
+use super::devices::{DeviceFailed, Sink, Source};
+use std::io::{Read, Write};
+
+/// A reader of the host. It tells none of its bytes. Any error of the reader is a failure, an interrupted read too.
+#[derive(Drop)]
+pub struct HostSource<R: Read> {
+    reader: R,
+    failed: bool,
+}
+
+impl<R: Read> HostSource<R> {
+    /// A reader that has not failed.
+    pub fn new(reader: R) -> Self
+        ensures { ⟦<HostSource<R> as Source>⟧.has_failed result ≡ false }
+    {
+        HostSource {
+            reader,
+            failed: false,
+        }
+    }
+}
+
+impl<R: Read> Source for HostSource<R> {
+    ghost left = { λ _. None };
+
+    ghost has_failed = { λ source. source.failed };
+
+    fn read(&mut self, buffer: &mut [u8]) -> Result<usize, DeviceFailed>
+        ensures count { IfOk result (λ count. count ≤ length buffer.new) }
+        ensures moved { ReadConsumes None None result buffer.new }
+        ensures ok { OnOk result (self.new.failed ≡ self.old.failed) }
+        ensures err { OnErr result (self.new.failed ≡ true) }
+        // Where the reader tells its bytes, they are the ones that were read.
+        ensures reader { ReadConsumes (R.remaining self.old.reader) (R.remaining self.new.reader) result buffer.new }
+    {
+        match self.reader.read(buffer) {
+            Ok(count) => Ok(count),
+            Err(_) => {
+                self.failed = true;
+                Err(DeviceFailed)
+            }
+        }
+    }
+
+    fn has_failed(&self) -> bool {
+        self.failed
+    }
+}
+
+/// A writer of the host, flushed after each write. It tells none of its bytes. A failure is an error of the writer, a
+/// write that takes none of some bytes, or a flush that fails.
+#[derive(Drop)]
+pub struct HostSink<W: Write> {
+    writer: W,
+    failed: bool,
+}
+
+impl<W: Write> HostSink<W> {
+    /// A writer that has not failed.
+    pub fn new(writer: W) -> Self
+        ensures { ⟦<HostSink<W> as Sink>⟧.has_failed result ≡ false }
+    {
+        HostSink {
+            writer,
+            failed: false,
+        }
+    }
+
+    // Writes and flushes. A write that takes no byte of some is refused.
+    fn write_through(&mut self, bytes: &[u8]) -> Option<usize>
+        ensures count { IfSome result (λ count. count ≤ length bytes.now) }
+        ensures some { IfSome result (λ count. 0 < length bytes.now → 0 < count) }
+        ensures failed { self.new.failed ≡ self.old.failed }
+        ensures writer { IfSome result (λ count. Appends (W.contents self.old.writer) (W.contents self.new.writer) (take count bytes.now)) }
+    {
+        let count = self.writer.write(bytes).ok()?;
+        if count == 0 && !bytes.is_empty() {
+            return None;
+        }
+        self.writer.flush().ok()?;
+        Some(count)
+    }
+}
+
+impl<W: Write> Sink for HostSink<W> {
+    ghost taken = { λ _. None };
+
+    ghost has_failed = { λ sink. sink.failed };
+
+    fn write(&mut self, bytes: &[u8]) -> Result<usize, DeviceFailed>
+        ensures count { IfOk result (λ count. count ≤ length bytes.now) }
+        ensures some { IfOk result (λ count. 0 < length bytes.now → 0 < count) }
+        ensures moved { WriteAppends None None result bytes.now }
+        ensures ok { OnOk result (self.new.failed ≡ self.old.failed) }
+        ensures err { OnErr result (self.new.failed ≡ true) }
+        // Where the writer tells its bytes, the ones taken were appended.
+        ensures writer { IfOk result (λ count. Appends (W.contents self.old.writer) (W.contents self.new.writer) (take count bytes.now)) }
+    {
+        let count = self.write_through(bytes);
+        match count {
+            Some(count) => Ok(count),
+            None => {
+                self.failed = true;
+                Err(DeviceFailed)
+            }
+        }
+    }
+
+    fn has_failed(&self) -> bool {
+        self.failed
+    }
+}

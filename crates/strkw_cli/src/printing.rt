@@ -1,0 +1,116 @@
+//! The lines of an answer. Each call appends them, or a beginning of them where a growth is refused.
+
+ghost use Rattle.std.specs.Prelude.{◌≡◌, ℕ, List, ◌++◌, ◌≢◌, false, IsTrue, OnOk, OnErr, codes};
+ghost use Rattle.std.specs.List.{flat_map};
+ghost use Rattle.strkw_report.specs.Refusals.{refusal_of, reason_of, prints_float, memory};
+ghost use Rattle.strkw_cli.specs.Printed.{printed, line_of, error_line, refused_line, verdict_lines};
+
+use std::alloc::{AllocError, Global};
+use strkw_report::{CompileError, CompileErrorKind, ValidationError};
+
+/// Appends the answer to a line that is no request.
+pub(super) fn push_bad_request(out: &mut Vec<u8>) -> Result<(), AllocError>
+    ensures ok { OnOk result (out.new.items ≡ out.old.items ++ codes "bad request\nend\n") }
+    ensures err { OnErr result ((more : List ℕ) × (out.new.items ≡ out.old.items ++ more)) }
+{
+    out.extend_from_slice(b"bad request\nend\n")
+}
+
+/// Appends the lines of the errors, or `valid`, and the end.
+pub(super) fn push_verdict(
+    alloc: Global,
+    errors: &[ValidationError],
+    out: &mut Vec<u8>,
+) -> Result<(), AllocError>
+    ensures ok { OnOk result (out.new.items ≡ out.old.items ++ (verdict_lines errors.now ++ codes "end\n")) }
+    ensures err { OnErr result ((more : List ℕ) × (out.new.items ≡ out.old.items ++ more)) }
+{
+    if errors.is_empty() {
+        return out.extend_from_slice(b"valid\nend\n");
+    }
+    push_error_lines(alloc, errors, out)?;
+    out.extend_from_slice(b"end\n")
+}
+
+fn push_error_lines(
+    alloc: Global,
+    errors: &[ValidationError],
+    out: &mut Vec<u8>,
+) -> Result<(), AllocError>
+    ensures ok { OnOk result (out.new.items ≡ out.old.items ++ flat_map error_line errors.now) }
+    ensures err { OnErr result ((more : List ℕ) × (out.new.items ≡ out.old.items ++ more)) }
+{
+    for error in errors {
+        push_error_line(alloc, error, out)?;
+    }
+    Ok(())
+}
+
+fn push_error_line(
+    alloc: Global,
+    error: &ValidationError,
+    out: &mut Vec<u8>,
+) -> Result<(), AllocError>
+    ensures ok { OnOk result (out.new.items ≡ out.old.items ++ error_line error.now) }
+    ensures err { OnErr result ((more : List ℕ) × (out.new.items ≡ out.old.items ++ more)) }
+{
+    let text = error.text(alloc)?;
+    push_line("error", error.schema_path.as_str(), &text, out)
+}
+
+/// Appends the line of a refusal, and the end. Want of memory is no answer, and is passed on.
+pub(super) fn push_refusal(
+    alloc: Global,
+    refusal: &CompileError,
+    out: &mut Vec<u8>,
+) -> Result<(), AllocError>
+    requires { prints_float (reason_of refusal.now.kind) ≡ false }
+    ensures ok { OnOk result (out.new.items ≡ out.old.items ++ (refused_line (refusal_of refusal.now) ++ codes "end\n")) }
+    ensures memory { OnOk result (reason_of refusal.now.kind ≢ memory) }
+    ensures err { OnErr result ((more : List ℕ) × (out.new.items ≡ out.old.items ++ more)) }
+{
+    if matches!(refusal.kind, CompileErrorKind::Memory) {
+        return Err(AllocError);
+    }
+    let text = refusal.text(alloc)?;
+    push_line("refused", refusal.location.as_str(), &text, out)?;
+    out.extend_from_slice(b"end\n")
+}
+
+fn push_line(word: &str, place: &str, text: &str, out: &mut Vec<u8>) -> Result<(), AllocError>
+    ensures ok { OnOk result (out.new.items ≡ out.old.items ++ line_of word.now place.now text.now) }
+    ensures err { OnErr result ((more : List ℕ) × (out.new.items ≡ out.old.items ++ more)) }
+{
+    out.extend_from_slice(word.as_bytes())?;
+    out.extend_from_slice(b" ")?;
+    out.extend_from_slice(place.as_bytes())?;
+    out.extend_from_slice(b": ")?;
+    push_printed(text.as_bytes(), out)?;
+    out.extend_from_slice(b"\n")
+}
+
+// The text, with a space for each of its bytes below 32.
+fn push_printed(text: &[u8], out: &mut Vec<u8>) -> Result<(), AllocError>
+    ensures ok { OnOk result (out.new.items ≡ out.old.items ++ printed text.now) }
+    ensures err { OnErr result ((more : List ℕ) × (out.new.items ≡ out.old.items ++ more)) }
+{
+    if is_plain(text) {
+        return out.extend_from_slice(text);
+    }
+    for byte in text {
+        out.push(if *byte < 32 { 32 } else { *byte })?;
+    }
+    Ok(())
+}
+
+// Whether each byte is printed as it stands.
+fn is_plain(text: &[u8]) -> bool
+    ensures { IsTrue result → printed text.now ≡ text.now }
+{
+    for byte in text {
+        if *byte < 32 {
+            return false;
+        }
+    }
+    true
+}

@@ -1,0 +1,117 @@
+//! The request that a line is.
+
+ghost use Rattle.std.specs.Prelude.{◌≡◌, Option, Bool, option_map, option_and_then, IfOk};
+ghost use Rattle.std.specs.Str.{IsUtf8};
+ghost use Rattle.serde_json.specs.View.{view, members_view};
+ghost use Rattle.strkw_cli.specs.Request.{IsReading, draft_numbered, draft_in, flag_in, is_request_key, has_only_request_keys, request_in};
+ghost use Rattle.strkw_cli.specs.Borrowed.{request_view};
+
+use super::keywords::member;
+use serde_json::{Map, Value};
+use std::alloc::{AllocError, Global};
+use strkw_report::Draft;
+
+/// A request, inside the value of its line.
+#[derive(Drop)]
+pub struct Request<'a> {
+    pub draft: Draft,
+    pub schema: &'a Map<String, Value>,
+    pub instance: &'a Value,
+    pub validate_formats: Option<bool>,
+    pub ignore_unknown_formats: bool,
+}
+
+/// The value that a line is, or that it is none.
+pub fn read_line(alloc: Global, line: &[u8]) -> Result<Option<Value>, AllocError>
+    ensures { IfOk result (λ value. IsReading line.now (option_map view value)) }
+{
+    match Value::from_slice(alloc, line) {
+        Ok(value) => Ok(Some(value)),
+        Err(e) => {
+            if e.is_memory() {
+                Err(AllocError)
+            } else {
+                Ok(None)
+            }
+        }
+    }
+}
+
+fn draft_numbered(number: u64) -> Option<Draft>
+    ensures { result ≡ draft_numbered number }
+{
+    if number == 4 {
+        Some(Draft::Draft4)
+    } else if number == 6 {
+        Some(Draft::Draft6)
+    } else if number == 7 {
+        Some(Draft::Draft7)
+    } else if number == 201909 {
+        Some(Draft::Draft201909)
+    } else if number == 202012 {
+        Some(Draft::Draft202012)
+    } else {
+        None
+    }
+}
+
+fn draft_in(value: &Value) -> Option<Draft>
+    ensures { result ≡ draft_in (view value.now) }
+{
+    draft_numbered(value.as_u64()?)
+}
+
+fn flag_in(value: Option<&Value>) -> Option<Option<bool>>
+    ensures { result ≡ flag_in (option_map (λ v. view v.now) value.entry) }
+{
+    match value {
+        None => Some(None),
+        Some(value) => match value.as_bool() {
+            Some(flag) => Some(Some(flag)),
+            None => None,
+        },
+    }
+}
+
+fn is_request_key(key: &str) -> bool
+    ensures { result ≡ is_request_key key.now }
+{
+    key == "draft"
+        || key == "schema"
+        || key == "instance"
+        || key == "validate_formats"
+        || key == "ignore_unknown_formats"
+}
+
+fn has_only_request_keys(members: &Map<String, Value>) -> bool
+    ensures { result ≡ has_only_request_keys (members_view members.now.entries) }
+{
+    for (key, _value) in members.iter() {
+        if !is_request_key(key) {
+            return false;
+        }
+    }
+    true
+}
+
+/// The request that a value is.
+pub fn request_in(value: &Value) -> Option<Request<'_>>
+    ensures { option_map request_view result ≡ request_in (view value.now) }
+{
+    let members = value.as_object()?;
+    if !has_only_request_keys(members) {
+        return None;
+    }
+    let draft = draft_in(member(members, "draft")?)?;
+    let schema = member(members, "schema")?.as_object()?;
+    let instance = member(members, "instance")?;
+    let validate_formats = flag_in(member(members, "validate_formats"))?;
+    let ignore_unknown_formats = flag_in(member(members, "ignore_unknown_formats"))?;
+    Some(Request {
+        draft,
+        schema,
+        instance,
+        validate_formats,
+        ignore_unknown_formats: ignore_unknown_formats.unwrap_or(true),
+    })
+}

@@ -1,0 +1,158 @@
+//! The loop over the pieces of the input.
+
+ghost use Rattle.std.specs.Prelude.{◌≡◌, ◌↔◌, ℕ, ◌<◌, ◌≤◌, List, ◌++◌, [], true, false, length, take, vec_len, IfOk, IsTrue, OnOk, OnErr, IsErrOf, position};
+ghost use Rattle.std.specs.Io.KnownBytes.{Appends, Consumes, IsAtEnd};
+ghost use Rattle.strkw_cli.specs.Lines.{is_line_feed, ended_lines, last_part, lines};
+ghost use Rattle.strkw_cli.specs.Answer.{AreAnswers};
+ghost use Rattle.strkw_cli.specs.Outcome.{AnswersSome, IsOutcome};
+ghost use Rattle.strkw_cli.specs.Serving.{Serves};
+
+use super::answering::answer;
+use super::devices::{DeviceFailed, Sink, Source};
+use super::faults::RunFault;
+use std::alloc::{AllocError, Global};
+
+// The room for a piece of the input.
+const PIECE_LEN: usize = 65536;
+
+// Writes all the bytes. An `Err` comes where the sink fails, before it has taken all.
+fn write_all<K: Sink>(sink: &mut K, bytes: &[u8]) -> Result<(), DeviceFailed>
+    ensures ok { OnOk result (Appends (K.taken sink.old) (K.taken sink.new) bytes.now) }
+    ensures short { OnErr result ((count : ℕ) × (count < length bytes.now)
+        × Appends (K.taken sink.old) (K.taken sink.new) (take count bytes.now)) }
+    ensures works { OnOk result (K.has_failed sink.new ≡ K.has_failed sink.old) }
+    ensures failed { OnErr result (K.has_failed sink.new ≡ true) }
+{
+    let mut at = 0;
+    while at < bytes.len() {
+        at += sink.write(&bytes[at..])?;
+    }
+    Ok(())
+}
+
+// The place of the first line feed.
+fn find_line_feed(bytes: &[u8]) -> Option<usize>
+    ensures { result ≡ position is_line_feed bytes.now }
+{
+    bytes.iter().position(|byte| *byte == b'\n')
+}
+
+// Goes on from a line that has begun by a piece of the input, and appends the answers to the lines
+// that end in it. An `Err` has appended the answers to some beginning of them.
+fn answer_piece(
+    alloc: Global,
+    piece: &[u8],
+    line: &mut Vec<u8>,
+    out: &mut Vec<u8>,
+) -> Result<(), AllocError>
+    requires { last_part line.old.items ≡ line.old.items }
+    ensures answered { OnOk result ((made : List ℕ) × (out.new.items ≡ out.old.items ++ made)
+        × AreAnswers (ended_lines (line.old.items ++ piece.now)) made) }
+    ensures begun { OnOk result (line.new.items ≡ last_part (line.old.items ++ piece.now)) }
+    ensures err { OnErr result ((written : List ℕ) × (out.new.items ≡ out.old.items ++ written)
+        × AnswersSome (lines (line.old.items ++ piece.now)) written) }
+{
+    let mut at = 0;
+    while let Some(offset) = find_line_feed(&piece[at..]) {
+        let end = at + offset;
+        line.extend_from_slice(&piece[at..end])?;
+        answer(alloc, line, out)?;
+        line.clear();
+        at = end + 1;
+    }
+    line.extend_from_slice(&piece[at..])
+}
+
+// Answers the lines that end in a piece of the input. The answers are whole before the first is written.
+fn serve_piece<K: Sink>(
+    alloc: Global,
+    piece: &[u8],
+    line: &mut Vec<u8>,
+    out: &mut Vec<u8>,
+    sink: &mut K,
+) -> Result<(), RunFault>
+    requires begun { last_part line.old.items ≡ line.old.items }
+    requires sink_works { K.has_failed sink.old ≡ false }
+    ensures written { (written : List ℕ) × Appends (K.taken sink.old) (K.taken sink.new) written
+        × Serves result (ended_lines (line.old.items ++ piece.now)) (lines (line.old.items ++ piece.now)) written }
+    ensures begun { OnOk result (line.new.items ≡ last_part (line.old.items ++ piece.now)) }
+    ensures write_fault { IsErrOf result RunFault.Write ↔ (K.has_failed sink.new ≡ true) }
+{
+    out.clear();
+    let answered = answer_piece(alloc, piece, line, out);
+    if write_all(sink, out).is_err() {
+        return Err(RunFault::Write);
+    }
+    answered?;
+    Ok(())
+}
+
+// Answers what follows the last line feed, unless it is empty.
+fn serve_last<K: Sink>(
+    alloc: Global,
+    line: &[u8],
+    out: &mut Vec<u8>,
+    sink: &mut K,
+) -> Result<(), RunFault>
+    requires begun { last_part line.now ≡ line.now }
+    requires sink_works { K.has_failed sink.old ≡ false }
+    ensures written { (written : List ℕ) × Appends (K.taken sink.old) (K.taken sink.new) written
+        × Serves result (lines line.now) (lines line.now) written }
+    ensures write_fault { IsErrOf result RunFault.Write ↔ (K.has_failed sink.new ≡ true) }
+{
+    if line.is_empty() {
+        return Ok(());
+    }
+    out.clear();
+    answer(alloc, line, out)?;
+    if write_all(sink, out).is_err() {
+        return Err(RunFault::Write);
+    }
+    Ok(())
+}
+
+// Room for a piece. That it is `PIECE_LEN` long is left unsaid: a proof that knows it may write out the list.
+fn piece_room(alloc: Global) -> Result<Vec<u8>, AllocError>
+    ensures { IfOk result (λ room. 0 < vec_len room) }
+{
+    vec![in alloc; 0u8; PIECE_LEN]
+}
+
+/// Answers the requests of a source on a sink, until the source is at its end.
+///
+/// Each line, ended by a line feed or the last one without, is a request: a JSON object with the members `draft` (4, 6,
+/// 7, 201909 or 202012), `schema` (an object) and `instance`, and at will `validate_formats` and
+/// `ignore_unknown_formats` (true or false). Its answer is lines: `bad request` where the line is no such object;
+/// `refused L: T` where the schema object is refused at the location L, with the text T; `error L: T` for each error,
+/// or `valid`; and at last `end`.
+///
+/// `Read` and `Write` come exactly where the source and the sink have failed, `Memory` where a growth was refused,
+/// `TooLong` after 2^64 - 1 reads that each gave bytes. Each answer is made whole before its first byte is written.
+/// The run holds the longest line, a piece of 64 KiB, and the answers of a piece.
+pub fn run<S: Source, K: Sink>(alloc: Global, source: &mut S, sink: &mut K) -> Result<(), RunFault>
+    requires source_works { S.has_failed source.old ≡ false }
+    requires sink_works { K.has_failed sink.old ≡ false }
+    // What was read, and what was written for it.
+    ensures written { (read : List ℕ) × (written : List ℕ)
+        × Consumes (S.left source.old) (S.left source.new) read
+        × Appends (K.taken sink.old) (K.taken sink.new) written
+        × IsOutcome result read written }
+    ensures end { OnOk result (IsAtEnd (S.left source.new)) }
+    // A failure of a device is never passed over, and no other fault stands for it.
+    ensures read_fault { IsErrOf result RunFault.Read ↔ (S.has_failed source.new ≡ true) }
+    ensures write_fault { IsErrOf result RunFault.Write ↔ (K.has_failed sink.new ≡ true) }
+{
+    let mut piece = piece_room(alloc)?;
+    let mut line = Vec::new(alloc);
+    let mut out = Vec::new(alloc);
+    for turn in 0..u64::MAX {
+        let Ok(count) = source.read(&mut piece) else {
+            return Err(RunFault::Read);
+        };
+        if count == 0 {
+            return serve_last(alloc, &line, &mut out, sink);
+        }
+        serve_piece(alloc, &piece[..count], &mut line, &mut out, sink)?;
+    }
+    Err(RunFault::TooLong)
+}
