@@ -1,0 +1,24 @@
+//! How fast the calls are. Without an argument it prints nothing; with the names of topics it times their calls, each as
+//! the least time of some rounds.
+#![tactic(auto)]
+
+mod coding;
+mod label;
+mod time_net;
+mod timing;
+mod uri;
+
+use std::{env, io};
+
+fn main(rt: HostRuntime) -> io::Result<()> {
+    for topic in env::args(&rt)?.skip(1) {
+        match topic.as_str() {
+            "coding" => coding::measure(rt)?,
+            "label" => label::measure(rt)?,
+            "time_net" => time_net::measure(rt)?,
+            "uri" => uri::measure(rt)?,
+            _ => println!(rt; "topics: coding, label, time_net, uri")?,
+        }
+    }
+    Ok(())
+}
