@@ -23,17 +23,60 @@ enum Call {
     Uuid,
 }
 
+// Each call is compiled by itself: within one function they would share its registers, and a change of one would
+// move the figures of all.
+
+#[inline(never)]
+fn date(text: &str) -> bool {
+    is_valid_date(text)
+}
+
+#[inline(never)]
+fn time_of_day(text: &str) -> bool {
+    is_valid_time(text)
+}
+
+#[inline(never)]
+fn date_time(text: &str) -> bool {
+    is_valid_datetime(text)
+}
+
+#[inline(never)]
+fn duration(text: &str) -> bool {
+    is_valid_duration(text)
+}
+
+#[inline(never)]
+fn ipv4(text: &str) -> bool {
+    is_valid_ipv4(text)
+}
+
+#[inline(never)]
+fn ipv6(text: &str) -> bool {
+    is_valid_ipv6(text)
+}
+
+#[inline(never)]
+fn host_name(text: &str) -> bool {
+    is_valid_hostname_rfc1034(text)
+}
+
+#[inline(never)]
+fn uuid(text: &str) -> bool {
+    is_valid_uuid(text)
+}
+
 impl timing::Call for Call {
     fn accepts(&self, _alloc: Global, text: &str) -> bool {
         match self {
-            Call::Date => is_valid_date(text),
-            Call::Time => is_valid_time(text),
-            Call::DateTime => is_valid_datetime(text),
-            Call::Duration => is_valid_duration(text),
-            Call::Ipv4 => is_valid_ipv4(text),
-            Call::Ipv6 => is_valid_ipv6(text),
-            Call::HostName => is_valid_hostname_rfc1034(text),
-            Call::Uuid => is_valid_uuid(text),
+            Call::Date => date(text),
+            Call::Time => time_of_day(text),
+            Call::DateTime => date_time(text),
+            Call::Duration => duration(text),
+            Call::Ipv4 => ipv4(text),
+            Call::Ipv6 => ipv6(text),
+            Call::HostName => host_name(text),
+            Call::Uuid => uuid(text),
         }
     }
 }

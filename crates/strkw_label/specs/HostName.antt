@@ -1,7 +1,6 @@
 -- Host names with internationalised labels (RFC 5890 section 2.3), as lists of characters.
-use Rattle.std.specs.Prelude.{◌≡◌, ℕ, ◌≤◌, List, ◌++◌, length, All, codes, slice_index, ◌==◌}
+use Rattle.std.specs.Prelude.{◌≡◌, ℕ, ◌≤◌, List, ◌++◌, length, All, codes, slice_index}
 use Rattle.std.specs.Char.{IsScalar}
-use Rattle.std.specs.List.{slice_split}
 use Rattle.std.specs.Str.{byte}
 use Rattle.strkw_text.specs.Abnf.{SeparatedBy}
 use Rattle.strkw_net.specs.HostName.{IsLabel}
@@ -31,13 +30,3 @@ pub record IsHostNameLabel (label : List ℕ) : Type 0 where
 pub record IsHostName (text : List ℕ) : Type 0 where
   pub labels : SeparatedBy (byte ".") IsHostNameLabel text
   pub size : length text ≤ 253
-
--- ---- what the code reads part by part
-
--- a label of at most 63 characters that keeps the rules
-abbrev pub KeepsXnRulesWithin63 : List ℕ → Type 0
-KeepsXnRulesWithin63 label = (length label ≤ 63) × KeepsXnRules label
-
--- the parts between dots
-abbrev pub dot_parts : List ℕ → List (List ℕ)
-dot_parts text = slice_split (λ c. c == byte ".") text

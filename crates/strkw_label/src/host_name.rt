@@ -1,12 +1,13 @@
 //! Host names with internationalised labels (RFC 5890, RFC 5891).
 ghost use Rattle.std.specs.Prelude.{◌≡◌, ◌↔◌, ◌≤◌, List, ℕ, length, IsTrue};
-ghost use Rattle.std.specs.List.{AllByRecursion};
 ghost use Rattle.std.specs.Str.{chars};
-ghost use Rattle.strkw_label.specs.HostName.{IsHostName, KeepsXnRules, EncodesAdmitted, KeepsXnRulesWithin63, dot_parts};
+ghost use Rattle.strkw_label.specs.HostName.{IsHostName, KeepsXnRules, EncodesAdmitted};
 
 use crate::label_rules::validate_unicode_label;
 use crate::punycode::decode_payload;
-use strkw_net::is_valid_hostname_rfc1034;
+use strkw_net::first_label;
+
+const LONGEST_HOST_NAME: usize = 253;
 
 /// Whether `hostname` is a host name: an ASCII host name (1 to 253 characters, labels of 1 to 63
 /// letters, digits and hyphens, RFC 1123) in which only labels that begin with `xn--` have hyphens
@@ -16,29 +17,35 @@ use strkw_net::is_valid_hostname_rfc1034;
 pub fn is_valid_hostname(hostname: &str) -> bool
     ensures { IsTrue result ↔ IsHostName (chars hostname.now) }
 {
-    if !is_valid_hostname_rfc1034(hostname) {
+    is_host_name(hostname.as_bytes())
+}
+
+fn is_host_name(bytes: &[u8]) -> bool
+    ensures { IsTrue result ↔ IsHostName bytes.now }
+{
+    if LONGEST_HOST_NAME < bytes.len() {
         return false;
     }
-    labels_keep_xn_rules(hostname.as_bytes())
+    let mut rest = bytes;
+    while let Some(label) = first_label(rest) {
+        if !keeps_xn_rules(label) {
+            return false;
+        }
+        if label.len() == rest.len() {
+            return true;
+        }
+        // A label ends at a dot.
+        rest = &rest[label.len() + 1..];
+    }
+    false
 }
 
-/// Whether each part between dots has at most 63 bytes and keeps the rules for XN-labels.
-fn labels_keep_xn_rules(bytes: &[u8]) -> bool
-    ensures { IsTrue result ↔ AllByRecursion KeepsXnRulesWithin63 (dot_parts bytes.now) }
-{
-    bytes
-        .split(|b| *b == b'.')
-        .all(|label| keeps_xn_rules(label))
-}
-
-/// Whether a label has at most 63 bytes, and hyphens in third and fourth place only behind `xn`
-/// and before the Punycode of an admitted text.
+/// Whether a label has hyphens in third and fourth place only behind `xn` and before the Punycode
+/// of an admitted text.
 fn keeps_xn_rules(label: &[u8]) -> bool
-    ensures { IsTrue result ↔ KeepsXnRulesWithin63 label.now }
+    requires { length label.now ≤ 63 }
+    ensures { IsTrue result ↔ KeepsXnRules label.now }
 {
-    if 63 < label.len() {
-        return false;
-    }
     if label.len() < 4 || label[2] != b'-' || label[3] != b'-' {
         return true;
     }

@@ -1,5 +1,5 @@
 -- The examples of the formats, and their texts of least and greatest length, are derived.
-use Rattle.std.proofs.Common.{ℕ, zero, suc, [], ◌∷◌, length, refl, arith, inl, inr}
+use Rattle.std.proofs.Common.{ℕ, zero, suc, [], ◌∷◌, refl, arith, inl, inr}
 use Rattle.std.specs.Prelude.{codes, replicate}
 use Rattle.std.specs.Fmt.{digits}
 use Rattle.std.specs.List.{AllByRecursion, All}

@@ -1,5 +1,5 @@
 -- ASCII host names, RFC 1034 section 3.5, as RFC 1123 section 2.1 changed it: a label may begin with a digit.
-use Rattle.std.specs.Prelude.{◌≡◌, ◌≢◌, ℕ, ◌-◌, ◌≤◌, ◌⊎◌, List, length, slice_index, IsTrue}
+use Rattle.std.specs.Prelude.{◌≡◌, ◌≢◌, ℕ, ◌-◌, ◌≤◌, ◌⊎◌, Bool, ◌||◌, ◌==◌, List, length, slice_index, IsTrue}
 use Rattle.std.specs.List.{All}
 use Rattle.std.specs.Str.{byte}
 use Rattle.std.specs.Char.{is_ascii_alphanumeric}
@@ -20,3 +20,8 @@ pub record IsLabel (label : List ℕ) : Type 0 where
 pub record IsAsciiHostName (text : List ℕ) : Type 0 where
   pub labels : SeparatedBy (byte ".") IsLabel text
   pub size : length text ≤ 253
+
+-- ---- what a private function asks of a byte
+
+abbrev pub is_letter_digit_hyphen : ℕ → Bool
+is_letter_digit_hyphen c = is_ascii_alphanumeric c || (c == byte "-")

@@ -11,5 +11,5 @@ mod tests;
 mod uuid;
 
 pub use addresses::{is_valid_ipv4, is_valid_ipv6};
-pub use host_name::is_valid_hostname_rfc1034;
+pub use host_name::{first_label, is_valid_hostname_rfc1034};
 pub use uuid::is_valid_uuid;

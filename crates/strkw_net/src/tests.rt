@@ -101,6 +101,26 @@ fn ascii_host_names(rt: HostRuntime) {
     }
 }
 
+#[test]
+fn labels_at_the_front(rt: HostRuntime) {
+    for (text, label) in [
+        ("www.example.com", "www"),
+        ("a", "a"),
+        ("a.", "a"),
+        ("a..b", "a"),
+        ("1-2.a_b", "1-2"),
+        ("xn--a.é", "xn--a"),
+    ] {
+        assert!(rt;
+            matches!(first_label(text.as_bytes()), Some(found) if found == label.as_bytes()),
+            "{text}"
+        );
+    }
+    for text in ["", ".a", "-a.b", "a-.b", "a_b.c", "a b", "é.a"] {
+        assert!(rt; first_label(text.as_bytes()).is_none(), "{text}");
+    }
+}
+
 /// A host name whose labels are of so many letters `a`.
 fn host_name_of(rt: &HostRuntime, labels: &[usize]) -> Result<String, AllocError> {
     let mut name = String::new(rt.alloc());

@@ -1,7 +1,8 @@
 //! Dates: `full-date` of RFC 3339.
 ghost use Rattle.std.specs.Prelude.{◌≡◌, ◌↔◌, IsTrue};
 ghost use Rattle.std.specs.Str.{chars};
-ghost use Rattle.strkw_time.specs.Time.{is_leap_year, days_in, IsFullDate};
+ghost use Rattle.strkw_time.specs.Readers.{IsDay};
+ghost use Rattle.strkw_time.specs.Time.{is_leap_year, IsFullDate};
 
 use crate::digits::{parse_four_digits, parse_two_digits};
 
@@ -29,25 +30,28 @@ pub(crate) fn is_full_date(bytes: &[u8]) -> bool
     let Some(day) = parse_two_digits(&bytes[8..10]) else {
         return false;
     };
-    if month < 1 {
-        return false;
-    }
-    if 12 < month {
-        return false;
-    }
+    is_day(year, month, day)
+}
+
+// A call would cost as much as the tests.
+#[inline(always)]
+fn is_day(year: u16, month: u8, day: u8) -> bool
+    ensures { IsTrue result ↔ IsDay year month day }
+{
     if day < 1 {
         return false;
     }
-    day <= days_in(year, month)
-}
-
-fn days_in(year: u16, month: u8) -> u8
-    ensures { result ≡ days_in year month }
-{
     match month {
-        2 => { if is_leap_year(year) { 29 } else { 28 } }
-        4 | 6 | 9 | 11 => 30,
-        _ => 31,
+        1 | 3 | 5 | 7 | 8 | 10 | 12 => day <= 31,
+        4 | 6 | 9 | 11 => day <= 30,
+        2 => {
+            if is_leap_year(year) {
+                day <= 29
+            } else {
+                day <= 28
+            }
+        }
+        _ => false,
     }
 }
 

@@ -79,6 +79,8 @@ fn after_fraction(bytes: &[u8]) -> Option<&[u8]>
 }
 
 /// The offset that is the whole of the bytes, in minutes east of UTC.
+// A call would cost as much as the tests.
+#[inline(always)]
 fn read_offset(bytes: &[u8]) -> Option<i32>
     ensures some { IfSome result (λ offset. IsTimeOffset offset bytes.now) }
     ensures none { IfNone result ((offset : ℤ) → IsTimeOffset offset bytes.now → ⊥) }

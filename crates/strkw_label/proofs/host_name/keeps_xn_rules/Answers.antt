@@ -15,12 +15,9 @@ returns c =
     let label = c.args.label.now in
     let whole : label ≡ codes "xn--" ++ drop 4 label = prefix_of label (omega arith) c.if-label-ne120.false c.if-label-ne110.false c.if-label-ne45.false c.if-label-ne45-2.false in
     let rest = take_rest label 4 in (
-      λ e. (
-        omega arith,
-        record {
-          reserved = λ x y. (drop 4 label, whole);
-          encodes = λ p h. subst EncodesAdmitted (rest ∙ (let same : drop 4 label ≡ p = cc in same)) (c.encodes_admitted.ensures.0 e);
-        },
-      ),
-      λ s. c.encodes_admitted.ensures.1 (subst EncodesAdmitted (sym rest) (s.1.encodes (drop 4 label) whole)),
+      λ e. record {
+        reserved = λ x y. (drop 4 label, whole);
+        encodes = λ p h. subst EncodesAdmitted (rest ∙ (let same : drop 4 label ≡ p = cc in same)) (c.encodes_admitted.ensures.0 e);
+      },
+      λ s. c.encodes_admitted.ensures.1 (subst EncodesAdmitted (sym rest) (s.encodes (drop 4 label) whole)),
     )

@@ -1,13 +1,26 @@
-use Rattle.std.proofs.Common.{rules, tests, eqb}
-use Rattle.std.proofs.lemmas.Iterator.{cases_from_all}
-use Rattle.std.proofs.lemmas.Iterator.Splits.{YieldsList-from_slice_split}
+use Rattle.std.proofs.Common.{length, drop, ◌+◌, arith, refl}
+use Rattle.std.proofs.lemmas.Bool.{false≢true}
+use Rattle.std.proofs.lemmas.List.{take_all, length-drop}
 use Rattle.strkw_net.specs.HostName.{IsLabel}
-use Rattle.strkw_net.proofs.HostNameLemmas.{host_name_from_all}
+use Rattle.strkw_net.proofs.HostNameLemmas.{host_name_parts, IsAsciiHostName-from_parts}
+use Rattle.strkw_net.proofs.FirstLabels.{one_label, more_labels, front_label}
 use Rattle.strkw_net.proofs.host_name.is_host_name.Goals as goal
 
+pub returns-then-label-rest : goal.returns-then-label-rest
+returns-then-label-rest c = (
+  λ t. IsAsciiHostName-from_parts c.args.bytes.now c.if-bytes-gt-LONGEST_HOST_NAME.false
+      (c.loop-label.invariant.0 (one_label IsLabel c.loop-label.rest.now c.in-Some.label.now c.in-Some.ensures.0 c.if-label-rest.true c.in-Some.ensures.1)),
+  λ w. refl,
+)
+
+pub loop-label-preserved : goal.loop-label-preserved
+loop-label-preserved c =
+    let more = more_labels IsLabel c.loop-label.rest.now c.in-Some.label.now _ c.in-Some.ensures.0 c.if-label-rest.false c.in-Some.ensures.1
+    (take_all _ (drop (length c.in-Some.label.now + 1) c.loop-label.rest.now) (omega (arith, length-drop (length c.in-Some.label.now + 1) c.loop-label.rest.now))) in
+    (λ h. c.loop-label.invariant.0 (more.0 h), λ h. more.1 (c.loop-label.invariant.1 h))
+
 pub returns : goal.returns
-returns c =
-    host_name_from_all c.args.bytes.now c.all.result c.if-bytes-gt253.false
-    (cases_from_all _ _ _ IsLabel (λ x. IsLabel x → ⊥) c.all.ensures.ran
-    (YieldsList-from_slice_split _ (λ b. eqb b 46) c.args.bytes.now c.split.ensures.rest c.split.ensures.done c.split.ensures.closure (λ x b q k. search (rules, tests)))
-    (λ x q k. search (rules, tests)) (λ x q k. search (rules, tests)))
+returns c = (
+  λ t. absurd (false≢true t),
+  λ w. absurd (c.in_default.ensures (front_label IsLabel c.loop-label.rest.now (c.loop-label.invariant.1 (host_name_parts c.args.bytes.now w)))),
+)

@@ -1,6 +1,3 @@
-use Rattle.std.proofs.Common.{arith, ◌≤◌}
-use Rattle.std.proofs.lemmas.Bool.Decides.{nat_tests}
-use Rattle.strkw_time.specs.Time.{days_in}
 use Rattle.strkw_text.proofs.Equivalences.{nope}
 use Rattle.strkw_time.proofs.Dates.{full_date_by_places, date_places}
 use Rattle.strkw_time.proofs.date.is_full_date.Goals as goal
@@ -8,9 +5,8 @@ use Rattle.strkw_time.proofs.date.is_full_date.Goals as goal
 pub returns : goal.returns
 returns c =
     let by_places = full_date_by_places c.args.bytes.now c.in-Some.year c.in-Some-parse_two_digits.month c.in-Some-parse_two_digits-2.day
-    c.if-bytes-ne10.false c.if-bytes-ne45.false c.if-bytes-ne45-2.false c.in-Some.ensures c.in-Some-parse_two_digits.ensures c.in-Some-parse_two_digits-2.ensures
-    (omega arith) (omega arith) (omega arith) in
-    (λ t. by_places.0 (grind (arith, nat_tests)), λ d. let h : c.in-Some-parse_two_digits-2.day ≤ days_in c.in-Some.year c.in-Some-parse_two_digits.month = by_places.1 d in grind (arith, nat_tests))
+    c.if-bytes-ne10.false c.if-bytes-ne45.false c.if-bytes-ne45-2.false c.in-Some.ensures c.in-Some-parse_two_digits.ensures c.in-Some-parse_two_digits-2.ensures in
+    (λ t. by_places.0 (c.is_day.ensures.0 t), λ d. c.is_day.ensures.1 (by_places.1 d))
 
 pub returns-in_default : goal.returns-in_default
 returns-in_default c = nope (λ d. c.in_default.ensures (date_places _ d).year_at.0)
@@ -20,12 +16,3 @@ returns-in_default-parse_two_digits c = nope (λ d. c.in_default-parse_two_digit
 
 pub returns-in_default-parse_two_digits-2 : goal.returns-in_default-parse_two_digits-2
 returns-in_default-parse_two_digits-2 c = nope (λ d. c.in_default-parse_two_digits-2.ensures (date_places _ d).day_at.0)
-
-pub returns-then-month-lt1 : goal.returns-then-month-lt1
-returns-then-month-lt1 c = nope (λ d. omega (arith, (date_places _ d).month_at.1, d.month_fits.0, c.in-Some-parse_two_digits.ensures.1))
-
-pub returns-then-month-gt12 : goal.returns-then-month-gt12
-returns-then-month-gt12 c = nope (λ d. omega (arith, (date_places _ d).month_at.1, d.month_fits.1, c.in-Some-parse_two_digits.ensures.1))
-
-pub returns-then-day-lt1 : goal.returns-then-day-lt1
-returns-then-day-lt1 c = nope (λ d. omega (arith, (date_places _ d).day_at.1, d.day_fits.0, c.in-Some-parse_two_digits-2.ensures.1))
