@@ -4,6 +4,7 @@
 
 mod coding;
 mod label;
+mod plain_parts;
 mod time_net;
 mod timing;
 mod uri;

@@ -1,5 +1,7 @@
-//! Nanoseconds a round of URI references, beside a plain loop over their bytes that looks each up in a table.
+//! Nanoseconds a round of URI references, beside the same parts over a scan by a plain loop, and a plain loop over all
+//! bytes that reads no parts.
 
+use crate::plain_parts::PlainParts;
 use crate::timing::{Call, least};
 use std::alloc::Global;
 use std::io;
@@ -11,6 +13,12 @@ struct Reference;
 impl Call for Reference {
     fn accepts(&self, _alloc: Global, text: &str) -> bool {
         is_valid_uri_reference(text)
+    }
+}
+
+impl Call for PlainParts {
+    fn accepts(&self, _alloc: Global, text: &str) -> bool {
+        self.is_reference(text.as_bytes())
     }
 }
 
@@ -94,11 +102,13 @@ fn time<C: Call>(
     Ok(())
 }
 
-fn time_both(rt: HostRuntime, name: &str, texts: &[&str], calls: u32) -> io::Result<()> {
+fn time_all(rt: HostRuntime, name: &str, texts: &[&str], calls: u32) -> io::Result<()> {
     println!(rt; "{name}")?;
     time(rt, "  is_valid_uri_reference", &Reference, texts, calls)?;
+    let parts = PlainParts::new();
+    time(rt, "  the same parts by a plain loop", &parts, texts, calls)?;
     let plain = PlainLoop { table: uri_bytes() };
-    time(rt, "  plain loop", &plain, texts, calls)
+    time(rt, "  a plain loop without parts", &plain, texts, calls)
 }
 
 /// Times long runs of letters, escapes, and usual URIs.
@@ -111,9 +121,9 @@ pub fn measure(rt: HostRuntime) -> io::Result<()> {
         letters.push_str("aaaaaaaaaaaaaaaa")?;
         escapes.push_str("abcdefghijklm%20")?;
     }
-    time_both(rt, "64 KiB of letters", &[&letters], 500)?;
-    time_both(rt, "64 KiB with an escape every 16 bytes", &[&escapes], 500)?;
-    time_both(
+    time_all(rt, "64 KiB of letters", &[&letters], 500)?;
+    time_all(rt, "64 KiB with an escape every 16 bytes", &[&escapes], 500)?;
+    time_all(
         rt,
         "three URIs of 100 bytes",
         &[
@@ -123,7 +133,7 @@ pub fn measure(rt: HostRuntime) -> io::Result<()> {
         ],
         100_000,
     )?;
-    time_both(
+    time_all(
         rt,
         "three URIs of 20 bytes",
         &[
@@ -133,7 +143,7 @@ pub fn measure(rt: HostRuntime) -> io::Result<()> {
         ],
         100_000,
     )?;
-    time_both(
+    time_all(
         rt,
         "two URIs of 44 and 58 bytes",
         &[
@@ -142,9 +152,21 @@ pub fn measure(rt: HostRuntime) -> io::Result<()> {
         ],
         100_000,
     )?;
-    time_both(
+    time_all(
         rt,
-        "six usual references",
+        "five usual references",
+        &[
+            "http://example.com/path/to/file?query=1#frag",
+            "https://user:pw@www.example.org:8080/a/b/c.html?x=%20y&z=1",
+            "urn:isbn:0451450523",
+            "/relative/path",
+            "redis",
+        ],
+        100_000,
+    )?;
+    time_all(
+        rt,
+        "six usual references, one with an address in brackets",
         &[
             "http://example.com/path/to/file?query=1#frag",
             "https://user:pw@www.example.org:8080/a/b/c.html?x=%20y&z=1",

@@ -1,24 +1,28 @@
 -- Runs of ASCII characters, from the bytes.
-use Rattle.std.proofs.Common.{◌≡◌, ℕ, ◌+◌, ◌<◌, ◌≤◌, Bool, true, false, ◌||◌, ◌&&◌, not, ltb, eqb, ◌==◌, zero, suc, List, [], ◌∷◌, ◌++◌, length, get_or, drop, IsUtf8, encode_utf8, encode_utf8_all, codes, inl, inr, refl, sym, ap, subst, ◌∙◌, arith, append_assoc}
+use Rattle.std.proofs.Common.{◌≡◌, ℕ, ◌+◌, ◌<◌, ◌≤◌, Bool, true, false, ◌||◌, ◌&&◌, not, ltb, eqb, ◌==◌, zero, suc, List, [], ◌∷◌, ◌++◌, length, get_or, drop, IsUtf8, encode_utf8, encode_utf8_all, codes, inl, inr, Some, None, refl, sym, ap, subst, ◌∙◌, arith, append_assoc}
 use Rattle.std.specs.Char.{is_ascii_hexdigit}
 use Rattle.std.specs.Str.{chars}
 use Rattle.std.proofs.lemmas.Str.{chars_past_char, IsUtf8-past_char, encode_ascii, encodes-chars}
 use Rattle.std.proofs.lemmas.List.{drop_more, get_or-drop, length-drop, get_or_past}
+use Rattle.std.specs.List.{slice_get}
+use Rattle.std.proofs.lemmas.Option.{slice_get_within, get_or_from_slice_get, slice_get-get_or}
 use Rattle.std.proofs.lemmas.Bool.{agree_below, agree_below_at, ltb-true, cases_lt, eqb-true}
 use Rattle.std.proofs.lemmas.Bool.Decides.{nat_tests}
 use Rattle.strkw_text.specs.Abnf.{Form, Repeat, OneOf}
-use Rattle.strkw_text.specs.Fronts.{StartsWith, StartsWithNo}
-use Rattle.strkw_text.proofs.Laws.{Repeat-append, starts_one}
+use Rattle.strkw_text.specs.Fronts.{StartsWith, StartsWithNo, RunThen, NotFirst}
+use Rattle.strkw_text.proofs.Laws.{Repeat-append, Repeat-weaker, starts_one}
 use Rattle.strkw_text.proofs.Runs.{run_start, run_push, then_start, one_stops, no_start_either, start_right}
 use Rattle.strkw_text.specs.Characters.{is_one_of, HexDigit}
 use Rattle.strkw_uri.specs.Characters.{is_unreserved, is_sub_delim, is_ucschar, is_iprivate}
 use Rattle.strkw_uri.specs.Lanes.{is_in, is_escape_at, goes_on, IsRun}
-use Rattle.strkw_uri.specs.Scan.{is_part_char, is_wide_part_char}
+use Rattle.strkw_uri.specs.Scan.{is_part_char, is_wide_part_char, is_class_char}
 use Rattle.strkw_uri.specs.Uri.{PctEncoded, Encoded}
 use Rattle.strkw_uri.specs.declared.part.Syntax.{Syntax}
 use Rattle.strkw_uri.specs.declared.part.Syntax.TheVariants.{Rfc3986, Rfc3987}
 use Rattle.strkw_uri.specs.declared.part.Part.{Part}
 use Rattle.strkw_uri.specs.declared.part.Part.TheVariants.{RegNameChar, UserinfoChar, PathChar, SegmentNcChar, QueryChar, FragmentChar}
+use Rattle.strkw_uri.specs.declared.scan.Class.{Class}
+use Rattle.strkw_uri.specs.declared.scan.Class.TheVariants.{Letter, SchemeChar, Decimal, NonzeroDecimal, Hexadecimal, ZeroOrOne, VersionLetter, FutureChar, OperatorChar}
 use Rattle.strkw_uri.proofs.Encodings.{encoded_char, encoded_pct, first_of_pct}
 use Rattle.strkw_uri.proofs.Paths.{or_right, or_other}
 
@@ -28,11 +32,11 @@ pub record AsciiFront (class : ℕ → Bool) (bs : List ℕ) (n : ℕ) : Type 0 
   pub run : StartsWith (Repeat (Encoded class)) (chars bs) (chars (drop n bs))
 
 -- a byte that is a character
-record Byte (bs : List ℕ) (n : ℕ) : Type 0 where
-  utf8 : IsUtf8 (drop (n + 1) bs)
-  is : chars (drop n bs) ≡ get_or bs n 0 ∷ chars (drop (n + 1) bs)
+pub record Byte (bs : List ℕ) (n : ℕ) : Type 0 where
+  pub utf8 : IsUtf8 (drop (n + 1) bs)
+  pub is : chars (drop n bs) ≡ get_or bs n 0 ∷ chars (drop (n + 1) bs)
 
-one_byte : (bs : List ℕ) (n : ℕ) → IsUtf8 (drop n bs) → n < length bs → get_or bs n 0 < 128 → Byte bs n
+pub one_byte : (bs : List ℕ) (n : ℕ) → IsUtf8 (drop n bs) → n < length bs → get_or bs n 0 < 128 → Byte bs n
 one_byte bs n u l small =
     let c = get_or bs n 0 in
     let one : drop n bs ≡ encode_utf8 c ++ drop (n + 1) bs = drop_more bs n 0 l ∙ ap (λ s. s ++ drop (n + 1) bs) (sym (encode_ascii c small)) in
@@ -214,14 +218,18 @@ module _ (s : Syntax) (p : Part) (bs : List ℕ) (n : ℕ) (r : IsRun (goes_on (
   pub part_front : IsUtf8 bs → AsciiFront (is_part_char s p) bs n
   part_front u = walk n 0 (omega arith) (omega arith) (record { utf8 = u; run = run_start (Encoded (is_part_char s p)) (chars bs) })
 
+-- a text's first character, where that is ASCII, is its first byte
+pub first_byte : (bs rest : List ℕ) (c : ℕ) → IsUtf8 bs → c < 128 → chars bs ≡ c ∷ rest → (0 < length bs) × (get_or bs 0 0 ≡ c)
+first_byte bs rest c u small e =
+    let whole : c ∷ encode_utf8_all rest ≡ bs = ap (λ s. s ++ encode_utf8_all rest) (sym (encode_ascii c small)) ∙ sym (ap encode_utf8_all e) ∙ encodes-chars bs u in
+    (omega (arith, ap length whole), sym (ap (λ s. get_or s 0 0) whole))
+
 -- where the first byte is no character of an ASCII class, the first character is none
 pub first_stops : (class : ℕ → Bool) → ((c : ℕ) → class c ≡ true → c < 128) → (bs : List ℕ) → IsUtf8 bs → (0 < length bs → class (get_or bs 0 0) ≡ false) → StartsWithNo (OneOf class) (chars bs)
 first_stops class small bs u stop rest f =
     let c = f.is.character in
-    let e : chars bs ≡ c ∷ rest = sym f.joined ∙ ap (λ s. s ++ rest) f.is.is in
-    let whole : c ∷ encode_utf8_all rest ≡ bs = ap (λ s. s ++ encode_utf8_all rest) (sym (encode_ascii c (small c f.is.member))) ∙ sym (ap encode_utf8_all e) ∙ encodes-chars bs u in
-    let first : c ≡ get_or bs 0 0 = ap (λ s. get_or s 0 0) whole in
-    let n : class c ≡ false = ap class first ∙ stop (omega (arith, ap length whole)) in
+    let b = first_byte bs rest c u (small c f.is.member) (sym f.joined ∙ ap (λ s. s ++ rest) f.is.is) in
+    let n : class c ≡ false = ap class (sym b.1) ∙ stop b.0 in
     let m : class c ≡ true = f.is.member in
     cc
 
@@ -276,11 +284,8 @@ part_stops_at s p c text after e stops wide = no_start_either (OneOf (is_part_ch
     by_class false h = part_neither s p c h wide
 
 -- a table's class
-pub table_run : (table : List ℕ) (class : ℕ → Bool) (bs : List ℕ) (n : ℕ) → agree_below (is_in table) class 256 ≡ true → ((k : ℕ) → get_or bs k 0 < 256)
-    → IsRun (goes_on (is_in table) bs) 0 (length bs) n → IsRun (goes_on class bs) 0 (length bs) n
-table_run table class bs n all fit r =
-    let same = λ (i : ℕ). ap (λ b. b || is_escape_at bs i) (sym (agree_below_at (is_in table) class 256 (get_or bs i 0) all (fit i))) in
-    record { within = r.within; passed = λ i l. same (0 + i) ∙ r.passed i l; stopped = λ l. same (0 + n) ∙ r.stopped l }
+pub table_is : (table : List ℕ) (p q : Part) → q ≡ p → agree_below (is_in table) (is_part_char Rfc3986 p) 256 ≡ true → (c : ℕ) → c < 256 → is_in table c ≡ is_part_char Rfc3986 q c
+table_is table p q e all c l = agree_below_at (is_in table) (is_part_char Rfc3986 p) 256 c all l ∙ ap (λ r. is_part_char Rfc3986 r c) (sym e)
 
 pub run_more : (A : Form) (text mid rest : List ℕ) → StartsWith (Repeat A) text mid → StartsWith (Repeat A) mid rest → StartsWith (Repeat A) text rest
 run_more A text mid rest p q = record {
@@ -288,3 +293,47 @@ run_more A text mid rest p q = record {
   is = Repeat-append A p.front q.front p.is q.is;
   joined = append_assoc p.front q.front rest ∙ ap (λ s. p.front ++ s) q.joined ∙ p.joined;
 }
+
+-- one more before a run
+pub run_behind : (A : Form) (text mid rest : List ℕ) → StartsWith A text mid → RunThen A mid rest → RunThen A text rest
+run_behind A text mid rest f r = record { run = run_more A text mid rest (run_push A text text mid (run_start A text) f) r.run; stops = r.stops }
+
+-- a run of one class goes on as a run of a wider one
+pub run_wider : (A B : Form) (text mid rest : List ℕ) → ((x : List ℕ) → A x → B x) → StartsWith (Repeat A) text mid → RunThen B mid rest → RunThen B text rest
+run_wider A B text mid rest wider p r = record {
+  run = run_more B text mid rest (record { front = p.front; is = Repeat-weaker A B wider p.front p.is; joined = p.joined }) r.run;
+  stops = r.stops;
+}
+
+-- the first byte
+pub record FirstByte (bs : List ℕ) (b : ℕ) : Type 0 where
+  pub inside : 0 < length bs
+  pub is : get_or bs 0 0 ≡ b
+
+pub first_got : (bs : List ℕ) (b : ℕ) → slice_get bs 0 ≡ Some b → FirstByte bs b
+first_got bs b at = record { inside = slice_get_within bs 0 b at; is = get_or_from_slice_get bs 0 b 0 at }
+
+pub first_gone : (bs : List ℕ) → None ≡ slice_get bs 0 → 0 < length bs → ⊥
+first_gone bs gone inside = let e : None ≡ Some (get_or bs 0 0) = gone ∙ slice_get-get_or bs 0 0 inside in cc
+
+-- where it is ASCII, it is the first character
+pub first_is : (bs : List ℕ) (b : ℕ) → IsUtf8 bs → b < 128 → slice_get bs 0 ≡ Some b → chars bs ≡ b ∷ chars (drop 1 bs)
+first_is bs b u small at =
+    let f = first_got bs b at in
+    (one_byte bs 0 u f.inside (subst (λ c. c < 128) (sym f.is) small)).is ∙ ap (λ c. c ∷ chars (drop 1 bs)) f.is
+
+-- a text that does not begin with an ASCII byte does not begin with the character
+pub not_first_at : (bs : List ℕ) (w : ℕ) → IsUtf8 bs → w < 128 → (0 < length bs → get_or bs 0 0 ≡ w → ⊥) → NotFirst w (chars bs)
+not_first_at bs w u small other rest e = let b = first_byte bs rest w u small e in other b.0 b.1
+
+-- the classes that are read without percent-encodings are ASCII
+pub class_small : (k : Class) (c : ℕ) → is_class_char k c ≡ true → c < 128
+class_small Letter c h = grind (arith, nat_tests)
+class_small SchemeChar c h = grind (arith, nat_tests)
+class_small Decimal c h = grind (arith, nat_tests)
+class_small NonzeroDecimal c h = grind (arith, nat_tests)
+class_small Hexadecimal c h = grind (arith, nat_tests)
+class_small ZeroOrOne c h = grind (arith, nat_tests)
+class_small VersionLetter c h = grind (arith, nat_tests)
+class_small FutureChar c h = grind (arith, nat_tests)
+class_small OperatorChar c h = grind (arith, nat_tests)

@@ -1,15 +1,17 @@
 -- Whether a userinfo is there, and where it ends, is settled by the text.
-use Rattle.std.proofs.Common.{◌≡◌, ◌↔◌, ℕ, Bool, false, List, [], ◌∷◌, inl, inr, refl, ◌∙◌, codes}
-use Rattle.strkw_text.specs.Abnf.{Form, ◌⨾◌, Literal, Optional, Repeat}
+use Rattle.std.proofs.Common.{◌≡◌, ◌↔◌, ℕ, Bool, true, false, eqb, List, [], ◌∷◌, ◌++◌, inl, inr, refl, sym, ap, ◌∙◌, codes}
+use Rattle.std.proofs.lemmas.Bool.{eqb-true}
+use Rattle.strkw_text.specs.Abnf.{Form, ◌⨾◌, Literal, Optional, Repeat, OneOf}
 use Rattle.strkw_text.specs.Fronts.{StartsWithNo, RunThen, NotFirst}
 use Rattle.strkw_text.proofs.Equivalences.{iff_trans}
 use Rattle.strkw_text.proofs.Laws.{assoc, assoc3, optional_then, literal_at, literal_not}
 use Rattle.strkw_text.proofs.Optionals.{literal_ind}
-use Rattle.strkw_text.proofs.Runs.{run_then, run_once}
-use Rattle.strkw_uri.specs.Characters.{Alphabet}
-use Rattle.strkw_uri.specs.Uri.{Encoded, Userinfo, Host, Port, Authority, PathAbempty, QueryAndFragment}
+use Rattle.strkw_text.proofs.Runs.{run_then, run_once, no_start_either, start_right}
+use Rattle.strkw_uri.specs.Characters.{Alphabet, is_reg_name_char, is_userinfo_char}
+use Rattle.strkw_uri.specs.Uri.{PctEncoded, Encoded, Userinfo, Host, Port, Authority, PathAbempty, QueryAndFragment}
 use Rattle.strkw_uri.specs.Scan.{PathAndTail, AuthorityAndTail}
-use Rattle.strkw_uri.proofs.Encodings.{encoded_free, stops_at}
+use Rattle.strkw_uri.proofs.Encodings.{encoded_free, encoded_char, stops_at}
+use Rattle.strkw_uri.proofs.Paths.{or_other}
 
 -- The run of the userinfo's class at the front of a host and what follows it does not end at "@".
 pub record HostRun (class : ℕ → Bool) (text : List ℕ) : Type 0 where
@@ -48,3 +50,20 @@ pub authority_regroup : (K : Alphabet) (text : List ℕ) → ((Authority K ⨾ P
 authority_regroup K text =
     iff_trans (assoc (Authority K) (PathAbempty K) (QueryAndFragment K) text)
     (assoc3 (Optional (Userinfo K ⨾ Literal (codes "@"))) (Host K) (Optional (Literal (codes ":") ⨾ Port)) (PathAndTail K) text)
+
+-- where no character of a name stands, one of a userinfo is a colon
+pub userinfo_stops : (K : Alphabet) (text : List ℕ) → StartsWithNo (Encoded (is_reg_name_char K)) text → NotFirst 58 text → StartsWithNo (Encoded (is_userinfo_char K)) text
+userinfo_stops K text stops other = no_start_either (OneOf (is_userinfo_char K)) PctEncoded text one (λ y f. stops y (start_right (OneOf (is_reg_name_char K)) PctEncoded text y f))
+  where
+    one : StartsWithNo (OneOf (is_userinfo_char K)) text
+    one y f = by_class (is_reg_name_char K c) refl
+      where
+        c : ℕ
+        c = f.is.character
+
+        at : text ≡ c ∷ y
+        at = sym f.joined ∙ ap (λ s. s ++ y) f.is.is
+
+        by_class : (b : Bool) → is_reg_name_char K c ≡ b → ⊥
+        by_class true h = stops y (encoded_char (is_reg_name_char K) c text y at h)
+        by_class false h = other y (at ∙ ap (λ d. d ∷ y) (eqb-true c 58 (or_other (is_reg_name_char K c) (eqb c 58) f.is.member h)))

@@ -166,3 +166,11 @@ join_whole q at r before run whole k l = elim (cases_lt k at) [
       let there : at + (k - at) ≡ k = omega arith in
       subst (λ k. q k ≡ true) there (run.passed (k - at) (omega arith))
 ]
+
+-- a run by one test is a run by another that agrees with it
+pub run_agree : (p q : ℕ → Bool) (at n r : ℕ) → ((i : ℕ) → p i ≡ q i) → IsRun p at n r → IsRun q at n r
+run_agree p q at n r same run = record { within = run.within; passed = λ i l. sym (same (at + i)) ∙ run.passed i l; stopped = λ l. sym (same (at + r)) ∙ run.stopped l }
+
+-- tests of bytes that agree make tests of places that agree
+pub goes_on-agree : (p q : ℕ → Bool) (bs : List ℕ) → ((k : ℕ) → get_or bs k 0 < 256) → ((c : ℕ) → c < 256 → p c ≡ q c) → (i : ℕ) → goes_on p bs i ≡ goes_on q bs i
+goes_on-agree p q bs fit same i = ap (λ b. b || is_escape_at bs i) (same (get_or bs i 0) (fit i))

@@ -12,7 +12,7 @@ use Rattle.strkw_text.proofs.Classes.{digits_all}
 use Rattle.strkw_text.proofs.Separated.{repeat-from_joined}
 use Rattle.strkw_text.proofs.Runs.{run_start, run_then, differ}
 use Rattle.strkw_net.specs.Addresses.{IsIpv4}
-use Rattle.strkw_uri.specs.Characters.{is_userinfo_char, is_reg_name_char}
+use Rattle.strkw_uri.specs.Characters.{Alphabet, is_userinfo_char, is_reg_name_char}
 use Rattle.strkw_uri.specs.Uri.{Encoded, Port, BracketedAddress, RegName}
 use Rattle.strkw_uri.specs.Scan.{alphabet, PathAndTail, HostAndTail}
 use Rattle.strkw_uri.specs.declared.part.Syntax.{Syntax}
@@ -114,9 +114,16 @@ module _ (L V T : Form) (p U : ℕ → Bool) (name : (x : List ℕ) → V x → 
     | inr k ↦ elim k [ inl v ↦ name_run x h.front h.back (name h.front v) h.second h.joined | inr n ↦ name_run x h.front h.back n h.second h.joined ]
   ]
 
+-- what a name holds, a userinfo may hold
+name_char_in_userinfo : (K : Alphabet) (c : ℕ) → IsTrue (is_reg_name_char K c) → IsTrue (is_userinfo_char K c)
+name_char_in_userinfo K c h = or_left (is_reg_name_char K c) (c == 58) h
+
+pub name_in_userinfo : (K : Alphabet) (x : List ℕ) → Encoded (is_reg_name_char K) x → Encoded (is_userinfo_char K) x
+name_in_userinfo K = Encoded-weaker (is_reg_name_char K) (is_userinfo_char K) (name_char_in_userinfo K)
+
 pub host_run : (s : Syntax) (x : List ℕ) → HostAndTail (alphabet s) x → HostRun (is_userinfo_char (alphabet s)) x
 host_run s =
     let K = alphabet s in
     host_then_run BracketedAddress IsIpv4 (PathAndTail K) (is_reg_name_char K) (is_userinfo_char K) (ipv4_is_name s)
-    (λ c h. or_left (is_reg_name_char K c) (c == 58) h) (or_right (is_reg_name_char K 58) true refl) (digit_in_userinfo s) (no_bracket_in_userinfo s)
+    (name_char_in_userinfo K) (or_right (is_reg_name_char K 58) true refl) (digit_in_userinfo s) (no_bracket_in_userinfo s)
     (path_stops_userinfo s) (path_no_at K)

@@ -14,6 +14,7 @@ pub mod Names
 pub mod Variables
 pub mod Expressions
 pub mod AsciiRuns
+pub mod PartBytes
 pub mod Blocks
 pub mod Inclusions
 pub mod Examples

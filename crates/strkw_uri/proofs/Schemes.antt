@@ -1,12 +1,12 @@
 -- Whether a scheme is there, and where it ends, is settled by the text.
-use Rattle.std.proofs.Common.{◌≡◌, ◌↔◌, ℕ, IsTrue, List, ◌∷◌, ◌++◌, inl, refl, sym, ap, subst, ◌∙◌, codes}
+use Rattle.std.proofs.Common.{◌≡◌, ◌↔◌, ℕ, List, ◌∷◌, ◌++◌, inl, refl, sym, ap, subst, ◌∙◌, codes}
 use Rattle.std.specs.Char.{is_ascii_alphabetic}
 use Rattle.strkw_text.specs.Abnf.{Form, ◌⨾◌, Literal, Repeat, OneOf}
 use Rattle.strkw_text.specs.Characters.{Alpha}
 use Rattle.strkw_text.specs.Fronts.{StartsWith, StartsWithNo, RunThen, NotFirst, IsPrefixFree}
 use Rattle.strkw_text.proofs.Equivalences.{iff_trans, iff_sym}
 use Rattle.strkw_text.proofs.Fronts.{free_by}
-use Rattle.strkw_text.proofs.Laws.{assoc, starts_one, no_start_then, Repeat-cons, Repeat-weaker}
+use Rattle.strkw_text.proofs.Laws.{assoc, no_start_then, Repeat-cons, Repeat-weaker}
 use Rattle.strkw_text.proofs.Runs.{OneOf-free, Literal-free, Then-free, run-free, free_then, run_then, one_stops, then_start, no_start_first, no_start_second, literal_start}
 use Rattle.strkw_text.proofs.Weaker.{OneOf-weaker}
 use Rattle.strkw_uri.specs.Characters.{is_scheme_char, is_nc_char, is_pchar}
@@ -36,16 +36,19 @@ scheme_free : IsPrefixFree (Scheme ⨾ Literal (codes ":"))
 scheme_free = free_by (Scheme ⨾ Literal (codes ":")) (Alpha ⨾ SchemeChars ⨾ Literal (codes ":")) (λ x h. (scheme_regroup x).0 h)
     (Then-free Alpha (SchemeChars ⨾ Literal (codes ":")) (OneOf-free is_ascii_alphabetic) others_free)
 
-pub scheme_found : (text others rest after : List ℕ) (c : ℕ) → text ≡ c ∷ others → IsTrue (is_ascii_alphabetic c) → RunThen (OneOf is_scheme_char) others rest → rest ≡ 58 ∷ after
+pub scheme_found : (text others rest after : List ℕ) → StartsWith Alpha text others → RunThen (OneOf is_scheme_char) others rest → rest ≡ 58 ∷ after
     → StartsWith (Scheme ⨾ Literal (codes ":")) text after
-scheme_found text others rest after c e letter r at =
+scheme_found text others rest after letter r at =
     then_start Scheme (Literal (codes ":")) text rest after
-    (then_start Alpha SchemeChars text others rest (starts_one is_ascii_alphabetic c text others letter e) r.run) (literal_start 58 rest after at)
+    (then_start Alpha SchemeChars text others rest letter r.run) (literal_start 58 rest after at)
 
-pub no_scheme : (text others rest : List ℕ) (c : ℕ) → text ≡ c ∷ others → IsTrue (is_ascii_alphabetic c) → RunThen (OneOf is_scheme_char) others rest → NotFirst 58 rest
+pub no_letter : (text : List ℕ) → StartsWithNo Alpha text → StartsWithNo (Scheme ⨾ Literal (codes ":")) text
+no_letter text n = no_start_first Scheme (Literal (codes ":")) text (no_start_first Alpha SchemeChars text n)
+
+pub no_scheme : (text others rest : List ℕ) → StartsWith Alpha text others → RunThen (OneOf is_scheme_char) others rest → NotFirst 58 rest
     → StartsWithNo (Scheme ⨾ Literal (codes ":")) text
-no_scheme text others rest c e letter r n after f =
-    no_start_second Alpha (SchemeChars ⨾ Literal (codes ":")) text others (OneOf-free is_ascii_alphabetic) (starts_one is_ascii_alphabetic c text others letter e) (no_colon others rest r n)
+no_scheme text others rest letter r n after f =
+    no_start_second Alpha (SchemeChars ⨾ Literal (codes ":")) text others (OneOf-free is_ascii_alphabetic) letter (no_colon others rest r n)
     after (record { front = f.front; is = (scheme_regroup f.front).0 f.is; joined = f.joined })
   where
     no_colon : (others rest : List ℕ) → RunThen (OneOf is_scheme_char) others rest → NotFirst 58 rest → StartsWithNo (SchemeChars ⨾ Literal (codes ":")) others

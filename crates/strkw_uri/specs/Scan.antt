@@ -1,7 +1,7 @@
 -- What the private functions speak of: the classes that are read, and the grammars from a part on to the end of the text.
 use Rattle.std.specs.Prelude.{ℕ, Bool, ◌||◌, ◌==◌, false, codes}
 use Rattle.std.specs.Str.{byte}
-use Rattle.std.specs.Char.{is_ascii_hexdigit, is_ascii_digit}
+use Rattle.std.specs.Char.{is_ascii_hexdigit, is_ascii_digit, is_ascii_alphabetic}
 use Rattle.strkw_text.specs.Abnf.{Form, ◌⨾◌, ◌∣◌, Literal, Optional, Repeat}
 use Rattle.strkw_text.specs.Characters.{is_one_of, is_from_to}
 use Rattle.strkw_uri.specs.Characters.{is_scheme_char, Alphabet, uri, iri, is_reg_name_char, is_userinfo_char, is_pchar, is_nc_char, is_query_char, is_fragment_char, is_ucschar, is_iprivate}
@@ -13,7 +13,7 @@ use Rattle.strkw_uri.specs.declared.part.Syntax.TheVariants.{Rfc3986, Rfc3987}
 use Rattle.strkw_uri.specs.declared.part.Part.{Part}
 use Rattle.strkw_uri.specs.declared.part.Part.TheVariants.{RegNameChar, UserinfoChar, PathChar, SegmentNcChar, QueryChar, FragmentChar}
 use Rattle.strkw_uri.specs.declared.scan.Class.{Class}
-use Rattle.strkw_uri.specs.declared.scan.Class.TheVariants.{SchemeChar, Decimal, NonzeroDecimal, Hexadecimal, ZeroOrOne, VersionLetter, FutureChar, OperatorChar}
+use Rattle.strkw_uri.specs.declared.scan.Class.TheVariants.{Letter, SchemeChar, Decimal, NonzeroDecimal, Hexadecimal, ZeroOrOne, VersionLetter, FutureChar, OperatorChar}
 
 abbrev pub alphabet : Syntax → Alphabet
 alphabet Rfc3986 = uri
@@ -42,8 +42,18 @@ is_wide_part_char Rfc3987 SegmentNcChar c = is_ucschar c
 is_wide_part_char Rfc3987 QueryChar c = is_ucschar c || is_iprivate c
 is_wide_part_char Rfc3987 FragmentChar c = is_ucschar c
 
+-- the bit that stands for a part in the table of bytes
+abbrev pub bit : Part → ℕ
+bit RegNameChar = 1
+bit UserinfoChar = 2
+bit PathChar = 4
+bit SegmentNcChar = 8
+bit QueryChar = 16
+bit FragmentChar = 16
+
 -- the classes that are read without percent-encodings
 abbrev pub is_class_char : Class → ℕ → Bool
+is_class_char Letter = is_ascii_alphabetic
 is_class_char SchemeChar = is_scheme_char
 is_class_char Decimal = is_ascii_digit
 is_class_char NonzeroDecimal = is_from_to (byte "1") (byte "9")

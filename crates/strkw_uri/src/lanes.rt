@@ -1,11 +1,15 @@
 //! How many bytes of a text, from the first, are characters of an ASCII class or percent-encoded: 32 at a time.
-ghost use Rattle.std.specs.Prelude.{◌≡◌, ◌==◌, ◌/◌, ◌%◌, ◌<◌, ◌≤◌, ◌+◌, ◌-◌, ◌++◌, length, slice_index, map, if◌then◌else◌};
+ghost use Rattle.std.specs.Prelude.{◌≡◌, ℕ, ◌==◌, ◌/◌, ◌%◌, ◌<◌, ◌≤◌, ◌+◌, ◌-◌, ◌++◌, length, slice_index, map, if◌then◌else◌};
 ghost use Rattle.std.specs.Char.{is_ascii_hexdigit};
 ghost use Rattle.std.specs.Int.{trailing_zeros, w64};
 ghost use Rattle.std.specs.List.{prefix_len};
 ghost use Rattle.std.specs.Simd.Lanes.{Each1};
 ghost use Rattle.strkw_uri.specs.Lanes.{members, is_in, goes_on, IsRun};
+ghost use Rattle.strkw_uri.specs.Scan.{is_part_char};
+ghost use Rattle.strkw_uri.specs.declared.part.Syntax.TheVariants.{Rfc3986};
 
+use crate::part::Part;
+use crate::plain;
 use std::simd::prelude::*;
 
 const LANES: usize = 32;
@@ -22,13 +26,6 @@ const UPPER_BITS: [u8; 16] = [1, 2, 4, 8, 16, 32, 64, 128, 0, 0, 0, 0, 0, 0, 0, 
 const HEXADECIMAL: Table = [
     0x08, 0x58, 0x58, 0x58, 0x58, 0x58, 0x58, 0x08, 0x08, 0x08, 0, 0, 0, 0, 0, 0,
 ];
-
-#[inline(always)]
-fn is_in(table: &Table, byte: u8) -> bool
-    ensures { result ≡ is_in table.now byte }
-{
-    table[(byte % 16) as usize] & UPPER_BITS[(byte / 16) as usize] != 0
-}
 
 /// The table in each half of the lanes.
 #[inline(always)]
@@ -96,47 +93,13 @@ fn run_with_escapes(table: &Table, bytes: &[u8], at: usize) -> usize
     first_set((other & (unmarked | high | low)).to_bitmask())
 }
 
-#[inline(always)]
-fn is_hexadecimal_at(bytes: &[u8], at: usize) -> bool
-    ensures { result ≡ is_ascii_hexdigit (slice_index bytes.now at) }
-{
-    match bytes.get(at) {
-        Some(byte) => byte.is_ascii_hexdigit(),
-        None => false,
-    }
-}
-
-/// Whether the byte at a place is of the class, or begins an escape.
-#[inline(always)]
-fn goes_on(table: &Table, bytes: &[u8], at: usize) -> bool
-    requires { at < length bytes.now }
-    ensures { result ≡ goes_on (is_in table.now) bytes.now at }
-{
-    is_in(table, bytes[at])
-        || (bytes[at] == b'%'
-            && is_hexadecimal_at(bytes, at + 1)
-            && is_hexadecimal_at(bytes, at + 2))
-}
-
-/// How far the text goes on from a place, by a plain loop.
-#[inline(always)]
-fn plain_run(table: &Table, bytes: &[u8], at: usize) -> usize
-    requires { at ≤ length bytes.now }
-    ensures { IsRun (goes_on (is_in table.now) bytes.now) at (length bytes.now - at) result }
-{
-    for i in at..bytes.len() {
-        if !goes_on(table, bytes, i) {
-            return i - at;
-        }
-    }
-    bytes.len() - at
-}
-
-/// Where a plain loop over the places stops, which asks of each whether its byte is of the class or
-/// begins an escape. (The digits of an escape are of each class that is read here.)
+/// Where a loop over the places stops, which asks of each whether its byte is a character of the part or
+/// begins an escape: by blocks, and one at a time where no block is left. The table is the part's. (The
+/// digits of an escape are characters of each part.)
 #[inline]
-pub(crate) fn run(table: &Table, bytes: &[u8]) -> usize
-    ensures { IsRun (goes_on (is_in table.now) bytes.now) 0 (length bytes.now) result }
+pub(crate) fn run(table: &Table, bytes: &[u8], part: Part) -> usize
+    requires { (c : ℕ) → c < 256 → is_in table.now c ≡ is_part_char Rfc3986 part c }
+    ensures { IsRun (goes_on (is_part_char Rfc3986 part) bytes.now) 0 (length bytes.now) result }
 {
     let (blocks, _) = bytes.as_chunks::<32>();
     let mut at = 0;
@@ -147,7 +110,7 @@ pub(crate) fn run(table: &Table, bytes: &[u8]) -> usize
                 return at + run;
             }
             if bytes.len() - at < LOOKED_AT {
-                return at + plain_run(table, bytes, at);
+                return at + plain::run(bytes, part, at);
             }
             let run = run_with_escapes(table, bytes, at);
             if run < LANES {
@@ -156,5 +119,5 @@ pub(crate) fn run(table: &Table, bytes: &[u8]) -> usize
         }
         at += LANES;
     }
-    at + plain_run(table, bytes, at)
+    at + plain::run(bytes, part, at)
 }

@@ -9,6 +9,7 @@ pub mod laws;
 mod literal;
 mod part;
 mod path;
+mod plain;
 mod pointer;
 mod scan;
 mod scheme;

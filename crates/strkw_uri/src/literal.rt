@@ -23,7 +23,7 @@ fn is_version_and_address(text: &str) -> bool
     ensures { IsTrue result ↔ (Repeat1 HexDigit ⨾ Literal (codes ".") ⨾ Repeat1 (OneOf (is_userinfo_char uri))) (chars text.now) }
 {
     match after_one(text, Class::Hexadecimal) {
-        Some(rest) => match strip(skip_class(rest, Class::Hexadecimal), '.') {
+        Some(rest) => match strip(skip_class(rest, Class::Hexadecimal), b'.') {
             Some(rest) => is_future_address(rest),
             None => false,
         },

@@ -1,5 +1,5 @@
 //! The parts of a URI and the characters of each.
-ghost use Rattle.std.specs.Prelude.{◌≡◌, ◌≤◌, length};
+ghost use Rattle.std.specs.Prelude.{◌≡◌, ◌<◌, ◌≤◌, ℕ, true, length};
 ghost use Rattle.std.specs.Str.{chars};
 ghost use Rattle.strkw_text.specs.Abnf.{Repeat};
 ghost use Rattle.strkw_text.specs.Fronts.{StartsWith, StartsWithNo};
@@ -10,6 +10,7 @@ ghost use Rattle.strkw_uri.specs.Scan.{is_part_char, is_wide_part_char};
 ghost use Rattle.strkw_uri.specs.declared.part.Syntax.TheVariants.{Rfc3986};
 
 use crate::lanes::{self, Table};
+use crate::plain;
 
 /// Which characters are unreserved, and which a query may hold beside them.
 #[derive(Clone, Copy)]
@@ -28,6 +29,9 @@ pub(crate) enum Part {
     QueryChar,
     FragmentChar,
 }
+
+// From how many bytes on a text is read by blocks.
+const LONG: usize = 32;
 
 // Of each part the characters of RFC 3986.
 const REG_NAME: Table = [
@@ -51,18 +55,30 @@ const QUERY: Table = [
 ];
 
 /// How many bytes from the first are characters of the part by RFC 3986, which are all ASCII, or
-/// percent-encoded.
-#[inline]
-fn ascii_run(bytes: &[u8], part: Part) -> usize
+/// percent-encoded: by blocks, for a long text.
+#[inline(never)]
+fn long_run(bytes: &[u8], part: Part) -> usize
     ensures { IsRun (goes_on (is_part_char Rfc3986 part) bytes.now) 0 (length bytes.now) result }
 {
     match part {
-        Part::RegNameChar => lanes::run(&REG_NAME, bytes),
-        Part::UserinfoChar => lanes::run(&USERINFO, bytes),
-        Part::PathChar => lanes::run(&PATH, bytes),
-        Part::SegmentNcChar => lanes::run(&SEGMENT_NC, bytes),
-        Part::QueryChar => lanes::run(&QUERY, bytes),
-        Part::FragmentChar => lanes::run(&QUERY, bytes),
+        Part::RegNameChar => lanes::run(&REG_NAME, bytes, part),
+        Part::UserinfoChar => lanes::run(&USERINFO, bytes, part),
+        Part::PathChar => lanes::run(&PATH, bytes, part),
+        Part::SegmentNcChar => lanes::run(&SEGMENT_NC, bytes, part),
+        Part::QueryChar => lanes::run(&QUERY, bytes, part),
+        Part::FragmentChar => lanes::run(&QUERY, bytes, part),
+    }
+}
+
+/// How many are, in any text. (A short run is apart from a long one, as a loop without a frame.)
+#[inline(never)]
+fn ascii_run(bytes: &[u8], part: Part) -> usize
+    ensures { IsRun (goes_on (is_part_char Rfc3986 part) bytes.now) 0 (length bytes.now) result }
+{
+    if bytes.len() < LONG {
+        plain::run(bytes, part, 0)
+    } else {
+        long_run(bytes, part)
     }
 }
 

@@ -17,7 +17,7 @@ pub(crate) fn is_in_path_and_tail(text: &str, syntax: Syntax) -> bool
 pub(crate) fn is_path_and_tail(text: &str, syntax: Syntax) -> bool
     ensures { IsTrue result ↔ PathAndTail (alphabet syntax) (chars text.now) }
 {
-    match strip(text, '/') {
+    match strip(text, b'/') {
         Some(rest) => is_in_path_and_tail(rest, syntax),
         None => is_query_and_fragment(text, syntax),
     }

@@ -30,7 +30,7 @@ fn is_in_pointer(text: &str) -> bool
 pub fn is_valid_json_pointer(text: &str) -> bool
     ensures { IsTrue result ↔ IsJsonPointer (chars text.now) }
 {
-    match strip(text, '/') {
+    match strip(text, b'/') {
         Some(rest) => is_in_pointer(rest),
         None => is_end(text),
     }
@@ -39,7 +39,7 @@ pub fn is_valid_json_pointer(text: &str) -> bool
 fn is_hash_or_pointer(text: &str) -> bool
     ensures { IsTrue result ↔ HashOrPointer (chars text.now) }
 {
-    match strip(text, '#') {
+    match strip(text, b'#') {
         Some(rest) => is_end(rest),
         None => is_valid_json_pointer(text),
     }
@@ -50,7 +50,7 @@ fn is_hash_or_pointer(text: &str) -> bool
 pub fn is_valid_relative_json_pointer(text: &str) -> bool
     ensures { IsTrue result ↔ IsRelativeJsonPointer (chars text.now) }
 {
-    match strip(text, '0') {
+    match strip(text, b'0') {
         Some(rest) => is_hash_or_pointer(rest),
         None => match after_one(text, Class::NonzeroDecimal) {
             Some(rest) => is_hash_or_pointer(skip_class(rest, Class::Decimal)),

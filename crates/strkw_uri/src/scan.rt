@@ -8,6 +8,7 @@ ghost use Rattle.strkw_text.specs.Delimiters.{Without};
 ghost use Rattle.strkw_uri.specs.Characters.{uri, is_reg_name_char};
 ghost use Rattle.strkw_uri.specs.Uri.{Encoded};
 ghost use Rattle.strkw_uri.specs.Scan.{is_part_char, is_class_char};
+ghost use Rattle.strkw_uri.specs.declared.part.Syntax.TheVariants.{Rfc3987};
 
 use crate::part::{Part, Syntax, after_ascii, is_wide_part_char};
 
@@ -30,15 +31,16 @@ pub(crate) fn is_end(text: &str) -> bool
     first_char(text).is_none()
 }
 
-/// What follows the character, where the text begins with it.
+/// What follows the character, which is ASCII, where the text begins with it.
 #[inline]
-pub(crate) fn strip(text: &str, wanted: char) -> Option<&str>
+pub(crate) fn strip(text: &str, wanted: u8) -> Option<&str>
+    requires { wanted < 128 }
     ensures cases { MatchOption result (NotFirst wanted (chars text.now)) (λ rest. chars text.now ≡ wanted ∷ chars rest.now) }
     ensures shorter { IfSome result (λ rest. length rest.now < length text.now) }
     ensures utf8 { IfSome result (λ rest. IsUtf8 rest.now) }
 {
-    match first_char(text) {
-        Some((c, rest)) if c == wanted => Some(rest),
+    match text.as_bytes().first() {
+        Some(first) if *first == wanted => Some(&text[1..]),
         _ => None,
     }
 }
@@ -53,9 +55,10 @@ pub(crate) fn split_at(text: &str, wanted: char) -> Option<(&str, &str)>
     text.split_once(wanted)
 }
 
-/// A class of characters that are read without percent-encodings.
+/// A class of ASCII characters that are read without percent-encodings.
 #[derive(Clone, Copy)]
 pub(crate) enum Class {
+    Letter,
     SchemeChar,
     Decimal,
     NonzeroDecimal,
@@ -68,29 +71,30 @@ pub(crate) enum Class {
 
 impl Class {
     #[inline]
-    fn contains(self, c: char) -> bool
-        ensures { result ≡ is_class_char self c }
+    fn contains(self, byte: u8) -> bool
+        ensures { result ≡ is_class_char self byte }
     {
         match self {
-            Class::SchemeChar => c.is_ascii_alphanumeric() || matches!(c, '+' | '-' | '.'),
-            Class::Decimal => c.is_ascii_digit(),
-            Class::NonzeroDecimal => matches!(c, '1'..='9'),
-            Class::Hexadecimal => c.is_ascii_hexdigit(),
-            Class::ZeroOrOne => matches!(c, '0' | '1'),
-            Class::VersionLetter => matches!(c, 'v' | 'V'),
-            Class::FutureChar => is_ascii_reg_name_char(c) || c == ':',
+            Class::Letter => byte.is_ascii_alphabetic(),
+            Class::SchemeChar => byte.is_ascii_alphanumeric() || matches!(byte, b'+' | b'-' | b'.'),
+            Class::Decimal => byte.is_ascii_digit(),
+            Class::NonzeroDecimal => matches!(byte, b'1'..=b'9'),
+            Class::Hexadecimal => byte.is_ascii_hexdigit(),
+            Class::ZeroOrOne => matches!(byte, b'0' | b'1'),
+            Class::VersionLetter => matches!(byte, b'v' | b'V'),
+            Class::FutureChar => is_reg_name_byte(byte) || byte == b':',
             Class::OperatorChar => matches!(
-                c,
-                '+' | '#' | '.' | '/' | ';' | '?' | '&' | '=' | ',' | '!' | '@' | '|'
+                byte,
+                b'+' | b'#' | b'.' | b'/' | b';' | b'?' | b'&' | b'=' | b',' | b'!' | b'@' | b'|'
             ),
         }
     }
 }
 
-fn is_ascii_reg_name_char(c: char) -> bool
-    ensures { result ≡ is_reg_name_char uri c }
+fn is_reg_name_byte(byte: u8) -> bool
+    ensures { result ≡ is_reg_name_char uri byte }
 {
-    matches!(c, 'a'..='z' | 'A'..='Z' | '0'..='9' | '-' | '.' | '_' | '~' | '!' | '$' | '&' | '\'' | '(' | ')' | '*' | '+' | ',' | ';' | '=')
+    matches!(byte, b'a'..=b'z' | b'A'..=b'Z' | b'0'..=b'9' | b'-' | b'.' | b'_' | b'~' | b'!' | b'$' | b'&' | b'\'' | b'(' | b')' | b'*' | b'+' | b',' | b';' | b'=')
 }
 
 /// What follows one character of the class.
@@ -100,8 +104,8 @@ pub(crate) fn after_one(text: &str, class: Class) -> Option<&str>
     ensures shorter { IfSome result (λ rest. length rest.now < length text.now) }
     ensures utf8 { IfSome result (λ rest. IsUtf8 rest.now) }
 {
-    match first_char(text) {
-        Some((c, rest)) if class.contains(c) => Some(rest),
+    match text.as_bytes().first() {
+        Some(first) if class.contains(*first) => Some(&text[1..]),
         _ => None,
     }
 }
@@ -121,10 +125,7 @@ pub(crate) fn skip_class(text: &str, class: Class) -> &str
     ensures { RunThen (OneOf (is_class_char class)) (chars text.now) (chars result.now) }
 {
     let mut rest = text;
-    while let Some((c, after)) = first_char(rest) {
-        if !class.contains(c) {
-            break;
-        }
+    while let Some(after) = after_one(rest, class) {
         rest = after;
     }
     rest
@@ -143,17 +144,28 @@ pub(crate) fn after_two_hexdigits(text: &str) -> Option<&str>
     }
 }
 
+// The same for IRIs, whose characters are decoded only past ASCII.
+fn skip_wide(text: &str, part: Part) -> &str
+    ensures { RunThen (Encoded (is_part_char Rfc3987 part)) (chars text.now) (chars result.now) }
+{
+    let mut rest = after_ascii(text, Syntax::Rfc3987, part);
+    while let Some((c, after)) = first_char(rest) {
+        if !is_wide_part_char(c, Syntax::Rfc3987, part) {
+            break;
+        }
+        rest = after_ascii(after, Syntax::Rfc3987, part);
+    }
+    rest
+}
+
 /// What follows the longest run of the part's characters and of percent-encoded ones. A broken
 /// percent-encoding ends it as any other character does.
+#[inline]
 pub(crate) fn skip(text: &str, syntax: Syntax, part: Part) -> &str
     ensures { RunThen (Encoded (is_part_char syntax part)) (chars text.now) (chars result.now) }
 {
-    let mut rest = after_ascii(text, syntax, part);
-    while let Some((c, after)) = first_char(rest) {
-        if !is_wide_part_char(c, syntax, part) {
-            break;
-        }
-        rest = after_ascii(after, syntax, part);
+    match syntax {
+        Syntax::Rfc3986 => after_ascii(text, syntax, part),
+        Syntax::Rfc3987 => skip_wide(text, part),
     }
-    rest
 }

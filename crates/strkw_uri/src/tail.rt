@@ -17,7 +17,7 @@ fn is_fragment(text: &str, syntax: Syntax) -> bool
 fn is_optional_fragment(text: &str, syntax: Syntax) -> bool
     ensures { IsTrue result ↔ Optional (Literal (codes "#") ⨾ Fragment (alphabet syntax)) (chars text.now) }
 {
-    match strip(text, '#') {
+    match strip(text, b'#') {
         Some(rest) => is_fragment(rest, syntax),
         None => is_end(text),
     }
@@ -26,7 +26,7 @@ fn is_optional_fragment(text: &str, syntax: Syntax) -> bool
 pub(crate) fn is_query_and_fragment(text: &str, syntax: Syntax) -> bool
     ensures { IsTrue result ↔ QueryAndFragment (alphabet syntax) (chars text.now) }
 {
-    match strip(text, '?') {
+    match strip(text, b'?') {
         Some(rest) => is_optional_fragment(skip(rest, syntax, Part::QueryChar), syntax),
         None => is_optional_fragment(text, syntax),
     }

@@ -51,7 +51,7 @@ fn after_further_varchar(text: &str) -> Option<&str>
     ensures shorter { IfSome result (λ rest. length rest.now < length text.now) }
     ensures utf8 { IfSome result (λ rest. IsUtf8 rest.now) }
 {
-    match strip(text, '.') {
+    match strip(text, b'.') {
         Some(rest) => after_varchar(rest),
         None => after_varchar(text),
     }
@@ -74,9 +74,9 @@ fn is_max_length(text: &str) -> bool
 fn is_optional_modifier(text: &str) -> bool
     ensures { IsTrue result ↔ Optional ModifierLevel4 (chars text.now) }
 {
-    match strip(text, ':') {
+    match strip(text, b':') {
         Some(rest) => is_max_length(rest),
-        None => match strip(text, '*') {
+        None => match strip(text, b'*') {
             Some(rest) => is_end(rest),
             None => is_end(text),
         },

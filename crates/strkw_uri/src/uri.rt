@@ -13,8 +13,8 @@ use crate::scheme::after_scheme;
 fn is_hier_part_and_tail(text: &str, syntax: Syntax) -> bool
     ensures { IsTrue result ↔ HierPartAndTail (alphabet syntax) (chars text.now) }
 {
-    match strip(text, '/') {
-        Some(rest) => match strip(rest, '/') {
+    match strip(text, b'/') {
+        Some(rest) => match strip(rest, b'/') {
             Some(authority) => is_authority_and_tail(authority, syntax),
             None => is_in_path_and_tail(rest, syntax),
         },
@@ -25,8 +25,8 @@ fn is_hier_part_and_tail(text: &str, syntax: Syntax) -> bool
 fn is_relative_ref(text: &str, syntax: Syntax) -> bool
     ensures { IsTrue result ↔ RelativeRef (alphabet syntax) (chars text.now) }
 {
-    match strip(text, '/') {
-        Some(rest) => match strip(rest, '/') {
+    match strip(text, b'/') {
+        Some(rest) => match strip(rest, b'/') {
             Some(authority) => is_authority_and_tail(authority, syntax),
             None => is_in_path_and_tail(rest, syntax),
         },

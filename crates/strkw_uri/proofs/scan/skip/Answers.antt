@@ -1,23 +1,12 @@
-use Rattle.std.proofs.Common.{sym}
-use Rattle.strkw_text.proofs.Runs.{run_push}
+use Rattle.std.proofs.Common.{sym, subst}
+use Rattle.std.specs.Str.{chars}
+use Rattle.strkw_text.specs.Fronts.{StartsWithNo}
 use Rattle.strkw_uri.specs.Scan.{is_part_char}
 use Rattle.strkw_uri.specs.Uri.{Encoded}
-use Rattle.strkw_uri.proofs.Encodings.{encoded_char}
-use Rattle.strkw_uri.proofs.AsciiRuns.{run_more, part_from_wide, part_stops_at}
 use Rattle.strkw_uri.proofs.scan.skip.Goals as goal
 
-pub loop-c-preserved : goal.loop-c-preserved
-loop-c-preserved c =
-    let class = is_part_char c.args.syntax c.args.part in
-    let wide = part_from_wide c.args.syntax c.args.part c.in-Some.c (sym c.if-not-is_wide_part_char.ensures) in (
-      c.after_ascii-rest-in-Some.utf8,
-      run_more (Encoded class) _ _ _ (run_push (Encoded class) _ _ _ c.loop-c.invariant.1 (encoded_char class c.in-Some.c _ _ c.in-Some.ensures.cases wide))
-          c.after_ascii-rest-in-Some.ensures.run,
-      c.after_ascii-rest-in-Some.ensures.stops,
-    )
-
-pub returns-then-not-is_wide_part_char : goal.returns-then-not-is_wide_part_char
-returns-then-not-is_wide_part_char c = record {
-  run = c.loop-c.invariant.1;
-  stops = part_stops_at c.args.syntax c.args.part c.in-Some.c _ _ c.in-Some.ensures.cases c.loop-c.invariant.2 (sym c.if-not-is_wide_part_char.ensures);
+pub returns-in-Rfc3986 : goal.returns-in-Rfc3986
+returns-in-Rfc3986 c = record {
+  run = c.after_ascii.ensures.run;
+  stops = subst (λ s. StartsWithNo (Encoded (is_part_char s c.args.part)) (chars c.after_ascii.result.now)) (sym c.in-Rfc3986.is) c.after_ascii.ensures.stops;
 }

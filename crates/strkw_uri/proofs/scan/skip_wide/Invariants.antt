@@ -6,12 +6,12 @@ use Rattle.strkw_text.specs.Abnf.{Repeat}
 use Rattle.strkw_text.specs.Fronts.{StartsWith, StartsWithNo}
 use Rattle.strkw_uri.specs.Uri.{Encoded}
 use Rattle.strkw_uri.specs.Scan.{is_part_char}
-use Rattle.strkw_uri.specs.declared.part.Syntax.TheVariants.{Rfc3986}
-use Rattle.strkw_uri.proofs.scan.skip.Given as goal
+use Rattle.strkw_uri.specs.declared.part.Syntax.TheVariants.{Rfc3986, Rfc3987}
+use Rattle.strkw_uri.proofs.scan.skip_wide.Given as goal
 
 abbrev pub invariant-loop-c : goal.invariant-loop-c
 invariant-loop-c l =
-    shadow (Utf8 l.rest) × StartsWith (Repeat (Encoded (is_part_char l.syntax l.part))) (chars l.text) (chars l.rest)
+    shadow (Utf8 l.rest) × StartsWith (Repeat (Encoded (is_part_char Rfc3987 l.part))) (chars l.text) (chars l.rest)
     × StartsWithNo (Encoded (is_part_char Rfc3986 l.part)) (chars l.rest)
 
 abbrev pub decreases-loop-c : goal.decreases-loop-c
