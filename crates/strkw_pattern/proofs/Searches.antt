@@ -16,6 +16,7 @@ use Rattle.strkw_pattern.specs.Literal.{Item, IsItem, item_char, text_of, AreIte
 use Rattle.strkw_pattern.specs.Search.{Search, Derives, is_anchored_at_end}
 use Rattle.strkw_pattern.specs.Analysis.{IsAnalysis, IsSortedGroup}
 use Rattle.strkw_pattern.specs.Matcher.{outcome_of, literal_outcome, matcher_of, IsSearch}
+use Rattle.strkw_pattern.specs.declared.engine.Outcome.{Outcome}
 use Rattle.strkw_pattern.specs.declared.engine.Outcome.TheVariants as outcome
 use Rattle.strkw_pattern.specs.declared.literal.PatternOptimization.{PatternOptimization}
 use Rattle.strkw_pattern.specs.declared.literal.PatternOptimization.TheVariants.{Prefix, Exact, Alternation, NoWhitespace}
@@ -104,3 +105,13 @@ analysis_search pattern (Alternation v) (xss, are, e, group) = (
   λ text. told _ _ (subst (λ b. Decides b (Search (alternation xss) text)) (sym (any-sorted xss v.items text are group)) (whole (alternation xss) text refl _ (among (map text_of xss) text))),
 )
 analysis_search pattern NoWhitespace e = (no_whitespace, tt, e, λ text. told _ _ (whole no_whitespace text refl _ (none_white text)))
+
+-- each literal has an outcome that tells its search
+pub outcome_exists : (l : Literal) → (o : List ℕ → Outcome) × IsSearch l o
+outcome_exists (prefix xs) = (λ text. outcome_of (starts_with nat_eq text (text_of xs)), λ text. told _ _ (search-prefix xs text))
+outcome_exists (exact xs) = (λ text. outcome_of (bytes_eq text (text_of xs)), λ text. told _ _ (whole (exact xs) text refl _ (bytes_eq-Decides text (text_of xs))))
+outcome_exists (alternation xss) = (
+  λ text. outcome_of (list_any (λ t. bytes_eq t text) (map text_of xss)),
+  λ text. told _ _ (whole (alternation xss) text refl _ (among (map text_of xss) text)),
+)
+outcome_exists no_whitespace = (λ text. outcome_of (not (list_any is_ecma_whitespace text)), λ text. told _ _ (whole no_whitespace text refl _ (none_white text)))

@@ -1,0 +1,34 @@
+-- On the codec of a name.
+use Rattle.std.proofs.Common.{◌≡◌, ◌↔◌, ℕ, List, Bool, true, false, Option, Some, None, refl, if◌then◌else◌}
+use Rattle.std.specs.Bool.{Decides}
+use Rattle.std.proofs.lemmas.Bool.Decides.{not_from_Decides}
+use Rattle.std.proofs.lemmas.Slice.Eq.{bytes_eq-Decides}
+use Rattle.strkw_coding.specs.declared.codec.Codec.{Codec}
+use Rattle.strkw_coding.specs.declared.codec.Codec.TheVariants.{Base64, Base64Url, Base32, Base32Hex, Base16}
+use Rattle.strkw_coding.specs.Names.{codec_name}
+use Rattle.strkw_keywords.specs.Object.{codec_named}
+
+-- the codec of each name, and no codec of any other name
+abbrev pub IsByName : Option Codec → List ℕ → Type 0
+IsByName r name = (c : Codec) → (r ≡ Some c) ↔ (name ≡ codec_name c)
+
+none_named : (r : Option Codec) → (r ≡ Some Base64 → ⊥) → (r ≡ Some Base64Url → ⊥) → (r ≡ Some Base32 → ⊥) → (r ≡ Some Base32Hex → ⊥) → (r ≡ Some Base16 → ⊥) → r ≡ None
+none_named None a b c d e = refl
+none_named (Some Base64) a b c d e = absurd (a refl)
+none_named (Some Base64Url) a b c d e = absurd (b refl)
+none_named (Some Base32) a b c d e = absurd (c refl)
+none_named (Some Base32Hex) a b c d e = absurd (d refl)
+none_named (Some Base16) a b c d e = absurd (e refl)
+
+named_or : (t : Bool) (c : Codec) (r other : Option Codec) (P : Type 0) → Decides t P → (r ≡ Some c) ↔ P → ((r ≡ Some c → ⊥) → r ≡ other) → r ≡ (if t then Some c else other)
+named_or true c r other P d h k = h.1 (d.0 refl)
+named_or false c r other P d h k = k (λ is. not_from_Decides false d refl (h.0 is))
+
+pub named_codec : (r : Option Codec) (name : List ℕ) → IsByName r name → r ≡ codec_named name
+named_codec r name h =
+    named_or _ Base64 r _ _ (bytes_eq-Decides name (codec_name Base64)) (h Base64) (λ a.
+    named_or _ Base64Url r _ _ (bytes_eq-Decides name (codec_name Base64Url)) (h Base64Url) (λ b.
+    named_or _ Base32 r _ _ (bytes_eq-Decides name (codec_name Base32)) (h Base32) (λ c.
+    named_or _ Base32Hex r _ _ (bytes_eq-Decides name (codec_name Base32Hex)) (h Base32Hex) (λ d.
+    named_or _ Base16 r _ _ (bytes_eq-Decides name (codec_name Base16)) (h Base16) (λ e.
+    none_named r a b c d e)))))

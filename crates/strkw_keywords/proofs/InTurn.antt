@@ -1,0 +1,91 @@
+-- On the errors of assertions, one after the other.
+use Rattle.std.proofs.Common.{◌≡◌, ◌↔◌, ℕ, List, [], ◌∷◌, ◌++◌, Some, None, refl, sym, ap, ◌∙◌}
+use Rattle.std.specs.Str.{chars}
+use Rattle.std.proofs.lemmas.List.{append_assoc}
+use Rattle.strkw_report.specs.Kinds.{Report, report_at, regex_engine_failure, backtrack_limit_exceeded}
+use Rattle.strkw_report.specs.declared.error.Site.{Site}
+use Rattle.strkw_coding.specs.Laws.{EncodesOnce}
+use Rattle.strkw_pattern.specs.declared.engine.Outcome.{Outcome}
+use Rattle.strkw_keywords.specs.declared.keyword.Keyword.TheVariants.{Pattern}
+use Rattle.strkw_keywords.specs.Keywords.{keyword_name}
+use Rattle.strkw_keywords.specs.Meanings.{Lists}
+use Rattle.strkw_keywords.specs.Places.{Place, standing}
+use Rattle.strkw_keywords.specs.Demands.{at_least, at_most, matches, Finding, found_by_outcome}
+use Rattle.strkw_keywords.specs.Errors.{Assertion, placed, reported, AllReport, NodeReports}
+use Rattle.strkw_keywords.specs.Laws.{ReportInTurn, AssertionsReportInTurn, FusedLengthsReportBoth, EngineFailuresAreErrors, ReportsAreDetermined}
+use Rattle.strkw_keywords.proofs.Reports.{HasFinding-unique}
+
+-- ---- joined
+
+text_in_turn : (first others : List Assertion) (lists : Lists) (site : Site) (text : List ℕ) (rs : List Report) → AllReport (first ++ others) lists site text rs → ReportInTurn first others lists site (Some text) rs
+text_in_turn [] others lists site text rs h = record { early = []; late = rs; of_first = refl; of_others = h; joined = refl }
+text_in_turn (a ∷ first) others lists site text rs h =
+    let later = text_in_turn first others lists site text h.1 h.4 in
+    let mine = reported (standing a.place site) text h.0 in
+    record {
+      early = mine ++ later.early;
+      late = later.late;
+      of_first = (h.0, later.early, h.2, refl, later.of_first);
+      of_others = later.of_others;
+      joined = h.3 ∙ ap (λ l. mine ++ l) later.joined ∙ sym (append_assoc mine later.early later.late);
+    }
+
+text_of_both : (first others : List Assertion) (lists : Lists) (site : Site) (text : List ℕ) (early late : List Report) → AllReport first lists site text early → AllReport others lists site text late → AllReport (first ++ others) lists site text (early ++ late)
+text_of_both [] others lists site text early late h k = rw h k
+text_of_both (a ∷ first) others lists site text early late h k = (
+  h.0,
+  h.1 ++ late,
+  h.2,
+  ap (λ l. l ++ late) h.3 ∙ append_assoc (reported (standing a.place site) text h.0) h.1 late,
+  text_of_both first others lists site text h.1 late h.4 k,
+)
+
+pub in_turn : AssertionsReportInTurn
+in_turn first others lists site None rs = (
+  (λ h. record { early = []; late = []; of_first = refl; of_others = refl; joined = h }),
+  (λ r. r.joined ∙ ap (λ l. l ++ r.late) r.of_first ∙ r.of_others),
+)
+in_turn first others lists site (Some text) rs = (
+  (λ h. text_in_turn first others lists site text rs h),
+  (λ r. rw r.joined (text_of_both first others lists site text r.early r.late r.of_first r.of_others)),
+)
+
+pub fused : FusedLengthsReportBoth
+fused place low high lists site node rs = in_turn (placed place (at_least low ∷ [])) (placed place (at_most high ∷ [])) lists site node rs
+
+-- ---- one error
+
+one_error : (place : Place) (pattern : List ℕ) (outcome_on : List ℕ → Outcome) (lists : Lists) (site : Site) (text : List ℕ) (rs : List Report) (f : Finding) → found_by_outcome pattern (outcome_on (chars text)) ≡ Some f
+    → NodeReports (placed place (matches pattern outcome_on ∷ [])) lists site (Some text) rs
+    ↔ (rs ≡ report_at (standing place site) (keyword_name f.keyword) f.kind text ∷ [])
+one_error place pattern outcome_on lists site text rs f e = (
+  (λ h. h.3 ∙ ap (λ o. reported (standing place site) text o ++ h.1) (h.2 ∙ e) ∙ ap (λ l. reported (standing place site) text (Some f) ++ l) h.4),
+  (λ r. (Some f, [], sym e, r, refl)),
+)
+
+pub failures : EngineFailuresAreErrors
+failures = record {
+  failed = λ place p o lists site text rs e. one_error place p o lists site text rs (record { keyword = Pattern; kind = regex_engine_failure p }) (ap (found_by_outcome p) e);
+  gave_up = λ place p o lists site text rs e. one_error place p o lists site text rs (record { keyword = Pattern; kind = backtrack_limit_exceeded p }) (ap (found_by_outcome p) e);
+}
+
+-- ---- determined
+
+-- the same assertions first, and then others that report the same
+pub same_reports : EncodesOnce → (first xs ys : List Assertion) (lists : Lists) (site : Site) (text : List ℕ)
+    → ((rs others : List Report) → AllReport xs lists site text rs → AllReport ys lists site text others → rs ≡ others)
+    → (rs others : List Report) → AllReport (first ++ xs) lists site text rs → AllReport (first ++ ys) lists site text others → rs ≡ others
+same_reports once [] xs ys lists site text same rs others h k = same rs others h k
+same_reports once (a ∷ first) xs ys lists site text same rs others h k =
+    let found = HasFinding-unique once a.demand lists text h.0 k.0 h.2 k.2 in
+    let rest = same_reports once first xs ys lists site text same h.1 k.1 h.4 k.4 in
+    h.3 ∙ ap (λ o. reported (standing a.place site) text o ++ h.1) found ∙ ap (λ l. reported (standing a.place site) text k.0 ++ l) rest ∙ sym k.3
+
+pub text_determined : EncodesOnce → (assertions : List Assertion) (lists : Lists) (site : Site) (text : List ℕ) (rs others : List Report) → AllReport assertions lists site text rs → AllReport assertions lists site text others → rs ≡ others
+text_determined once [] lists site text rs others h k = h ∙ sym k
+text_determined once (a ∷ rest) lists site text rs others h k =
+    same_reports once (a ∷ []) rest rest lists site text (text_determined once rest lists site text) rs others h k
+
+pub reports_determined : EncodesOnce → ReportsAreDetermined
+reports_determined once assertions lists site None rs others h k = h ∙ sym k
+reports_determined once assertions lists site (Some text) rs others h k = text_determined once assertions lists site text rs others h k

@@ -1,0 +1,10 @@
+pub mod Rows
+pub mod Reports
+pub mod Refusals
+pub mod Engines
+pub mod Codecs
+pub mod InTurn
+pub mod Determined
+pub mod InUse
+pub mod FirstRow
+pub mod BuiltinNames

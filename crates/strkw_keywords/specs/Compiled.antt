@@ -1,0 +1,72 @@
+-- What compile functions answer.
+use Rattle.std.specs.Prelude.{◌≡◌, ◌⊎◌, ℕ, List, [], ◌∷◌, Option, Some, None, Result, Ok, Err}
+use Rattle.serde_json.specs.Data.{Members}
+use Rattle.strkw_report.specs.Paths.{below}
+use Rattle.strkw_report.specs.Refusals.{memory, Refusal, reason_of, refusal_of}
+use Rattle.strkw_report.specs.declared.refusal.CompileError.{CompileError}
+use Rattle.strkw_pattern.specs.declared.engine.Outcome.{Outcome}
+use Rattle.strkw_keywords.specs.declared.compile.Refused.{Refused}
+use Rattle.strkw_keywords.specs.declared.compile.Refused.TheVariants.{Malformed, Memory}
+use Rattle.strkw_keywords.specs.declared.validator.Validator.{Validator}
+use Rattle.strkw_keywords.specs.Keywords.{keyword_name}
+use Rattle.strkw_keywords.specs.Places.{Place}
+use Rattle.strkw_keywords.specs.Validators.{assertions_of, remark_made, listed_remark}
+use Rattle.strkw_keywords.specs.Object.{Settings, Entry, Keyed, pattern_keyed, IsPatternAt, refusal, asserted, remarked}
+
+-- the refusal of a growth: it stands at the root
+abbrev pub out_of_memory : Refusal
+out_of_memory = record { reason = memory; location = [] }
+
+-- the validator stands for these entries: none of them is refused, and it asserts and notes what they do
+pub record StandsFor {E : Type 0} (outcome : E → List ℕ → Outcome) (place : Place) (es : List Keyed) (v : Validator E) : Type 0 where
+  pub good : refusal place es ≡ None
+  pub asserts : assertions_of outcome v ≡ asserted place es
+  pub notes : listed_remark (remark_made v) ≡ remarked place es
+
+-- these entries add nothing
+pub record AddsNothing (place : Place) (es : List Keyed) : Type 0 where
+  pub good : refusal place es ≡ None
+  pub asserts : asserted place es ≡ []
+  pub notes : remarked place es ≡ []
+
+-- ---- what is refused, before its place is written
+
+abbrev pub refused_at : Place → Refused → Refusal
+refused_at place (Malformed keyword kind) = record { reason = reason_of kind; location = below place.schema (keyword_name keyword) }
+refused_at place Memory = out_of_memory
+
+abbrev pub IsBuiltCase : {E : Type 0} → (E → List ℕ → Outcome) → Place → List Keyed → Result (Option (Validator E)) Refused → Type 0
+IsBuiltCase outcome place es (Ok None) = AddsNothing place es
+IsBuiltCase outcome place es (Ok (Some v)) = StandsFor outcome place es v
+IsBuiltCase outcome place es (Err r) = (r ≡ Memory) ⊎ (refusal place es ≡ Some (refused_at place r))
+
+pub record IsBuilt {E : Type 0} (outcome : E → List ℕ → Outcome) (place : Place) (es : List Keyed) (result : Result (Option (Validator E)) Refused) : Type 0 where
+  pub answer : IsBuiltCase outcome place es result
+
+abbrev pub IsPatternBuiltCase : {E : Type 0} → (E → List ℕ → Outcome) → Settings → Members → Result (Option (Validator E)) Refused → Type 0
+IsPatternBuiltCase outcome s ms (Ok None) = (p : Entry) × IsPatternAt s ms p × AddsNothing s.place (pattern_keyed p ∷ [])
+IsPatternBuiltCase outcome s ms (Ok (Some v)) = (p : Entry) × IsPatternAt s ms p × StandsFor outcome s.place (pattern_keyed p ∷ []) v
+IsPatternBuiltCase outcome s ms (Err r) = (r ≡ Memory) ⊎ ((p : Entry) → IsPatternAt s ms p → refusal s.place (pattern_keyed p ∷ []) ≡ Some (refused_at s.place r))
+
+pub record IsPatternBuilt {E : Type 0} (outcome : E → List ℕ → Outcome) (s : Settings) (ms : Members) (result : Result (Option (Validator E)) Refused) : Type 0 where
+  pub answer : IsPatternBuiltCase outcome s ms result
+
+-- ---- answers
+
+abbrev pub IsCompiledCase : {E : Type 0} → (E → List ℕ → Outcome) → Place → List Keyed → Option (Result (Validator E) CompileError) → Type 0
+IsCompiledCase outcome place es None = AddsNothing place es
+IsCompiledCase outcome place es (Some (Ok v)) = StandsFor outcome place es v
+IsCompiledCase outcome place es (Some (Err e)) = (refusal_of e ≡ out_of_memory) ⊎ (refusal place es ≡ Some (refusal_of e))
+
+-- the answer for some entries: that they add nothing, what stands for them, or the first refusal, or no memory
+pub record IsCompiled {E : Type 0} (outcome : E → List ℕ → Outcome) (place : Place) (es : List Keyed) (result : Option (Result (Validator E) CompileError)) : Type 0 where
+  pub answer : IsCompiledCase outcome place es result
+
+abbrev pub IsPatternCompiledCase : {E : Type 0} → (E → List ℕ → Outcome) → Settings → Members → Option (Result (Validator E) CompileError) → Type 0
+IsPatternCompiledCase outcome s ms None = (p : Entry) × IsPatternAt s ms p × AddsNothing s.place (pattern_keyed p ∷ [])
+IsPatternCompiledCase outcome s ms (Some (Ok v)) = (p : Entry) × IsPatternAt s ms p × StandsFor outcome s.place (pattern_keyed p ∷ []) v
+IsPatternCompiledCase outcome s ms (Some (Err e)) = (refusal_of e ≡ out_of_memory) ⊎ ((p : Entry) → IsPatternAt s ms p → refusal s.place (pattern_keyed p ∷ []) ≡ Some (refusal_of e))
+
+-- the same of `pattern`: some entry that the pattern has adds nothing or is stood for, or all of them are refused so
+pub record IsPatternCompiled {E : Type 0} (outcome : E → List ℕ → Outcome) (s : Settings) (ms : Members) (result : Option (Result (Validator E) CompileError)) : Type 0 where
+  pub answer : IsPatternCompiledCase outcome s ms result

@@ -1,0 +1,26 @@
+-- What is so of the tables of the built-in formats.
+use Rattle.std.specs.Prelude.{ℕ, ◌≡◌, ◌≤◌, List, length, Option, IfSome, Some, None}
+use Rattle.std.specs.Str.{chars}
+use Rattle.strkw_keywords.specs.declared.builtin.BuiltinFormat.{BuiltinFormat}
+use Rattle.strkw_keywords.specs.Formats.{IsOfBuiltin, Window}
+
+-- the number is inside the window; an open end bounds nothing
+pub record IsInside (w : Window) (n : ℕ) : Type 0 where
+  pub long_enough : w.least ≤ n
+  pub short_enough : IfSome w.greatest (λ greatest. n ≤ greatest)
+
+-- the format derives the text, which has n characters
+pub record IsOfLength (f : BuiltinFormat) (n : ℕ) (text : List ℕ) : Type 0 where
+  pub derived : IsOfBuiltin f (chars text)
+  pub size : length (chars text) ≡ n
+
+-- both are there and stand in the relation, or neither is there
+abbrev pub AreBoth : {A B : Type 0} → (A → B → Type 0) → Option A → Option B → Type 0
+AreBoth R (Some a) (Some b) = R a b
+AreBoth R None None = Unit {0}
+AreBoth R (Some a) None = ⊥
+AreBoth R None (Some b) = ⊥
+
+-- a text of least length, and one of greatest exactly where that end is closed
+abbrev pub AreTextsAtEnds : BuiltinFormat → Window → List ℕ × Option (List ℕ) → Type 0
+AreTextsAtEnds f w (shortest, longest) = IsOfLength f w.least shortest × AreBoth (IsOfLength f) w.greatest longest

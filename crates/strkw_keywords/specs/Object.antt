@@ -1,0 +1,359 @@
+-- What the string keywords of a schema object mean, entry by entry (JSON Schema Validation 2020-12, sections 6.3, 7
+-- and 8; draft 7, sections 6.3, 7 and 8).
+use Rattle.std.specs.Prelude.{◌≡◌, ◌⊎◌, ℕ, List, [], ◌∷◌, ◌++◌, Bool, true, false, not, ◌&&◌, ◌||◌, Option, Some, None, unwrap_or, MatchOption, if◌then◌else◌, option_and_then, slice_get}
+use Rattle.std.specs.Str.{chars, bytes_eq}
+use Rattle.serde_json.specs.Data.{Data, string, Members}
+use Rattle.serde_json.specs.Find.{get_member, as_str, as_number, as_u64}
+use Rattle.serde_json.specs.Written.{has_float}
+use Rattle.strkw_report.specs.declared.draft.Draft.{Draft}
+use Rattle.strkw_report.specs.declared.draft.Draft.TheVariants.{Draft4, Draft6, Draft7, Draft201909, Draft202012}
+use Rattle.strkw_report.specs.Paths.{below}
+use Rattle.strkw_report.specs.Kinds.{Report}
+use Rattle.strkw_report.specs.declared.error.Site.{Site}
+use Rattle.strkw_report.specs.Refusals.{Reason, not_string, size, unknown_format, regex, fractional_number, Refusal}
+use Rattle.strkw_coding.specs.declared.codec.Codec.{Codec}
+use Rattle.strkw_coding.specs.declared.codec.Codec.TheVariants.{Base64, Base64Url, Base32, Base32Hex, Base16}
+use Rattle.strkw_coding.specs.declared.media_type.BuiltinMediaType.{BuiltinMediaType}
+use Rattle.strkw_coding.specs.declared.media_type.BuiltinMediaType.TheVariants.{Json}
+use Rattle.strkw_coding.specs.Names.{codec_name, media_type_name}
+use Rattle.strkw_pattern.specs.declared.engine.Outcome.{Outcome}
+use Rattle.strkw_pattern.specs.Literal.{Literal, IsWellFormed, spelling, IsLiteral}
+use Rattle.strkw_pattern.specs.Matcher.{IsSearch}
+use Rattle.strkw_keywords.specs.declared.keyword.Keyword.{Keyword}
+use Rattle.strkw_keywords.specs.declared.keyword.Keyword.TheVariants.{ContentMediaType, ContentEncoding, ContentSchema, Format, MinLength, MaxLength, Pattern}
+use Rattle.strkw_keywords.specs.declared.builtin.BuiltinFormat.{BuiltinFormat}
+use Rattle.strkw_keywords.specs.declared.options.Options.{Options}
+use Rattle.strkw_keywords.specs.Keywords.{keyword_name, keyword_place}
+use Rattle.strkw_keywords.specs.Formats.{builtin_named}
+use Rattle.strkw_keywords.specs.Meanings.{Lists, Choice, builtin, row, row_names, codec_names, first_named}
+use Rattle.strkw_keywords.specs.Places.{Place}
+use Rattle.strkw_keywords.specs.Demands.{Demand, is_media_type, is_encoded, encodes_media_type, is_format, at_least, at_most, compares, matches}
+use Rattle.strkw_keywords.specs.Errors.{Assertion, placed, NodeReports}
+use Rattle.strkw_keywords.specs.Remarks.{Remark, remark_at}
+
+-- what a schema object is compiled under
+pub record Settings : Type 0 where
+  pub draft : Draft
+  pub place : Place
+  pub options : Options
+  pub lists : Lists
+  pub takes : List ℕ → Bool
+  pub outcome : List ℕ → List ℕ → Outcome
+
+-- what one entry comes to: nothing, a refusal of the value at a keyword, or demands and what is noted
+pub data Entry : Type 0 where
+  nothing : Entry
+  malformed : Keyword → Reason → Entry
+  gives : List Demand → Option Data → Entry
+
+-- ---- values
+
+-- what holds where a caller sets nothing: drafts decide whether formats are checked, unknown ones are ignored, and
+-- everything is built in
+abbrev pub default_options : Options
+default_options = record {
+  validate_formats = None;
+  ignore_unknown_formats = true;
+  formats_by_dialect = false;
+  json_media_type = true;
+  codecs = true ∷ true ∷ true ∷ true ∷ true ∷ [];
+  overridden = false ∷ false ∷ false ∷ false ∷ false ∷ false ∷ false ∷ [];
+}
+
+abbrev pub is_on : List Bool → ℕ → Bool
+is_on flags i = unwrap_or (slice_get flags i) false
+
+abbrev pub is_overridden : Options → Keyword → Bool
+is_overridden options keyword = is_on options.overridden (keyword_place keyword)
+
+-- the value at a keyword, unless the keyword is overridden
+abbrev pub value_at : Options → Keyword → Members → Option Data
+value_at options keyword ms = if is_overridden options keyword then None else get_member (keyword_name keyword) ms
+
+abbrev pub entry_of : (Data → Entry) → Option Data → Entry
+entry_of of None = nothing
+entry_of of (Some d) = of d
+
+-- why a value that is no string is refused
+abbrev pub no_string : Data → Reason
+no_string d = if has_float d then fractional_number else not_string d
+
+abbrev pub of_string : (List ℕ → Entry) → Keyword → Data → Option (List ℕ) → Entry
+of_string entry keyword d (Some text) = entry text
+of_string entry keyword d None = malformed keyword (no_string d)
+
+-- the entry of a text; a value that is no string is refused at the keyword
+abbrev pub of_text : (List ℕ → Entry) → Keyword → Data → Entry
+of_text entry keyword d = of_string entry keyword d (as_str d)
+
+-- ---- what is known by a name: the first registered row of the name, or else the built-in
+
+abbrev pub chosen : {A : Type 0} → Option ℕ → List ℕ → Option A → Option (Choice A)
+chosen (Some at) name b = Some (row at name)
+chosen None name (Some b) = Some (builtin b)
+chosen None name None = None
+
+-- where options tell whether a codec is built in
+abbrev pub codec_place : Codec → ℕ
+codec_place Base64 = 0
+codec_place Base64Url = 1
+codec_place Base32 = 2
+codec_place Base32Hex = 3
+codec_place Base16 = 4
+
+abbrev pub has_codec : Options → Codec → Bool
+has_codec options c = is_on options.codecs (codec_place c)
+
+abbrev pub codec_named : List ℕ → Option Codec
+codec_named name =
+    if bytes_eq name (codec_name Base64) then Some Base64
+    else (if bytes_eq name (codec_name Base64Url) then Some Base64Url
+    else (if bytes_eq name (codec_name Base32) then Some Base32
+    else (if bytes_eq name (codec_name Base32Hex) then Some Base32Hex
+    else (if bytes_eq name (codec_name Base16) then Some Base16
+    else None))))
+
+abbrev pub left_on : Options → Option Codec → Option Codec
+left_on options (Some c) = if has_codec options c then Some c else None
+left_on options None = None
+
+abbrev pub media_type_left_on : Options → List ℕ → Option BuiltinMediaType
+media_type_left_on options name = if options.json_media_type && bytes_eq name (media_type_name Json) then Some Json else None
+
+abbrev pub known_media_type : Lists → Options → List ℕ → Option (Choice BuiltinMediaType)
+known_media_type lists options name = chosen (first_named name (row_names lists.media_types)) name (media_type_left_on options name)
+
+abbrev pub known_codec : Lists → Options → List ℕ → Option (Choice Codec)
+known_codec lists options name = chosen (first_named name (codec_names lists.codecs)) name (left_on options (codec_named name))
+
+abbrev pub known_format : Settings → List ℕ → Option (Choice BuiltinFormat)
+known_format s name = chosen (first_named name (row_names s.lists.formats)) name (builtin_named s.draft name)
+
+-- ---- content
+
+-- what a draft does with content
+pub data ContentRule : Type 0 where
+  ignored : ContentRule
+  checked : ContentRule
+  noted : ContentRule
+
+abbrev pub content_rule : Draft → ContentRule
+content_rule Draft4 = ignored
+content_rule Draft6 = checked
+content_rule Draft7 = checked
+content_rule Draft201909 = noted
+content_rule Draft202012 = noted
+
+-- a text of a media type, encoded by a codec that is known
+abbrev pub encoded_check : Choice BuiltinMediaType → Option (Choice Codec) → Entry
+encoded_check m None = nothing
+encoded_check m (Some c) = gives (encodes_media_type c m ∷ []) None
+
+-- a media type that is known, beside what stands at `contentEncoding`
+abbrev pub media_type_beside : Settings → Choice BuiltinMediaType → Option Data → Entry
+media_type_beside s m None = gives (is_media_type m ∷ []) None
+media_type_beside s m (Some d) = of_text (λ name. encoded_check m (known_codec s.lists s.options name)) ContentEncoding d
+
+abbrev pub media_type_check : Settings → Members → Option (Choice BuiltinMediaType) → Entry
+media_type_check s ms None = nothing
+media_type_check s ms (Some m) = media_type_beside s m (get_member (keyword_name ContentEncoding) ms)
+
+abbrev pub encoding_check : Option (Choice Codec) → Entry
+encoding_check None = nothing
+encoding_check (Some c) = gives (is_encoded c ∷ []) None
+
+-- an encoding, unless it belongs to a media type
+abbrev pub encoding_beside : Settings → Option Data → Data → Entry
+encoding_beside s None d = of_text (λ name. encoding_check (known_codec s.lists s.options name)) ContentEncoding d
+encoding_beside s (Some m) d = nothing
+
+-- a value that is noted where it is a string
+abbrev pub noted_text : Data → Option (List ℕ) → Entry
+noted_text d (Some text) = gives [] (Some d)
+noted_text d None = nothing
+
+-- a schema that is noted where there is a media type
+abbrev pub schema_beside : Option Data → Data → Entry
+schema_beside None d = nothing
+schema_beside (Some m) d = if has_float d then malformed ContentSchema fractional_number else gives [] (Some d)
+
+abbrev pub media_type_entry : ContentRule → Settings → Members → Data → Entry
+media_type_entry ignored s ms d = nothing
+media_type_entry checked s ms d = of_text (λ name. media_type_check s ms (known_media_type s.lists s.options name)) ContentMediaType d
+media_type_entry noted s ms d = noted_text d (as_str d)
+
+abbrev pub encoding_entry : ContentRule → Settings → Members → Data → Entry
+encoding_entry ignored s ms d = nothing
+encoding_entry checked s ms d = encoding_beside s (get_member (keyword_name ContentMediaType) ms) d
+encoding_entry noted s ms d = noted_text d (as_str d)
+
+abbrev pub schema_entry : ContentRule → Members → Data → Entry
+schema_entry ignored ms d = nothing
+schema_entry checked ms d = nothing
+schema_entry noted ms d = schema_beside (get_member (keyword_name ContentMediaType) ms) d
+
+-- ---- format
+
+-- Drafts 4, 6 and 7 check formats. In the later ones a format is an annotation (2019-09, 7.2; 2020-12, 7.2.1).
+abbrev pub checks_formats_itself : Draft → Bool
+checks_formats_itself Draft4 = true
+checks_formats_itself Draft6 = true
+checks_formats_itself Draft7 = true
+checks_formats_itself Draft201909 = false
+checks_formats_itself Draft202012 = false
+
+-- whether formats are checked: as the caller says, or else as the draft or the dialect does
+abbrev pub checks_formats : Options → Draft → Bool
+checks_formats options draft = unwrap_or options.validate_formats (checks_formats_itself draft || options.formats_by_dialect)
+
+-- whether an unknown format adds nothing
+abbrev pub ignores_unknown : Options → Bool
+ignores_unknown options = options.ignore_unknown_formats && not options.formats_by_dialect
+
+-- a name where formats are checked
+abbrev pub checked_format : Settings → List ℕ → Option (Choice BuiltinFormat) → Entry
+checked_format s name (Some f) = gives (is_format f ∷ []) (Some (string name))
+checked_format s name None = if ignores_unknown s.options then nothing else malformed Format (unknown_format name s.options.formats_by_dialect)
+
+abbrev pub format_entry : Settings → Data → Entry
+format_entry s d = of_text (λ name. if checks_formats s.options s.draft then checked_format s name (known_format s name) else gives [] (Some (string name))) Format d
+
+-- ---- lengths
+
+-- a limit that is a whole number of 64 bits
+abbrev pub as_limit : Data → Option ℕ
+as_limit d = option_and_then as_u64 (as_number d)
+
+abbrev pub limit_entry : (ℕ → Demand) → Keyword → Option ℕ → Entry
+limit_entry demand keyword (Some n) = gives (demand n ∷ []) None
+limit_entry demand keyword None = malformed keyword size
+
+abbrev pub min_entry : Data → Entry
+min_entry d = limit_entry at_least MinLength (as_limit d)
+
+abbrev pub max_entry : Data → Entry
+max_entry d = limit_entry at_most MaxLength (as_limit d)
+
+-- ---- pattern
+
+-- a pattern that is no literal, where the builder takes it
+abbrev pub engine_entry : Settings → List ℕ → Bool → Entry
+engine_entry s p true = gives (matches p (s.outcome (chars p)) ∷ []) None
+engine_entry s p false = malformed Pattern (regex p)
+
+-- a literal is compared; any other pattern is the builder's
+abbrev pub IsPatternEntry : Settings → List ℕ → Entry → Type 0
+IsPatternEntry s p e =
+    ((l : Literal) × (o : List ℕ → Outcome) × IsWellFormed l × (chars p ≡ spelling l) × IsSearch l o × (e ≡ gives (compares p o ∷ []) None))
+    ⊎ ((IsLiteral (chars p) → ⊥) × (e ≡ engine_entry s p (s.takes (chars p))))
+
+abbrev pub IsPatternValue : Settings → Data → Entry → Type 0
+IsPatternValue s d e = MatchOption (as_str d) (e ≡ malformed Pattern (no_string d)) (λ p. IsPatternEntry s p e)
+
+-- ---- the object
+
+-- a keyword, and what its entry comes to
+pub record Keyed : Type 0 where
+  pub keyword : Keyword
+  pub entry : Entry
+
+-- what the value at a keyword comes to, where that value has one entry
+abbrev pub keyed_by : Options → Members → Keyword → (Data → Entry) → Keyed
+keyed_by options ms keyword of = record { keyword = keyword; entry = entry_of of (value_at options keyword ms) }
+
+abbrev pub media_type_keyed : Settings → Members → Keyed
+media_type_keyed s ms = keyed_by s.options ms ContentMediaType (media_type_entry (content_rule s.draft) s ms)
+
+abbrev pub encoding_keyed : Settings → Members → Keyed
+encoding_keyed s ms = keyed_by s.options ms ContentEncoding (encoding_entry (content_rule s.draft) s ms)
+
+abbrev pub schema_keyed : Settings → Members → Keyed
+schema_keyed s ms = keyed_by s.options ms ContentSchema (schema_entry (content_rule s.draft) ms)
+
+abbrev pub format_keyed : Settings → Members → Keyed
+format_keyed s ms = keyed_by s.options ms Format (format_entry s)
+
+abbrev pub min_keyed : Options → Members → Keyed
+min_keyed options ms = keyed_by options ms MinLength min_entry
+
+abbrev pub max_keyed : Options → Members → Keyed
+max_keyed options ms = keyed_by options ms MaxLength max_entry
+
+abbrev pub pattern_keyed : Entry → Keyed
+pattern_keyed e = record { keyword = Pattern; entry = e }
+
+-- this is the entry of `pattern`
+abbrev pub IsPatternAt : Settings → Members → Entry → Type 0
+IsPatternAt s ms e = MatchOption (value_at s.options Pattern ms) (e ≡ nothing) (λ d. IsPatternValue s d e)
+
+-- the seven entries in their order, p being that of `pattern`
+abbrev pub entries_with : Settings → Members → Entry → List Keyed
+entries_with s ms p =
+    media_type_keyed s ms
+    ∷ encoding_keyed s ms
+    ∷ schema_keyed s ms
+    ∷ format_keyed s ms
+    ∷ min_keyed s.options ms
+    ∷ max_keyed s.options ms
+    ∷ pattern_keyed p
+    ∷ []
+
+-- these are the entries of an object
+abbrev pub AreEntries : Settings → Members → List Keyed → Type 0
+AreEntries s ms es = (p : Entry) × IsPatternAt s ms p × (es ≡ entries_with s ms p)
+
+-- ---- what entries say together
+
+abbrev pub refusal_or : Place → Entry → Option Refusal → Option Refusal
+refusal_or place nothing later = later
+refusal_or place (malformed keyword why) later = Some (record { reason = why; location = below place.schema (keyword_name keyword) })
+refusal_or place (gives ds remark) later = later
+
+-- the first refusal
+abbrev pub refusal : Place → List Keyed → Option Refusal
+refusal place [] = None
+refusal place (e ∷ others) = refusal_or place e.entry (refusal place others)
+
+abbrev pub demands_by : Entry → List Demand
+demands_by nothing = []
+demands_by (malformed keyword why) = []
+demands_by (gives ds remark) = ds
+
+-- what entries assert, in their order
+abbrev pub asserted : Place → List Keyed → List Assertion
+asserted place [] = []
+asserted place (e ∷ others) = placed place (demands_by e.entry) ++ asserted place others
+
+abbrev pub remark_by : Place → Keyword → Entry → List Remark
+remark_by place keyword nothing = []
+remark_by place keyword (malformed blamed why) = []
+remark_by place keyword (gives ds None) = []
+remark_by place keyword (gives ds (Some d)) = remark_at place.schema keyword d ∷ []
+
+-- what entries note of a text, in their order
+abbrev pub remarked : Place → List Keyed → List Remark
+remarked place [] = []
+remarked place (e ∷ others) = remark_by place e.keyword e.entry ++ remarked place others
+
+-- these are the errors of a node by a schema object: those of its entries in their order
+abbrev pub Errors : Settings → Members → Lists → Site → Option (List ℕ) → List Report → Type 0
+Errors s ms lists site node rs = (es : List Keyed) × AreEntries s ms es × NodeReports (asserted s.place es) lists site node rs
+
+-- ---- the two lengths, which one validator may stand for
+
+abbrev pub is_given : Entry → Bool
+is_given nothing = false
+is_given (malformed keyword why) = false
+is_given (gives ds remark) = true
+
+-- both limits are there and good
+abbrev pub is_fused : Options → Members → Bool
+is_fused options ms = is_given (min_keyed options ms).entry && is_given (max_keyed options ms).entry
+
+-- the entries that the validator of `minLength` stands for
+abbrev pub min_share : Options → Members → List Keyed
+min_share options ms = min_keyed options ms ∷ (if is_fused options ms then max_keyed options ms ∷ [] else [])
+
+-- and those that are left to `maxLength`
+abbrev pub max_share : Options → Members → List Keyed
+max_share options ms = if is_fused options ms then [] else max_keyed options ms ∷ []

@@ -1,0 +1,239 @@
+//! The formats that are checked without a registered check.
+ghost use Rattle.std.specs.Prelude.{◌≡◌, ◌↔◌, IsTrue, option_map};
+ghost use Rattle.std.specs.Str.{chars};
+ghost use Rattle.strkw_keywords.specs.Formats.{IsOfBuiltin, format_name, is_known, window_of, bounds, example_of, window_texts_of, builtin_named};
+
+use strkw_label::is_valid_hostname;
+use strkw_net::{is_valid_hostname_rfc1034, is_valid_ipv4, is_valid_ipv6, is_valid_uuid};
+use strkw_report::Draft;
+use strkw_time::{is_valid_date, is_valid_datetime, is_valid_duration, is_valid_time};
+use strkw_uri::{
+    is_valid_iri, is_valid_iri_reference, is_valid_json_pointer, is_valid_relative_json_pointer,
+    is_valid_uri, is_valid_uri_reference, is_valid_uri_template,
+};
+
+// A host name of 253 characters: labels of 63, 63, 63 and 61 letters.
+const LONGEST_HOST_NAME: &str =
+    "aaaaaaaaaaaaaaaaaaaaaaaaaaaaaaaaaaaaaaaaaaaaaaaaaaaaaaaaaaaaaaa.aaaaaaaaaaaaaaaaaaaaaaaaaaaaaaaaaaaaaaaaaaaaaaaaaaaaaaaaaaaaaaa.aaaaaaaaaaaaaaaaaaaaaaaaaaaaaaaaaaaaaaaaaaaaaaaaaaaaaaaaaaaaaaa.aaaaaaaaaaaaaaaaaaaaaaaaaaaaaaaaaaaaaaaaaaaaaaaaaaaaaaaaaaaaa";
+
+/// The formats that have a grammar of their own here. They are compared and hashed by their places in this order.
+#[derive(Debug, Clone, Copy, PartialEq, Eq, PartialOrd, Ord, Hash)]
+pub enum BuiltinFormat {
+    /// `date`: `full-date` of RFC 3339, section 5.6.
+    Date,
+    /// `date-time` of RFC 3339, section 5.6.
+    DateTime,
+    /// `duration` of RFC 3339, appendix A.
+    Duration,
+    /// `hostname` from draft 7 on: ASCII host names whose labels that begin with `xn--` are Punycode (RFC 5891, section 4.4).
+    Hostname,
+    /// `hostname` in drafts 4 and 6: ASCII host names of RFC 1034, section 3.5, and RFC 1123, section 2.1.
+    HostnameDraft4,
+    /// `ipv4`: `IPv4address` of RFC 3986, section 3.2.2.
+    Ipv4,
+    /// `ipv6`: RFC 4291, section 2.2.
+    Ipv6,
+    /// `iri` of RFC 3987, section 2.2.
+    Iri,
+    /// `iri-reference` of RFC 3987, section 2.2.
+    IriReference,
+    /// `json-pointer` of RFC 6901, section 3.
+    JsonPointer,
+    /// `relative-json-pointer` of draft-bhutton-relative-json-pointer, section 3.
+    RelativeJsonPointer,
+    /// `time`: `full-time` of RFC 3339, section 5.6.
+    Time,
+    /// `uri` of RFC 3986, appendix A.
+    Uri,
+    /// `uri-reference` of RFC 3986, appendix A.
+    UriReference,
+    /// `uri-template` of RFC 6570, section 2.
+    UriTemplate,
+    /// `uuid` of RFC 9562, section 4 (before it RFC 4122, section 3).
+    Uuid,
+}
+
+impl BuiltinFormat {
+    /// Each format once, in order.
+    pub const VARIANTS: &'static [BuiltinFormat] = &[
+        BuiltinFormat::Date,
+        BuiltinFormat::DateTime,
+        BuiltinFormat::Duration,
+        BuiltinFormat::Hostname,
+        BuiltinFormat::HostnameDraft4,
+        BuiltinFormat::Ipv4,
+        BuiltinFormat::Ipv6,
+        BuiltinFormat::Iri,
+        BuiltinFormat::IriReference,
+        BuiltinFormat::JsonPointer,
+        BuiltinFormat::RelativeJsonPointer,
+        BuiltinFormat::Time,
+        BuiltinFormat::Uri,
+        BuiltinFormat::UriReference,
+        BuiltinFormat::UriTemplate,
+        BuiltinFormat::Uuid,
+    ];
+
+    /// The name of the format in a schema. Both formats of host names have the name `hostname`.
+    pub fn as_str(self) -> &'static str
+        ensures { result.now ≡ format_name self }
+    {
+        match self {
+            BuiltinFormat::Date => "date",
+            BuiltinFormat::DateTime => "date-time",
+            BuiltinFormat::Duration => "duration",
+            BuiltinFormat::Hostname | BuiltinFormat::HostnameDraft4 => "hostname",
+            BuiltinFormat::Ipv4 => "ipv4",
+            BuiltinFormat::Ipv6 => "ipv6",
+            BuiltinFormat::Iri => "iri",
+            BuiltinFormat::IriReference => "iri-reference",
+            BuiltinFormat::JsonPointer => "json-pointer",
+            BuiltinFormat::RelativeJsonPointer => "relative-json-pointer",
+            BuiltinFormat::Time => "time",
+            BuiltinFormat::Uri => "uri",
+            BuiltinFormat::UriReference => "uri-reference",
+            BuiltinFormat::UriTemplate => "uri-template",
+            BuiltinFormat::Uuid => "uuid",
+        }
+    }
+
+    /// The least and the greatest number of characters of a text of the format, both inclusive.
+    ///
+    /// An open end is `u64::MAX`. `None` for IRIs, URIs, references to either, URI templates and JSON pointers.
+    pub fn length_window(self) -> Option<(u64, u64)>
+        ensures { result ≡ option_map bounds (window_of self) }
+    {
+        match self {
+            BuiltinFormat::Date => Some((10, 10)),
+            BuiltinFormat::DateTime => Some((20, u64::MAX)),
+            BuiltinFormat::Duration => Some((3, u64::MAX)),
+            BuiltinFormat::Hostname | BuiltinFormat::HostnameDraft4 => Some((1, 253)),
+            BuiltinFormat::Ipv4 => Some((7, 15)),
+            BuiltinFormat::Ipv6 => Some((2, 45)),
+            BuiltinFormat::Time => Some((9, u64::MAX)),
+            BuiltinFormat::Uuid => Some((36, 36)),
+            BuiltinFormat::Iri
+            | BuiltinFormat::IriReference
+            | BuiltinFormat::JsonPointer
+            | BuiltinFormat::RelativeJsonPointer
+            | BuiltinFormat::Uri
+            | BuiltinFormat::UriReference
+            | BuiltinFormat::UriTemplate => None,
+        }
+    }
+
+    /// A text of the format.
+    pub fn example(self) -> &'static str
+        ensures { result.now ≡ example_of self }
+    {
+        match self {
+            BuiltinFormat::Date => "2020-01-01",
+            BuiltinFormat::DateTime => "2020-01-01T00:00:00Z",
+            BuiltinFormat::Duration => "P1D",
+            BuiltinFormat::Hostname | BuiltinFormat::HostnameDraft4 => "example.com",
+            BuiltinFormat::Ipv4 => "127.0.0.1",
+            BuiltinFormat::Ipv6 => "::1",
+            BuiltinFormat::Iri
+            | BuiltinFormat::IriReference
+            | BuiltinFormat::Uri
+            | BuiltinFormat::UriReference => "http://example.com",
+            BuiltinFormat::JsonPointer => "/a",
+            BuiltinFormat::RelativeJsonPointer => "0",
+            BuiltinFormat::Time => "00:00:00Z",
+            BuiltinFormat::UriTemplate => "http://example.com/{id}",
+            BuiltinFormat::Uuid => "00000000-0000-4000-8000-000000000000",
+        }
+    }
+
+    /// A text of the least length of `length_window`, and where its upper end is closed one of the greatest.
+    ///
+    /// `None` for the formats without such a window.
+    pub fn window_texts(self) -> Option<(&'static str, Option<&'static str>)>
+        ensures { option_map (λ (shortest, longest). (shortest.now, option_map (λ it. it.now) longest)) result
+            ≡ window_texts_of self }
+    {
+        match self {
+            BuiltinFormat::Date => Some(("2020-01-01", Some("2020-01-01"))),
+            BuiltinFormat::DateTime => Some(("2020-01-01T00:00:00Z", None)),
+            BuiltinFormat::Duration => Some(("P1D", None)),
+            BuiltinFormat::Hostname | BuiltinFormat::HostnameDraft4 => Some((
+                "a",
+                Some(LONGEST_HOST_NAME),
+            )),
+            BuiltinFormat::Ipv4 => Some(("0.0.0.0", Some("255.255.255.255"))),
+            BuiltinFormat::Ipv6 => Some((
+                "::",
+                Some("0000:0000:0000:0000:0000:0000:255.255.255.255"),
+            )),
+            BuiltinFormat::Time => Some(("00:00:00Z", None)),
+            BuiltinFormat::Uuid => Some((
+                "00000000-0000-4000-8000-000000000000",
+                Some("00000000-0000-4000-8000-000000000000"),
+            )),
+            BuiltinFormat::Iri
+            | BuiltinFormat::IriReference
+            | BuiltinFormat::JsonPointer
+            | BuiltinFormat::RelativeJsonPointer
+            | BuiltinFormat::Uri
+            | BuiltinFormat::UriReference
+            | BuiltinFormat::UriTemplate => None,
+        }
+    }
+
+    /// Whether the format's grammar derives the text.
+    pub fn is_valid(self, text: &str) -> bool
+        ensures { IsTrue result ↔ IsOfBuiltin self (chars text.now) }
+    {
+        match self {
+            BuiltinFormat::Date => is_valid_date(text),
+            BuiltinFormat::DateTime => is_valid_datetime(text),
+            BuiltinFormat::Duration => is_valid_duration(text),
+            BuiltinFormat::Hostname => is_valid_hostname(text),
+            BuiltinFormat::HostnameDraft4 => is_valid_hostname_rfc1034(text),
+            BuiltinFormat::Ipv4 => is_valid_ipv4(text),
+            BuiltinFormat::Ipv6 => is_valid_ipv6(text),
+            BuiltinFormat::Iri => is_valid_iri(text),
+            BuiltinFormat::IriReference => is_valid_iri_reference(text),
+            BuiltinFormat::JsonPointer => is_valid_json_pointer(text),
+            BuiltinFormat::RelativeJsonPointer => is_valid_relative_json_pointer(text),
+            BuiltinFormat::Time => is_valid_time(text),
+            BuiltinFormat::Uri => is_valid_uri(text),
+            BuiltinFormat::UriReference => is_valid_uri_reference(text),
+            BuiltinFormat::UriTemplate => is_valid_uri_template(text),
+            BuiltinFormat::Uuid => is_valid_uuid(text),
+        }
+    }
+
+    /// Whether the draft has the format.
+    fn is_known_in(self, draft: Draft) -> bool
+        ensures { result ≡ is_known self draft }
+    {
+        match self {
+            BuiltinFormat::Date
+            | BuiltinFormat::DateTime
+            | BuiltinFormat::Ipv4
+            | BuiltinFormat::Ipv6
+            | BuiltinFormat::Time
+            | BuiltinFormat::Uri => true,
+            BuiltinFormat::HostnameDraft4 => draft < Draft::Draft7,
+            BuiltinFormat::JsonPointer | BuiltinFormat::UriReference | BuiltinFormat::UriTemplate =>
+                draft >= Draft::Draft6,
+            BuiltinFormat::Hostname
+            | BuiltinFormat::Iri
+            | BuiltinFormat::IriReference
+            | BuiltinFormat::RelativeJsonPointer => draft >= Draft::Draft7,
+            BuiltinFormat::Duration | BuiltinFormat::Uuid => draft >= Draft::Draft201909,
+        }
+    }
+}
+
+/// The built-in format of a name in a draft, or `None` where the draft has none of that name.
+///
+/// Names are compared exactly. In drafts 4 and 6 `hostname` is `HostnameDraft4`, from draft 7 on `Hostname`.
+#[tactic(auto, unfolding(crate::specs::Formats::builtin_named))]
+pub fn builtin_format(draft: Draft, name: &str) -> Option<BuiltinFormat>
+    ensures { result ≡ builtin_named draft name.now }
+{
+    BuiltinFormat::VARIANTS.iter().copied().find(|format| format.as_str() == name
+        && format.is_known_in(draft))
+}

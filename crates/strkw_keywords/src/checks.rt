@@ -1,0 +1,244 @@
+ghost use Rattle.std.specs.Prelude.{◌≡◌, ◌↔◌, List, ℕ, Bool, Some, None, IfOk, IfErr, MatchOption, IsTrue, string_bytes};
+ghost use Rattle.std.specs.List.{position_from};
+ghost use Rattle.std.specs.Str.{chars, bytes_eq};
+ghost use Rattle.strkw_keywords.specs.Meanings.{no_encoding, no_text, decoded, row_names, codec_names, first_named};
+ghost use Rattle.strkw_keywords.specs.Lists.{lists};
+ghost use Rattle.strkw_keywords.specs.Demands.{Admits, Takes};
+
+use std::alloc::{AllocError, Global};
+use strkw_coding::DecodeError;
+
+/// A check of a format that the caller registers. It says by `admits` which texts it admits, a text being the list of
+/// its characters.
+pub trait Format: Drop {
+    /// Whether it admits a text.
+    ghost admits: { Self → List ℕ → Bool };
+
+    /// Whether it admits the text. The only error is want of memory.
+    fn is_valid(&self, alloc: Global, value: &str) -> Result<bool, AllocError>
+        ensures { IfOk result (λ b. b ≡ admits self.now (chars value.now)) };
+}
+
+/// A check of a media type that the caller registers. It says by `accepted` which texts are of the media type.
+pub trait MediaTypeCheck: Drop {
+    /// Whether it admits a text.
+    ghost accepted: { Self → List ℕ → Bool };
+
+    /// Whether the text is of the media type. The only error is want of memory.
+    fn accepts(&self, alloc: Global, value: &str) -> Result<bool, AllocError>
+        ensures { IfOk result (λ b. b ≡ accepted self.now (chars value.now)) };
+}
+
+/// A codec that the caller registers. It has two meanings, one for each call: `encoded` serves an entry
+/// `contentEncoding` alone, and `decoding` one beside `contentMediaType`. No law ties them together.
+pub trait ContentCodec: Drop {
+    ghost use Rattle.strkw_keywords.specs.Meanings.{Decoded, no_encoding, no_text, decoded};
+
+    /// Whether a text is an encoding.
+    ghost encoded: { Self → List ℕ → Bool };
+
+    /// What a text decodes to.
+    ghost decoding: { Self → List ℕ → Decoded };
+
+    /// Whether the text is an encoding. The only error is want of memory.
+    fn is_encoded(&self, alloc: Global, value: &str) -> Result<bool, AllocError>
+        ensures { IfOk result (λ b. b ≡ encoded self.now (chars value.now)) };
+
+    /// The text that the text encodes, or `None` where it is no encoding.
+    ///
+    /// Errors: `NotUtf8` where it encodes bytes that are not UTF-8, and `Memory`.
+    fn decode(&self, alloc: Global, value: &str) -> Result<Option<String>, DecodeError>
+        ensures text { IfOk result (λ o. MatchOption o (decoding self.now (chars value.now) ≡ no_encoding)
+            (λ s. decoding self.now (chars value.now) ≡ decoded (string_bytes s))) }
+        ensures not_utf8 { IfErr result (λ e. e ≡ DecodeError.NotUtf8 → decoding self.now (chars value.now) ≡ no_text) };
+}
+
+/// A row of the caller's formats.
+#[derive(Drop)]
+pub struct NamedFormat {
+    /// The name by which schemas know it. Names are compared exactly.
+    pub name: String,
+    /// What it admits.
+    pub check: Box<dyn Format>,
+}
+
+/// A row of the caller's media types.
+#[derive(Drop)]
+pub struct NamedMediaType {
+    /// The name by which schemas know it. Names are compared exactly.
+    pub name: String,
+    /// Which texts are of it.
+    pub check: Box<dyn MediaTypeCheck>,
+}
+
+/// A row of the caller's codecs.
+#[derive(Drop)]
+pub struct NamedCodec {
+    /// The name by which schemas know it. Names are compared exactly.
+    pub name: String,
+    /// How it encodes.
+    pub codec: Box<dyn ContentCodec>,
+}
+
+/// The caller's own checks, as three lists of rows. The first row of a name counts, and it counts before a built-in of
+/// that name.
+#[derive(Drop)]
+pub struct Checks<'a> {
+    /// For `format`.
+    pub formats: &'a [NamedFormat],
+    /// For `contentMediaType`.
+    pub media_types: &'a [NamedMediaType],
+    /// For `contentEncoding`.
+    pub codecs: &'a [NamedCodec],
+}
+
+/// A built-in, or the row at a position and the name that it had at compile.
+#[derive(Drop)]
+pub(crate) enum Choice<A> {
+    Builtin(A),
+    Row { position: usize, name: String },
+}
+
+impl NamedFormat {
+    fn ask(&self, alloc: Global, text: &str) -> Result<bool, AllocError>
+        ensures { IfOk result (λ b. b ≡ admits self.now.check (chars text.now)) }
+    {
+        self.check.is_valid(alloc, text)
+    }
+}
+
+impl NamedMediaType {
+    fn ask(&self, alloc: Global, text: &str) -> Result<bool, AllocError>
+        ensures { IfOk result (λ b. b ≡ accepted self.now.check (chars text.now)) }
+    {
+        self.check.accepts(alloc, text)
+    }
+}
+
+impl NamedCodec {
+    fn ask(&self, alloc: Global, text: &str) -> Result<bool, AllocError>
+        ensures { IfOk result (λ b. b ≡ encoded self.now.codec (chars text.now)) }
+    {
+        self.codec.is_encoded(alloc, text)
+    }
+
+    pub(crate) fn decode(&self, alloc: Global, text: &str) -> Result<Option<String>, DecodeError>
+        ensures text { IfOk result (λ o. MatchOption o (decoding self.now.codec (chars text.now) ≡ no_encoding)
+            (λ s. decoding self.now.codec (chars text.now) ≡ decoded (string_bytes s))) }
+        ensures not_utf8 { IfErr result (λ e. e ≡ DecodeError.NotUtf8 → decoding self.now.codec (chars text.now) ≡ no_text) }
+    {
+        self.codec.decode(alloc, text)
+    }
+}
+
+// ---- the first row of a name
+
+// What has a name.
+trait Named {
+    ghost called: { Self → List ℕ };
+
+    fn name(&self) -> &str
+        ensures { result.now ≡ called self.now };
+}
+
+impl Named for NamedFormat {
+    ghost called = { λ r. string_bytes r.name };
+
+    fn name(&self) -> &str {
+        self.name.as_str()
+    }
+}
+
+impl Named for NamedMediaType {
+    ghost called = { λ r. string_bytes r.name };
+
+    fn name(&self) -> &str {
+        self.name.as_str()
+    }
+}
+
+impl Named for NamedCodec {
+    ghost called = { λ r. string_bytes r.name };
+
+    fn name(&self) -> &str {
+        self.name.as_str()
+    }
+}
+
+fn first_named<R: Named>(rows: &[R], name: &str) -> Option<usize>
+    ensures { result ≡ position_from (λ r. bytes_eq (R.called r) name.now) 0 rows.now }
+{
+    for (i, row) in rows.iter().enumerate() {
+        if row.name() == name {
+            return Some(i);
+        }
+    }
+    None
+}
+
+impl Checks<'_> {
+    pub(crate) fn format_named(&self, name: &str) -> Option<usize>
+        ensures { result ≡ first_named name.now (row_names (lists (λ f. admits f.check) (λ m. accepted m.check) (λ c. encoded c.codec) (λ c. decoding c.codec) self.now).formats) }
+    {
+        first_named(self.formats, name)
+    }
+
+    pub(crate) fn media_type_named(&self, name: &str) -> Option<usize>
+        ensures { result ≡ first_named name.now (row_names (lists (λ f. admits f.check) (λ m. accepted m.check) (λ c. encoded c.codec) (λ c. decoding c.codec) self.now).media_types) }
+    {
+        first_named(self.media_types, name)
+    }
+
+    pub(crate) fn codec_named(&self, name: &str) -> Option<usize>
+        ensures { result ≡ first_named name.now (codec_names (lists (λ f. admits f.check) (λ m. accepted m.check) (λ c. encoded c.codec) (λ c. decoding c.codec) self.now).codecs) }
+    {
+        first_named(self.codecs, name)
+    }
+}
+
+// ---- what the row at a position says
+
+pub(crate) fn ask_format(
+    alloc: Global,
+    checks: &Checks,
+    position: usize,
+    text: &str,
+) -> Result<bool, AllocError>
+    ensures { IfOk result (λ b. IsTrue b ↔ Admits (lists (λ f. admits f.check) (λ m. accepted m.check) (λ c. encoded c.codec) (λ c. decoding c.codec) checks.now).formats position text.now) }
+{
+    if position < checks.formats.len() {
+        checks.formats[position].ask(alloc, text)
+    } else {
+        Ok(true)
+    }
+}
+
+pub(crate) fn ask_media_type(
+    alloc: Global,
+    checks: &Checks,
+    position: usize,
+    text: &str,
+) -> Result<bool, AllocError>
+    ensures { IfOk result (λ b. IsTrue b ↔ Admits (lists (λ f. admits f.check) (λ m. accepted m.check) (λ c. encoded c.codec) (λ c. decoding c.codec) checks.now).media_types position text.now) }
+{
+    if position < checks.media_types.len() {
+        checks.media_types[position].ask(alloc, text)
+    } else {
+        Ok(true)
+    }
+}
+
+pub(crate) fn ask_codec(
+    alloc: Global,
+    checks: &Checks,
+    position: usize,
+    text: &str,
+) -> Result<bool, AllocError>
+    ensures { IfOk result (λ b. IsTrue b ↔ Takes (lists (λ f. admits f.check) (λ m. accepted m.check) (λ c. encoded c.codec) (λ c. decoding c.codec) checks.now).codecs position text.now) }
+{
+    if position < checks.codecs.len() {
+        checks.codecs[position].ask(alloc, text)
+    } else {
+        Ok(true)
+    }
+}

@@ -1,0 +1,334 @@
+ghost use Rattle.std.specs.Prelude.{◌≡◌, [], ◌∷◌, Some, false, IfOk, option_map};
+ghost use Rattle.serde_json.specs.View.{view, members_view};
+ghost use Rattle.serde_json.specs.Find.{get_member};
+ghost use Rattle.strkw_keywords.specs.Keywords.{keyword_name};
+ghost use Rattle.strkw_keywords.specs.Settings.{place_in, settings};
+ghost use Rattle.strkw_keywords.specs.Object.{is_overridden, content_rule, checked, noted, media_type_keyed, encoding_keyed, schema_keyed, codec_named, known_media_type, known_codec};
+ghost use Rattle.strkw_keywords.specs.Compiled.{IsBuilt, IsCompiled};
+ghost use Rattle.strkw_keywords.specs.Choices.{choice_of};
+ghost use Rattle.strkw_keywords.specs.Lists.{lists};
+
+use crate::checks::{Choice, ContentCodec, Format, MediaTypeCheck};
+use crate::compile::{Refused, located, member, no_string, origin_of};
+use crate::content::{
+    ContentEncodingAnnotationValidator, ContentEncodingValidator,
+    ContentMediaTypeAndEncodingValidator, ContentMediaTypeAnnotationValidator,
+    ContentMediaTypeValidator, ContentSchemaAnnotationValidator,
+};
+use crate::keyword::Keyword;
+use crate::options::Context;
+use crate::validator::Validator;
+use serde_json::{Map, Value};
+use std::alloc::{AllocError, Global};
+use strkw_coding::{BuiltinMediaType, Codec};
+use strkw_pattern::EngineBuilder;
+use strkw_report::{CompileError, CompileErrorKind, holds_fraction};
+
+// The media type of a name, if it is known.
+fn media_type_known<B>(
+    alloc: Global,
+    ctx: &Context<'_, B>,
+    name: &str,
+) -> Result<Option<Choice<BuiltinMediaType>>, AllocError>
+    ensures { IfOk result (λ o. option_map choice_of o ≡ known_media_type (lists (λ f. admits f.check) (λ m. accepted m.check) (λ c. encoded c.codec) (λ c. decoding c.codec) ctx.now.checks) ctx.now.options name.now) }
+{
+    if let Some(position) = ctx.checks.media_type_named(name) {
+        return Ok(Some(Choice::Row {
+            position,
+            name: String::from_str(alloc, name)?,
+        }));
+    }
+    if ctx.options.json_media_type && name == "application/json" {
+        Ok(Some(Choice::Builtin(BuiltinMediaType::Json)))
+    } else {
+        Ok(None)
+    }
+}
+
+// The codec of a name.
+fn codec_named(name: &str) -> Option<Codec>
+    ensures { result ≡ codec_named name.now }
+{
+    Codec::by_name(name)
+}
+
+// The codec of a name, if it is known.
+fn codec_known<B>(
+    alloc: Global,
+    ctx: &Context<'_, B>,
+    name: &str,
+) -> Result<Option<Choice<Codec>>, AllocError>
+    ensures { IfOk result (λ o. option_map choice_of o ≡ known_codec (lists (λ f. admits f.check) (λ m. accepted m.check) (λ c. encoded c.codec) (λ c. decoding c.codec) ctx.now.checks) ctx.now.options name.now) }
+{
+    if let Some(position) = ctx.checks.codec_named(name) {
+        return Ok(Some(Choice::Row {
+            position,
+            name: String::from_str(alloc, name)?,
+        }));
+    }
+    match codec_named(name) {
+        Some(codec) => {
+            if ctx.options.has_codec(codec) {
+                Ok(Some(Choice::Builtin(codec)))
+            } else {
+                Ok(None)
+            }
+        }
+        None => Ok(None),
+    }
+}
+
+fn build_media_type<B: EngineBuilder>(
+    alloc: Global,
+    ctx: &Context<'_, B>,
+    parent: &Map<String, Value>,
+    value: &Value,
+) -> Result<Option<Validator<B::Engine>>, Refused>
+    requires present { get_member (keyword_name Keyword.ContentMediaType) (members_view parent.now.entries) ≡ Some (view value.now) }
+    requires draft { content_rule ctx.now.draft ≡ checked }
+    requires kept { is_overridden ctx.now.options Keyword.ContentMediaType ≡ false }
+    ensures { IsBuilt B.Engine.outcome (place_in ctx.now) (media_type_keyed (settings B.takes B.outcome (λ f. admits f.check) (λ m. accepted m.check) (λ c. encoded c.codec) (λ c. decoding c.codec) ctx.now) (members_view parent.now.entries) ∷ []) result }
+{
+    let Some(name) = value.as_str() else {
+        return Err(no_string(value, Keyword::ContentMediaType));
+    };
+    let Some(media_type) = media_type_known(alloc, ctx, name)? else {
+        return Ok(None);
+    };
+    let origin = origin_of(ctx)?;
+    let Some(encoding) = member(parent, Keyword::ContentEncoding.as_str()) else {
+        return Ok(Some(Validator::ContentMediaType(ContentMediaTypeValidator {
+            origin,
+            media_type,
+        })));
+    };
+    let Some(codec) = encoding.as_str() else {
+        return Err(no_string(encoding, Keyword::ContentEncoding));
+    };
+    match codec_known(alloc, ctx, codec)? {
+        Some(codec) => Ok(Some(Validator::ContentMediaTypeAndEncoding(
+            ContentMediaTypeAndEncodingValidator {
+                origin,
+                codec,
+                media_type,
+            },
+        ))),
+        None => Ok(None),
+    }
+}
+
+/// The validator of the entry `contentMediaType` in drafts 6 and 7 (draft 7, section 8.4). Beside a key
+/// `contentEncoding`, overridden or not, it demands that a text encodes one of the media type.
+///
+/// `value` is the parent's value at `contentMediaType`, which is not overridden, and the draft is 6 or 7. `None` means
+/// that the entry adds nothing: the media type is unknown, and then `contentEncoding` is not looked at, or the codec
+/// is.
+///
+/// Refusals: `NotString` at that keyword for a value that is no string, or `FractionalNumber` in its place where that
+/// value holds a number that is no whole number of 64 bits, and the same of `contentEncoding`, at that keyword, where
+/// the media type is known; `Memory`, at the root, for want of memory.
+pub fn compile_media_type<B: EngineBuilder>(
+    alloc: Global,
+    ctx: &Context<'_, B>,
+    parent: &Map<String, Value>,
+    value: &Value,
+) -> Option<Result<Validator<B::Engine>, CompileError>>
+    requires present { get_member (keyword_name Keyword.ContentMediaType) (members_view parent.now.entries) ≡ Some (view value.now) }
+    requires draft { content_rule ctx.now.draft ≡ checked }
+    requires kept { is_overridden ctx.now.options Keyword.ContentMediaType ≡ false }
+    ensures { IsCompiled B.Engine.outcome (place_in ctx.now) (media_type_keyed (settings B.takes B.outcome (λ f. admits f.check) (λ m. accepted m.check) (λ c. encoded c.codec) (λ c. decoding c.codec) ctx.now) (members_view parent.now.entries) ∷ []) result }
+{
+    located(
+        alloc,
+        &ctx.location,
+        build_media_type(alloc, ctx, parent, value),
+    )
+}
+
+fn build_encoding<B: EngineBuilder>(
+    alloc: Global,
+    ctx: &Context<'_, B>,
+    parent: &Map<String, Value>,
+    value: &Value,
+) -> Result<Option<Validator<B::Engine>>, Refused>
+    requires present { get_member (keyword_name Keyword.ContentEncoding) (members_view parent.now.entries) ≡ Some (view value.now) }
+    requires draft { content_rule ctx.now.draft ≡ checked }
+    requires kept { is_overridden ctx.now.options Keyword.ContentEncoding ≡ false }
+    ensures { IsBuilt B.Engine.outcome (place_in ctx.now) (encoding_keyed (settings B.takes B.outcome (λ f. admits f.check) (λ m. accepted m.check) (λ c. encoded c.codec) (λ c. decoding c.codec) ctx.now) (members_view parent.now.entries) ∷ []) result }
+{
+    if member(parent, Keyword::ContentMediaType.as_str()).is_some() {
+        return Ok(None);
+    }
+    let Some(name) = value.as_str() else {
+        return Err(no_string(value, Keyword::ContentEncoding));
+    };
+    match codec_known(alloc, ctx, name)? {
+        Some(codec) => Ok(Some(Validator::ContentEncoding(ContentEncodingValidator {
+            origin: origin_of(ctx)?,
+            codec,
+        }))),
+        None => Ok(None),
+    }
+}
+
+/// The validator of the entry `contentEncoding` in drafts 6 and 7 (draft 7, section 8.3).
+///
+/// `value` is the parent's value at `contentEncoding`, which is not overridden, and the draft is 6 or 7. `None` means
+/// that the entry adds nothing: there is a key `contentMediaType`, overridden or not, or the codec is unknown.
+///
+/// Refusals: `NotString` at that keyword for a value that is no string, or `FractionalNumber` in its place where that
+/// value holds a number that is no whole number of 64 bits; `Memory`, at the root, for want of memory.
+pub fn compile_content_encoding<B: EngineBuilder>(
+    alloc: Global,
+    ctx: &Context<'_, B>,
+    parent: &Map<String, Value>,
+    value: &Value,
+) -> Option<Result<Validator<B::Engine>, CompileError>>
+    requires present { get_member (keyword_name Keyword.ContentEncoding) (members_view parent.now.entries) ≡ Some (view value.now) }
+    requires draft { content_rule ctx.now.draft ≡ checked }
+    requires kept { is_overridden ctx.now.options Keyword.ContentEncoding ≡ false }
+    ensures { IsCompiled B.Engine.outcome (place_in ctx.now) (encoding_keyed (settings B.takes B.outcome (λ f. admits f.check) (λ m. accepted m.check) (λ c. encoded c.codec) (λ c. decoding c.codec) ctx.now) (members_view parent.now.entries) ∷ []) result }
+{
+    located(
+        alloc,
+        &ctx.location,
+        build_encoding(alloc, ctx, parent, value),
+    )
+}
+
+fn build_media_type_annotation<B: EngineBuilder>(
+    alloc: Global,
+    ctx: &Context<'_, B>,
+    _parent: &Map<String, Value>,
+    value: &Value,
+) -> Result<Option<Validator<B::Engine>>, Refused>
+    requires present { get_member (keyword_name Keyword.ContentMediaType) (members_view _parent.now.entries) ≡ Some (view value.now) }
+    requires draft { content_rule ctx.now.draft ≡ noted }
+    requires kept { is_overridden ctx.now.options Keyword.ContentMediaType ≡ false }
+    ensures { IsBuilt B.Engine.outcome (place_in ctx.now) (media_type_keyed (settings B.takes B.outcome (λ f. admits f.check) (λ m. accepted m.check) (λ c. encoded c.codec) (λ c. decoding c.codec) ctx.now) (members_view _parent.now.entries) ∷ []) result }
+{
+    let Some(text) = value.as_str() else {
+        return Ok(None);
+    };
+    Ok(Some(Validator::ContentMediaTypeAnnotation(ContentMediaTypeAnnotationValidator {
+        origin: origin_of(ctx)?,
+        media_type: String::from_str(alloc, text)?,
+    })))
+}
+
+/// The validator of the entry `contentMediaType` from draft 2019-09 on, which notes its value (2020-12, section 8.4).
+///
+/// `value` is the parent's value at `contentMediaType`, which is not overridden, and the draft is 2019-09 or 2020-12.
+/// `None` means that the entry adds nothing: the value is no string. The only refusal is `Memory`, at the root, for
+/// want of memory.
+pub fn compile_media_type_annotation<B: EngineBuilder>(
+    alloc: Global,
+    ctx: &Context<'_, B>,
+    parent: &Map<String, Value>,
+    value: &Value,
+) -> Option<Result<Validator<B::Engine>, CompileError>>
+    requires present { get_member (keyword_name Keyword.ContentMediaType) (members_view parent.now.entries) ≡ Some (view value.now) }
+    requires draft { content_rule ctx.now.draft ≡ noted }
+    requires kept { is_overridden ctx.now.options Keyword.ContentMediaType ≡ false }
+    ensures { IsCompiled B.Engine.outcome (place_in ctx.now) (media_type_keyed (settings B.takes B.outcome (λ f. admits f.check) (λ m. accepted m.check) (λ c. encoded c.codec) (λ c. decoding c.codec) ctx.now) (members_view parent.now.entries) ∷ []) result }
+{
+    located(
+        alloc,
+        &ctx.location,
+        build_media_type_annotation(alloc, ctx, parent, value),
+    )
+}
+
+fn build_encoding_annotation<B: EngineBuilder>(
+    alloc: Global,
+    ctx: &Context<'_, B>,
+    _parent: &Map<String, Value>,
+    value: &Value,
+) -> Result<Option<Validator<B::Engine>>, Refused>
+    requires present { get_member (keyword_name Keyword.ContentEncoding) (members_view _parent.now.entries) ≡ Some (view value.now) }
+    requires draft { content_rule ctx.now.draft ≡ noted }
+    requires kept { is_overridden ctx.now.options Keyword.ContentEncoding ≡ false }
+    ensures { IsBuilt B.Engine.outcome (place_in ctx.now) (encoding_keyed (settings B.takes B.outcome (λ f. admits f.check) (λ m. accepted m.check) (λ c. encoded c.codec) (λ c. decoding c.codec) ctx.now) (members_view _parent.now.entries) ∷ []) result }
+{
+    let Some(text) = value.as_str() else {
+        return Ok(None);
+    };
+    Ok(Some(Validator::ContentEncodingAnnotation(ContentEncodingAnnotationValidator {
+        origin: origin_of(ctx)?,
+        encoding: String::from_str(alloc, text)?,
+    })))
+}
+
+/// The validator of the entry `contentEncoding` from draft 2019-09 on, which notes its value (2020-12, section 8.3).
+///
+/// `value` is the parent's value at `contentEncoding`, which is not overridden, and the draft is 2019-09 or 2020-12.
+/// `None` means that the entry adds nothing: the value is no string. The only refusal is `Memory`, at the root, for
+/// want of memory.
+pub fn compile_content_encoding_annotation<B: EngineBuilder>(
+    alloc: Global,
+    ctx: &Context<'_, B>,
+    parent: &Map<String, Value>,
+    value: &Value,
+) -> Option<Result<Validator<B::Engine>, CompileError>>
+    requires present { get_member (keyword_name Keyword.ContentEncoding) (members_view parent.now.entries) ≡ Some (view value.now) }
+    requires draft { content_rule ctx.now.draft ≡ noted }
+    requires kept { is_overridden ctx.now.options Keyword.ContentEncoding ≡ false }
+    ensures { IsCompiled B.Engine.outcome (place_in ctx.now) (encoding_keyed (settings B.takes B.outcome (λ f. admits f.check) (λ m. accepted m.check) (λ c. encoded c.codec) (λ c. decoding c.codec) ctx.now) (members_view parent.now.entries) ∷ []) result }
+{
+    located(
+        alloc,
+        &ctx.location,
+        build_encoding_annotation(alloc, ctx, parent, value),
+    )
+}
+
+fn build_schema_annotation<B: EngineBuilder>(
+    alloc: Global,
+    ctx: &Context<'_, B>,
+    parent: &Map<String, Value>,
+    value: &Value,
+) -> Result<Option<Validator<B::Engine>>, Refused>
+    requires present { get_member (keyword_name Keyword.ContentSchema) (members_view parent.now.entries) ≡ Some (view value.now) }
+    requires draft { content_rule ctx.now.draft ≡ noted }
+    requires kept { is_overridden ctx.now.options Keyword.ContentSchema ≡ false }
+    ensures { IsBuilt B.Engine.outcome (place_in ctx.now) (schema_keyed (settings B.takes B.outcome (λ f. admits f.check) (λ m. accepted m.check) (λ c. encoded c.codec) (λ c. decoding c.codec) ctx.now) (members_view parent.now.entries) ∷ []) result }
+{
+    if member(parent, Keyword::ContentMediaType.as_str()).is_none() {
+        return Ok(None);
+    }
+    if holds_fraction(value) {
+        return Err(Refused::Malformed {
+            kind: CompileErrorKind::FractionalNumber,
+            keyword: Keyword::ContentSchema,
+        });
+    }
+    Ok(Some(Validator::ContentSchemaAnnotation(ContentSchemaAnnotationValidator {
+        origin: origin_of(ctx)?,
+        schema: value.clone()?,
+    })))
+}
+
+/// The validator of the entry `contentSchema` from draft 2019-09 on, which notes its value (2020-12, section 8.5).
+///
+/// `value` is the parent's value at `contentSchema`, which is not overridden, and the draft is 2019-09 or 2020-12.
+/// `None` means that the entry adds nothing: there is no key `contentMediaType`.
+///
+/// Refusals: `FractionalNumber` at `contentSchema`, where the noted value holds a number that is no whole number of 64
+/// bits; `Memory`, at the root, for want of memory.
+pub fn compile_content_schema_annotation<B: EngineBuilder>(
+    alloc: Global,
+    ctx: &Context<'_, B>,
+    parent: &Map<String, Value>,
+    value: &Value,
+) -> Option<Result<Validator<B::Engine>, CompileError>>
+    requires present { get_member (keyword_name Keyword.ContentSchema) (members_view parent.now.entries) ≡ Some (view value.now) }
+    requires draft { content_rule ctx.now.draft ≡ noted }
+    requires kept { is_overridden ctx.now.options Keyword.ContentSchema ≡ false }
+    ensures { IsCompiled B.Engine.outcome (place_in ctx.now) (schema_keyed (settings B.takes B.outcome (λ f. admits f.check) (λ m. accepted m.check) (λ c. encoded c.codec) (λ c. decoding c.codec) ctx.now) (members_view parent.now.entries) ∷ []) result }
+{
+    located(
+        alloc,
+        &ctx.location,
+        build_schema_annotation(alloc, ctx, parent, value),
+    )
+}

@@ -1,0 +1,116 @@
+ghost use Rattle.std.specs.Prelude.{◌≡◌, [], ◌∷◌, Some, false};
+ghost use Rattle.serde_json.specs.View.{view, members_view};
+ghost use Rattle.serde_json.specs.Find.{get_member};
+ghost use Rattle.strkw_keywords.specs.Keywords.{keyword_name};
+ghost use Rattle.strkw_keywords.specs.Settings.{place_in, settings};
+ghost use Rattle.strkw_keywords.specs.Object.{is_overridden, format_keyed, checks_formats, checks_formats_itself, ignores_unknown};
+ghost use Rattle.strkw_keywords.specs.Compiled.{IsBuilt, IsCompiled};
+
+use crate::builtin::builtin_format;
+use crate::checks::{ContentCodec, Format, MediaTypeCheck};
+use crate::compile::{Refused, located, no_string, origin_of};
+use crate::format::{AnnotationOnlyFormatValidator, CustomFormatValidator, FormatValidator};
+use crate::keyword::Keyword;
+use crate::options::{Context, Options};
+use crate::validator::Validator;
+use serde_json::{Map, Value};
+use std::alloc::Global;
+use strkw_pattern::EngineBuilder;
+use strkw_report::{CompileError, CompileErrorKind, Draft};
+
+fn build<B: EngineBuilder>(
+    alloc: Global,
+    ctx: &Context<'_, B>,
+    parent: &Map<String, Value>,
+    value: &Value,
+) -> Result<Option<Validator<B::Engine>>, Refused>
+    requires present { get_member (keyword_name Keyword.Format) (members_view parent.now.entries) ≡ Some (view value.now) }
+    requires kept { is_overridden ctx.now.options Keyword.Format ≡ false }
+    ensures { IsBuilt B.Engine.outcome (place_in ctx.now) (format_keyed (settings B.takes B.outcome (λ f. admits f.check) (λ m. accepted m.check) (λ c. encoded c.codec) (λ c. decoding c.codec) ctx.now) (members_view parent.now.entries) ∷ []) result }
+{
+    let Some(name) = value.as_str() else {
+        return Err(no_string(value, Keyword::Format));
+    };
+    if !checks_formats(&ctx.options, ctx.draft) {
+        return Ok(Some(Validator::AnnotationOnlyFormat(AnnotationOnlyFormatValidator {
+            origin: origin_of(ctx)?,
+            name: String::from_str(alloc, name)?,
+        })));
+    }
+    if let Some(position) = ctx.checks.format_named(name) {
+        return Ok(Some(Validator::CustomFormat(CustomFormatValidator {
+            origin: origin_of(ctx)?,
+            position,
+            name: String::from_str(alloc, name)?,
+        })));
+    }
+    match builtin_format(ctx.draft, name) {
+        Some(format) => Ok(Some(Validator::Format(FormatValidator {
+            origin: origin_of(ctx)?,
+            format,
+        }))),
+        None => {
+            if ignores_unknown(&ctx.options) {
+                Ok(None)
+            } else {
+                Err(Refused::Malformed {
+                    kind: CompileErrorKind::UnknownFormat {
+                        name: String::from_str(alloc, name)?,
+                        by_dialect: ctx.options.formats_by_dialect,
+                    },
+                    keyword: Keyword::Format,
+                })
+            }
+        }
+    }
+}
+
+/// The validator of the entry `format` (2020-12, section 7; draft 7, section 7). Where formats are not checked it notes
+/// the name alone. Otherwise the first of the caller's rows of that name is checked, or else the built-in format of the
+/// name in the draft.
+///
+/// `value` is the parent's value at `format`, which is not overridden. `None` means that the entry adds nothing: the
+/// format is unknown, and that is ignored.
+///
+/// Refusals: `NotString` at that keyword for a value that is no string, or `FractionalNumber` in its place where that
+/// value holds a number that is no whole number of 64 bits; `UnknownFormat` there for an unknown format that is not
+/// ignored; `Memory`, at the root, for want of memory.
+pub fn compile<B: EngineBuilder>(
+    alloc: Global,
+    ctx: &Context<'_, B>,
+    parent: &Map<String, Value>,
+    value: &Value,
+) -> Option<Result<Validator<B::Engine>, CompileError>>
+    requires present { get_member (keyword_name Keyword.Format) (members_view parent.now.entries) ≡ Some (view value.now) }
+    requires kept { is_overridden ctx.now.options Keyword.Format ≡ false }
+    ensures { IsCompiled B.Engine.outcome (place_in ctx.now) (format_keyed (settings B.takes B.outcome (λ f. admits f.check) (λ m. accepted m.check) (λ c. encoded c.codec) (λ c. decoding c.codec) ctx.now) (members_view parent.now.entries) ∷ []) result }
+{
+    located(alloc, &ctx.location, build(alloc, ctx, parent, value))
+}
+
+// Whether formats are checked, or only noted.
+fn checks_formats(options: &Options, draft: Draft) -> bool
+    ensures { result ≡ checks_formats options.now draft }
+{
+    match options.validate_formats {
+        Some(wanted) => wanted,
+        None => checks_formats_itself(draft) || options.formats_by_dialect,
+    }
+}
+
+// Whether a draft checks formats where nothing else is said.
+fn checks_formats_itself(draft: Draft) -> bool
+    ensures { result ≡ checks_formats_itself draft }
+{
+    match draft {
+        Draft::Draft4 | Draft::Draft6 | Draft::Draft7 => true,
+        Draft::Draft201909 | Draft::Draft202012 => false,
+    }
+}
+
+// Whether a format that is not known adds nothing.
+fn ignores_unknown(options: &Options) -> bool
+    ensures { result ≡ ignores_unknown options.now }
+{
+    options.ignore_unknown_formats && !options.formats_by_dialect
+}

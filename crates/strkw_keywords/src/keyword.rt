@@ -1,0 +1,54 @@
+ghost use Rattle.std.specs.Prelude.{◌≡◌};
+ghost use Rattle.strkw_keywords.specs.Keywords.{keyword_name, keyword_place};
+
+/// A string keyword of JSON Schema Validation. The order of the variants is that in which the entries of a schema
+/// object are looked at.
+#[derive(Debug, Clone, Copy, PartialEq, Eq)]
+pub enum Keyword {
+    /// `contentMediaType`, from draft 6 on.
+    ContentMediaType,
+    /// `contentEncoding`, from draft 6 on.
+    ContentEncoding,
+    /// `contentSchema`, from draft 2019-09 on.
+    ContentSchema,
+    /// `format`.
+    Format,
+    /// `minLength`.
+    MinLength,
+    /// `maxLength`.
+    MaxLength,
+    /// `pattern`.
+    Pattern,
+}
+
+impl Keyword {
+    /// Its key in a schema object.
+    pub fn as_str(self) -> &'static str
+        ensures { result.now ≡ keyword_name self }
+    {
+        match self {
+            Keyword::ContentMediaType => "contentMediaType",
+            Keyword::ContentEncoding => "contentEncoding",
+            Keyword::ContentSchema => "contentSchema",
+            Keyword::Format => "format",
+            Keyword::MinLength => "minLength",
+            Keyword::MaxLength => "maxLength",
+            Keyword::Pattern => "pattern",
+        }
+    }
+
+    /// Its place in that order, counted from 0: where `Options::overridden` tells whether it is left out.
+    pub fn place(self) -> usize
+        ensures { result ≡ keyword_place self }
+    {
+        match self {
+            Keyword::ContentMediaType => 0,
+            Keyword::ContentEncoding => 1,
+            Keyword::ContentSchema => 2,
+            Keyword::Format => 3,
+            Keyword::MinLength => 4,
+            Keyword::MaxLength => 5,
+            Keyword::Pattern => 6,
+        }
+    }
+}

@@ -1,0 +1,48 @@
+//! The string keywords of JSON Schema (drafts 4, 6, 7, 2019-09 and 2020-12): `format`, `minLength`, `maxLength`,
+//! `pattern` and the content keywords. Each keyword's compile function makes one validator of its entry, or refuses it;
+//! a validator reports the errors and the annotation of a text, by built-in checks or by those that the caller hands in.
+#![tactic(auto)]
+
+mod builtin;
+mod checks;
+mod compile;
+pub mod content;
+mod findings;
+pub mod format;
+mod keyword;
+pub mod laws;
+pub mod max_length;
+pub mod min_length;
+mod note;
+mod options;
+mod origin;
+pub mod pattern;
+#[cfg(test)]
+mod tests;
+mod validate;
+mod validator;
+
+pub use builtin::{BuiltinFormat, builtin_format};
+pub use checks::{
+    Checks, ContentCodec, Format, MediaTypeCheck, NamedCodec, NamedFormat, NamedMediaType,
+};
+pub use compile::member;
+pub use content::{
+    ContentEncodingAnnotationValidator, ContentEncodingValidator,
+    ContentMediaTypeAndEncodingValidator, ContentMediaTypeAnnotationValidator,
+    ContentMediaTypeValidator, ContentSchemaAnnotationValidator,
+};
+pub use findings::{FindingRef, Findings};
+pub use format::{AnnotationOnlyFormatValidator, CustomFormatValidator, FormatValidator};
+pub use keyword::Keyword;
+pub use max_length::MaxLengthValidator;
+pub use min_length::{LengthRangeValidator, MinLengthValidator};
+pub use note::Note;
+pub use options::{Context, Options};
+pub use origin::Origin;
+pub use pattern::{
+    AlternationPatternValidator, ExactPatternValidator, NoWhitespacePatternValidator,
+    PatternValidator, PrefixPatternValidator,
+};
+pub use validate::{Fault, Uses, Validate};
+pub use validator::Validator;

@@ -1,0 +1,74 @@
+ghost use Rattle.std.specs.Prelude.{◌≡◌, ℕ, List, [], ◌∷◌, Option, None, option_map, length};
+ghost use Rattle.std.specs.Str.{chars};
+ghost use Rattle.strkw_keywords.specs.Demands.{at_most, NodeFinding};
+ghost use Rattle.strkw_keywords.specs.Meanings.{no_lists};
+ghost use Rattle.strkw_keywords.specs.Findings.{finding_of};
+
+mod build;
+
+use crate::checks::Checks;
+use crate::findings::{FindingRef, Findings};
+use crate::note::Note;
+use crate::origin::Origin;
+use crate::validate::{Uses, Validate};
+pub use build::compile;
+pub(crate) use build::limit_in;
+use std::alloc::{AllocError, Global};
+use strkw_report::Node;
+
+/// Demands that a text has so many characters or fewer (2020-12, section 6.3.1).
+#[derive(Drop)]
+pub struct MaxLengthValidator {
+    pub(crate) origin: Origin,
+    pub(crate) limit: u64,
+}
+
+// The finding on a node with this number of characters.
+pub(crate) fn too_long(limit: u64, characters: Option<u64>) -> Option<FindingRef<'static>>
+    ensures { (text : Option (List ℕ)) → characters ≡ option_map (λ s. length (chars s)) text
+        → NodeFinding (at_most limit) no_lists text (option_map finding_of result) }
+{
+    if characters? > limit {
+        Some(FindingRef::MaxLength(limit))
+    } else {
+        None
+    }
+}
+
+impl Uses for MaxLengthValidator {
+    ghost place = { λ v. v.origin };
+
+    ghost demands = { λ v. at_most v.limit ∷ [] };
+
+    ghost remark = { λ _. None };
+
+    fn origin(&self) -> &Origin {
+        &self.origin
+    }
+
+    fn note(&self, _alloc: Global) -> Result<Option<Note>, AllocError> {
+        Ok(None)
+    }
+
+    fn takes_no_memory(&self) -> bool {
+        true
+    }
+
+    fn uses(&self, _checks: &Checks) -> bool {
+        true
+    }
+}
+
+impl<N: Node> Validate<N> for MaxLengthValidator {
+    fn findings(
+        &self,
+        _alloc: Global,
+        node: &N,
+        _checks: &Checks,
+    ) -> Result<Findings<'_>, AllocError> {
+        Ok(Findings {
+            first: too_long(self.limit, node.text_length()),
+            second: None,
+        })
+    }
+}

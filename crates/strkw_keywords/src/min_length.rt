@@ -1,0 +1,123 @@
+ghost use Rattle.std.specs.Prelude.{◌≡◌, ℕ, List, [], ◌∷◌, Option, None, option_map, length};
+ghost use Rattle.std.specs.Str.{chars};
+ghost use Rattle.strkw_keywords.specs.Demands.{at_least, at_most, NodeFinding};
+ghost use Rattle.strkw_keywords.specs.Meanings.{no_lists};
+ghost use Rattle.strkw_keywords.specs.Findings.{finding_of};
+
+mod build;
+
+use crate::checks::Checks;
+use crate::findings::{FindingRef, Findings};
+use crate::max_length::too_long;
+use crate::note::Note;
+use crate::origin::Origin;
+use crate::validate::{Uses, Validate};
+pub use build::compile;
+pub(crate) use build::{limit_in, limit_of};
+use std::alloc::{AllocError, Global};
+use strkw_report::Node;
+
+/// Demands that a text has so many characters or more (2020-12, section 6.3.2).
+#[derive(Drop)]
+pub struct MinLengthValidator {
+    pub(crate) origin: Origin,
+    pub(crate) limit: u64,
+}
+
+// The finding on a node with this number of characters.
+fn too_short(limit: u64, characters: Option<u64>) -> Option<FindingRef<'static>>
+    ensures { (text : Option (List ℕ)) → characters ≡ option_map (λ s. length (chars s)) text
+        → NodeFinding (at_least limit) no_lists text (option_map finding_of result) }
+{
+    if characters? < limit {
+        Some(FindingRef::MinLength(limit))
+    } else {
+        None
+    }
+}
+
+impl Uses for MinLengthValidator {
+    ghost place = { λ v. v.origin };
+
+    ghost demands = { λ v. at_least v.limit ∷ [] };
+
+    ghost remark = { λ _. None };
+
+    fn origin(&self) -> &Origin {
+        &self.origin
+    }
+
+    fn note(&self, _alloc: Global) -> Result<Option<Note>, AllocError> {
+        Ok(None)
+    }
+
+    fn takes_no_memory(&self) -> bool {
+        true
+    }
+
+    fn uses(&self, _checks: &Checks) -> bool {
+        true
+    }
+}
+
+impl<N: Node> Validate<N> for MinLengthValidator {
+    fn findings(
+        &self,
+        _alloc: Global,
+        node: &N,
+        _checks: &Checks,
+    ) -> Result<Findings<'_>, AllocError> {
+        Ok(Findings {
+            first: too_short(self.limit, node.text_length()),
+            second: None,
+        })
+    }
+}
+
+/// Demands that the number of characters of a text is from a least to a greatest one, both inclusive, and counts them
+/// once. The error of `minLength` comes first.
+#[derive(Drop)]
+pub struct LengthRangeValidator {
+    pub(crate) origin: Origin,
+    pub(crate) min: u64,
+    pub(crate) max: u64,
+}
+
+impl Uses for LengthRangeValidator {
+    ghost place = { λ v. v.origin };
+
+    ghost demands = { λ v. at_least v.min ∷ at_most v.max ∷ [] };
+
+    ghost remark = { λ _. None };
+
+    fn origin(&self) -> &Origin {
+        &self.origin
+    }
+
+    fn note(&self, _alloc: Global) -> Result<Option<Note>, AllocError> {
+        Ok(None)
+    }
+
+    fn takes_no_memory(&self) -> bool {
+        true
+    }
+
+    fn uses(&self, _checks: &Checks) -> bool {
+        true
+    }
+}
+
+impl<N: Node> Validate<N> for LengthRangeValidator {
+    fn findings(
+        &self,
+        _alloc: Global,
+        node: &N,
+        _checks: &Checks,
+    ) -> Result<Findings<'_>, AllocError> {
+        let length = node.text_length();
+        Ok(Findings {
+            first: too_short(self.min, length),
+            second: too_long(self.max, length),
+        })
+    }
+}

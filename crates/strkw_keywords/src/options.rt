@@ -1,0 +1,98 @@
+ghost use Rattle.std.specs.Prelude.{◌≡◌};
+ghost use Rattle.strkw_keywords.specs.Object.{default_options, is_on, is_overridden, has_codec, codec_place};
+
+use crate::checks::Checks;
+use crate::keyword::Keyword;
+use strkw_coding::Codec;
+use strkw_report::{Draft, Location};
+
+/// What a caller may set.
+#[derive(Clone, Copy)]
+pub struct Options {
+    /// Whether formats are checked. `None` leaves it to the draft and to `formats_by_dialect`: drafts 4, 6 and 7
+    /// check formats, the later ones do so where the dialect asks for it.
+    pub validate_formats: Option<bool>,
+    /// Whether a checked format that is not known adds nothing. If not, it is refused.
+    pub ignore_unknown_formats: bool,
+    /// Whether the dialect of the schema asserts formats. Then no unknown format is ignored.
+    pub formats_by_dialect: bool,
+    /// Whether the media type `application/json` is built in.
+    pub json_media_type: bool,
+    /// Which encodings are built in, in the order of `Codec`: base64, base64url, base32, base32hex, base16.
+    pub codecs: [bool; 5],
+    /// Which keywords are left out, in the order of `Keyword`: `contentMediaType`, `contentEncoding`,
+    /// `contentSchema`, `format`, `minLength`, `maxLength`, `pattern`.
+    pub overridden: [bool; 7],
+}
+
+/// Formats as the draft checks them, unknown ones ignored, everything built in, nothing left out.
+impl Default for Options {
+    ghost is_default = { λ options. options ≡ default_options };
+
+    fn default() -> Options {
+        Options {
+            validate_formats: None,
+            ignore_unknown_formats: true,
+            formats_by_dialect: false,
+            json_media_type: true,
+            codecs: [true; 5],
+            overridden: [false; 7],
+        }
+    }
+}
+
+/// What a schema object is compiled under. Compiling borrows it.
+#[derive(Drop)]
+pub struct Context<'a, B> {
+    /// The draft by which its keywords are read.
+    pub draft: Draft,
+    /// Where it stands in its document.
+    pub location: Location,
+    /// What stands before the `#` in the absolute location of an error, if errors have one.
+    pub absolute: Option<String>,
+    /// What the caller has set.
+    pub options: Options,
+    /// The caller's own checks. Names are looked up in them here, and their rows are asked at validation.
+    pub checks: Checks<'a>,
+    /// What builds the engines of patterns that are not literal.
+    pub builder: &'a B,
+}
+
+impl Options {
+    /// Whether a keyword is left out.
+    pub fn is_overridden(&self, keyword: Keyword) -> bool
+        ensures { result ≡ is_overridden self.now keyword }
+    {
+        is_on(&self.overridden, keyword.place())
+    }
+
+    /// Whether a codec is built in.
+    pub(crate) fn has_codec(&self, codec: Codec) -> bool
+        ensures { result ≡ has_codec self.now codec }
+    {
+        is_on(&self.codecs, codec_place(codec))
+    }
+}
+
+// The flag at a place.
+fn is_on(flags: &[bool], place: usize) -> bool
+    ensures { result ≡ is_on flags.now place }
+{
+    match flags.get(place) {
+        Some(flag) => *flag,
+        None => false,
+    }
+}
+
+// The place of a codec among the flags.
+fn codec_place(codec: Codec) -> usize
+    ensures { result ≡ codec_place codec }
+{
+    match codec {
+        Codec::Base64 => 0,
+        Codec::Base64Url => 1,
+        Codec::Base32 => 2,
+        Codec::Base32Hex => 3,
+        Codec::Base16 => 4,
+    }
+}

@@ -1,0 +1,296 @@
+ghost use Rattle.std.specs.Prelude.{◌≡◌, [], ◌∷◌, Some, None, IfOk, option_map, string_bytes};
+ghost use Rattle.strkw_pattern.specs.Matcher.{literal_outcome, outcome_of};
+ghost use Rattle.strkw_keywords.specs.Meanings.{no_lists};
+ghost use Rattle.strkw_keywords.specs.Demands.{compares, matches, NodeFinding};
+ghost use Rattle.strkw_keywords.specs.Findings.{finding_of};
+ghost use Rattle.std.specs.Str.{chars};
+
+mod build;
+
+use crate::checks::Checks;
+use crate::findings::{FindingRef, Findings};
+use crate::note::Note;
+use crate::origin::Origin;
+use crate::validate::{Uses, Validate};
+pub use build::compile;
+use std::alloc::{AllocError, Global};
+use strkw_pattern::{EngineFailure, LiteralMatcher, RegexEngine};
+use strkw_report::Node;
+
+// A literal pattern, and what matches it.
+#[derive(Drop)]
+pub(crate) struct Literal {
+    pub(crate) pattern: String,
+    pub(crate) matcher: LiteralMatcher,
+}
+
+impl Literal {
+    fn finding<N: Node>(&self, alloc: Global, node: &N) -> Option<FindingRef<'_>>
+        ensures { NodeFinding (compares (string_bytes self.now.pattern) (literal_outcome self.now.matcher)) no_lists (N.text node.now) (option_map finding_of result) }
+    {
+        let text = node.as_text()?;
+        if is_matched(alloc, &self.matcher, text) {
+            None
+        } else {
+            Some(FindingRef::Pattern(self.pattern.as_str()))
+        }
+    }
+}
+
+fn is_matched(alloc: Global, matcher: &LiteralMatcher, text: &str) -> bool
+    ensures { literal_outcome matcher.now (chars text.now) ≡ outcome_of result }
+{
+    match matcher.is_match(alloc, text) {
+        Ok(found) => found,
+        Err(_) => false,
+    }
+}
+
+/// Demands that a text begins with a literal: patterns as `^items`.
+#[derive(Drop)]
+pub struct PrefixPatternValidator {
+    pub(crate) origin: Origin,
+    pub(crate) literal: Literal,
+}
+
+impl Uses for PrefixPatternValidator {
+    ghost place = { λ v. v.origin };
+
+    ghost demands = { λ v. compares (string_bytes v.literal.pattern) (literal_outcome v.literal.matcher) ∷ [] };
+
+    ghost remark = { λ _. None };
+
+    fn origin(&self) -> &Origin {
+        &self.origin
+    }
+
+    fn note(&self, _alloc: Global) -> Result<Option<Note>, AllocError> {
+        Ok(None)
+    }
+
+    fn takes_no_memory(&self) -> bool {
+        true
+    }
+
+    fn uses(&self, _checks: &Checks) -> bool {
+        true
+    }
+}
+
+impl<N: Node> Validate<N> for PrefixPatternValidator {
+    fn findings(
+        &self,
+        alloc: Global,
+        node: &N,
+        _checks: &Checks,
+    ) -> Result<Findings<'_>, AllocError> {
+        Ok(Findings {
+            first: self.literal.finding(alloc, node),
+            second: None,
+        })
+    }
+}
+
+/// Demands that a text is a literal: patterns as `^items$`.
+#[derive(Drop)]
+pub struct ExactPatternValidator {
+    pub(crate) origin: Origin,
+    pub(crate) literal: Literal,
+}
+
+impl Uses for ExactPatternValidator {
+    ghost place = { λ v. v.origin };
+
+    ghost demands = { λ v. compares (string_bytes v.literal.pattern) (literal_outcome v.literal.matcher) ∷ [] };
+
+    ghost remark = { λ _. None };
+
+    fn origin(&self) -> &Origin {
+        &self.origin
+    }
+
+    fn note(&self, _alloc: Global) -> Result<Option<Note>, AllocError> {
+        Ok(None)
+    }
+
+    fn takes_no_memory(&self) -> bool {
+        true
+    }
+
+    fn uses(&self, _checks: &Checks) -> bool {
+        true
+    }
+}
+
+impl<N: Node> Validate<N> for ExactPatternValidator {
+    fn findings(
+        &self,
+        alloc: Global,
+        node: &N,
+        _checks: &Checks,
+    ) -> Result<Findings<'_>, AllocError> {
+        Ok(Findings {
+            first: self.literal.finding(alloc, node),
+            second: None,
+        })
+    }
+}
+
+/// Demands that a text is one of some literals: patterns as `^(items|items)$`.
+#[derive(Drop)]
+pub struct AlternationPatternValidator {
+    pub(crate) origin: Origin,
+    pub(crate) literal: Literal,
+}
+
+impl Uses for AlternationPatternValidator {
+    ghost place = { λ v. v.origin };
+
+    ghost demands = { λ v. compares (string_bytes v.literal.pattern) (literal_outcome v.literal.matcher) ∷ [] };
+
+    ghost remark = { λ _. None };
+
+    fn origin(&self) -> &Origin {
+        &self.origin
+    }
+
+    fn note(&self, _alloc: Global) -> Result<Option<Note>, AllocError> {
+        Ok(None)
+    }
+
+    fn takes_no_memory(&self) -> bool {
+        true
+    }
+
+    fn uses(&self, _checks: &Checks) -> bool {
+        true
+    }
+}
+
+impl<N: Node> Validate<N> for AlternationPatternValidator {
+    fn findings(
+        &self,
+        alloc: Global,
+        node: &N,
+        _checks: &Checks,
+    ) -> Result<Findings<'_>, AllocError> {
+        Ok(Findings {
+            first: self.literal.finding(alloc, node),
+            second: None,
+        })
+    }
+}
+
+/// Demands that a text has no white space of ECMA-262: the pattern `^\S*$`.
+#[derive(Drop)]
+pub struct NoWhitespacePatternValidator {
+    pub(crate) origin: Origin,
+    pub(crate) literal: Literal,
+}
+
+impl Uses for NoWhitespacePatternValidator {
+    ghost place = { λ v. v.origin };
+
+    ghost demands = { λ v. compares (string_bytes v.literal.pattern) (literal_outcome v.literal.matcher) ∷ [] };
+
+    ghost remark = { λ _. None };
+
+    fn origin(&self) -> &Origin {
+        &self.origin
+    }
+
+    fn note(&self, _alloc: Global) -> Result<Option<Note>, AllocError> {
+        Ok(None)
+    }
+
+    fn takes_no_memory(&self) -> bool {
+        true
+    }
+
+    fn uses(&self, _checks: &Checks) -> bool {
+        true
+    }
+}
+
+impl<N: Node> Validate<N> for NoWhitespacePatternValidator {
+    fn findings(
+        &self,
+        alloc: Global,
+        node: &N,
+        _checks: &Checks,
+    ) -> Result<Findings<'_>, AllocError> {
+        Ok(Findings {
+            first: self.literal.finding(alloc, node),
+            second: None,
+        })
+    }
+}
+
+/// Demands that an engine finds its pattern in a text. An engine that fails, or gives up, makes an error of its own kind.
+#[derive(Drop)]
+pub struct PatternValidator<E> {
+    pub(crate) origin: Origin,
+    pub(crate) pattern: String,
+    pub(crate) engine: E,
+}
+
+impl<E: RegexEngine> PatternValidator<E> {
+    fn finding<N: Node>(
+        &self,
+        alloc: Global,
+        node: &N,
+    ) -> Result<Option<FindingRef<'_>>, AllocError>
+        ensures { IfOk result (λ o. NodeFinding (matches (string_bytes self.now.pattern) (E.outcome self.now.engine)) no_lists (N.text node.now) (option_map finding_of o)) }
+    {
+        let Some(text) = node.as_text() else {
+            return Ok(None);
+        };
+        match self.engine.is_match(alloc, text) {
+            Ok(true) => Ok(None),
+            Ok(false) => Ok(Some(FindingRef::Pattern(self.pattern.as_str()))),
+            Err(EngineFailure::BacktrackLimit) => {
+                Ok(Some(FindingRef::BacktrackLimit(self.pattern.as_str())))
+            }
+            Err(EngineFailure::Failed) => Ok(Some(FindingRef::EngineFailed(self.pattern.as_str()))),
+            Err(EngineFailure::Memory) => Err(AllocError),
+        }
+    }
+}
+
+impl<E: RegexEngine> Uses for PatternValidator<E> {
+    ghost place = { λ v. v.origin };
+
+    ghost demands = { λ v. matches (string_bytes v.pattern) (E.outcome v.engine) ∷ [] };
+
+    ghost remark = { λ _. None };
+
+    fn origin(&self) -> &Origin {
+        &self.origin
+    }
+
+    fn note(&self, _alloc: Global) -> Result<Option<Note>, AllocError> {
+        Ok(None)
+    }
+
+    fn takes_no_memory(&self) -> bool {
+        false
+    }
+
+    fn uses(&self, _checks: &Checks) -> bool {
+        true
+    }
+}
+
+impl<E: RegexEngine, N: Node> Validate<N> for PatternValidator<E> {
+    fn findings(
+        &self,
+        alloc: Global,
+        node: &N,
+        _checks: &Checks,
+    ) -> Result<Findings<'_>, AllocError> {
+        Ok(Findings {
+            first: self.finding(alloc, node)?,
+            second: None,
+        })
+    }
+}

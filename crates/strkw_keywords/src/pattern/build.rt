@@ -1,0 +1,127 @@
+ghost use Rattle.std.specs.Prelude.{◌≡◌, false, Some, None, [], ◌∷◌, string_bytes};
+ghost use Rattle.serde_json.specs.View.{view, members_view};
+ghost use Rattle.serde_json.specs.Find.{get_member};
+ghost use Rattle.strkw_pattern.specs.Matcher.{literal_outcome, matcher_of};
+ghost use Rattle.strkw_keywords.specs.Keywords.{keyword_name};
+ghost use Rattle.strkw_keywords.specs.Settings.{settings};
+ghost use Rattle.strkw_keywords.specs.Demands.{compares};
+ghost use Rattle.strkw_keywords.specs.Validators.{place_of, demands_of, remark_made};
+ghost use Rattle.strkw_keywords.specs.Compiled.{IsPatternBuilt, IsPatternCompiled};
+ghost use Rattle.strkw_keywords.specs.Object.{is_overridden};
+
+use crate::checks::{ContentCodec, Format, MediaTypeCheck};
+use crate::compile::{Refused, located, no_string, origin_of};
+use crate::keyword::Keyword;
+use crate::options::Context;
+use crate::origin::Origin;
+use crate::pattern::{
+    AlternationPatternValidator, ExactPatternValidator, Literal, NoWhitespacePatternValidator,
+    PatternValidator, PrefixPatternValidator,
+};
+use crate::validator::Validator;
+use serde_json::{Map, Value};
+use std::alloc::Global;
+use strkw_pattern::laws::matcher_answers_search;
+use strkw_pattern::{
+    BuildRefusal, EngineBuilder, LiteralMatcher, PatternOptimization, RegexEngine, analyze_pattern,
+};
+use strkw_report::{CompileError, CompileErrorKind};
+
+fn build<B: EngineBuilder>(
+    alloc: Global,
+    ctx: &Context<'_, B>,
+    _parent: &Map<String, Value>,
+    value: &Value,
+) -> Result<Option<Validator<B::Engine>>, Refused>
+    requires present { get_member (keyword_name Keyword.Pattern) (members_view _parent.now.entries) ≡ Some (view value.now) }
+    requires kept { is_overridden ctx.now.options Keyword.Pattern ≡ false }
+    ensures { IsPatternBuilt B.Engine.outcome (settings B.takes B.outcome (λ f. admits f.check) (λ m. accepted m.check) (λ c. encoded c.codec) (λ c. decoding c.codec) ctx.now) (members_view _parent.now.entries) result }
+{
+    matcher_answers_search();
+    let Some(text) = value.as_str() else {
+        return Err(no_string(value, Keyword::Pattern));
+    };
+    let origin = origin_of(ctx)?;
+    let pattern = String::from_str(alloc, text)?;
+    if let Some(literal) = analyze_pattern(alloc, text)? {
+        return Ok(Some(literal_validator(origin, pattern, literal)));
+    }
+    match ctx.builder.build(alloc, text) {
+        Ok(engine) => Ok(Some(Validator::Pattern(PatternValidator {
+            origin,
+            pattern,
+            engine,
+        }))),
+        Err(BuildRefusal::Pattern) => Err(Refused::Malformed {
+            keyword: Keyword::Pattern,
+            kind: CompileErrorKind::Regex { pattern },
+        }),
+        Err(BuildRefusal::Memory) => Err(Refused::Memory),
+    }
+}
+
+/// The validator of the entry `pattern` (2020-12, section 6.3.3). A literal pattern is compared, and is not shown to
+/// the builder; any other is matched by the engine that the builder makes of it.
+///
+/// `value` is the parent's value at `pattern`, which is not overridden. The answer is never `None`.
+///
+/// Refusals: `NotString` at that keyword for a value that is no string, or `FractionalNumber` in its place where that
+/// value holds a number that is no whole number of 64 bits; `Regex` there for a pattern that is not literal and that
+/// the builder does not take; `Memory`, at the root, for want of memory.
+pub fn compile<B: EngineBuilder>(
+    alloc: Global,
+    ctx: &Context<'_, B>,
+    parent: &Map<String, Value>,
+    value: &Value,
+) -> Option<Result<Validator<B::Engine>, CompileError>>
+    requires present { get_member (keyword_name Keyword.Pattern) (members_view parent.now.entries) ≡ Some (view value.now) }
+    requires kept { is_overridden ctx.now.options Keyword.Pattern ≡ false }
+    ensures { IsPatternCompiled B.Engine.outcome (settings B.takes B.outcome (λ f. admits f.check) (λ m. accepted m.check) (λ c. encoded c.codec) (λ c. decoding c.codec) ctx.now) (members_view parent.now.entries) result }
+{
+    located(alloc, &ctx.location, build(alloc, ctx, parent, value))
+}
+
+fn literal_validator<E: RegexEngine>(
+    origin: Origin,
+    pattern: String,
+    literal: PatternOptimization,
+) -> Validator<E>
+    ensures place { place_of result ≡ origin }
+    ensures demands { demands_of E.outcome result ≡ compares (string_bytes pattern) (literal_outcome (matcher_of literal)) ∷ [] }
+    ensures remark { remark_made result ≡ None }
+{
+    match literal {
+        PatternOptimization::Prefix(literal) => Validator::PrefixPattern(PrefixPatternValidator {
+            origin,
+            literal: Literal {
+                pattern,
+                matcher: LiteralMatcher::Prefix { literal },
+            },
+        }),
+        PatternOptimization::Exact(exact) => Validator::ExactPattern(ExactPatternValidator {
+            origin,
+            literal: Literal {
+                pattern,
+                matcher: LiteralMatcher::Exact { exact },
+            },
+        }),
+        PatternOptimization::Alternation(alternatives) => {
+            Validator::AlternationPattern(AlternationPatternValidator {
+                origin,
+                literal: Literal {
+                    pattern,
+                    matcher: LiteralMatcher::Alternation { alternatives },
+                },
+            })
+        }
+        PatternOptimization::NoWhitespace => {
+            Validator::NoWhitespacePattern(NoWhitespacePatternValidator {
+                origin,
+                literal: Literal {
+                    pattern,
+                    matcher: LiteralMatcher::NoWhitespace,
+                },
+            })
+        }
+    }
+}
