@@ -13,6 +13,7 @@ import subprocess
 import sys
 import tempfile
 import time
+from base64 import b64encode
 from pathlib import Path
 
 TOP = Path(__file__).resolve().parent.parent
@@ -20,8 +21,12 @@ PROGRAM = TOP / "crates/strkw/out/strkw"
 
 KINDS = {
     "dates": lambda n: f'{{"draft":7,"schema":{{"format":"date"}},"instance":"{n % 10000:04}-{n % 12 + 1:02}-{n % 28 + 1:02}"}}',
+    "URIs": lambda n: '{"draft":7,"schema":{"format":"uri"},"instance":"https://example.com/items/%06d?page=2#top"}' % n,
     "lengths": lambda n: '{"draft":202012,"schema":{"minLength":1,"maxLength":100},"instance":"%s%06d"}' % ("é" * 30, n),
-    "errors": lambda n: '{"draft":7,"schema":{"format":"date","minLength":20,"maxLength":5},"instance":"secret%06d"}' % n,
+    "base64 with JSON": lambda n: '{"draft":7,"schema":{"contentMediaType":"application/json","contentEncoding":"base64"},"instance":"%s"}'
+    % b64encode(b'{"id":%06d,"tags":["a","b"]}' % (100000 + n % 900000)).decode(),
+    "host names": lambda n: '{"draft":7,"schema":{"format":"hostname"},"instance":"www.xn--ll-0ea.n%06d.example"}' % n,
+    "errors": lambda n: '{"draft":7,"schema":{"format":"date","minLength":20,"maxLength":5,"pattern":"^public"},"instance":"secret%06d"}' % n,
     "refused": lambda n: '{"draft":7,"schema":{"minLength":5,"maxLength":%d.5},"instance":"a"}' % n,
     "bad requests": lambda n: '{"draft":7,"schema":{},"instance":"a","other":%d}' % n,
 }
@@ -48,7 +53,7 @@ def main():
             ends = sum(answer == b"end" for answer in written.read_bytes().split(b"\n"))
             assert ends == count, f"{kind}: {ends} answers to {count} requests"
             processor, clock = min(t[0] for t in times), min(t[1] for t in times)
-            print(f"{kind:12} {size // count:4} bytes a line  {count / processor / 1000:7.0f} thousand/s {size / processor / 1e6:6.0f} MB/s"
+            print(f"{kind:16} {size // count:4} bytes a line  {count / processor / 1000:7.0f} thousand/s {size / processor / 1e6:6.0f} MB/s"
                   f"  by the clock {count / clock / 1000:7.0f} thousand/s {size / clock / 1e6:6.0f} MB/s")
 
 

@@ -1,83 +1,74 @@
--- On what the entries of an object come to.
-use Rattle.std.proofs.Common.{◌≡◌, ◌⊎◌, ℕ, List, [], ◌++◌, Option, Some, None, Ok, Err, refl, sym, true, false, ap, ◌∙◌, inl, inr, append-nil}
+-- A schema object has entries, and no others.
+use Rattle.std.proofs.Common.{◌≡◌, ◌⊎◌, ℕ, List, [], ◌∷◌, Option, Some, None, refl, sym, ap, ◌∙◌, subst, inl, inr, MatchOption}
+use Rattle.std.proofs.Math.Path.{fun_ext}
+use Rattle.std.specs.Str.{chars}
 use Rattle.serde_json.specs.Data.{Data, Members}
 use Rattle.serde_json.specs.Find.{as_str}
-use Rattle.strkw_report.specs.Paths.{below}
-use Rattle.strkw_report.specs.Refusals.{Reason, Refusal, refusal_of, unknown_format}
-use Rattle.strkw_report.specs.declared.refusal.CompileError.{CompileError}
-use Rattle.strkw_cli.specs.declared.keywords.keyword.Keyword.{Keyword}
-use Rattle.strkw_cli.specs.declared.keywords.keyword.Keyword.TheVariants.{Format, MinLength, MaxLength}
-use Rattle.strkw_cli.specs.declared.keywords.context.Context.{Context}
-use Rattle.strkw_cli.specs.declared.keywords.format.BuiltinFormat.{BuiltinFormat}
-use Rattle.strkw_cli.specs.Keywords.{name_of}
-use Rattle.strkw_cli.specs.Settings.{Settings, checks_formats, ignores_unknown}
-use Rattle.strkw_cli.specs.Formats.{builtin_named}
-use Rattle.strkw_cli.specs.Assertions.{Demand, is_format, at_least, at_most, Assertion}
-use Rattle.strkw_cli.specs.Object.{Entry, malformed, no_string, value_at, format_entry, limit_entry, entries, refusal, refusal_or, asserted, asserted_by}
-use Rattle.strkw_cli.specs.Compiled.{settings_of, out_of_memory, assertion_of, GivesEntry, IsOfObject}
+use Rattle.strkw_pattern.specs.declared.engine.Outcome.{Outcome}
+use Rattle.strkw_pattern.specs.declared.engine.Outcome.TheVariants as outcome
+use Rattle.strkw_pattern.specs.Literal.{Literal}
+use Rattle.strkw_pattern.specs.Search.{Search}
+use Rattle.strkw_pattern.specs.Matcher.{IsSearch}
+use Rattle.strkw_pattern.proofs.Decision.{literal_or_not}
+use Rattle.strkw_pattern.proofs.Searches.{outcome_exists}
+use Rattle.strkw_pattern.proofs.Trees.{literal_once}
+use Rattle.strkw_keywords.specs.declared.keyword.Keyword.TheVariants.{Pattern}
+use Rattle.strkw_keywords.specs.Demands.{compares}
+use Rattle.strkw_keywords.specs.Object.{Settings, Entry, nothing, malformed, gives, no_string, value_at, engine_entry, IsPatternEntry, IsPatternValue, IsPatternAt, Keyed, entries_with, AreEntries}
 
--- ---- one entry
+-- ---- there are some
 
--- what is kept of an entry that is not refused
-pub record IsKept (entry : Entry) (key : Keyword) (assertions : List Assertion) : Type 0 where
-  pub passed : (location : List ℕ) (later : Option Refusal) → refusal_or location key entry later ≡ later
-  pub asserted : asserted_by key entry ≡ assertions
+pattern_entry_exists : (s : Settings) (p : List ℕ) → (e : Entry) × IsPatternEntry s p e
+pattern_entry_exists s p = elim (literal_or_not (chars p)) [
+  | inl is ↦
+      let found = outcome_exists is.0 in
+      (gives (compares p found.0 ∷ []) None, inl (is.0, found.0, is.1, is.2, found.1, refl))
+  | inr other ↦ (engine_entry s p (s.takes (chars p)), inr (other, refl))
+]
 
-pub kept : {V : Type 0} (demand : V → Demand) (entry : Entry) (place : List ℕ) (key : Keyword) (o : Option V) → GivesEntry demand entry place (Ok o) → IsKept entry key (assertion_of key demand o)
-kept demand entry place key None e = record { passed = (λ location later. rw e refl); asserted = rw e refl }
-kept demand entry place key (Some v) e = record { passed = (λ location later. rw e refl); asserted = rw e refl }
+text_entry_exists : (s : Settings) (d : Data) (o : Option (List ℕ)) → (e : Entry) × MatchOption o (e ≡ malformed Pattern (no_string d)) (λ p. IsPatternEntry s p e)
+text_entry_exists s d None = (malformed Pattern (no_string d), refl)
+text_entry_exists s d (Some p) = pattern_entry_exists s p
 
--- an entry's refusal is the first where those before it pass
-pub first_refused : {V : Type 0} (demand : V → Demand) (entry : Entry) (location : List ℕ) (key : Keyword) (e : CompileError) (later : Option Refusal) → GivesEntry demand entry (below location (name_of key)) (Err e) → (refusal_of e ≡ out_of_memory) ⊎ (refusal_or location key entry later ≡ Some (refusal_of e))
-first_refused demand entry location key e later (inl m) = inl m
-first_refused demand entry location key e later (inr (why, is, told)) = inr (rw (is, told) refl)
+value_entry_exists : (s : Settings) (o : Option Data) → (e : Entry) × MatchOption o (e ≡ nothing) (λ d. IsPatternValue s d e)
+value_entry_exists s None = (nothing, refl)
+value_entry_exists s (Some d) = text_entry_exists s d (as_str d)
 
--- ---- format
+pub pattern_exists : (s : Settings) (ms : Members) → (e : Entry) × IsPatternAt s ms e
+pattern_exists s ms = value_entry_exists s (value_at s.options Pattern ms)
 
-pub format_refused : (s : Settings) (ms : Members) (d : Data) (place : List ℕ) (r : Refusal) → Some d ≡ value_at s Format ms → None ≡ as_str d
-    → (r ≡ out_of_memory) ⊎ (r ≡ record { reason = no_string d; location = place })
-    → (r ≡ out_of_memory) ⊎ ((why : Reason) × (format_entry s ms ≡ malformed why) × (r ≡ record { reason = why; location = place }))
-format_refused s ms d place r there none (inl m) = inl m
-format_refused s ms d place r there none (inr e) = inr (no_string d, rw (← there, ← none) refl, e)
+pub entries_exist : (s : Settings) (ms : Members) → (es : List Keyed) × AreEntries s ms es
+entries_exist s ms = let p = pattern_exists s ms in (entries_with s ms p.0, (p.0, p.1, refl))
 
-pub unknown_refused : (s : Settings) (ms : Members) (d : Data) (name place : List ℕ) (r : Refusal) → Some d ≡ value_at s Format ms → Some name ≡ as_str d
-    → checks_formats s ≡ true → builtin_named name ≡ None → ignores_unknown s ≡ false
-    → (r ≡ out_of_memory) ⊎ (r ≡ record { reason = unknown_format name s.options.formats_by_dialect; location = place })
-    → (r ≡ out_of_memory) ⊎ ((why : Reason) × (format_entry s ms ≡ malformed why) × (r ≡ record { reason = why; location = place }))
-unknown_refused s ms d name place r there is checked none kept (inl m) = inl m
-unknown_refused s ms d name place r there is checked none kept (inr e) = inr (unknown_format name s.options.formats_by_dialect, rw (← there, ← is, checked, none, kept) refl, e)
+-- ---- and no others
 
--- ---- the object
+same_answer : (o q : Outcome) (P : Type 0) (hit miss : Outcome) → (P × (o ≡ hit)) ⊎ ((P → ⊥) × (o ≡ miss)) → (P × (q ≡ hit)) ⊎ ((P → ⊥) × (q ≡ miss)) → o ≡ q
+same_answer o q P hit miss (inl a) (inl b) = a.1 ∙ sym b.1
+same_answer o q P hit miss (inl a) (inr b) = absurd (b.0 a.0)
+same_answer o q P hit miss (inr a) (inl b) = absurd (a.0 b.0)
+same_answer o q P hit miss (inr a) (inr b) = a.1 ∙ sym b.1
 
-module _ (c : Context) (ms : Members) (f : Option BuiltinFormat) (format_kept : GivesEntry is_format (format_entry (settings_of c) ms) (below c.location (name_of Format)) (Ok f)) where
-  first : IsKept (format_entry (settings_of c) ms) Format (assertion_of Format is_format f)
-  first = kept is_format (format_entry (settings_of c) ms) (below c.location (name_of Format)) Format f format_kept
+same_outcomes : (l m : Literal) (o q : List ℕ → Outcome) → l ≡ m → IsSearch l o → IsSearch m q → o ≡ q
+same_outcomes l m o q same a b =
+    let c : IsSearch m o = subst (λ n. IsSearch n o) same a in
+    fun_ext (λ text. same_answer (o text) (q text) (Search m text) outcome.Match outcome.NoMatch (c text) (b text))
 
-  pub refused_second : (e : CompileError) → GivesEntry at_least (limit_entry at_least (settings_of c) MinLength ms) (below c.location (name_of MinLength)) (Err e) → IsOfObject c ms (Err e)
-  refused_second e two = elim (first_refused at_least (limit_entry at_least (settings_of c) MinLength ms) c.location MinLength e _ two) [
-    | inl m ↦ inl m
-    | inr told ↦ inr (first.passed c.location _ ∙ told)
-  ]
+pattern_entry_unique : (s : Settings) (p : List ℕ) (a b : Entry) → IsPatternEntry s p a → IsPatternEntry s p b → a ≡ b
+pattern_entry_unique s p a b (inl x) (inl y) =
+    let same = literal_once x.0 y.0 x.2 y.2 (sym x.3 ∙ y.3) in
+    x.5 ∙ ap (λ o. gives (compares p o ∷ []) None) (same_outcomes x.0 y.0 x.1 y.1 same x.4 y.4) ∙ sym y.5
+pattern_entry_unique s p a b (inl x) (inr y) = absurd (y.0 (x.0, x.2, x.3))
+pattern_entry_unique s p a b (inr x) (inl y) = absurd (x.0 (y.0, y.2, y.3))
+pattern_entry_unique s p a b (inr x) (inr y) = x.1 ∙ sym y.1
 
-  module _ (n : Option ℕ) (min_kept : GivesEntry at_least (limit_entry at_least (settings_of c) MinLength ms) (below c.location (name_of MinLength)) (Ok n)) where
-    second : IsKept (limit_entry at_least (settings_of c) MinLength ms) MinLength (assertion_of MinLength at_least n)
-    second = kept at_least (limit_entry at_least (settings_of c) MinLength ms) (below c.location (name_of MinLength)) MinLength n min_kept
+text_entry_unique : (s : Settings) (d : Data) (o : Option (List ℕ)) (a b : Entry) → MatchOption o (a ≡ malformed Pattern (no_string d)) (λ p. IsPatternEntry s p a) → MatchOption o (b ≡ malformed Pattern (no_string d)) (λ p. IsPatternEntry s p b) → a ≡ b
+text_entry_unique s d None a b x y = x ∙ sym y
+text_entry_unique s d (Some p) a b x y = pattern_entry_unique s p a b x y
 
-    pub refused_third : (e : CompileError) → GivesEntry at_most (limit_entry at_most (settings_of c) MaxLength ms) (below c.location (name_of MaxLength)) (Err e) → IsOfObject c ms (Err e)
-    refused_third e three = elim (first_refused at_most (limit_entry at_most (settings_of c) MaxLength ms) c.location MaxLength e _ three) [
-      | inl m ↦ inl m
-      | inr told ↦ inr (first.passed c.location _ ∙ second.passed c.location _ ∙ told)
-    ]
+value_entry_unique : (s : Settings) (o : Option Data) (a b : Entry) → MatchOption o (a ≡ nothing) (λ d. IsPatternValue s d a) → MatchOption o (b ≡ nothing) (λ d. IsPatternValue s d b) → a ≡ b
+value_entry_unique s None a b x y = x ∙ sym y
+value_entry_unique s (Some d) a b x y = text_entry_unique s d (as_str d) a b x y
 
-    -- nothing is refused
-    pub record IsWhole (m : Option ℕ) : Type 0 where
-      pub good : refusal c.location (entries (settings_of c) ms) ≡ None
-      pub asserts : assertion_of Format is_format f ++ (assertion_of MinLength at_least n ++ assertion_of MaxLength at_most m) ≡ asserted (entries (settings_of c) ms)
-
-    pub whole : (m : Option ℕ) → GivesEntry at_most (limit_entry at_most (settings_of c) MaxLength ms) (below c.location (name_of MaxLength)) (Ok m) → IsWhole m
-    whole m three =
-        let third = kept at_most (limit_entry at_most (settings_of c) MaxLength ms) (below c.location (name_of MaxLength)) MaxLength m three in
-        record {
-          good = first.passed c.location _ ∙ second.passed c.location _ ∙ third.passed c.location _;
-          asserts = rw (first.asserted, second.asserted, third.asserted) (ap (λ z. assertion_of Format is_format f ++ (assertion_of MinLength at_least n ++ z)) (sym (append-nil (assertion_of MaxLength at_most m))));
-        }
+pub AreEntries-unique : (s : Settings) (ms : Members) (es fs : List Keyed) → AreEntries s ms es → AreEntries s ms fs → es ≡ fs
+AreEntries-unique s ms es fs (p, at, is) (q, there, are) =
+    is ∙ ap (entries_with s ms) (value_entry_unique s (value_at s.options Pattern ms) p q at there) ∙ sym are

@@ -1,7 +1,13 @@
 pub mod Results
-pub mod Reports
+pub mod Many
 pub mod Entries
+pub mod Steps
+pub mod Whole
 pub mod Meaning
+pub mod Notes
+pub mod Printable
+pub mod AnswerCases
+pub mod AnswerMeaning
 pub mod MoveLemmas
 pub mod LineLemmas
 pub mod AnswerLemmas

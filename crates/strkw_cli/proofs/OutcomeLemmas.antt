@@ -5,7 +5,7 @@ use Rattle.std.proofs.Math.Seq.{take-append-add}
 use Rattle.std.proofs.lemmas.Bool.{cases_lt, ne_eqb}
 use Rattle.std.specs.Io.KnownBytes.{Appends}
 use Rattle.strkw_cli.specs.Lines.{ended_lines, last_part, lines}
-use Rattle.strkw_cli.specs.Answer.{IsAnswer, AreAnswers, IsOutput}
+use Rattle.strkw_cli.specs.Answer.{AreAnswers}
 use Rattle.strkw_cli.specs.Outcome.{AnswersSome, IsCutShort, IsOutcome}
 use Rattle.strkw_cli.specs.Serving.{Serves}
 use Rattle.strkw_cli.specs.declared.faults.RunFault.{RunFault}

@@ -3,7 +3,7 @@ use Rattle.std.proofs.Common.{◌≡◌, ℕ, ◌+◌, ◌<◌, ◌≤◌, Optio
 use Rattle.std.specs.Io.KnownBytes.{Appends, Consumes, Keeps}
 use Rattle.std.proofs.KnownBytes.{Consumes-nil, Appends-nil, Consumes-trans, Consumes-kept, Appends-trans}
 use Rattle.strkw_cli.specs.Lines.{parts, ended_lines, last_part, lines}
-use Rattle.strkw_cli.specs.Answer.{IsAnswer, AreAnswers, IsOutput}
+use Rattle.strkw_cli.specs.Answer.{AreAnswers}
 use Rattle.strkw_cli.specs.Outcome.{IsOutcome}
 use Rattle.strkw_cli.specs.Serving.{Serves}
 use Rattle.strkw_cli.specs.declared.faults.RunFault.{RunFault}

@@ -2,30 +2,58 @@
 use Rattle.std.specs.Prelude.{◌≡◌, ℕ, List, [], ◌∷◌, ◌++◌, false, Option, Some, None, option_and_then, codes}
 use Rattle.serde_json.specs.Data.{Data}
 use Rattle.serde_json.specs.Find.{as_str}
-use Rattle.strkw_report.specs.Kinds.{Report, Standing}
+use Rattle.strkw_report.specs.Kinds.{Report}
 use Rattle.strkw_report.specs.Refusals.{Refusal}
-use Rattle.strkw_cli.specs.Settings.{Settings, options_with}
-use Rattle.strkw_cli.specs.Object.{entries, refusal, Errors}
+use Rattle.strkw_report.specs.declared.error.Site.{Site}
+use Rattle.strkw_pattern.specs.declared.engine.Outcome.TheVariants.{NoMatch}
+use Rattle.strkw_keywords.specs.declared.options.Options.{Options}
+use Rattle.strkw_keywords.specs.Meanings.{no_lists}
+use Rattle.strkw_keywords.specs.Remarks.{Remark}
+use Rattle.strkw_keywords.specs.Object.{Settings, default_options, Errors}
+use Rattle.strkw_cli.specs.Noted.{FirstRefusal, Notes}
 use Rattle.strkw_cli.specs.Request.{Request, IsReading, request_in}
-use Rattle.strkw_cli.specs.Printed.{refused_line, verdict_lines}
+use Rattle.strkw_cli.specs.Printed.{refused_line, verdict_lines, note_lines}
 use Rattle.strkw_cli.specs.Lines.{lines}
 
--- the schema object and the instance both stand at the root, and there is no absolute prefix
-abbrev pub at_root : Standing
-at_root = record { schema = []; prefix = None; evaluation = []; instance = [] }
+-- the options of a request: it sets two of them
+abbrev pub options_for : Request → Options
+options_for r = record {
+  validate_formats = r.validate_formats;
+  ignore_unknown_formats = r.ignore_unknown_formats;
+  formats_by_dialect = default_options.formats_by_dialect;
+  json_media_type = default_options.json_media_type;
+  codecs = default_options.codecs;
+  overridden = default_options.overridden;
+}
 
+-- What the schema object of a request is compiled under: it stands at the root, there is no absolute prefix, no check
+-- is registered, and the builder takes no pattern.
 abbrev pub settings_for : Request → Settings
-settings_for r = record { draft = r.draft; options = options_with r.validate_formats r.ignore_unknown_formats }
+settings_for r = record {
+  draft = r.draft;
+  place = record { schema = []; prefix = None };
+  options = options_for r;
+  lists = no_lists;
+  takes = λ pattern. false;
+  outcome = λ pattern text. NoMatch;
+}
 
--- the answer to a request, by the refusal of its object
+-- the schema object and the instance both stand at the root
+abbrev pub root_site : Site
+root_site = record { evaluation = []; instance = [] }
+
+-- the answer to a request, by the first refusal of its schema object
 abbrev pub AnswersBy : Option Refusal → Request → List ℕ → Type 0
 AnswersBy (Some why) r answer = answer ≡ refused_line why ++ codes "end\n"
-AnswersBy None r answer = (errors : List Report) × Errors (settings_for r) r.schema at_root (as_str r.instance) errors × (answer ≡ verdict_lines errors ++ codes "end\n")
+AnswersBy None r answer = (errors : List Report) × (notes : List Remark)
+    × Errors (settings_for r) r.schema no_lists root_site (as_str r.instance) errors
+    × Notes (settings_for r) r.schema (as_str r.instance) notes
+    × (answer ≡ verdict_lines errors ++ note_lines notes ++ codes "end\n")
 
 -- the answer to a request, or to what is none
 abbrev pub Answers : Option Request → List ℕ → Type 0
 Answers None answer = answer ≡ codes "bad request\nend\n"
-Answers (Some r) answer = AnswersBy (refusal [] (entries (settings_for r) r.schema)) r answer
+Answers (Some r) answer = (first : Option Refusal) × FirstRefusal (settings_for r) r.schema first × AnswersBy first r answer
 
 -- The answer to one line.
 pub record IsAnswer (line answer : List ℕ) : Type 0 where

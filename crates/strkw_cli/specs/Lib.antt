@@ -1,10 +1,7 @@
-pub mod Keywords
-pub mod Settings
-pub mod Formats
-pub mod Assertions
-pub mod Object
+pub mod Handed
+pub mod Noted
 pub mod Compiled
-pub mod Met
+pub mod Steps
 pub mod Request
 pub mod Borrowed
 pub mod Printed

@@ -1,8 +1,10 @@
 -- The lines of an answer, each ended by a line feed.
-use Rattle.std.specs.Prelude.{ℕ, List, [], ◌∷◌, ◌++◌, codes, map, if◌then◌else◌, nat_lt}
-use Rattle.std.specs.List.{flat_map}
+use Rattle.std.specs.Prelude.{◌≡◌, ℕ, List, [], ◌∷◌, ◌++◌, false, codes, map, if◌then◌else◌, nat_lt}
+use Rattle.std.specs.List.{All, flat_map}
+use Rattle.serde_json.specs.Written.{compact_text, has_float}
 use Rattle.strkw_report.specs.Kinds.{Report, text_of}
 use Rattle.strkw_report.specs.Refusals.{Refusal, explanation}
+use Rattle.strkw_keywords.specs.Remarks.{Remark}
 
 -- each character U+0000 to U+001F is printed as a space; in UTF-8 these are the bytes below 32
 abbrev pub printed_char : ℕ → ℕ
@@ -13,15 +15,29 @@ printed text = map printed_char text
 
 -- a word, a place and a text
 abbrev pub line_of : List ℕ → List ℕ → List ℕ → List ℕ
-line_of word place text = word ++ codes " " ++ place ++ codes ": " ++ printed text ++ codes "\n"
+line_of word place text = word ++ codes " " ++ place ++ codes ": " ++ text ++ codes "\n"
 
 abbrev pub error_line : Report → List ℕ
-error_line r = line_of (codes "error") r.schema_path (text_of r)
+error_line r = line_of (codes "error") r.schema_path (printed (text_of r))
 
 abbrev pub refused_line : Refusal → List ℕ
-refused_line r = line_of (codes "refused") r.location (explanation r.reason)
+refused_line r = line_of (codes "refused") r.location (printed (explanation r.reason))
 
 -- the errors, or that there are none
 abbrev pub verdict_lines : List Report → List ℕ
 verdict_lines [] = codes "valid\n"
 verdict_lines (r ∷ rs) = flat_map error_line (r ∷ rs)
+
+-- a note, its value as compact JSON text (RFC 8259)
+abbrev pub note_line : Remark → List ℕ
+note_line r = line_of (codes "note") r.schema_path (compact_text r.value)
+
+abbrev pub note_lines : List Remark → List ℕ
+note_lines rs = flat_map note_line rs
+
+-- the value of a note has a defined text: it holds no number but whole ones of 64 bits
+abbrev pub HasText : Remark → Type 0
+HasText r = has_float r.value ≡ false
+
+abbrev pub ArePrintable : List Remark → Type 0
+ArePrintable rs = All HasText rs

@@ -1,17 +1,20 @@
 //! The answer to one line.
 
-ghost use Rattle.std.specs.Prelude.{◌≡◌, ℕ, List, [], ◌++◌, None, Some, OnOk, OnErr};
+ghost use Rattle.std.specs.Prelude.{◌≡◌, ℕ, List, ◌++◌, Some, OnOk, OnErr};
 ghost use Rattle.serde_json.specs.View.{view};
 ghost use Rattle.strkw_cli.specs.Request.{request_in as request_of};
+ghost use Rattle.strkw_cli.specs.Handed.{settings_of};
 ghost use Rattle.strkw_cli.specs.Borrowed.{request_view};
-ghost use Rattle.strkw_cli.specs.Compiled.{settings_of};
-ghost use Rattle.strkw_cli.specs.Answer.{IsAnswer, Answers, settings_for};
+ghost use Rattle.strkw_cli.specs.Answer.{IsAnswer, Answers, settings_for, root_site};
 
-use super::keywords::{Context, Options, compile_strings};
-use super::printing::{push_bad_request, push_refusal, push_verdict};
+use super::compile::compile_strings;
+use super::no_patterns::NoPatterns;
+use super::printing::{push_bad_request, push_findings, push_refusal};
 use super::request::{Request, read_line, request_in};
 use serde_json::Value;
 use std::alloc::{AllocError, Global};
+use strkw_keywords::{Checks, ContentCodec, Context, Format, MediaTypeCheck, Options};
+use strkw_pattern::EngineBuilder;
 use strkw_report::{Location, Site};
 
 /// Appends the answer to a line. Where a growth is refused, the vector is as it was.
@@ -49,31 +52,31 @@ fn answer_value(alloc: Global, value: &Value, out: &mut Vec<u8>) -> Result<(), A
     }
 }
 
-// Appends the answer to a request: the refusal of its schema object, or the errors of its instance.
+// Appends the answer to a request: the refusal of its schema object, or the errors and the notes of its instance.
 fn answer_request(alloc: Global, request: &Request<'_>, out: &mut Vec<u8>) -> Result<(), AllocError>
     ensures ok { OnOk result ((made : List ℕ) × (out.new.items ≡ out.old.items ++ made) × Answers (Some (request_view request.now)) made) }
     ensures err { OnErr result ((more : List ℕ) × (out.new.items ≡ out.old.items ++ more)) }
 {
-    let ctx = context_of(alloc, request);
+    let builder = NoPatterns;
+    let ctx = context_of(alloc, request, &builder);
     match compile_strings(alloc, &ctx, request.schema) {
         Ok(keywords) => {
-            let site = Site {
-                evaluation: Location::root(alloc),
-                instance: Location::root(alloc),
-            };
-            let mut errors = Vec::new(alloc);
-            keywords.collect_errors(alloc, request.instance, &site, &mut errors)?;
-            push_verdict(alloc, &errors, out)
+            let site = root_site(alloc);
+            let found = keywords.evaluate(alloc, request.instance, &site, &ctx.checks)?;
+            push_findings(alloc, &found.errors, &found.notes, out)
         }
         Err(refusal) => push_refusal(alloc, &refusal, out),
     }
 }
 
-// What a request asks for: everything stands at the root, and only its two options are set.
-fn context_of(alloc: Global, request: &Request<'_>) -> Context
-    ensures settings { settings_of result ≡ settings_for (request_view request.now) }
-    ensures root { result.location ≡ [] }
-    ensures no_prefix { result.absolute ≡ None }
+// What a request asks for: everything stands at the root, no check is registered, and only its two options are set.
+fn context_of<'a>(
+    alloc: Global,
+    request: &Request<'_>,
+    builder: &'a NoPatterns,
+) -> Context<'a, NoPatterns>
+    ensures { settings_of ⟦<NoPatterns as EngineBuilder>⟧.takes ⟦<NoPatterns as EngineBuilder>⟧.outcome
+        admits accepted encoded decoding result ≡ settings_for (request_view request.now) }
 {
     let mut options = Options::default();
     options.validate_formats = request.validate_formats;
@@ -83,5 +86,20 @@ fn context_of(alloc: Global, request: &Request<'_>) -> Context
         location: Location::root(alloc),
         absolute: None,
         options,
+        checks: Checks {
+            formats: &[],
+            media_types: &[],
+            codecs: &[],
+        },
+        builder,
+    }
+}
+
+fn root_site(alloc: Global) -> Site
+    ensures { result ≡ root_site }
+{
+    Site {
+        evaluation: Location::root(alloc),
+        instance: Location::root(alloc),
     }
 }

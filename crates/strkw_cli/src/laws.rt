@@ -2,40 +2,91 @@
 
 ghost use Rattle.std.specs.Prelude.{◌≡◌, ◌↔◌, List, [], ℕ, Option, None};
 ghost use Rattle.serde_json.specs.Data.{Members};
-ghost use Rattle.strkw_report.specs.Kinds.{Report, Standing};
+ghost use Rattle.strkw_report.specs.Kinds.{Report};
+ghost use Rattle.strkw_report.specs.Refusals.{Refusal};
 ghost use Rattle.strkw_report.specs.declared.error.Site.{Site};
-ghost use Rattle.strkw_cli.specs.declared.keywords.context.Context.{Context};
-ghost use Rattle.strkw_cli.specs.declared.keywords.strings.StringKeywords.{StringKeywords};
-ghost use Rattle.strkw_cli.specs.Settings.{Settings};
-ghost use Rattle.strkw_cli.specs.Assertions.{NodeReports};
-ghost use Rattle.strkw_cli.specs.Object.{Errors};
-ghost use Rattle.strkw_cli.specs.Compiled.{IsCompiledFrom, settings_of, assertions_of, standing_in, standing_under};
+ghost use Rattle.strkw_keywords.specs.Meanings.{Lists};
+ghost use Rattle.strkw_keywords.specs.Errors.{NodeReports, IsInUse};
+ghost use Rattle.strkw_keywords.specs.Remarks.{Remark};
+ghost use Rattle.strkw_keywords.specs.Object.{Settings, Keyed, AreEntries, Errors};
+ghost use Rattle.strkw_cli.specs.declared.strings.StringKeywords.{StringKeywords};
+ghost use Rattle.strkw_cli.specs.Noted.{FirstRefusal, remarks_on, Notes};
 ghost use Rattle.strkw_cli.specs.Answer.{IsAnswer, IsOutput};
+ghost use Rattle.strkw_cli.specs.Compiled.{keywords_assertions, keywords_remarks, IsCompiledFrom};
+
+use strkw_keywords::laws::compiled_is_in_use;
+pub use strkw_keywords::laws::errors_are_determined;
+use strkw_pattern::RegexEngine;
 
 /// What a compiled object reports of an instance are the errors that its schema object means, entry by entry.
-pub fn compiled_errors_are_those_of_the_object()
-    ensures { (c : Context) (ms : Members) (k : StringKeywords) (site : Site) (instance : Option (List ℕ)) (rs : List Report)
-        → IsCompiledFrom c ms k
-        → NodeReports (standing_in k site) (assertions_of k) instance rs ↔ Errors (settings_of c) ms (standing_under c site) instance rs }
+pub fn compiled_errors_are_those_of_the_object<E: RegexEngine>()
+    ensures { (s : Settings) (ms : Members) (k : StringKeywords E) (lists : Lists) (site : Site) (instance : Option (List ℕ)) (rs : List Report)
+        → IsCompiledFrom E.outcome s ms k
+        → NodeReports (keywords_assertions E.outcome k) lists site instance rs ↔ Errors s ms lists site instance rs }
 {}
 
-/// An instance has one list of errors by a schema object.
-pub fn errors_are_determined()
-    ensures { (s : Settings) (ms : Members) (standing : Standing) (instance : Option (List ℕ)) (a b : List Report)
-        → Errors s ms standing instance a → Errors s ms standing instance b → a ≡ b }
+/// What a compiled object notes of an instance are the notes that its schema object means, entry by entry.
+pub fn compiled_notes_are_those_of_the_object<E: RegexEngine>()
+    ensures { (s : Settings) (ms : Members) (k : StringKeywords E) (instance : Option (List ℕ)) (remarks : List Remark)
+        → IsCompiledFrom E.outcome s ms k
+        → (remarks ≡ remarks_on instance (keywords_remarks k)) ↔ Notes s ms instance remarks }
+{}
+
+/// A compiled object may be used with the lists that it was compiled with.
+pub fn lists_of_compile_are_in_use<E: RegexEngine>()
+    ensures { (s : Settings) (ms : Members) (k : StringKeywords E) → IsCompiledFrom E.outcome s ms k → IsInUse (keywords_assertions E.outcome k) s.lists }
+{
+    compiled_is_in_use();
+}
+
+/// A schema object that is compiled is not refused: its entries have no first refusal.
+pub fn compiled_object_has_no_refusal<E: RegexEngine>()
+    ensures { (s : Settings) (ms : Members) (k : StringKeywords E) (first : Option Refusal) → IsCompiledFrom E.outcome s ms k → FirstRefusal s ms first → first ≡ None }
+{}
+
+/// A schema object has entries.
+pub fn entries_exist()
+    ensures { (s : Settings) (ms : Members) → (es : List Keyed) × AreEntries s ms es }
+{}
+
+/// A schema object has one list of entries.
+pub fn entries_are_determined()
+    ensures { (s : Settings) (ms : Members) (a b : List Keyed) → AreEntries s ms a → AreEntries s ms b → a ≡ b }
+{}
+
+/// A schema object has one first refusal, or none.
+pub fn first_refusal_is_determined()
+    ensures { (s : Settings) (ms : Members) (a b : Option Refusal) → FirstRefusal s ms a → FirstRefusal s ms b → a ≡ b }
+{}
+
+/// An instance has one list of notes by a schema object.
+pub fn notes_are_determined()
+    ensures { (s : Settings) (ms : Members) (instance : Option (List ℕ)) (a b : List Remark)
+        → Notes s ms instance a → Notes s ms instance b → a ≡ b }
 {}
 
 /// An instance that is no text has no errors.
 pub fn no_text_has_no_errors()
-    ensures { (s : Settings) (ms : Members) (standing : Standing) (rs : List Report) → Errors s ms standing None rs → rs ≡ [] }
+    ensures { (s : Settings) (ms : Members) (lists : Lists) (site : Site) (rs : List Report) → Errors s ms lists site None rs → rs ≡ [] }
+{}
+
+/// An instance that is no text has no notes.
+pub fn no_text_has_no_notes()
+    ensures { (s : Settings) (ms : Members) (remarks : List Remark) → Notes s ms None remarks → remarks ≡ [] }
 {}
 
 /// A line has one answer.
 pub fn answer_is_determined()
     ensures { (line a b : List ℕ) → IsAnswer line a → IsAnswer line b → a ≡ b }
-{}
+{
+    first_refusal_is_determined();
+    errors_are_determined();
+    notes_are_determined();
+}
 
 /// An input has one output.
 pub fn output_is_determined()
     ensures { (input a b : List ℕ) → IsOutput input a → IsOutput input b → a ≡ b }
-{}
+{
+    answer_is_determined();
+}

@@ -1,24 +1,28 @@
-//! The string keywords of one JSON Schema object (`format`, `minLength`, `maxLength`), compiled and asked for
-//! the errors of an instance; and `run`, which answers requests, one to a line of JSON, from any source of
-//! bytes to any sink.
+//! The string keywords of one JSON Schema object (`contentMediaType`, `contentEncoding`, `contentSchema`, `format`,
+//! `minLength`, `maxLength`, `pattern`), compiled and asked for the errors and the notes of an instance; and `run`,
+//! which answers requests, one to a line of JSON, from any source of bytes to any sink.
 #![tactic(auto)]
 
 mod answering;
+mod compile;
 mod devices;
 mod faults;
 mod host_devices;
-mod keywords;
 pub mod laws;
 mod memory_devices;
+mod no_patterns;
 mod printing;
 mod request;
 mod running;
+mod strings;
 #[cfg(test)]
 mod tests;
 
+pub use compile::compile_strings;
 pub use devices::{DeviceFailed, Sink, Source};
 pub use faults::RunFault;
 pub use host_devices::{HostSink, HostSource};
-pub use keywords::{Context, Options, StringKeywords, compile_strings};
 pub use memory_devices::{MemorySink, MemorySource};
 pub use running::run;
+pub use strings::{ObjectEvaluation, StringKeywords};
+pub use strkw_keywords::Note;

@@ -6,9 +6,9 @@ ghost use Rattle.serde_json.specs.View.{view, members_view};
 ghost use Rattle.strkw_cli.specs.Request.{IsReading, draft_numbered, draft_in, flag_in, is_request_key, has_only_request_keys, request_in};
 ghost use Rattle.strkw_cli.specs.Borrowed.{request_view};
 
-use super::keywords::member;
 use serde_json::{Map, Value};
 use std::alloc::{AllocError, Global};
+use strkw_keywords::member;
 use strkw_report::Draft;
 
 /// A request, inside the value of its line.

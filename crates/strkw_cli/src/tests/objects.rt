@@ -1,75 +1,13 @@
-//! Rows of `compile_strings`, `is_valid` and `collect_errors`.
+//! Rows of `compile_strings` and of the calls of what it compiles.
 
 ghost use Rattle.std.specs.Prelude.{ℕ, option_map};
 
-use super::{root_context, root_site};
-use crate::{Context, Options, StringKeywords, compile_strings};
+use super::{answer_lines, compiled, push_answers, push_line, root_context, root_site};
+use crate::no_patterns::NoPatterns;
 use serde_json::Value;
-use std::alloc::{AllocError, Global};
 use std::test::Fail;
-use strkw_report::{
-    CompileError, CompileErrorKind, Draft, ErrorKind, Location, Node, Site, char_count,
-};
-
-// What is compiled from the JSON text of a schema object, or `None` where it is none.
-fn compiled(
-    alloc: Global,
-    ctx: &Context,
-    schema: &str,
-) -> Option<Result<StringKeywords, CompileError>> {
-    let schema = Value::from_str(alloc, schema).ok()?;
-    Some(compile_strings(alloc, ctx, schema.as_object()?))
-}
-
-// A line for the refusal of a schema object, or for each error of an instance, both given as JSON texts.
-fn answer_lines(
-    alloc: Global,
-    ctx: &Context,
-    schema: &str,
-    instance: &str,
-) -> Result<String, AllocError> {
-    let mut lines = String::new(alloc);
-    match (
-        compiled(alloc, ctx, schema),
-        Value::from_str(alloc, instance),
-    ) {
-        (Some(Ok(keywords)), Ok(instance)) => {
-            push_errors(alloc, &keywords, &instance, &mut lines)?;
-        }
-        (Some(Err(refusal)), Ok(_)) => {
-            let text = refusal.text(alloc)?;
-            push_line(&mut lines, refusal.location.as_str(), &text)?;
-        }
-        _ => lines.push_str("no JSON\n")?,
-    }
-    Ok(lines)
-}
-
-fn push_line(lines: &mut String, place: &str, text: &str) -> Result<(), AllocError> {
-    lines.push_str(place)?;
-    lines.push_str(": ")?;
-    lines.push_str(text)?;
-    lines.push_str("\n")
-}
-
-// The errors of a node of any representation, and a line where `is_valid` says other than they do.
-fn push_errors<N: Node>(
-    alloc: Global,
-    keywords: &StringKeywords,
-    node: &N,
-    lines: &mut String,
-) -> Result<(), AllocError> {
-    let mut errors = Vec::new(alloc);
-    keywords.collect_errors(alloc, node, &root_site(alloc), &mut errors)?;
-    for error in errors.as_slice() {
-        let text = error.text(alloc)?;
-        push_line(lines, error.schema_path.as_str(), &text)?;
-    }
-    if keywords.is_valid(alloc, node)? != errors.is_empty() {
-        lines.push_str("is_valid says otherwise\n")?;
-    }
-    Ok(())
-}
+use strkw_keywords::Options;
+use strkw_report::{CompileErrorKind, Draft, ErrorKind, Location, Node, Site, char_count};
 
 // A schema object, an instance, and the lines of the answer.
 fn schemas_and_instances() -> [(&'static str, &'static str, &'static str); 23] {
@@ -77,15 +15,19 @@ fn schemas_and_instances() -> [(&'static str, &'static str, &'static str); 23] {
         (
             r#"{"minLength":5,"maxLength":3,"format":"date"}"#,
             r#""abcd""#,
-            "/format: \"abcd\" is not a \"date\"\n/minLength: \"abcd\" is shorter than 5 characters\n/maxLength: \"abcd\" is longer than 3 characters\n",
+            "/format: \"abcd\" is not a \"date\"\n/minLength: \"abcd\" is shorter than 5 characters\n/maxLength: \"abcd\" is longer than 3 characters\nnotes\n/format: \"date\"\n",
         ),
         (r#"{"minLength":5,"maxLength":3,"format":"date"}"#, "5", ""),
         (r#"{"minLength":5,"maxLength":5}"#, r#""héllo""#, ""),
-        (r#"{"format":"date"}"#, r#""2000-02-29""#, ""),
+        (
+            r#"{"format":"date"}"#,
+            r#""2000-02-29""#,
+            "notes\n/format: \"date\"\n",
+        ),
         (
             r#"{"format":"date"}"#,
             r#""1900-02-29""#,
-            "/format: \"1900-02-29\" is not a \"date\"\n",
+            "/format: \"1900-02-29\" is not a \"date\"\nnotes\n/format: \"date\"\n",
         ),
         (r#"{"format":"custom"}"#, r#""abc""#, ""),
         (
@@ -105,7 +47,7 @@ fn schemas_and_instances() -> [(&'static str, &'static str, &'static str); 23] {
         ),
         ("{}", r#""a""#, ""),
         (
-            r#"{"contentMediaType":5,"pattern":5,"minlength":-1}"#,
+            r#"{"contentMediaType":"text/x","contentEncoding":5,"contentSchema":1.5,"minlength":-1}"#,
             r#""a""#,
             "",
         ),
@@ -175,7 +117,8 @@ fn schemas_and_instances() -> [(&'static str, &'static str, &'static str); 23] {
 #[test]
 fn errors_and_refusals_in_draft_7(rt: HostRuntime) -> Result<(), Fail> {
     let alloc = rt.alloc();
-    let ctx = root_context(alloc, Draft::Draft7, Options::default());
+    let builder = NoPatterns;
+    let ctx = root_context(alloc, Draft::Draft7, Options::default(), &builder);
     for (schema, instance, lines) in schemas_and_instances() {
         assert_eq!(rt;
             answer_lines(alloc, &ctx, schema, instance)?.as_str(),
@@ -202,7 +145,11 @@ fn format_options(
     }
 }
 
-const NO_DATE: &str = "/format: \"x\" is not a \"date\"\n";
+const NO_DATE: &str = "/format: \"x\" is not a \"date\"\nnotes\n/format: \"date\"\n";
+
+const NOTED_DATE: &str = "notes\n/format: \"date\"\n";
+
+const NOTED_CUSTOM: &str = "notes\n/format: \"custom\"\n";
 
 const UNKNOWN: &str =
     "/format: Unknown format: 'custom'. Adjust configuration to ignore unrecognized formats\n";
@@ -216,8 +163,18 @@ fn drafts_and_options() -> [(Draft, Options, &'static str, &'static str); 11] {
         (Draft::Draft4, Options::default(), NO_DATE, ""),
         (Draft::Draft6, Options::default(), NO_DATE, ""),
         (Draft::Draft7, Options::default(), NO_DATE, ""),
-        (Draft::Draft201909, Options::default(), "", ""),
-        (Draft::Draft202012, Options::default(), "", ""),
+        (
+            Draft::Draft201909,
+            Options::default(),
+            NOTED_DATE,
+            NOTED_CUSTOM,
+        ),
+        (
+            Draft::Draft202012,
+            Options::default(),
+            NOTED_DATE,
+            NOTED_CUSTOM,
+        ),
         (
             Draft::Draft7,
             format_options(None, false, false),
@@ -227,14 +184,14 @@ fn drafts_and_options() -> [(Draft, Options, &'static str, &'static str); 11] {
         (
             Draft::Draft7,
             format_options(Some(false), false, false),
-            "",
-            "",
+            NOTED_DATE,
+            NOTED_CUSTOM,
         ),
         (
             Draft::Draft202012,
             format_options(None, false, false),
-            "",
-            "",
+            NOTED_DATE,
+            NOTED_CUSTOM,
         ),
         (
             Draft::Draft202012,
@@ -251,8 +208,8 @@ fn drafts_and_options() -> [(Draft, Options, &'static str, &'static str); 11] {
         (
             Draft::Draft202012,
             format_options(Some(false), true, true),
-            "",
-            "",
+            NOTED_DATE,
+            NOTED_CUSTOM,
         ),
     ]
 }
@@ -260,8 +217,9 @@ fn drafts_and_options() -> [(Draft, Options, &'static str, &'static str); 11] {
 #[test]
 fn formats_by_draft_and_options(rt: HostRuntime) -> Result<(), Fail> {
     let alloc = rt.alloc();
+    let builder = NoPatterns;
     for (draft, options, date_lines, custom_lines) in drafts_and_options() {
-        let ctx = root_context(alloc, draft, options);
+        let ctx = root_context(alloc, draft, options, &builder);
         let found = answer_lines(alloc, &ctx, r#"{"format":"date"}"#, r#""x""#)?;
         assert_eq!(rt; found.as_str(), date_lines, "{draft:?}");
         let found = answer_lines(alloc, &ctx, r#"{"format":"custom"}"#, r#""x""#)?;
@@ -293,10 +251,11 @@ fn overridden_and_lines() -> [([bool; 7], &'static str); 4] {
 #[test]
 fn overridden_keywords(rt: HostRuntime) -> Result<(), Fail> {
     let alloc = rt.alloc();
+    let builder = NoPatterns;
     for (overridden, lines) in overridden_and_lines() {
         let mut options = Options::default();
         options.overridden = overridden;
-        let ctx = root_context(alloc, Draft::Draft7, options);
+        let ctx = root_context(alloc, Draft::Draft7, options, &builder);
         let found = answer_lines(
             alloc,
             &ctx,
@@ -308,26 +267,14 @@ fn overridden_keywords(rt: HostRuntime) -> Result<(), Fail> {
     Ok(())
 }
 
-#[test]
-fn default_options(rt: HostRuntime) {
-    let options = Options::default();
-    assert_eq!(rt; options.validate_formats, None);
-    assert!(rt;
-        options.ignore_unknown_formats && !options.formats_by_dialect && options.json_media_type
-    );
-    assert!(rt; options.codecs == [true; 5] && options.overridden == [false; 7]);
-}
-
 // Where the object, the keyword and the instance stand, in an error and in a refusal.
 #[test]
 fn places(rt: HostRuntime) -> Result<(), Fail> {
     let alloc = rt.alloc();
-    let ctx = Context {
-        draft: Draft::Draft7,
-        location: Location::root(alloc).join("a/b")?,
-        absolute: Some(String::from_str(alloc, "https://example.com/s.json")?),
-        options: Options::default(),
-    };
+    let builder = NoPatterns;
+    let mut ctx = root_context(alloc, Draft::Draft7, Options::default(), &builder);
+    ctx.location = Location::root(alloc).join("a/b")?;
+    ctx.absolute = Some(String::from_str(alloc, "https://example.com/s.json")?);
     let site = Site {
         evaluation: Location::root(alloc).join("$ref")?,
         instance: Location::root(alloc).join("0")?,
@@ -339,7 +286,11 @@ fn places(rt: HostRuntime) -> Result<(), Fail> {
     };
     let mut errors = Vec::new(alloc);
     let node = Value::try_from_str(alloc, "secretvalue")?;
-    keywords.collect_errors(alloc, &node, &site, &mut errors)?;
+    if !keywords.uses(&ctx.checks) {
+        assert!(rt; false);
+        return Ok(());
+    }
+    keywords.collect_errors(alloc, &node, &site, &ctx.checks, &mut errors)?;
     assert_eq!(rt; errors.len(), 2);
     assert!(rt; matches!(errors[0].kind, ErrorKind::MinLength { limit: 20 }));
     assert!(rt; matches!(errors[1].kind, ErrorKind::MaxLength { limit: 5 }));
@@ -375,7 +326,8 @@ fn places(rt: HostRuntime) -> Result<(), Fail> {
 #[test]
 fn absolute_locations(rt: HostRuntime) -> Result<(), Fail> {
     let alloc = rt.alloc();
-    let mut ctx = root_context(alloc, Draft::Draft7, Options::default());
+    let builder = NoPatterns;
+    let mut ctx = root_context(alloc, Draft::Draft7, Options::default(), &builder);
     ctx.absolute = Some(String::from_str(alloc, "https://example.com/s.json")?);
     let schema = r#"{"minLength":20,"maxLength":5}"#;
     let Some(Ok(keywords)) = compiled(alloc, &ctx, schema) else {
@@ -384,7 +336,11 @@ fn absolute_locations(rt: HostRuntime) -> Result<(), Fail> {
     };
     let mut errors = Vec::new(alloc);
     let node = Value::try_from_str(alloc, "secretvalue")?;
-    keywords.collect_errors(alloc, &node, &root_site(alloc), &mut errors)?;
+    if !keywords.uses(&ctx.checks) {
+        assert!(rt; false);
+        return Ok(());
+    }
+    keywords.collect_errors(alloc, &node, &root_site(alloc), &ctx.checks, &mut errors)?;
     let mut found = String::new(alloc);
     for error in errors.as_slice() {
         if let Some(absolute) = &error.absolute {
@@ -437,7 +393,8 @@ fn names_and_lines() -> [(Option<&'static str>, &'static str); 4] {
 #[test]
 fn a_node_of_another_type(rt: HostRuntime) -> Result<(), Fail> {
     let alloc = rt.alloc();
-    let ctx = root_context(alloc, Draft::Draft7, Options::default());
+    let builder = NoPatterns;
+    let ctx = root_context(alloc, Draft::Draft7, Options::default(), &builder);
     let schema = r#"{"minLength":2,"maxLength":3}"#;
     let Some(Ok(keywords)) = compiled(alloc, &ctx, schema) else {
         assert!(rt; false, "{schema}");
@@ -445,7 +402,7 @@ fn a_node_of_another_type(rt: HostRuntime) -> Result<(), Fail> {
     };
     for (text, lines) in names_and_lines() {
         let mut found = String::new(alloc);
-        push_errors(alloc, &keywords, &Name { text }, &mut found)?;
+        push_answers(alloc, &keywords, &ctx.checks, &Name { text }, &mut found)?;
         assert_eq!(rt; found.as_str(), lines);
     }
     Ok(())

@@ -2,27 +2,30 @@
 //! answers with ample memory. `tools/refusals.py` runs these tests with each growth refused in turn.
 
 use super::devices::{answers, ends, script};
-use super::{root_context, root_site};
-use crate::{
-    MemorySink, MemorySource, Options, RunFault, Sink, StringKeywords, compile_strings, run,
-};
+use super::{compiled, root_context, root_site};
+use crate::no_patterns::NoPatterns;
+use crate::{MemorySink, MemorySource, RunFault, Sink, StringKeywords, run};
 use serde_json::Value;
 use std::alloc::{AllocError, Global};
+use strkw_keywords::{Context, Fault, Options};
 use strkw_report::{
     CompileError, CompileErrorKind, Draft, ErrorKind, Location, ValidationError, error_at,
 };
 
-// The answer for a schema object, or that there was no memory to read it or to copy its prefix.
-fn compiled(alloc: Global, schema: &str) -> Option<Result<StringKeywords, CompileError>> {
-    let mut ctx = root_context(alloc, Draft::Draft7, Options::default());
+// A context with a prefix, or that there was no memory to copy it. Unknown formats are refused under it.
+fn context_with_prefix(
+    alloc: Global,
+    draft: Draft,
+    builder: &NoPatterns,
+) -> Option<Context<'_, NoPatterns>> {
+    let mut ctx = root_context(alloc, draft, Options::default(), builder);
     ctx.options.ignore_unknown_formats = false;
     ctx.absolute = Some(String::from_str(alloc, "https://example.com").ok()?);
-    let schema = Value::from_str(alloc, schema).ok()?;
-    Some(compile_strings(alloc, &ctx, schema.as_object()?))
+    Some(ctx)
 }
 
 // Whether an answer is a value where no place is given, or a refusal at the place, or want of memory at the root.
-fn is_memory_or(outcome: &Result<StringKeywords, CompileError>, place: Option<&str>) -> bool {
+fn is_memory_or<E>(outcome: &Result<StringKeywords<E>, CompileError>, place: Option<&str>) -> bool {
     match outcome {
         Ok(_keywords) => place.is_none(),
         Err(refusal) => {
@@ -36,38 +39,116 @@ fn is_memory_or(outcome: &Result<StringKeywords, CompileError>, place: Option<&s
 }
 
 // A schema object, and where it is refused with ample memory.
-fn schemas_and_places() -> [(&'static str, Option<&'static str>); 5] {
+fn schemas_and_places() -> [(&'static str, Option<&'static str>); 9] {
     [
-        (r#"{"minLength":1,"maxLength":2,"format":"date"}"#, None),
+        (
+            r#"{"minLength":1,"maxLength":2,"format":"date","pattern":"^(a|b)$"}"#,
+            None,
+        ),
+        (
+            r#"{"contentMediaType":"application/json","contentEncoding":"base64"}"#,
+            None,
+        ),
+        (r#"{"contentEncoding":["a"]}"#, Some("/contentEncoding")),
         (r#"{"format":["a"]}"#, Some("/format")),
         (r#"{"format":1.5}"#, Some("/format")),
         (r#"{"format":"custom"}"#, Some("/format")),
         (r#"{"minLength":1,"maxLength":-1}"#, Some("/maxLength")),
+        (r#"{"pattern":5}"#, Some("/pattern")),
+        (r#"{"pattern":"a+"}"#, Some("/pattern")),
     ]
 }
 
 #[test]
 fn compile_strings_under_refusal(rt: HostRuntime) {
     let alloc = rt.alloc();
+    let builder = NoPatterns;
     for (schema, place) in schemas_and_places() {
-        if let Some(outcome) = compiled(alloc, schema) {
+        let Some(ctx) = context_with_prefix(alloc, Draft::Draft7, &builder) else {
+            return;
+        };
+        if let Some(outcome) = compiled(alloc, &ctx, schema) {
             assert!(rt; is_memory_or(&outcome, place), "{schema}");
         }
     }
 }
 
-// Testing a text takes no memory: wherever the compilation had enough, there is an answer.
+// Testing a text by these takes no memory: wherever the compilation had enough, there is an answer.
 #[test]
-fn is_valid_under_refusal(rt: HostRuntime) {
+fn is_valid_without_memory_under_refusal(rt: HostRuntime) {
     let alloc = rt.alloc();
-    for (text, valid) in [("2020-01-01", true), ("2020-01-0-", false), ("x", false)] {
-        let Some(Ok(keywords)) = compiled(alloc, r#"{"minLength":2,"format":"date"}"#) else {
+    let builder = NoPatterns;
+    for (text, valid) in [("a:", true), ("b:", false), ("", false)] {
+        let Some(ctx) = context_with_prefix(alloc, Draft::Draft7, &builder) else {
+            return;
+        };
+        let schema = r#"{"format":"uri","minLength":1,"pattern":"^a"}"#;
+        let Some(Ok(keywords)) = compiled(alloc, &ctx, schema) else {
             return;
         };
         let Ok(node) = Value::try_from_str(alloc, text) else {
             return;
         };
-        assert_eq!(rt; keywords.is_valid(alloc, &node), Ok(valid), "{text}");
+        assert!(rt; keywords.takes_no_memory() && keywords.uses(&ctx.checks));
+        if keywords.uses(&ctx.checks) {
+            assert_eq!(rt;
+                keywords.is_valid(alloc, &node, &ctx.checks),
+                Ok(valid),
+                "{text}"
+            );
+        }
+    }
+}
+
+// What is checked of a text that is decoded first.
+const JSON_IN_BASE64: &str =
+    r#"{"contentMediaType":"application/json","contentEncoding":"base64","minLength":2}"#;
+
+#[test]
+fn is_valid_under_refusal(rt: HostRuntime) {
+    let alloc = rt.alloc();
+    let builder = NoPatterns;
+    for (text, valid) in [("e30=", true), ("ezp9Cg==", false), ("x", false)] {
+        let Some(ctx) = context_with_prefix(alloc, Draft::Draft7, &builder) else {
+            return;
+        };
+        let Some(Ok(keywords)) = compiled(alloc, &ctx, JSON_IN_BASE64) else {
+            return;
+        };
+        let Ok(node) = Value::try_from_str(alloc, text) else {
+            return;
+        };
+        if keywords.uses(&ctx.checks) {
+            let outcome = keywords.is_valid(alloc, &node, &ctx.checks);
+            assert!(rt;
+                outcome == Ok(valid) || outcome == Err(AllocError),
+                "{text}"
+            );
+        }
+    }
+}
+
+#[test]
+fn validate_under_refusal(rt: HostRuntime) {
+    let alloc = rt.alloc();
+    let builder = NoPatterns;
+    for (text, valid) in [("e30=", true), ("ezp9Cg==", false), ("x", false)] {
+        let Some(ctx) = context_with_prefix(alloc, Draft::Draft7, &builder) else {
+            return;
+        };
+        let Some(Ok(keywords)) = compiled(alloc, &ctx, JSON_IN_BASE64) else {
+            return;
+        };
+        let Ok(node) = Value::try_from_str(alloc, text) else {
+            return;
+        };
+        if keywords.uses(&ctx.checks) {
+            match keywords.validate(alloc, &node, &root_site(alloc), &ctx.checks) {
+                Ok(()) => assert!(rt; valid, "{text}"),
+                Err(Fault::Invalid(_)) => assert!(rt; !valid, "{text}"),
+                Err(Fault::Memory) => {}
+            }
+        }
     }
 }
 
@@ -75,9 +156,13 @@ fn is_valid_under_refusal(rt: HostRuntime) {
 #[test]
 fn collect_errors_under_refusal(rt: HostRuntime) {
     let alloc = rt.alloc();
-    let schema = r#"{"minLength":5,"maxLength":3,"format":"date"}"#;
+    let builder = NoPatterns;
+    let Some(ctx) = context_with_prefix(alloc, Draft::Draft7, &builder) else {
+        return;
+    };
+    let schema = r#"{"minLength":5,"maxLength":3,"format":"date","pattern":"^x"}"#;
     let (Some(Ok(keywords)), Ok(node)) = (
-        compiled(alloc, schema),
+        compiled(alloc, &ctx, schema),
         Value::try_from_str(alloc, "abcd"),
     ) else {
         return;
@@ -87,15 +172,39 @@ fn collect_errors_under_refusal(rt: HostRuntime) {
         return;
     };
     let mut errors: Vec<ValidationError> = Vec::new(alloc);
-    if errors.push(first).is_err() {
+    if errors.push(first).is_err() || !keywords.uses(&ctx.checks) {
         return;
     }
-    let outcome = keywords.collect_errors(alloc, &node, &site, &mut errors);
+    let outcome = keywords.collect_errors(alloc, &node, &site, &ctx.checks, &mut errors);
     assert_eq!(rt;
         errors.len(),
-        if outcome == Err(AllocError) { 1 } else { 4 }
+        if outcome == Err(AllocError) { 1 } else { 5 }
     );
     assert!(rt; matches!(errors[0].kind, ErrorKind::FromUtf8));
+}
+
+#[test]
+fn evaluate_under_refusal(rt: HostRuntime) {
+    let alloc = rt.alloc();
+    let builder = NoPatterns;
+    let Some(ctx) = context_with_prefix(alloc, Draft::Draft201909, &builder) else {
+        return;
+    };
+    let schema =
+        r#"{"minLength":5,"contentMediaType":"a","contentEncoding":"b","contentSchema":[1],"format":"c"}"#;
+    let (Some(Ok(keywords)), Ok(node)) = (
+        compiled(alloc, &ctx, schema),
+        Value::try_from_str(alloc, "abcd"),
+    ) else {
+        return;
+    };
+    if keywords.uses(&ctx.checks) {
+        let Ok(found) = keywords.evaluate(alloc, &node, &root_site(alloc), &ctx.checks) else {
+            return;
+        };
+        assert_eq!(rt; found.errors.len(), 1);
+        assert_eq!(rt; found.notes.len(), 4);
+    }
 }
 
 // What was written is a beginning of the answers: all of them where the run ended well, whole ones where there was

@@ -1,11 +1,10 @@
 use Rattle.std.proofs.Common.{◌≡◌, ℕ, List, [], ◌∷◌, ◌++◌, ◌∙◌, length, sym, refl, ap, append-nil, subst}
 use Rattle.std.proofs.lemmas.Bool.{eqb-true, eqb-false}
-use Rattle.std.proofs.lemmas.Result.{err_from_is_err_and}
 use Rattle.std.proofs.KnownBytes.{Appends-nil}
 use Rattle.strkw_cli.specs.Answer.{IsAnswer, AreAnswers}
 use Rattle.strkw_cli.specs.Lines.{lines}
 use Rattle.strkw_cli.proofs.AnswerLemmas.{AreAnswers-one}
-use Rattle.strkw_cli.proofs.OutcomeLemmas.{written_short, written_whole, some_none, lines-last_empty, lines-last_one}
+use Rattle.strkw_cli.proofs.OutcomeLemmas.{written_short, written_whole, lines-last_empty, lines-last_one}
 use Rattle.strkw_cli.proofs.running.serve_last.Goals as goal
 
 -- an empty last part is no line

@@ -1,0 +1,119 @@
+-- What several validators assert and note.
+use Rattle.std.proofs.Common.{◌≡◌, ◌<◌, ℕ, zero, suc, ◌+◌, List, [], ◌∷◌, ◌++◌, Bool, true, false, Option, Some, None, refl, sym, ap, ◌∙◌, subst, length, get_or, take, arith, append_assoc, ◌&&◌}
+use Rattle.std.proofs.lemmas.List.{append-nil, take_more}
+use Rattle.strkw_report.specs.Kinds.{Report}
+use Rattle.strkw_report.specs.declared.error.Site.{Site}
+use Rattle.strkw_pattern.specs.declared.engine.Outcome.{Outcome}
+use Rattle.strkw_keywords.specs.Meanings.{Lists}
+use Rattle.strkw_keywords.specs.Places.{Place, standing}
+use Rattle.strkw_keywords.specs.Demands.{Finding, is_quiet}
+use Rattle.strkw_keywords.specs.Errors.{Assertion, reported, AllReport, NodeReports, IsInUse, all_quiet, Appends}
+use Rattle.strkw_keywords.specs.declared.validator.Validator.{Validator}
+use Rattle.strkw_keywords.specs.Validators.{assertions_of, assertions_in, remarks_in, listed_remark, remark_made}
+
+-- the errors by one list of assertions, and then by another
+all_append : (front back : List Assertion) (lists : Lists) (site : Site) (text : List ℕ) (es fs : List Report) → AllReport front lists site text es → AllReport back lists site text fs → AllReport (front ++ back) lists site text (es ++ fs)
+all_append [] back lists site text es fs a b = rw a b
+all_append (x ∷ front) back lists site text es fs a b =
+    (a.0, a.1 ++ fs, a.2, ap (λ l. l ++ fs) a.3 ∙ append_assoc (reported (standing x.place site) text a.0) a.1 fs, all_append front back lists site text a.1 fs a.4 b)
+
+pub report_append : (front back : List Assertion) (lists : Lists) (site : Site) (at : Option (List ℕ)) (es fs : List Report) → NodeReports front lists site at es → NodeReports back lists site at fs → NodeReports (front ++ back) lists site at (es ++ fs)
+report_append front back lists site None es fs a b = rw (a, b) refl
+report_append front back lists site (Some text) es fs a b = all_append front back lists site text es fs a b
+
+-- where nothing is reported, no part reports anything
+nothing_from : (place : Place) (site : Site) (fault : Option Finding) (text : List ℕ) (rest : List Report) → [] ≡ reported (standing place site) text fault ++ rest → ([] ≡ reported (standing place site) text fault) × (rest ≡ [])
+nothing_from place site None text rest e = (refl, sym e)
+nothing_from place site (Some f) text rest e = absurd (cc)
+
+all_split : (front back : List Assertion) (lists : Lists) (site : Site) (text : List ℕ) → AllReport (front ++ back) lists site text [] → AllReport front lists site text [] × AllReport back lists site text []
+all_split [] back lists site text a = (refl, a)
+all_split (x ∷ front) back lists site text a =
+    let parts = nothing_from x.place site a.0 text a.1 a.3 in
+    let below = all_split front back lists site text (subst (λ l. AllReport (front ++ back) lists site text l) parts.1 a.4) in
+    ((a.0, [], a.2, parts.0 ∙ sym (append-nil (reported (standing x.place site) text a.0)), below.0), below.1)
+
+pub nothing_split : (front back : List Assertion) (lists : Lists) (site : Site) (at : Option (List ℕ)) → NodeReports (front ++ back) lists site at [] → NodeReports front lists site at [] × NodeReports back lists site at []
+nothing_split front back lists site None a = (refl, refl)
+nothing_split front back lists site (Some text) a = all_split front back lists site text a
+
+-- nothing is added where nothing is asserted
+pub nothing_yet : (lists : Lists) (site : Site) (at : Option (List ℕ)) (old : List Report) → Appends (NodeReports [] lists site at) old old
+nothing_yet lists site None old = record { added = []; grown = sym (append-nil old); reported = refl }
+nothing_yet lists site (Some text) old = record { added = []; grown = sym (append-nil old); reported = refl }
+
+pub use_split : (lists : Lists) (front back : List Assertion) → IsInUse (front ++ back) lists → IsInUse front lists × IsInUse back lists
+use_split lists [] back u = (tt, u)
+use_split lists (x ∷ front) back u = let below = use_split lists front back u.1 in ((u.0, below.0), below.1)
+
+pub use_append : (lists : Lists) (front back : List Assertion) → IsInUse front lists → IsInUse back lists → IsInUse (front ++ back) lists
+use_append lists [] back u w = w
+use_append lists (x ∷ front) back u w = (u.0, use_append lists front back u.1 w)
+
+module _ {E : Type 0} (outcome : E → List ℕ → Outcome) where
+  pub in-append : (vs ws : List (Validator E)) → assertions_in outcome (vs ++ ws) ≡ assertions_in outcome vs ++ assertions_in outcome ws
+  in-append [] ws = refl
+  in-append (v ∷ vs) ws = ap (λ l. assertions_of outcome v ++ l) (in-append vs ws) ∙ sym (append_assoc (assertions_of outcome v) (assertions_in outcome vs) (assertions_in outcome ws))
+
+  pub noted-append : (vs ws : List (Validator E)) → remarks_in (vs ++ ws) ≡ remarks_in vs ++ remarks_in ws
+  noted-append [] ws = refl
+  noted-append (v ∷ vs) ws = ap (λ l. listed_remark (remark_made v) ++ l) (noted-append vs ws) ∙ sym (append_assoc (listed_remark (remark_made v)) (remarks_in vs) (remarks_in ws))
+
+  -- the validators up to one more
+  pub in_more : (vs : List (Validator E)) (i : ℕ) (v : Validator E) → i < length vs → v ≡ get_or vs i v → assertions_in outcome (take (i + 1) vs) ≡ assertions_in outcome (take i vs) ++ assertions_of outcome v
+  in_more vs i v h e = rw (take_more vs i v h, ← e, in-append (take i vs) (v ∷ []), append-nil (assertions_of outcome v))
+
+  pub in_use_at : (lists : Lists) (vs : List (Validator E)) (i : ℕ) (v : Validator E) → i < length vs → v ≡ get_or vs i v → IsInUse (assertions_in outcome vs) lists → IsInUse (assertions_of outcome v) lists
+  in_use_at lists [] i v h e u = absurd (omega (arith, h))
+  in_use_at lists (w ∷ vs) zero v h e u = rw e (use_split lists (assertions_of outcome w) (assertions_in outcome vs) u).0
+  in_use_at lists (w ∷ vs) (suc i) v h e u = in_use_at lists vs i v (omega (arith, h)) e (use_split lists (assertions_of outcome w) (assertions_in outcome vs) u).1
+
+  pub nothing_at : (lists : Lists) (site : Site) (there : Option (List ℕ)) (vs : List (Validator E)) (i : ℕ) (v : Validator E) → i < length vs → v ≡ get_or vs i v → NodeReports (assertions_in outcome vs) lists site there [] → NodeReports (assertions_of outcome v) lists site there []
+  nothing_at lists site there [] i v h e u = absurd (omega (arith, h))
+  nothing_at lists site there (w ∷ vs) zero v h e u = rw e (nothing_split (assertions_of outcome w) (assertions_in outcome vs) lists site there u).0
+  nothing_at lists site there (w ∷ vs) (suc i) v h e u = nothing_at lists site there vs i v (omega (arith, h)) e (nothing_split (assertions_of outcome w) (assertions_in outcome vs) lists site there u).1
+
+  pub nothing_more : (lists : Lists) (there : Option (List ℕ)) (vs : List (Validator E)) (i : ℕ) (v : Validator E) → i < length vs → v ≡ get_or vs i v → ((site : Site) → NodeReports (assertions_in outcome (take i vs)) lists site there []) → ((site : Site) → NodeReports (assertions_of outcome v) lists site there []) → (site : Site) → NodeReports (assertions_in outcome (take (i + 1) vs)) lists site there []
+  nothing_more lists there vs i v h e a b site = rw (in_more vs i v h e) (report_append (assertions_in outcome (take i vs)) (assertions_of outcome v) lists site there [] [] (a site) (b site))
+
+  -- what one validator more adds
+  pub collected_more : (lists : Lists) (site : Site) (there : Option (List ℕ)) (vs : List (Validator E)) (i : ℕ) (v : Validator E) (old mid new : List Report) → i < length vs → v ≡ get_or vs i v → Appends (NodeReports (assertions_in outcome (take i vs)) lists site there) old mid → Appends (NodeReports (assertions_of outcome v) lists site there) mid new → Appends (NodeReports (assertions_in outcome (take (i + 1) vs)) lists site there) old new
+  collected_more lists site there vs i v old mid new h e a b = record {
+    added = a.added ++ b.added;
+    grown = b.grown ∙ ap (λ l. l ++ b.added) a.grown ∙ append_assoc old a.added b.added;
+    reported = rw (in_more vs i v h e) (report_append (assertions_in outcome (take i vs)) (assertions_of outcome v) lists site there a.added b.added a.reported b.reported);
+  }
+
+  -- the remarks up to one more
+  pub remarks_more : (vs : List (Validator E)) (i : ℕ) (v : Validator E) → i < length vs → v ≡ get_or vs i v → remarks_in (take (i + 1) vs) ≡ remarks_in (take i vs) ++ listed_remark (remark_made v)
+  remarks_more vs i v h e = rw (take_more vs i v h, ← e, noted-append (take i vs) (v ∷ []), append-nil (listed_remark (remark_made v))) refl
+
+-- ---- memory
+
+and_assoc : (a b c : Bool) → (a && (b && c)) ≡ ((a && b) && c)
+and_assoc true b c = refl
+and_assoc false b c = refl
+
+and_false : (a : Bool) → (a && false) ≡ false
+and_false true = refl
+and_false false = refl
+
+not_false : (b : Bool) → (b ≡ false → ⊥) → b ≡ true
+not_false true h = refl
+not_false false h = absurd (h refl)
+
+pub quiet-append : (front back : List Assertion) → all_quiet (front ++ back) ≡ (all_quiet front && all_quiet back)
+quiet-append [] back = refl
+quiet-append (a ∷ front) back = ap (λ b. is_quiet a.demand && b) (quiet-append front back) ∙ and_assoc (is_quiet a.demand) (all_quiet front) (all_quiet back)
+
+module _ {E : Type 0} (outcome : E → List ℕ → Outcome) where
+  pub loud_at : (vs : List (Validator E)) (i : ℕ) (v : Validator E) → i < length vs → v ≡ get_or vs i v → all_quiet (assertions_of outcome v) ≡ false → all_quiet (assertions_in outcome vs) ≡ false
+  loud_at [] i v h e q = absurd (omega (arith, h))
+  loud_at (w ∷ vs) zero v h e q = rw (quiet-append (assertions_of outcome w) (assertions_in outcome vs), ← e, q) refl
+  loud_at (w ∷ vs) (suc i) v h e q = rw (quiet-append (assertions_of outcome w) (assertions_in outcome vs), loud_at vs i v (omega (arith, h)) e q, and_false (all_quiet (assertions_of outcome w))) refl
+
+  pub quiet_at : (vs : List (Validator E)) (i : ℕ) (v : Validator E) → i < length vs → v ≡ get_or vs i v → all_quiet (assertions_in outcome vs) ≡ true → all_quiet (assertions_of outcome v) ≡ true
+  quiet_at vs i v h e q = not_false (all_quiet (assertions_of outcome v)) (λ loud. let f = loud_at vs i v h e loud in cc)
+
+  pub quiet_more : (vs : List (Validator E)) (i : ℕ) (v : Validator E) → i < length vs → v ≡ get_or vs i v → all_quiet (assertions_in outcome (take i vs)) ≡ true → all_quiet (assertions_of outcome v) ≡ true → all_quiet (assertions_in outcome (take (i + 1) vs)) ≡ true
+  quiet_more vs i v h e before one = rw (in_more outcome vs i v h e, quiet-append (assertions_in outcome (take i vs)) (assertions_of outcome v), before, one) refl

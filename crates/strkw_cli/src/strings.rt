@@ -1,0 +1,178 @@
+//! A compiled schema object, and what it says of instances.
+
+ghost use Rattle.std.specs.Prelude.{◌≡◌, ◌↔◌, [], ◌++◌, true, map, IfOk, IsOk, IsTrue, OnOk, OnErr};
+ghost use Rattle.strkw_report.specs.declared.error.Site.{Site};
+ghost use Rattle.strkw_keywords.specs.Errors.{NodeReports, IsInUse, Appends, all_quiet};
+ghost use Rattle.strkw_keywords.specs.Remarks.{remark_of};
+ghost use Rattle.strkw_keywords.specs.Validators.{listed_remark, remark_made};
+ghost use Rattle.strkw_keywords.specs.Verdicts.{IsVerdict};
+ghost use Rattle.strkw_cli.specs.Handed.{lists_of};
+ghost use Rattle.strkw_cli.specs.Noted.{remarks_on};
+ghost use Rattle.strkw_cli.specs.Compiled.{keywords_assertions, keywords_remarks};
+
+use std::alloc::{AllocError, Global};
+use strkw_keywords::{Checks, Fault, Note, Uses, Validate, Validator};
+use strkw_pattern::RegexEngine;
+use strkw_report::{Node, Site, ValidationError};
+
+/// The string keywords of one schema object, compiled.
+#[derive(Drop)]
+pub struct StringKeywords<E> {
+    pub(crate) validators: Vec<Validator<E>>,
+}
+
+/// The errors of an instance, and what is noted of it.
+#[derive(Drop)]
+pub struct ObjectEvaluation {
+    /// The errors, in the order of the entries.
+    pub errors: Vec<ValidationError>,
+    /// The notes, in the order of the entries.
+    pub notes: Vec<Note>,
+}
+
+impl<E: RegexEngine> StringKeywords<E> {
+    /// Whether these lists of checks may be handed in with an instance: each registered check, media type and codec
+    /// that was chosen at compile is, by its name, the first row of that name, at the position that it had.
+    pub fn uses(&self, checks: &Checks) -> bool
+        ensures { IsTrue result ↔ IsInUse (keywords_assertions E.outcome self.now) (lists_of admits accepted encoded decoding checks.now) }
+    {
+        for validator in &self.validators {
+            if !validator.uses(checks) {
+                return false;
+            }
+        }
+        true
+    }
+
+    /// Whether `is_valid` takes no memory, and so always answers: where there is no content check, no registered
+    /// check and no pattern that an engine matches.
+    pub fn takes_no_memory(&self) -> bool
+        ensures { result ≡ all_quiet (keywords_assertions E.outcome self.now) }
+    {
+        for validator in &self.validators {
+            if !validator.takes_no_memory() {
+                return false;
+            }
+        }
+        true
+    }
+
+    /// Whether an instance has no errors. The only error is a refused growth, and there is none where
+    /// `takes_no_memory` is true.
+    pub fn is_valid<N: Node>(
+        &self,
+        alloc: Global,
+        node: &N,
+        checks: &Checks,
+    ) -> Result<bool, AllocError>
+        requires { IsInUse (keywords_assertions E.outcome self.now) (lists_of admits accepted encoded decoding checks.now) }
+        ensures exact { IfOk result (λ b. (site : Site) → (IsTrue b
+            ↔ NodeReports (keywords_assertions E.outcome self.now) (lists_of admits accepted encoded decoding checks.now) site (N.text node.now) [])) }
+        ensures answers { all_quiet (keywords_assertions E.outcome self.now) ≡ true → IsOk result }
+    {
+        for validator in &self.validators {
+            if !validator.is_valid(alloc, node, checks)? {
+                return Ok(false);
+            }
+        }
+        Ok(true)
+    }
+
+    /// Appends the errors of an instance, in the order of the entries. Where a growth is refused, the vector is as
+    /// it was.
+    pub fn collect_errors<N: Node>(
+        &self,
+        alloc: Global,
+        node: &N,
+        site: &Site,
+        checks: &Checks,
+        errors: &mut Vec<ValidationError>,
+    ) -> Result<(), AllocError>
+        requires { IsInUse (keywords_assertions E.outcome self.now) (lists_of admits accepted encoded decoding checks.now) }
+        ensures appended { OnOk result (Appends
+            (NodeReports (keywords_assertions E.outcome self.now) (lists_of admits accepted encoded decoding checks.now) site.now (N.text node.now))
+            errors.old.items errors.new.items) }
+        ensures kept { OnErr result (errors.new.items ≡ errors.old.items) }
+    {
+        let held = errors.len();
+        for validator in &self.validators {
+            match validator.collect_errors(alloc, node, site, checks, errors) {
+                Ok(()) => {}
+                Err(e) => {
+                    errors.truncate(held);
+                    return Err(e);
+                }
+            }
+        }
+        Ok(())
+    }
+
+    /// The first error of an instance, or `Ok` where it has none.
+    pub fn validate<N: Node>(
+        &self,
+        alloc: Global,
+        node: &N,
+        site: &Site,
+        checks: &Checks,
+    ) -> Result<(), Fault>
+        requires { IsInUse (keywords_assertions E.outcome self.now) (lists_of admits accepted encoded decoding checks.now) }
+        ensures { IsVerdict (NodeReports (keywords_assertions E.outcome self.now) (lists_of admits accepted encoded decoding checks.now) site.now (N.text node.now)) result }
+    {
+        let mut errors = Vec::new(alloc);
+        match self.collect_errors(alloc, node, site, checks, &mut errors) {
+            Ok(()) => {}
+            Err(_) => return Err(Fault::Memory),
+        }
+        if errors.as_slice().is_empty() {
+            Ok(())
+        } else {
+            Err(Fault::Invalid(errors.remove(0)))
+        }
+    }
+
+    /// The errors of an instance, and what is noted of it whether it has errors or not.
+    pub fn evaluate<N: Node>(
+        &self,
+        alloc: Global,
+        node: &N,
+        site: &Site,
+        checks: &Checks,
+    ) -> Result<ObjectEvaluation, AllocError>
+        requires { IsInUse (keywords_assertions E.outcome self.now) (lists_of admits accepted encoded decoding checks.now) }
+        ensures errors { IfOk result (λ r. NodeReports (keywords_assertions E.outcome self.now) (lists_of admits accepted encoded decoding checks.now) site.now (N.text node.now) r.errors.items) }
+        ensures notes { IfOk result (λ r. map remark_of r.notes.items ≡ remarks_on (N.text node.now) (keywords_remarks self.now)) }
+    {
+        let mut errors = Vec::new(alloc);
+        self.collect_errors(alloc, node, site, checks, &mut errors)?;
+        let notes = match node.as_text() {
+            Some(_) => self.notes(alloc)?,
+            None => Vec::new(alloc),
+        };
+        Ok(ObjectEvaluation { errors, notes })
+    }
+
+    // What is noted of texts.
+    fn notes(&self, alloc: Global) -> Result<Vec<Note>, AllocError>
+        ensures { IfOk result (λ notes. map remark_of notes.items ≡ keywords_remarks self.now) }
+    {
+        let mut notes = Vec::new(alloc);
+        for validator in &self.validators {
+            push_note(alloc, validator, &mut notes)?;
+        }
+        Ok(notes)
+    }
+}
+
+// Appends what a validator notes of texts, if it notes anything.
+fn push_note<E: RegexEngine>(
+    alloc: Global,
+    validator: &Validator<E>,
+    notes: &mut Vec<Note>,
+) -> Result<(), AllocError>
+    ensures { OnOk result (map remark_of notes.new.items ≡ map remark_of notes.old.items ++ listed_remark (remark_made validator.now)) }
+{
+    if let Some(note) = validator.note(alloc)? {
+        notes.push(note)?;
+    }
+    Ok(())
+}
