@@ -22,7 +22,11 @@ TELL_AT = 9
 MOST_CALLS = 20000
 SECONDS_FOR_A_RUN = 120
 PROGRAM = "strkw"
-FAULTS = {b"strkw: out of memory\n", b"strkw: read failed\n", b"strkw: write failed\n"}
+ROW = re.compile(r"fn (\w+_under_refusal)\b")
+FAULTS = {
+    "REFUSE_GROWTH": {b"strkw: out of memory\n"},
+    "FAIL_MOVE": {b"strkw: read failed\n", b"strkw: write failed\n"},
+}
 
 
 def say(line):
@@ -102,15 +106,25 @@ def each_in_turn(name, kind, words, made, failing, is_right, given=b""):
     return False
 
 
+def rows_of(crate):
+    """The names of the rows with a refused growth that stand in a crate's sources."""
+    return {name for file in crate.glob("src/**/*.rt") for name in ROW.findall(file.read_text())}
+
+
 def tests(made):
-    """Each test of the rows with a refused growth, as whether it passed."""
-    for program in sorted(TOP.glob("crates/*/out/*_tests")):
-        listed = subprocess.run([program, "--list"], stdin=subprocess.DEVNULL, stdout=subprocess.PIPE, text=True)
-        for line in listed.stdout.splitlines():
-            test = line.removesuffix(": test").strip()
-            if test.endswith("_under_refusal"):
-                name = f"{program.parent.parent.name} {test}"
-                yield each_in_turn(name, "growth", [program, test], made, "REFUSE_GROWTH", lambda run, _: run.status == 0)
+    """Each test of the rows with a refused growth, as whether it passed; a row that is in no built test has not."""
+    for crate in sorted(TOP.glob("crates/*")):
+        rows, built = rows_of(crate), crate / "out" / f"{crate.name}_tests"
+        if not rows:
+            continue
+        listed = subprocess.run([built, "--list"], stdin=subprocess.DEVNULL, stdout=subprocess.PIPE, text=True).stdout if built.exists() else ""
+        found = [line.removesuffix(": test").strip() for line in listed.splitlines()]
+        for test in (test for test in found if test.endswith("_under_refusal")):
+            rows.discard(test.split("::")[-1])
+            yield each_in_turn(f"{crate.name} {test}", "growth", [built, test], made, "REFUSE_GROWTH", lambda run, _: run.status == 0)
+        for name in sorted(rows):
+            say(f"refusals: {crate.name}: {name} is in no built test")
+            yield False
 
 
 def program(made):
@@ -118,16 +132,20 @@ def program(made):
     folder = TOP / "crates" / PROGRAM
     built = folder / "out" / PROGRAM
     if not built.exists():
+        say(f"refusals: {PROGRAM} is not built")
+        yield False
         return
     given, ample = (folder / "stdin").read_bytes(), (folder / "stdout").read_bytes()
 
-    def is_right(run, none_failed):
-        if none_failed or run.status == 0:
-            return run.status == 0 and run.written == ample and not run.said
-        return run.status == 1 and ample.startswith(run.written) and run.said in FAULTS
+    def is_right(faults):
+        def right(run, none_failed):
+            if none_failed or run.status == 0:
+                return run.status == 0 and run.written == ample and not run.said
+            return run.status == 1 and ample.startswith(run.written) and run.said in faults
+        return right
 
     for kind, failing in (("growth", "REFUSE_GROWTH"), ("read or write", "FAIL_MOVE")):
-        yield each_in_turn(PROGRAM, kind, [built], made, failing, is_right, given)
+        yield each_in_turn(PROGRAM, kind, [built], made, failing, is_right(FAULTS[failing]), given)
 
 
 def main():

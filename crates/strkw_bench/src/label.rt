@@ -1,4 +1,5 @@
 //! Nanoseconds a call of the host name predicate and of the Punycode decoder.
+ghost use Rattle.std.specs.Prelude.{◌≤◌, length};
 
 use crate::timing::{self, least};
 use std::alloc::Global;
@@ -14,18 +15,21 @@ enum Call {
     DecodeAndJudge,
 }
 
+fn is_admitted_payload(payload: &str) -> bool
+    requires { length payload.now ≤ 64 }
+{
+    match decode_punycode::<64>(payload) {
+        Some(label) => validate_unicode_label(label.as_slice()),
+        None => false,
+    }
+}
+
 impl timing::Call for Call {
     fn accepts(&self, _alloc: Global, text: &str) -> bool {
-        if text.len() > 64 {
-            return is_valid_hostname(text);
-        }
         match self {
             Call::HostName => is_valid_hostname(text),
-            Call::Decode => decode_punycode::<64>(text).is_some(),
-            Call::DecodeAndJudge => match decode_punycode::<64>(text) {
-                Some(label) => validate_unicode_label(label.as_slice()),
-                None => false,
-            },
+            Call::Decode => text.len() <= 64 && decode_punycode::<64>(text).is_some(),
+            Call::DecodeAndJudge => text.len() <= 64 && is_admitted_payload(text),
         }
     }
 }

@@ -15,6 +15,8 @@ pub fn is_valid_date(date: &str) -> bool
     is_full_date(date.as_bytes())
 }
 
+// A call would cost a tenth of it.
+#[inline(always)]
 pub(crate) fn is_full_date(bytes: &[u8]) -> bool
     ensures { IsTrue result ↔ IsFullDate bytes.now }
 {
@@ -58,5 +60,5 @@ fn is_day(year: u16, month: u8, day: u8) -> bool
 fn is_leap_year(year: u16) -> bool
     ensures { result ≡ is_leap_year year }
 {
-    (year % 4 == 0 && year % 100 != 0) || (year % 400 == 0)
+    year % 4 == 0 && (year % 100 != 0 || year % 400 == 0)
 }

@@ -28,7 +28,7 @@ fn is_date_time(bytes: &[u8]) -> bool
 }
 
 fn is_separator(separator: u8) -> bool
-    ensures { IsTrue result ↔ (separator ≡ 84) ⊎ (separator ≡ 116) }
+    ensures { IsTrue result ↔ (separator ≡ byte "T") ⊎ (separator ≡ byte "t") }
 {
     separator == b'T' || separator == b't'
 }

@@ -7,9 +7,11 @@ ghost use Rattle.strkw_time.specs.Readers.{AmountThen};
 
 use crate::readers::{after_byte, split_digits};
 
-/// Whether the text is a duration of RFC 3339, appendix A, as in `P1Y2M3DT4H5M6S`.
+/// Whether the text is a duration of RFC 3339, appendix A, as in `P1Y2M3DT4H5M6S` or `P2W`.
 ///
-/// The letters are upper case. Units stand in falling order and none is left out between two that stand.
+/// Behind `P` stands a date of years, months and days, behind `T` a time of hours, minutes and seconds, or weeks alone;
+/// at least one amount is there, each of one digit or more. Units stand in falling order and none is left out between
+/// two of a date or of a time that stand. The letters are upper case.
 pub fn is_valid_duration(duration: &str) -> bool
     ensures { IsTrue result ↔ IsDuration (chars duration.now) }
 {

@@ -24,22 +24,22 @@ pub fn duration_length()
     ensures { DerivesAtLeast 3 IsDuration }
 {}
 
-/// A date, which is as long as each.
+/// `2020-01-01` is a date.
 pub fn date_example()
     ensures { IsFullDate (codes "2020-01-01") }
 {}
 
-/// A time of least length.
+/// `00:00:00Z` is a time, one of least length.
 pub fn time_example()
     ensures { IsFullTime (codes "00:00:00Z") }
 {}
 
-/// A date-time of least length.
+/// `2020-01-01T00:00:00Z` is a date-time, one of least length.
 pub fn datetime_example()
     ensures { IsDateTime (codes "2020-01-01T00:00:00Z") }
 {}
 
-/// A duration of least length.
+/// `P1D` is a duration, one of least length.
 pub fn duration_example()
     ensures { IsDuration (codes "P1D") }
 {}

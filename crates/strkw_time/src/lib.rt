@@ -1,5 +1,5 @@
 //! Dates, times, date-times and durations of RFC 3339, and the digits that they are read by.
-//! Each predicate is true exactly where its grammar derives the characters of the text, takes no memory and is linear in the text.
+//! Each predicate is true exactly where its grammar derives the characters of the text, and takes no memory.
 //! The grammars stand in `specs/Time.antt` and `specs/Duration.antt`, laws about them in [`laws`].
 #![tactic(auto)]
 

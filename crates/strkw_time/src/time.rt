@@ -12,7 +12,9 @@ use crate::readers::{after_byte, split_digits};
 
 /// Whether the text is a time of day with its offset, `full-time` of RFC 3339, section 5.6, as in `12:30:45.123Z`.
 ///
-/// Second 60 is a leap second, and stands only in the last minute of a day of UTC (`00:29:60+00:30`). `z` may stand for `Z`.
+/// Hours are 00 to 23, minutes 00 to 59, seconds 00 to 60, with any fraction of one digit or more; the offset is `Z`, `z`,
+/// or a sign with 00:00 to 23:59 (`-00:00` too). Second 60 is a leap second, and stands only in the last minute of a day of
+/// UTC (`00:29:60+00:30`).
 pub fn is_valid_time(time: &str) -> bool
     ensures { IsTrue result ↔ IsFullTime (chars time.now) }
 {

@@ -6,7 +6,7 @@ use Rattle.std.proofs.lemmas.Str.{chars_past_char, IsUtf8-past_char, encode_asci
 use Rattle.std.proofs.lemmas.List.{drop_more, get_or-drop, length-drop, get_or_past}
 use Rattle.std.specs.List.{slice_get}
 use Rattle.std.proofs.lemmas.Option.{slice_get_within, get_or_from_slice_get, slice_get-get_or}
-use Rattle.std.proofs.lemmas.Bool.{agree_below, agree_below_at, ltb-true, cases_lt, eqb-true}
+use Rattle.std.proofs.lemmas.Bool.{agree_below, agree_below_at, ltb-true, cases_lt, eqb-true, or_right, or_parts, and_parts}
 use Rattle.std.proofs.lemmas.Bool.Decides.{nat_tests}
 use Rattle.strkw_text.specs.Abnf.{Form, Repeat, OneOf}
 use Rattle.strkw_text.specs.Fronts.{StartsWith, StartsWithNo, RunThen, NotFirst}
@@ -24,7 +24,7 @@ use Rattle.strkw_uri.specs.declared.part.Part.TheVariants.{RegNameChar, Userinfo
 use Rattle.strkw_uri.specs.declared.scan.Class.{Class}
 use Rattle.strkw_uri.specs.declared.scan.Class.TheVariants.{Letter, SchemeChar, Decimal, NonzeroDecimal, Hexadecimal, ZeroOrOne, VersionLetter, FutureChar, OperatorChar}
 use Rattle.strkw_uri.proofs.Encodings.{encoded_char, encoded_pct, first_of_pct}
-use Rattle.strkw_uri.proofs.Paths.{or_right, or_other}
+use Rattle.strkw_uri.proofs.Paths.{or_other}
 
 -- so many bytes are characters of the class or percent-encoded ones
 pub record AsciiFront (class : ℕ → Bool) (bs : List ℕ) (n : ℕ) : Type 0 where
@@ -50,14 +50,6 @@ one_more class bs n f l small h =
 hex_small : (c : ℕ) → is_ascii_hexdigit c ≡ true → c < 128
 hex_small c h = grind (arith, nat_tests)
 
-and_left : (a b : Bool) → a && b ≡ true → a ≡ true
-and_left true b h = refl
-and_left false b h = cc
-
-and_right : (a b : Bool) → a && b ≡ true → b ≡ true
-and_right true b h = h
-and_right false b h = cc
-
 -- an escape's three bytes
 record Escape (bs : List ℕ) (n : ℕ) : Type 0 where
   percent : get_or bs n 0 ≡ 37
@@ -69,8 +61,9 @@ escape_parts bs n h =
     let e = eqb (get_or bs n 0) 37 in
     let a = is_ascii_hexdigit (get_or bs (n + 1) 0) in
     let b = is_ascii_hexdigit (get_or bs (n + 2) 0) in
-    let front = and_left (e && a) b h in
-    record { percent = eqb-true (get_or bs n 0) 37 (and_left e a front); high = and_right e a front; low = and_right (e && a) b h }
+    let last = and_parts (e && a) b h in
+    let front = and_parts e a last.0 in
+    record { percent = eqb-true (get_or bs n 0) 37 front.0; high = front.1; low = last.1 }
 
 escape_more : (class : ℕ → Bool) (bs : List ℕ) (n : ℕ) → AsciiFront class bs n → n + 3 ≤ length bs → is_escape_at bs n ≡ true → AsciiFront class bs (n + 3)
 escape_more class bs n f l h =
@@ -93,12 +86,15 @@ implied false b h e = cc
 
 -- the classes of RFC 3986 are ASCII
 part_small_below : (p : Part) (c : ℕ) → c < 256 → is_part_char Rfc3986 p c ≡ true → c < 128
-part_small_below RegNameChar c l h = ltb-true c 128 (implied (is_part_char Rfc3986 RegNameChar c) (ltb c 128) (agree_below_at (λ d. not (is_part_char Rfc3986 RegNameChar d) || ltb d 128) (λ _. true) 256 c refl l) h)
-part_small_below UserinfoChar c l h = ltb-true c 128 (implied (is_part_char Rfc3986 UserinfoChar c) (ltb c 128) (agree_below_at (λ d. not (is_part_char Rfc3986 UserinfoChar d) || ltb d 128) (λ _. true) 256 c refl l) h)
-part_small_below PathChar c l h = ltb-true c 128 (implied (is_part_char Rfc3986 PathChar c) (ltb c 128) (agree_below_at (λ d. not (is_part_char Rfc3986 PathChar d) || ltb d 128) (λ _. true) 256 c refl l) h)
-part_small_below SegmentNcChar c l h = ltb-true c 128 (implied (is_part_char Rfc3986 SegmentNcChar c) (ltb c 128) (agree_below_at (λ d. not (is_part_char Rfc3986 SegmentNcChar d) || ltb d 128) (λ _. true) 256 c refl l) h)
-part_small_below QueryChar c l h = ltb-true c 128 (implied (is_part_char Rfc3986 QueryChar c) (ltb c 128) (agree_below_at (λ d. not (is_part_char Rfc3986 QueryChar d) || ltb d 128) (λ _. true) 256 c refl l) h)
-part_small_below FragmentChar c l h = ltb-true c 128 (implied (is_part_char Rfc3986 FragmentChar c) (ltb c 128) (agree_below_at (λ d. not (is_part_char Rfc3986 FragmentChar d) || ltb d 128) (λ _. true) 256 c refl l) h)
+part_small_below p c l h = ltb-true c 128 (implied (is_part_char Rfc3986 p c) (ltb c 128) (agree_below_at (λ d. not (is_part_char Rfc3986 p d) || ltb d 128) (λ _. true) 256 c (all p) l) h)
+  where
+    all : (p : Part) → agree_below (λ d. not (is_part_char Rfc3986 p d) || ltb d 128) (λ _. true) 256 ≡ true
+    all RegNameChar = refl
+    all UserinfoChar = refl
+    all PathChar = refl
+    all SegmentNcChar = refl
+    all QueryChar = refl
+    all FragmentChar = refl
 
 part_not_big : (p : Part) (c : ℕ) → 256 ≤ c → is_part_char Rfc3986 p c ≡ true → ⊥
 part_not_big RegNameChar c g h = grind (arith, nat_tests)
@@ -233,10 +229,6 @@ first_stops class small bs u stop rest f =
     let m : class c ≡ true = f.is.member in
     cc
 
-or_none : (a b : Bool) → a || b ≡ false → a ≡ false
-or_none true b h = cc
-or_none false b h = refl
-
 escape_from : (bs : List ℕ) (n : ℕ) → get_or bs n 0 ≡ 37 → is_ascii_hexdigit (get_or bs (n + 1) 0) ≡ true → is_ascii_hexdigit (get_or bs (n + 2) 0) ≡ true → is_escape_at bs n ≡ true
 escape_from bs n e h k =
     ap (λ c. eqb c 37 && is_ascii_hexdigit (get_or bs (n + 1) 0) && is_ascii_hexdigit (get_or bs (n + 2) 0)) e
@@ -270,7 +262,7 @@ module _ (p : Part) (bs : List ℕ) (n : ℕ) (u : IsUtf8 (drop n bs)) (r : IsRu
       (first_stops (is_part_char Rfc3986 p) (part_small p) (drop n bs) u
       (λ l.
       let at : get_or (drop n bs) 0 0 ≡ get_or bs n 0 = get_or-drop n bs 0 0 ∙ ap (λ k. get_or bs k 0) (omega arith) in
-      ap (is_part_char Rfc3986 p) at ∙ or_none (is_part_char Rfc3986 p (get_or bs n 0)) (is_escape_at bs n) (ends (omega (arith, length-drop n bs)))))
+      ap (is_part_char Rfc3986 p) at ∙ (or_parts (is_part_char Rfc3986 p (get_or bs n 0)) (is_escape_at bs n) (ends (omega (arith, length-drop n bs)))).0))
       no_escape
 
 -- where the code's loop ends

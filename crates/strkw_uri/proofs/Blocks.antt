@@ -1,6 +1,6 @@
 -- From the mask of a block of 32 bytes to the first of them that is not of a class, and from a block to the whole.
 use Rattle.std.proofs.Common.{◌≡◌, ℕ, zero, suc, ◌+◌, ◌-◌, ◌/◌, ◌%◌, ◌^◌, ◌<◌, ◌≤◌, eqb, leb, cond, Bool, true, false, not, ◌||◌, ◌&&◌, List, [], ◌∷◌, ◌++◌, map, length, get_or, take, drop, replicate, bit_and, w8, inl, inr, ◌*◌, refl, sym, ap, ◌∙◌, subst, arith}
-use Rattle.std.proofs.lemmas.Bool.{cases_lt, lt-leb, ne_eqb}
+use Rattle.std.proofs.lemmas.Bool.{cases_lt, lt-leb, ne_eqb, or_left}
 use Rattle.std.proofs.lemmas.Simd.{map-map, mask_l-mod, first_set_mask_l, zip2_splat, zip2_of_maps, splat_is_map, swz_l, Each1-all, Each1-weaker, Each1-zip2, Each2-splat}
 use Rattle.std.proofs.lemmas.Nat.{and_mask}
 use Rattle.std.proofs.lemmas.List.{length-map, length-take-le, length-drop, get_or-take, get_or-drop, get_or_append_left, get_or-append-add, drop-drop}
@@ -12,7 +12,6 @@ use lib.Count.{count_trailing_zeros}
 use lib.Lanes.{mask_l, top}
 use Rattle.strkw_uri.specs.Lanes.{members, is_in, upper_bits, is_escape_at, goes_on, IsRun}
 use Rattle.std.specs.Char.{is_ascii_hexdigit}
-use Rattle.strkw_uri.proofs.Paths.{or_left}
 
 -- tests that agree on each element
 pub prefix_len-agree : (p q : ℕ → Bool) (xs : List ℕ) → ((i : ℕ) → i < length xs → p (get_or xs i 0) ≡ q (get_or xs i 0)) → prefix_len p xs ≡ prefix_len q xs

@@ -20,7 +20,7 @@ use Rattle.strkw_uri.proofs.Authorities.{HostRun}
 use Rattle.strkw_uri.proofs.Delimiters.{path_stops_userinfo, path_no_at}
 use Rattle.strkw_uri.proofs.Encodings.{encoded_free, other_stops, Encoded-weaker}
 use Rattle.strkw_uri.proofs.Parts.{digit_in_name, dot_in_name, digit_in_userinfo, no_bracket_in_userinfo}
-use Rattle.strkw_uri.proofs.Paths.{or_left, or_right}
+use Rattle.std.proofs.lemmas.Bool.{or_left, or_right}
 
 -- an IPv4 address is a registered name
 decimal_in : (p : ℕ → Bool) → ((c : ℕ) → IsTrue (is_ascii_digit c) → IsTrue (p c)) → (n : ℕ) → n < 256 → Repeat (Encoded p) (decimal n)

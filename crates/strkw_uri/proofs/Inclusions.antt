@@ -6,7 +6,7 @@ use Rattle.strkw_text.proofs.Weaker.{Then-weaker, Optional-weaker}
 use Rattle.strkw_uri.specs.Characters.{Alphabet, uri, iri, is_unreserved, is_ucschar, is_reg_name_char, is_userinfo_char, is_pchar, is_nc_char, is_fragment_char, is_query_char}
 use Rattle.strkw_uri.specs.Uri.{Encoded, IsUri, IsUriReference, IsIri, IsIriReference, Host, Authority, PathAbempty, PathAbsolute, PathRootless, PathNoscheme, HierPart, RelativePart, QueryAndFragment, Uri, UriReference}
 use Rattle.strkw_uri.proofs.Encodings.{Encoded-weaker}
-use Rattle.strkw_uri.proofs.Paths.{or_left}
+use Rattle.std.proofs.lemmas.Bool.{or_left}
 
 or_more : (a a' b : Bool) → (IsTrue a → IsTrue a') → IsTrue (a || b) → IsTrue (a' || b)
 or_more true a' b f h = or_left a' b (f refl)

@@ -10,16 +10,16 @@ use Rattle.strkw_text.proofs.Equivalences.{iff_trans}
 use Rattle.strkw_text.proofs.Laws.{assoc}
 use Rattle.strkw_text.proofs.Optionals.{literal_ind}
 use Rattle.strkw_text.proofs.Runs.{OneOf-free, free_then, run_whole, run_then, one_stops, one_stops_nil}
-use Rattle.strkw_net.proofs.BracketLemmas.{ipv6_no_bracket}
+use Rattle.strkw_net.specs.Addresses.{IsIpv6}
 use Rattle.strkw_uri.specs.Characters.{uri, is_userinfo_char}
 use Rattle.strkw_uri.specs.Uri.{BracketedAddress}
 
 low : 93 < 128
 low = omega arith
 
-address_no_bracket : (x : List ℕ) → BracketedAddress x → Without 93 x
-address_no_bracket x (inl six) = ipv6_no_bracket x six
-address_no_bracket x (inr future) =
+address_no_bracket : ((x : List ℕ) → IsIpv6 x → Without 93 x) → (x : List ℕ) → BracketedAddress x → Without 93 x
+address_no_bracket no_bracket x (inl six) = no_bracket x six
+address_no_bracket no_bracket x (inr future) =
     let hex = one_without 93 low is_ascii_hexdigit refl in
     let end = one_without 93 low (is_userinfo_char uri) refl in
     then_without 93 low _ _ (one_without 93 low (is_one_of (codes "vV")) refl)
@@ -27,8 +27,8 @@ address_no_bracket x (inr future) =
     x future
 
 -- an address, its bracket and B
-pub address_then : (B : Form) (text address rest : List ℕ) → Without 93 address → text ≡ address ++ 93 ∷ rest → (BracketedAddress ⨾ Literal (codes "]") ⨾ B) text ↔ (BracketedAddress address × B rest)
-address_then B = delimiter_then 93 low BracketedAddress B address_no_bracket
+pub address_then : ((x : List ℕ) → IsIpv6 x → Without 93 x) → (B : Form) (text address rest : List ℕ) → Without 93 address → text ≡ address ++ 93 ∷ rest → (BracketedAddress ⨾ Literal (codes "]") ⨾ B) text ↔ (BracketedAddress address × B rest)
+address_then no_bracket B = delimiter_then 93 low BracketedAddress B (address_no_bracket no_bracket)
 
 pub no_address_then : (B : Form) (text : List ℕ) → Without 93 text → (BracketedAddress ⨾ Literal (codes "]") ⨾ B) text → ⊥
 no_address_then B = no_delimiter_then 93 low BracketedAddress B

@@ -1,21 +1,22 @@
--- The table of the parts of each byte.
+-- The table of the classes of each byte.
 use Rattle.std.proofs.Common.{◌≡◌, ℕ, ◌<◌, Bool, true, not, ◌==◌, List, [], ◌∷◌, get_or, bit_and, refl}
 use Rattle.std.proofs.lemmas.Bool.{agree_below, agree_below_at}
+use Rattle.strkw_uri.specs.Characters.{is_scheme_char}
 use Rattle.strkw_uri.specs.Scan.{is_part_char, bit}
 use Rattle.strkw_uri.specs.declared.part.Syntax.TheVariants.{Rfc3986}
 use Rattle.strkw_uri.specs.declared.part.Part.{Part}
 use Rattle.strkw_uri.specs.declared.part.Part.TheVariants.{RegNameChar, UserinfoChar, PathChar, SegmentNcChar, QueryChar, FragmentChar}
 
-abbrev pub parts : List ℕ
-parts =
+abbrev pub classes : List ℕ
+classes =
     0 ∷ 0 ∷ 0 ∷ 0 ∷ 0 ∷ 0 ∷ 0 ∷ 0 ∷ 0 ∷ 0 ∷ 0 ∷ 0 ∷ 0 ∷ 0 ∷ 0 ∷ 0 ∷
     0 ∷ 0 ∷ 0 ∷ 0 ∷ 0 ∷ 0 ∷ 0 ∷ 0 ∷ 0 ∷ 0 ∷ 0 ∷ 0 ∷ 0 ∷ 0 ∷ 0 ∷ 0 ∷
-    0 ∷ 31 ∷ 0 ∷ 0 ∷ 31 ∷ 0 ∷ 31 ∷ 31 ∷ 31 ∷ 31 ∷ 31 ∷ 31 ∷ 31 ∷ 31 ∷ 31 ∷ 20 ∷
-    31 ∷ 31 ∷ 31 ∷ 31 ∷ 31 ∷ 31 ∷ 31 ∷ 31 ∷ 31 ∷ 31 ∷ 22 ∷ 31 ∷ 0 ∷ 31 ∷ 0 ∷ 16 ∷
-    28 ∷ 31 ∷ 31 ∷ 31 ∷ 31 ∷ 31 ∷ 31 ∷ 31 ∷ 31 ∷ 31 ∷ 31 ∷ 31 ∷ 31 ∷ 31 ∷ 31 ∷ 31 ∷
-    31 ∷ 31 ∷ 31 ∷ 31 ∷ 31 ∷ 31 ∷ 31 ∷ 31 ∷ 31 ∷ 31 ∷ 31 ∷ 0 ∷ 0 ∷ 0 ∷ 0 ∷ 31 ∷
-    0 ∷ 31 ∷ 31 ∷ 31 ∷ 31 ∷ 31 ∷ 31 ∷ 31 ∷ 31 ∷ 31 ∷ 31 ∷ 31 ∷ 31 ∷ 31 ∷ 31 ∷ 31 ∷
-    31 ∷ 31 ∷ 31 ∷ 31 ∷ 31 ∷ 31 ∷ 31 ∷ 31 ∷ 31 ∷ 31 ∷ 31 ∷ 0 ∷ 0 ∷ 0 ∷ 31 ∷ 0 ∷
+    0 ∷ 31 ∷ 0 ∷ 0 ∷ 31 ∷ 0 ∷ 31 ∷ 31 ∷ 31 ∷ 31 ∷ 31 ∷ 63 ∷ 31 ∷ 63 ∷ 63 ∷ 20 ∷
+    63 ∷ 63 ∷ 63 ∷ 63 ∷ 63 ∷ 63 ∷ 63 ∷ 63 ∷ 63 ∷ 63 ∷ 22 ∷ 31 ∷ 0 ∷ 31 ∷ 0 ∷ 16 ∷
+    28 ∷ 63 ∷ 63 ∷ 63 ∷ 63 ∷ 63 ∷ 63 ∷ 63 ∷ 63 ∷ 63 ∷ 63 ∷ 63 ∷ 63 ∷ 63 ∷ 63 ∷ 63 ∷
+    63 ∷ 63 ∷ 63 ∷ 63 ∷ 63 ∷ 63 ∷ 63 ∷ 63 ∷ 63 ∷ 63 ∷ 63 ∷ 0 ∷ 0 ∷ 0 ∷ 0 ∷ 31 ∷
+    0 ∷ 63 ∷ 63 ∷ 63 ∷ 63 ∷ 63 ∷ 63 ∷ 63 ∷ 63 ∷ 63 ∷ 63 ∷ 63 ∷ 63 ∷ 63 ∷ 63 ∷ 63 ∷
+    63 ∷ 63 ∷ 63 ∷ 63 ∷ 63 ∷ 63 ∷ 63 ∷ 63 ∷ 63 ∷ 63 ∷ 63 ∷ 0 ∷ 0 ∷ 0 ∷ 31 ∷ 0 ∷
     0 ∷ 0 ∷ 0 ∷ 0 ∷ 0 ∷ 0 ∷ 0 ∷ 0 ∷ 0 ∷ 0 ∷ 0 ∷ 0 ∷ 0 ∷ 0 ∷ 0 ∷ 0 ∷
     0 ∷ 0 ∷ 0 ∷ 0 ∷ 0 ∷ 0 ∷ 0 ∷ 0 ∷ 0 ∷ 0 ∷ 0 ∷ 0 ∷ 0 ∷ 0 ∷ 0 ∷ 0 ∷
     0 ∷ 0 ∷ 0 ∷ 0 ∷ 0 ∷ 0 ∷ 0 ∷ 0 ∷ 0 ∷ 0 ∷ 0 ∷ 0 ∷ 0 ∷ 0 ∷ 0 ∷ 0 ∷
@@ -26,7 +27,7 @@ parts =
     0 ∷ 0 ∷ 0 ∷ 0 ∷ 0 ∷ 0 ∷ 0 ∷ 0 ∷ 0 ∷ 0 ∷ 0 ∷ 0 ∷ 0 ∷ 0 ∷ 0 ∷ 0 ∷ []
 
 abbrev has : Part → ℕ → Bool
-has p c = not (bit_and (get_or parts c 0) (bit p) == 0)
+has p c = not (bit_and (get_or classes c 0) (bit p) == 0)
 
 all : (p : Part) → agree_below (has p) (is_part_char Rfc3986 p) 256 ≡ true
 all RegNameChar = refl
@@ -38,3 +39,6 @@ all FragmentChar = refl
 
 pub part_byte : (p : Part) (c : ℕ) → c < 256 → has p c ≡ is_part_char Rfc3986 p c
 part_byte p c l = agree_below_at (has p) (is_part_char Rfc3986 p) 256 c (all p) l
+
+pub scheme_byte : (c : ℕ) → c < 256 → not (bit_and (get_or classes c 0) 32 == 0) ≡ is_scheme_char c
+scheme_byte c l = agree_below_at (λ d. not (bit_and (get_or classes d 0) 32 == 0)) is_scheme_char 256 c refl l

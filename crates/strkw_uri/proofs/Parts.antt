@@ -1,9 +1,9 @@
 -- Which characters stand in which class.
 use Rattle.std.proofs.Common.{◌≡◌, ℕ, Bool, true, false, ◌==◌, IsTrue, ◌||◌, refl, rules}
 use Rattle.std.specs.Char.{is_ascii_digit, is_ascii_alphabetic}
-use Rattle.strkw_uri.proofs.Paths.{or_left}
+use Rattle.std.proofs.lemmas.Bool.{or_left}
 use Rattle.strkw_uri.specs.Scan.{or_slash, alphabet, is_part_char}
-use Rattle.strkw_uri.specs.Characters.{is_query_char, is_pchar, is_userinfo_char, is_reg_name_char, is_unreserved, is_sub_delim, is_ucschar, uri, iri, is_nc_char, is_scheme_char}
+use Rattle.strkw_uri.specs.Characters.{is_query_char, is_pchar, is_userinfo_char, is_reg_name_char, is_unreserved, is_sub_delim, is_ucschar, uri, iri, is_nc_char, is_scheme_char, Alphabet}
 use Rattle.strkw_uri.specs.declared.part.Syntax.{Syntax}
 use Rattle.strkw_uri.specs.declared.part.Syntax.TheVariants.{Rfc3986, Rfc3987}
 use Rattle.strkw_uri.specs.declared.part.Part.{Part}
@@ -23,77 +23,64 @@ no_percent Rfc3987 SegmentNcChar = refl
 no_percent Rfc3987 QueryChar = refl
 no_percent Rfc3987 FragmentChar = refl
 
+-- a character that is of a class in neither alphabet
+lacks : (class : Alphabet → ℕ → Bool) (c : ℕ) → class uri c ≡ false → class iri c ≡ false → (s : Syntax) → class (alphabet s) c ≡ false
+lacks class c none no_wide Rfc3986 = none
+lacks class c none no_wide Rfc3987 = no_wide
+
 pub no_hash_in_query : (s : Syntax) → is_query_char (alphabet s) 35 ≡ false
-no_hash_in_query Rfc3986 = refl
-no_hash_in_query Rfc3987 = refl
+no_hash_in_query = lacks is_query_char 35 refl refl
 
 pub no_question_in_path : (s : Syntax) → or_slash (is_pchar (alphabet s)) 63 ≡ false
-no_question_in_path Rfc3986 = refl
-no_question_in_path Rfc3987 = refl
+no_question_in_path = lacks (λ k. or_slash (is_pchar k)) 63 refl refl
 
 pub no_hash_in_path : (s : Syntax) → or_slash (is_pchar (alphabet s)) 35 ≡ false
-no_hash_in_path Rfc3986 = refl
-no_hash_in_path Rfc3987 = refl
+no_hash_in_path = lacks (λ k. or_slash (is_pchar k)) 35 refl refl
 
 pub no_at_in_userinfo : (s : Syntax) → is_userinfo_char (alphabet s) 64 ≡ false
-no_at_in_userinfo Rfc3986 = refl
-no_at_in_userinfo Rfc3987 = refl
+no_at_in_userinfo = lacks is_userinfo_char 64 refl refl
 
 pub no_bracket_in_userinfo : (s : Syntax) → is_userinfo_char (alphabet s) 91 ≡ false
-no_bracket_in_userinfo Rfc3986 = refl
-no_bracket_in_userinfo Rfc3987 = refl
+no_bracket_in_userinfo = lacks is_userinfo_char 91 refl refl
 
 pub no_slash_in_userinfo : (s : Syntax) → is_userinfo_char (alphabet s) 47 ≡ false
-no_slash_in_userinfo Rfc3986 = refl
-no_slash_in_userinfo Rfc3987 = refl
+no_slash_in_userinfo = lacks is_userinfo_char 47 refl refl
 
 pub no_question_in_userinfo : (s : Syntax) → is_userinfo_char (alphabet s) 63 ≡ false
-no_question_in_userinfo Rfc3986 = refl
-no_question_in_userinfo Rfc3987 = refl
+no_question_in_userinfo = lacks is_userinfo_char 63 refl refl
 
 pub no_hash_in_userinfo : (s : Syntax) → is_userinfo_char (alphabet s) 35 ≡ false
-no_hash_in_userinfo Rfc3986 = refl
-no_hash_in_userinfo Rfc3987 = refl
+no_hash_in_userinfo = lacks is_userinfo_char 35 refl refl
 
 pub no_colon_in_name : (s : Syntax) → is_reg_name_char (alphabet s) 58 ≡ false
-no_colon_in_name Rfc3986 = refl
-no_colon_in_name Rfc3987 = refl
+no_colon_in_name = lacks is_reg_name_char 58 refl refl
 
 pub no_slash_in_name : (s : Syntax) → is_reg_name_char (alphabet s) 47 ≡ false
-no_slash_in_name Rfc3986 = refl
-no_slash_in_name Rfc3987 = refl
+no_slash_in_name = lacks is_reg_name_char 47 refl refl
 
 pub no_question_in_name : (s : Syntax) → is_reg_name_char (alphabet s) 63 ≡ false
-no_question_in_name Rfc3986 = refl
-no_question_in_name Rfc3987 = refl
+no_question_in_name = lacks is_reg_name_char 63 refl refl
 
 pub no_hash_in_name : (s : Syntax) → is_reg_name_char (alphabet s) 35 ≡ false
-no_hash_in_name Rfc3986 = refl
-no_hash_in_name Rfc3987 = refl
+no_hash_in_name = lacks is_reg_name_char 35 refl refl
 
 pub no_bracket_in_name : (s : Syntax) → is_reg_name_char (alphabet s) 91 ≡ false
-no_bracket_in_name Rfc3986 = refl
-no_bracket_in_name Rfc3987 = refl
+no_bracket_in_name = lacks is_reg_name_char 91 refl refl
 
 pub no_slash_in_segment : (s : Syntax) → is_pchar (alphabet s) 47 ≡ false
-no_slash_in_segment Rfc3986 = refl
-no_slash_in_segment Rfc3987 = refl
+no_slash_in_segment = lacks is_pchar 47 refl refl
 
 pub no_slash_in_nc : (s : Syntax) → is_nc_char (alphabet s) 47 ≡ false
-no_slash_in_nc Rfc3986 = refl
-no_slash_in_nc Rfc3987 = refl
+no_slash_in_nc = lacks is_nc_char 47 refl refl
 
 pub no_colon_in_nc : (s : Syntax) → is_nc_char (alphabet s) 58 ≡ false
-no_colon_in_nc Rfc3986 = refl
-no_colon_in_nc Rfc3987 = refl
+no_colon_in_nc = lacks is_nc_char 58 refl refl
 
 pub no_question_in_nc : (s : Syntax) → is_nc_char (alphabet s) 63 ≡ false
-no_question_in_nc Rfc3986 = refl
-no_question_in_nc Rfc3987 = refl
+no_question_in_nc = lacks is_nc_char 63 refl refl
 
 pub no_hash_in_nc : (s : Syntax) → is_nc_char (alphabet s) 35 ≡ false
-no_hash_in_nc Rfc3986 = refl
-no_hash_in_nc Rfc3987 = refl
+no_hash_in_nc = lacks is_nc_char 35 refl refl
 
 pub dot_in_name : (s : Syntax) → IsTrue (is_reg_name_char (alphabet s) 46)
 dot_in_name Rfc3986 = refl

@@ -1,6 +1,6 @@
 -- A path is one run of the class with the slash.
 use Rattle.std.proofs.Common.{◌≡◌, ◌↔◌, ℕ, ◌==◌, Bool, true, false, ◌||◌, IsTrue, List, [], ◌∷◌, ◌++◌, inl, inr, refl, sym, ap, subst, ◌∙◌, append_assoc}
-use Rattle.std.proofs.lemmas.Bool.{eqb-true}
+use Rattle.std.proofs.lemmas.Bool.{eqb-true, or_left, or_right}
 use Rattle.std.specs.List.{concat, AllByRecursion}
 use Rattle.strkw_text.specs.Abnf.{Form, ◌⨾◌, Literal, Repeat}
 use Rattle.strkw_text.proofs.Equivalences.{iff_trans, iff_sym}
@@ -13,14 +13,6 @@ use Rattle.strkw_uri.proofs.Encodings.{Encoded-weaker}
 -- *( "/" *p )
 abbrev pub Slashes : (ℕ → Bool) → Form
 Slashes p = Repeat (Literal (47 ∷ []) ⨾ Repeat (Encoded p))
-
-pub or_left : (a b : Bool) → IsTrue a → IsTrue (a || b)
-or_left true b h = refl
-or_left false b h = let e : false ≡ true = h in cc
-
-pub or_right : (a b : Bool) → IsTrue b → IsTrue (a || b)
-or_right true b h = refl
-or_right false b h = h
 
 pub or_other : (a b : Bool) → IsTrue (a || b) → a ≡ false → IsTrue b
 or_other true b h e = cc

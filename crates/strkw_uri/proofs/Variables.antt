@@ -14,6 +14,7 @@ use Rattle.strkw_text.proofs.Laws.{assoc, back_cong, no_start_then}
 use Rattle.strkw_text.proofs.Runs.{OneOf-free}
 use Rattle.strkw_uri.specs.Template.{is_varchar, is_operator, Varchar, FurtherVarchar, Varname, ModifierLevel4, Varspec, VariableList, OperatorAndVariables}
 use Rattle.strkw_uri.specs.Uri.{Encoded}
+use Rattle.strkw_uri.proofs.AsciiRuns.{implied}
 use Rattle.strkw_uri.proofs.Encodings.{encoded_without, other_stops}
 
 -- a variable holds neither a comma nor a brace
@@ -62,10 +63,6 @@ list_first : (text : List ℕ) → VariableList text ↔ (Varchar ⨾ Others) te
 list_first text =
     let M = Repeat (Literal (44 ∷ []) ⨾ Varspec) in
     iff_trans (assoc Varname (Optional ModifierLevel4) M text) (assoc Varchar (Repeat FurtherVarchar) (Optional ModifierLevel4 ⨾ M) text)
-
-implied : (a b : Bool) → not a || b ≡ true → a ≡ true → b ≡ true
-implied true b h e = h
-implied false b h e = cc
 
 -- a list does not begin with an operator
 operator_apart : (c : ℕ) → is_operator c ≡ true → (is_varchar c ≡ false) × (c ≡ 37 → ⊥)

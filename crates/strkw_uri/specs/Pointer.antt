@@ -1,4 +1,5 @@
--- JSON pointers, RFC 6901 section 3, and relative JSON pointers: a whole number before them. Above each form stands its rule.
+-- JSON pointers, RFC 6901 section 3, and relative JSON pointers, draft-handrews-relative-json-pointer-02 section 3: a whole
+-- number before them. Above each form stands its rule.
 use Rattle.std.specs.Prelude.{◌≡◌, ◌↔◌, ◌⊎◌, ℕ, Bool, not, List, [], ◌∷◌, codes}
 use Rattle.std.specs.Str.{byte}
 use Rattle.strkw_text.specs.Abnf.{Form, ◌⨾◌, ◌∣◌, Literal, Repeat, OneOf}

@@ -1,5 +1,4 @@
--- URI templates: RFC 6570 section 2. Above each form stands its rule. Literals are wider than the RFC's: an apostrophe
--- and each character past ASCII are admitted, as the templates in use have them.
+-- URI templates: RFC 6570 section 2. Above each form stands its rule.
 use Rattle.std.specs.Prelude.{ℕ, Bool, not, ◌||◌, ◌==◌, codes}
 use Rattle.std.specs.Str.{byte}
 use Rattle.std.specs.Char.{is_ascii_alphanumeric}
@@ -7,7 +6,9 @@ use Rattle.strkw_text.specs.Abnf.{Form, ◌⨾◌, ◌∣◌, Literal, Optional,
 use Rattle.strkw_text.specs.Characters.{is_one_of, is_from_to, Digit}
 use Rattle.strkw_uri.specs.Uri.{Encoded}
 
--- none of the controls, the space, DEL, and these
+-- literals = %x21 / %x23-24 / %x26 / %x28-3B / %x3D / %x3F-5B / %x5D / %x5F / %x61-7A / %x7E / ucschar / iprivate /
+-- pct-encoded; wider here: the apostrophe too (erratum 6937), and every character past ASCII for ucschar / iprivate. So of
+-- the characters that stand for themselves: none of the controls, the space, DEL, and these
 abbrev pub is_literal_char : ℕ → Bool
 is_literal_char c = not (is_from_to 0 0x20 c || c == 0x7F || is_one_of (codes "\"<>%\\^`{|}") c)
 

@@ -10,6 +10,7 @@ use crate::literal::is_bracketed_address;
 use crate::part::{Part, Syntax};
 use crate::path::is_path_and_tail;
 use crate::scan::{Class, skip, skip_class, split_at, strip};
+use strkw_net::laws::ipv6_has_no_bracket;
 
 fn is_port_and_tail(text: &str, syntax: Syntax) -> bool
     ensures { IsTrue result ↔ PortAndTail (alphabet syntax) (chars text.now) }
@@ -20,11 +21,12 @@ fn is_port_and_tail(text: &str, syntax: Syntax) -> bool
     }
 }
 
-/// What follows the bracket that opens.
+/// What follows the bracket that opens. No address holds a bracket, so that the first one ends it.
 #[inline(never)]
 fn is_bracketed_address_and_tail(text: &str, syntax: Syntax) -> bool
     ensures { IsTrue result ↔ BracketedAddressAndTail (alphabet syntax) (chars text.now) }
 {
+    ipv6_has_no_bracket();
     match split_at(text, ']') {
         Some((address, rest)) => is_bracketed_address(address) && is_port_and_tail(rest, syntax),
         None => false,

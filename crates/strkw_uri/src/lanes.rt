@@ -110,7 +110,7 @@ pub(crate) fn run(table: &Table, bytes: &[u8], part: Part) -> usize
                 return at + run;
             }
             if bytes.len() - at < LOOKED_AT {
-                return at + plain::run(bytes, part, at);
+                return at + plain::run(bytes, part, at, bytes.len());
             }
             let run = run_with_escapes(table, bytes, at);
             if run < LANES {
@@ -119,5 +119,5 @@ pub(crate) fn run(table: &Table, bytes: &[u8], part: Part) -> usize
         }
         at += LANES;
     }
-    at + plain::run(bytes, part, at)
+    at + plain::run(bytes, part, at, bytes.len())
 }

@@ -12,7 +12,7 @@ ghost use Rattle.strkw_uri.specs.declared.part.Syntax.TheVariants.{Rfc3986};
 use crate::lanes::{self, Table};
 use crate::plain;
 
-/// Which characters are unreserved, and which a query may hold beside them.
+/// Whose characters: those of URIs (RFC 3986) or of IRIs (RFC 3987).
 #[derive(Clone, Copy)]
 pub(crate) enum Syntax {
     Rfc3986,
@@ -30,8 +30,8 @@ pub(crate) enum Part {
     FragmentChar,
 }
 
-// From how many bytes on a text is read by blocks.
-const LONG: usize = 32;
+// From how many bytes on a text is read by blocks: below, its parts are too short for a block to pay.
+const LONG: usize = 64;
 
 // Of each part the characters of RFC 3986.
 const REG_NAME: Table = [
@@ -55,7 +55,7 @@ const QUERY: Table = [
 ];
 
 /// How many bytes from the first are characters of the part by RFC 3986, which are all ASCII, or
-/// percent-encoded: by blocks, for a long text.
+/// percent-encoded: by blocks of 32.
 #[inline(never)]
 fn long_run(bytes: &[u8], part: Part) -> usize
     ensures { IsRun (goes_on (is_part_char Rfc3986 part) bytes.now) 0 (length bytes.now) result }
@@ -65,18 +65,18 @@ fn long_run(bytes: &[u8], part: Part) -> usize
         Part::UserinfoChar => lanes::run(&USERINFO, bytes, part),
         Part::PathChar => lanes::run(&PATH, bytes, part),
         Part::SegmentNcChar => lanes::run(&SEGMENT_NC, bytes, part),
-        Part::QueryChar => lanes::run(&QUERY, bytes, part),
-        Part::FragmentChar => lanes::run(&QUERY, bytes, part),
+        Part::QueryChar | Part::FragmentChar => lanes::run(&QUERY, bytes, part),
     }
 }
 
-/// How many are, in any text. (A short run is apart from a long one, as a loop without a frame.)
+/// How many bytes from the first are characters of the part by RFC 3986 or percent-encoded: by blocks in
+/// a long text, and else one at a time. (The loop stands apart from the blocks, so that it has no frame.)
 #[inline(never)]
 fn ascii_run(bytes: &[u8], part: Part) -> usize
     ensures { IsRun (goes_on (is_part_char Rfc3986 part) bytes.now) 0 (length bytes.now) result }
 {
     if bytes.len() < LONG {
-        plain::run(bytes, part, 0)
+        plain::run(bytes, part, 0, bytes.len())
     } else {
         long_run(bytes, part)
     }

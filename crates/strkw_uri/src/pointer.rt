@@ -46,7 +46,8 @@ fn is_hash_or_pointer(text: &str) -> bool
 }
 
 /// Whether the text is a relative JSON pointer: a whole number without leading zeros, and then "#" at the
-/// end or a JSON pointer (draft-bhutton-relative-json-pointer, section 3).
+/// end or a JSON pointer (draft-handrews-relative-json-pointer-02, section 3; the steps `+1` and `-1` behind
+/// the number, which a later draft adds, are refused).
 pub fn is_valid_relative_json_pointer(text: &str) -> bool
     ensures { IsTrue result ↔ IsRelativeJsonPointer (chars text.now) }
 {

@@ -5,12 +5,12 @@ ghost use Rattle.strkw_text.specs.Abnf.{◌⨾◌, Empty, OneOf};
 ghost use Rattle.strkw_text.specs.Characters.{HexDigit};
 ghost use Rattle.strkw_text.specs.Fronts.{StartsWith, StartsWithNo, RunThen, NotFirst, OptionThen};
 ghost use Rattle.strkw_text.specs.Delimiters.{Without};
-ghost use Rattle.strkw_uri.specs.Characters.{uri, is_reg_name_char};
 ghost use Rattle.strkw_uri.specs.Uri.{Encoded};
 ghost use Rattle.strkw_uri.specs.Scan.{is_part_char, is_class_char};
 ghost use Rattle.strkw_uri.specs.declared.part.Syntax.TheVariants.{Rfc3987};
 
 use crate::part::{Part, Syntax, after_ascii, is_wide_part_char};
+use crate::plain;
 
 /// The first character, and what follows it.
 #[inline]
@@ -76,25 +76,19 @@ impl Class {
     {
         match self {
             Class::Letter => byte.is_ascii_alphabetic(),
-            Class::SchemeChar => byte.is_ascii_alphanumeric() || matches!(byte, b'+' | b'-' | b'.'),
+            Class::SchemeChar => plain::is_scheme_byte(byte),
             Class::Decimal => byte.is_ascii_digit(),
             Class::NonzeroDecimal => matches!(byte, b'1'..=b'9'),
             Class::Hexadecimal => byte.is_ascii_hexdigit(),
             Class::ZeroOrOne => matches!(byte, b'0' | b'1'),
             Class::VersionLetter => matches!(byte, b'v' | b'V'),
-            Class::FutureChar => is_reg_name_byte(byte) || byte == b':',
+            Class::FutureChar => plain::is_part_byte(byte, Part::UserinfoChar),
             Class::OperatorChar => matches!(
                 byte,
                 b'+' | b'#' | b'.' | b'/' | b';' | b'?' | b'&' | b'=' | b',' | b'!' | b'@' | b'|'
             ),
         }
     }
-}
-
-fn is_reg_name_byte(byte: u8) -> bool
-    ensures { result ≡ is_reg_name_char uri byte }
-{
-    matches!(byte, b'a'..=b'z' | b'A'..=b'Z' | b'0'..=b'9' | b'-' | b'.' | b'_' | b'~' | b'!' | b'$' | b'&' | b'\'' | b'(' | b')' | b'*' | b'+' | b',' | b';' | b'=')
 }
 
 /// What follows one character of the class.
@@ -144,7 +138,7 @@ pub(crate) fn after_two_hexdigits(text: &str) -> Option<&str>
     }
 }
 
-// The same for IRIs, whose characters are decoded only past ASCII.
+/// What follows the longest run of a part in an IRI, whose characters are decoded only past ASCII.
 fn skip_wide(text: &str, part: Part) -> &str
     ensures { RunThen (Encoded (is_part_char Rfc3987 part)) (chars text.now) (chars result.now) }
 {

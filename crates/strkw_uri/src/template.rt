@@ -162,8 +162,8 @@ fn after_literal_or_expression(text: &str) -> Option<&str>
     }
 }
 
-/// Whether the text is a URI template: literals and expressions in braces (RFC 6570, section 2). Beside the
-/// RFC's literals it may hold an apostrophe and any character past ASCII.
+/// Whether the text is a URI template: literals and expressions in braces (RFC 6570, section 2). A literal may
+/// hold an apostrophe (erratum 6937) and, which the RFC does not say, any character past ASCII.
 pub fn is_valid_uri_template(text: &str) -> bool
     ensures { IsTrue result ↔ IsUriTemplate (chars text.now) }
 {

@@ -142,7 +142,7 @@ fn pointers(rt: HostRuntime) -> Result<(), Fail> {
     for text in ["0", "0#", "10/foo", "10#"] {
         assert!(rt; is_valid_relative_json_pointer(text), "{text}");
     }
-    for text in ["", "01", "1#/", "-1", "1/~", "0a", "1##"] {
+    for text in ["", "01", "1#/", "-1", "1/~", "0a", "1##", "0+1", "0-1#"] {
         assert!(rt; !is_valid_relative_json_pointer(text), "{text}");
     }
     Ok(())
@@ -162,8 +162,13 @@ fn letters_before_an_escape_and_a_wide_character(rt: HostRuntime) -> Result<(), 
         let mut broken = letters.clone()?;
         broken.push_str("/%4")?;
         assert!(rt; !is_valid_uri_reference(&broken), "{n}");
+        broken.push_str("gabcdefghijklmnopqrstuvwxyz0123456789abcdefghijklmnopqrstuvwxyz")?;
+        assert!(rt; !is_valid_uri_reference(&broken), "{n}");
         let mut wide = letters.clone()?;
         wide.push_str("/é")?;
+        assert!(rt; is_valid_iri_reference(&wide), "{n}");
+        assert!(rt; !is_valid_uri_reference(&wide), "{n}");
+        wide.push_str("abcdefghijklmnopqrstuvwxyz%7e%7Eabcdefghijklmnopqrstuvwxyz")?;
         assert!(rt; is_valid_iri_reference(&wide), "{n}");
         assert!(rt; !is_valid_uri_reference(&wide), "{n}");
         letters.push('a')?;

@@ -6,7 +6,7 @@ use Rattle.strkw_uri.specs.Uri.{Encoded}
 use Rattle.strkw_uri.proofs.AsciiRuns.{run_behind}
 use Rattle.strkw_uri.proofs.Authorities.{userinfo_stops}
 use Rattle.strkw_uri.proofs.Encodings.{encoded_char}
-use Rattle.strkw_uri.proofs.Paths.{or_right}
+use Rattle.std.proofs.lemmas.Bool.{or_right}
 use Rattle.strkw_uri.proofs.authority.after_userinfo.Goals as goal
 
 pub returns-in-Some : goal.returns-in-Some

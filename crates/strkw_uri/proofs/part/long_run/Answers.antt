@@ -1,4 +1,4 @@
-use Rattle.std.proofs.Common.{◌∷◌, [], refl}
+use Rattle.std.proofs.Common.{◌∷◌, [], inl, inr, refl}
 use Rattle.strkw_uri.specs.declared.part.Part.TheVariants.{RegNameChar, UserinfoChar, PathChar, SegmentNcChar, QueryChar, FragmentChar}
 use Rattle.strkw_uri.proofs.AsciiRuns.{table_is}
 use Rattle.strkw_uri.proofs.part.long_run.Goals as goal
@@ -16,7 +16,9 @@ pub run-requires-in-SegmentNcChar : goal.run-requires-in-SegmentNcChar
 run-requires-in-SegmentNcChar c = table_is (184 ∷ 252 ∷ 248 ∷ 248 ∷ 252 ∷ 248 ∷ 252 ∷ 252 ∷ 252 ∷ 252 ∷ 244 ∷ 92 ∷ 84 ∷ 92 ∷ 212 ∷ 112 ∷ []) SegmentNcChar c.args.part c.in-SegmentNcChar.is refl
 
 pub run-requires-in-QueryChar : goal.run-requires-in-QueryChar
-run-requires-in-QueryChar c = table_is (184 ∷ 252 ∷ 248 ∷ 248 ∷ 252 ∷ 248 ∷ 252 ∷ 252 ∷ 252 ∷ 252 ∷ 252 ∷ 92 ∷ 84 ∷ 92 ∷ 212 ∷ 124 ∷ []) QueryChar c.args.part c.in-QueryChar.is refl
-
-pub run-requires-in-FragmentChar : goal.run-requires-in-FragmentChar
-run-requires-in-FragmentChar c = table_is (184 ∷ 252 ∷ 248 ∷ 248 ∷ 252 ∷ 248 ∷ 252 ∷ 252 ∷ 252 ∷ 252 ∷ 252 ∷ 92 ∷ 84 ∷ 92 ∷ 212 ∷ 124 ∷ []) FragmentChar c.args.part c.in-FragmentChar.is refl
+run-requires-in-QueryChar c =
+    let table = 184 ∷ 252 ∷ 248 ∷ 248 ∷ 252 ∷ 248 ∷ 252 ∷ 252 ∷ 252 ∷ 252 ∷ 252 ∷ 92 ∷ 84 ∷ 92 ∷ 212 ∷ 124 ∷ [] in
+    elim c.in-QueryChar.is [
+      | inl query ↦ table_is table QueryChar c.args.part query refl
+      | inr fragment ↦ table_is table FragmentChar c.args.part fragment refl
+    ]
