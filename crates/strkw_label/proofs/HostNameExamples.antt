@@ -1,24 +1,28 @@
 -- Texts that are host names: labels of letters and digits alone.
-use Rattle.std.proofs.Common.{◌≡◌, ℕ, ◌-◌, ◌≤◌, true, List, [], ◌∷◌, length, refl, ap, arith, inl}
+use Rattle.std.proofs.Common.{◌≡◌, ℕ, ◌-◌, ◌≤◌, true, List, [], ◌∷◌, length, get_or, refl, ap, arith}
 use Rattle.std.specs.Prelude.{codes, slice_index}
 use Rattle.std.specs.Char.{is_ascii_alphanumeric}
 use Rattle.std.specs.List.{list_all, AllByRecursion, join_with_byte}
 use Rattle.std.proofs.lemmas.Bool.Decides.{nat_tests}
 use Rattle.std.proofs.lemmas.List.Sums.{AllPass-from_list_all}
 use Rattle.strkw_text.proofs.Separated.{separated-from_joined}
+use Rattle.strkw_net.specs.HostName.{is_letter_digit_hyphen}
 use Rattle.strkw_label.specs.HostName.{IsHostName, IsHostNameLabel}
 
 no_hyphen : (c : ℕ) → is_ascii_alphanumeric c ≡ true → c ≡ 45 → ⊥
 no_hyphen c is e = grind (arith, nat_tests)
 
--- letters and digits, and the third is not beyond the end or a hyphen
+letter_or_digit : (c : ℕ) → is_ascii_alphanumeric c ≡ true → is_letter_digit_hyphen c ≡ true
+letter_or_digit c is = grind (arith, nat_tests)
+
+-- a label of letters and digits alone, so that no hyphen is third
 plain_label : (label : List ℕ) → list_all is_ascii_alphanumeric label ≡ true → 1 ≤ length label → length label ≤ 63 → (slice_index label 2 ≡ 45 → ⊥) → IsHostNameLabel label
 plain_label label letters some few third =
     let all = AllPass-from_list_all is_ascii_alphanumeric label letters in
     record {
       ascii = record {
         size = (some, few);
-        letters = λ k d lt. inl (all k d lt);
+        letters = λ k d lt. letter_or_digit (get_or label k d) (all k d lt);
         first = λ e. no_hyphen _ (all 0 0 some) e;
         last = λ e. no_hyphen _ (all (length label - 1) 0 (omega arith)) e;
       };

@@ -1,6 +1,7 @@
 -- What stands before and after the last element that passes a test.
-use Rattle.std.proofs.Common.{◌≡◌, ℕ, ◌+◌, ◌-◌, ◌<◌, Bool, true, false, not, List, reverse, [], ◌∷◌, ◌++◌, length, All, get_or, take, drop, refl, sym, ap, subst, ◌∙◌, append_assoc, length-append, arith}
+use Rattle.std.proofs.Common.{◌≡◌, ℕ, ◌+◌, ◌-◌, ◌<◌, Bool, true, not, List, reverse, [], ◌∷◌, ◌++◌, length, All, get_or, take, drop, sym, ap, subst, ◌∙◌, append_assoc, length-append, arith}
 use Rattle.std.specs.List.{before_last, after_last, suffix_len}
+use Rattle.std.proofs.lemmas.Bool.{not-false}
 use Rattle.std.proofs.lemmas.List.{length-take, get_or_append_left, get_or-append_right, drop_more, take-append-drop, length-reverse, get_or-reverse}
 use Rattle.std.proofs.lemmas.List.Sums.{suffix_len_is, prefix_len_stops}
 use Rattle.std.proofs.Math.Seq.{take-append_seam, drop-append_seam, get_or-append_seam}
@@ -43,10 +44,6 @@ after_last_at p front x back passes none =
 
 -- ---- where something stands before it
 
-not_false : (b : Bool) → not b ≡ false → b ≡ true
-not_false true e = refl
-not_false false e = sym e
-
 pub split_at_last : (p : ℕ → Bool) (xs : List ℕ) → 0 < length (before_last p xs) → (x : ℕ) × (p x ≡ true) × (before_last p xs ++ x ∷ after_last p xs ≡ xs)
 split_at_last p xs some =
     let failing = suffix_len (λ c. not (p c)) xs in
@@ -57,6 +54,6 @@ split_at_last p xs some =
     let read = get_or-reverse xs failing 0 (omega (arith, some, length-take at xs)) ∙ ap (λ i. get_or xs i 0) same in
     let next : at + 1 ≡ length xs - failing = omega (arith, some, length-take at xs) in (
       get_or xs at 0,
-      not_false _ (ap (λ c. not (p c)) (sym read) ∙ stops),
+      not-false _ (ap (λ c. not (p c)) (sym read) ∙ stops),
       ap (λ n. take at xs ++ get_or xs at 0 ∷ drop n xs) (sym next) ∙ ap (λ r. take at xs ++ r) (sym (drop_more xs at 0 inside)) ∙ take-append-drop at xs,
     )

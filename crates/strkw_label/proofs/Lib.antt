@@ -2,7 +2,6 @@ pub mod AsciiCategories
 pub mod BiasAdaptation
 pub mod DeltaCoding
 pub mod DigitValues
-pub mod Examples
 pub mod HostNameExamples
 pub mod HostNames
 pub mod Insertions

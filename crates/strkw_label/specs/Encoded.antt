@@ -1,7 +1,11 @@
 -- What the encoded part of a payload stands for, as the decoder keeps it (RFC 3492 section 6.2).
-use Rattle.std.specs.Prelude.{◌≡◌, ℕ, ◌+◌, ◌<◌, ◌≤◌, ◌⊎◌, ◌==◌, List, [], ◌∷◌, map, All}
+use Rattle.std.specs.Prelude.{◌≡◌, ℕ, ◌+◌, ◌*◌, ◌<◌, ◌≤◌, ◌⊎◌, ◌==◌, List, [], ◌∷◌, map, All}
 use Rattle.std.specs.Char.{to_ascii_lowercase, IsScalar}
 use Rattle.strkw_label.specs.Punycode.{Insertion, digit_char, deltas, digits_in_row}
+
+-- above each running sum of an encoding of at most 59 bytes, which places fewer than 60 characters below 0x110000
+abbrev pub index_bound : ℕ
+index_bound = 60 * 0x110000
 
 -- the insertions with these points and these places
 unfoldable pub pair_up : List ℕ → List ℕ → List Insertion

@@ -15,8 +15,8 @@ IsXnLabel label payload = label ≡ codes "xn--" ++ payload
 abbrev pub EncodesAdmitted : List ℕ → Type 0
 EncodesAdmitted payload = (text : List ℕ) × All IsScalar text × SameUpToCase payload (punycode text) × IsAdmittedLabel text
 
--- hyphens in third and fourth place are reserved to XN-labels, and the payload of an XN-label encodes an admitted text
--- (RFC 5890 section 2.3.2.1; RFC 5891 section 4.2.3.1)
+-- hyphens in third and fourth place are reserved to XN-labels (RFC 5890 section 2.3.1), and the payload of an XN-label encodes
+-- an admitted text (section 2.3.2.1)
 pub record KeepsXnRules (label : List ℕ) : Type 0 where
   pub reserved : slice_index label 2 ≡ byte "-" → slice_index label 3 ≡ byte "-" → (payload : List ℕ) × IsXnLabel label payload
   pub encodes : (payload : List ℕ) → IsXnLabel label payload → EncodesAdmitted payload

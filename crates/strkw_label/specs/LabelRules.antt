@@ -1,8 +1,11 @@
--- Which texts a label may stand for: the rules of RFC 5891 section 4.2.3 and the contextual rules of RFC 5892 appendix A, over
--- the general categories of Unicode. A text is a list of characters.
+-- Which texts a label may stand for: nine conditions, after RFC 5891 section 4.2.3.2, RFC 5892 sections 2.1 and 2.6, and its
+-- appendices A.2 to A.9, over the general categories of Unicode. Not applied are appendix A.1, so U+200C stands anywhere, the
+-- rule for text that runs from right to left (RFC 5893), the normal form NFC, and the derived property of RFC 5892 section 3.
+-- A text is a list of characters.
 use Rattle.std.specs.Prelude.{◌≡◌, ℕ, ◌+◌, ◌-◌, ◌<◌, ◌⊎◌, Bool, true, false, ◌||◌, ◌==◌, List, [], ◌∷◌, length, slice_index, IsTrue}
 use Rattle.std.specs.List.{list_any}
 use Rattle.std.specs.Int.{is_in_range}
+use Rattle.std.specs.Str.{byte}
 use Rattle.unicode.specs.GeneralCategory.{general_category}
 use Rattle.ucd_category.specs.declared.GeneralCategory.{GeneralCategory}
 use Rattle.ucd_category.specs.declared.GeneralCategory.TheVariants.{UppercaseLetter, LowercaseLetter, TitlecaseLetter, ModifierLetter, OtherLetter, NonspacingMark, SpacingMark, EnclosingMark, DecimalNumber}
@@ -28,9 +31,14 @@ is_letter_mark_or_digit SpacingMark = true
 is_letter_mark_or_digit DecimalNumber = true
 is_letter_mark_or_digit _ = false
 
--- the characters of canonical combining class virama after which U+200D may stand; RFC 5892 appendix A.2
+-- 50 characters of canonical combining class virama, a fixed list: RFC 5892 appendix A.2 speaks of the whole class
 abbrev pub viramas : List ℕ
-viramas = 0x94D ∷ 0x9CD ∷ 0xA4D ∷ 0xACD ∷ 0xB4D ∷ 0xBCD ∷ 0xC4D ∷ 0xCCD ∷ 0xD4D ∷ 0xDCA ∷ 0xE3A ∷ 0xF84 ∷ 0x1039 ∷ 0x1714 ∷ 0x1734 ∷ 0x17D2 ∷ 0x1A60 ∷ 0x1B44 ∷ 0x1BAA ∷ 0x1BF2 ∷ 0x1BF3 ∷ 0x2D7F ∷ 0xA806 ∷ 0xA8C4 ∷ 0xA953 ∷ 0xABED ∷ 0x10A3F ∷ 0x11046 ∷ 0x1107F ∷ 0x110B9 ∷ 0x11133 ∷ 0x111C0 ∷ 0x11235 ∷ 0x112EA ∷ 0x1134D ∷ 0x11442 ∷ 0x114C2 ∷ 0x115BF ∷ 0x1163F ∷ 0x116B6 ∷ 0x1172B ∷ 0x11839 ∷ 0x119E0 ∷ 0x11A34 ∷ 0x11A47 ∷ 0x11A99 ∷ 0x11C3F ∷ 0x11D44 ∷ 0x11D45 ∷ 0x11D97 ∷ []
+viramas =
+    0x94D ∷ 0x9CD ∷ 0xA4D ∷ 0xACD ∷ 0xB4D ∷ 0xBCD ∷ 0xC4D ∷ 0xCCD ∷ 0xD4D ∷ 0xDCA
+    ∷ 0xE3A ∷ 0xF84 ∷ 0x1039 ∷ 0x1714 ∷ 0x1734 ∷ 0x17D2 ∷ 0x1A60 ∷ 0x1B44 ∷ 0x1BAA ∷ 0x1BF2
+    ∷ 0x1BF3 ∷ 0x2D7F ∷ 0xA806 ∷ 0xA8C4 ∷ 0xA953 ∷ 0xABED ∷ 0x10A3F ∷ 0x11046 ∷ 0x1107F ∷ 0x110B9
+    ∷ 0x11133 ∷ 0x111C0 ∷ 0x11235 ∷ 0x112EA ∷ 0x1134D ∷ 0x11442 ∷ 0x114C2 ∷ 0x115BF ∷ 0x1163F ∷ 0x116B6
+    ∷ 0x1172B ∷ 0x11839 ∷ 0x119E0 ∷ 0x11A34 ∷ 0x11A47 ∷ 0x11A99 ∷ 0x11C3F ∷ 0x11D44 ∷ 0x11D45 ∷ 0x11D97 ∷ []
 
 unfoldable pub is_virama : ℕ → Bool
 is_virama c = list_any (λ v. v == c) viramas
@@ -39,8 +47,8 @@ is_virama c = list_any (λ v. v == c) viramas
 abbrev pub is_excluded : ℕ → Bool
 is_excluded c = c == 0x640 || c == 0x7FA || is_in_range 0x302E 0x302F c || is_in_range 0x3031 0x3035 c || c == 0x303B
 
--- admitted whatever the category: what has a rule of its own below, the admitted exceptions of RFC 5892 section 2.6, and kana
--- and Han characters
+-- admitted whatever the category: U+200C, what has a rule of its own below, the admitted exceptions of RFC 5892 section 2.6,
+-- and kana and Han characters
 abbrev pub is_exception : ℕ → Bool
 is_exception c =
     c == 0x200C || c == 0x200D || c == 0xB7 || c == 0x375 || is_in_range 0x5F3 0x5F4 c || is_in_range 0x6FD 0x6FE c
@@ -58,7 +66,7 @@ JoinerStands text k = slice_index text k ≡ 0x200D → (0 < k) × IsTrue (is_vi
 
 -- U+00B7, middle dot: between two `l`; appendix A.3
 abbrev pub MiddleDotStands : List ℕ → ℕ → Type 0
-MiddleDotStands text k = slice_index text k ≡ 0xB7 → (0 < k) × (slice_index text (k - 1) ≡ 0x6C) × (k + 1 < length text) × (slice_index text (k + 1) ≡ 0x6C)
+MiddleDotStands text k = slice_index text k ≡ 0xB7 → (0 < k) × (slice_index text (k - 1) ≡ byte "l") × (k + 1 < length text) × (slice_index text (k + 1) ≡ byte "l")
 
 -- U+0375, Greek keraia: directly before a character of the Greek block; appendix A.4
 abbrev pub KeraiaStands : List ℕ → ℕ → Type 0
@@ -78,23 +86,7 @@ Has p text = (k : ℕ) × (k < length text) × IsTrue (p (slice_index text k))
 
 -- ---- the nine conditions on a text
 
-pub record IsAdmittedLabel (text : List ℕ) : Type 0 where
-  -- no mark is first; RFC 5891 section 4.2.3.2
-  pub no_leading_mark : 0 < length text → is_mark (general_category (slice_index text 0)) ≡ false
-  pub joiners : (k : ℕ) → k < length text → JoinerStands text k
-  pub middle_dots : (k : ℕ) → k < length text → MiddleDotStands text k
-  pub keraias : (k : ℕ) → k < length text → KeraiaStands text k
-  pub gereshes : (k : ℕ) → k < length text → GereshStands text k
-  -- U+30FB, katakana middle dot, only beside kana or Han; RFC 5892 appendix A.7
-  pub katakana_dots : Has (λ c. c == 0x30FB) text → Has is_kana_or_han text
-  -- Arabic-Indic digits and extended ones not both; appendices A.8 and A.9
-  pub one_digit_set : Has (λ c. is_in_range 0x660 0x669 c) text → Has (λ c. is_in_range 0x6F0 0x6F9 c) text → ⊥
-  pub none_excluded : (k : ℕ) → k < length text → is_excluded (slice_index text k) ≡ false
-  pub characters : (k : ℕ) → k < length text → IsAdmittedCharacter (slice_index text k)
-
--- ---- what the code tests place by place
-
--- the six conditions on one place
+-- six on each place
 pub record StandsWell (text : List ℕ) (k : ℕ) : Type 0 where
   pub joiner : JoinerStands text k
   pub middle_dot : MiddleDotStands text k
@@ -102,3 +94,13 @@ pub record StandsWell (text : List ℕ) (k : ℕ) : Type 0 where
   pub geresh : GereshStands text k
   pub not_excluded : is_excluded (slice_index text k) ≡ false
   pub character : IsAdmittedCharacter (slice_index text k)
+
+-- and three on the whole
+pub record IsAdmittedLabel (text : List ℕ) : Type 0 where
+  -- no mark is first; RFC 5891 section 4.2.3.2
+  pub no_leading_mark : 0 < length text → is_mark (general_category (slice_index text 0)) ≡ false
+  pub each : (k : ℕ) → k < length text → StandsWell text k
+  -- U+30FB, katakana middle dot, only in a text with kana or Han; RFC 5892 appendix A.7
+  pub katakana_dots : Has (λ c. c == 0x30FB) text → Has is_kana_or_han text
+  -- Arabic-Indic digits and extended ones not both; appendices A.8 and A.9
+  pub one_digit_set : Has (λ c. is_in_range 0x660 0x669 c) text → Has (λ c. is_in_range 0x6F0 0x6F9 c) text → ⊥

@@ -4,10 +4,11 @@
 use Rattle.std.specs.Prelude.{◌≡◌, ℕ, zero, suc, ◌+◌, ◌-◌, ◌*◌, ◌/◌, ◌%◌, ◌<◌, ◌≤◌, min, max, Bool, true, false, ◌==◌, nat_lt, nat_le, List, [], ◌∷◌, ◌++◌, length, map, filter, count_by, if◌then◌else◌}
 use Rattle.std.specs.Char.{to_ascii_lowercase}
 use Rattle.std.specs.List.{before_last, after_last}
+use Rattle.std.specs.Str.{byte}
 
 -- (5) the character that the encoder writes for a digit: a to z for 0 to 25, and 0 to 9 for 26 to 35
 unfoldable pub digit_char : ℕ → ℕ
-digit_char d = if nat_lt d 26 then d + 97 else d + 22
+digit_char d = if nat_lt d 26 then d + byte "a" else d - 26 + byte "0"
 
 -- (6.2) the threshold under a bias, clamped to 1..26; k is 36 * (j + 1) for digit j
 abbrev pub threshold : ℕ → ℕ → ℕ
@@ -113,7 +114,7 @@ digits_in_row bias placed first (delta ∷ ds) =
 -- the basic characters, and a hyphen after them if there are any
 unfoldable pub delimited : List ℕ → List ℕ
 delimited [] = []
-delimited (c ∷ basic) = (c ∷ basic) ++ 0x2D ∷ []
+delimited (c ∷ basic) = (c ∷ basic) ++ byte "-" ∷ []
 
 -- the Punycode of a text
 unfoldable pub punycode : List ℕ → List ℕ
@@ -125,11 +126,11 @@ punycode text =
 
 -- what stands before the last hyphen, and nothing without one
 abbrev pub basic_part : List ℕ → List ℕ
-basic_part payload = before_last (λ c. c == 0x2D) payload
+basic_part payload = before_last (λ c. c == byte "-") payload
 
 -- what follows the last hyphen, if it stands above place 0, and else all
 abbrev pub encoded_part : List ℕ → List ℕ
-encoded_part payload = if length (basic_part payload) == 0 then payload else after_last (λ c. c == 0x2D) payload
+encoded_part payload = if length (basic_part payload) == 0 then payload else after_last (λ c. c == byte "-") payload
 
 -- equal but for the case of the letters of the encoded part; a payload has a hyphen above place 0 exactly where
 -- its basic part is not empty

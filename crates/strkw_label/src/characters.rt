@@ -5,7 +5,8 @@ ghost use Rattle.strkw_label.specs.LabelRules as spec;
 
 use unicode::properties::GeneralCategory;
 
-/// The characters after which a zero width joiner may stand.
+/// The characters after which a zero width joiner may stand: 50 of canonical combining class virama,
+/// a fixed list (RFC 5892 appendix A.2 speaks of the whole class).
 const VIRAMAS: [char; 50] = [
     '\u{94D}',
     '\u{9CD}',

@@ -1,5 +1,5 @@
 //! Host names with internationalised labels (RFC 5890, RFC 5891).
-ghost use Rattle.std.specs.Prelude.{◌≡◌, ◌↔◌, ◌≤◌, List, ℕ, length, IsTrue};
+ghost use Rattle.std.specs.Prelude.{◌↔◌, ◌≤◌, length, IsTrue};
 ghost use Rattle.std.specs.Str.{chars};
 ghost use Rattle.strkw_label.specs.HostName.{IsHostName, KeepsXnRules, EncodesAdmitted};
 
@@ -11,7 +11,7 @@ const LONGEST_HOST_NAME: usize = 253;
 
 /// Whether `hostname` is a host name: an ASCII host name (1 to 253 characters, labels of 1 to 63
 /// letters, digits and hyphens, RFC 1123) in which only labels that begin with `xn--` have hyphens
-/// in third and fourth place (RFC 5891 section 4.2.3.1), and in which what follows `xn--` is, up to
+/// in third and fourth place (RFC 5890 section 2.3.1), and in which what follows `xn--` is, up to
 /// the case of its encoded part, the Punycode of a text that `validate_unicode_label` admits. The
 /// prefix counts in lower case alone.
 pub fn is_valid_hostname(hostname: &str) -> bool

@@ -1,5 +1,5 @@
-//! The rules for the characters of a label (RFC 5891 section 4.2, RFC 5892).
-ghost use Rattle.std.specs.Prelude.{◌≡◌, ◌==◌, ◌<◌, ◌↔◌, ◌||◌, ℕ, false, length, IsTrue, slice_index};
+//! The rules for the characters of a label (RFC 5891 section 4.2.3.2, RFC 5892).
+ghost use Rattle.std.specs.Prelude.{◌≡◌, ◌==◌, ◌<◌, ◌↔◌, ◌||◌, false, length, IsTrue, slice_index};
 ghost use Rattle.std.specs.Int.{is_in_range};
 ghost use Rattle.unicode.specs.GeneralCategory.{general_category};
 ghost use Rattle.strkw_label.specs.LabelRules as spec;
@@ -9,9 +9,14 @@ use crate::characters::{
 };
 use unicode::properties::GeneralCategory;
 
-/// Whether the characters may stand as a label: each as its own rule and its neighbours allow, no
-/// mark first, a katakana middle dot only among kana or han, and digits of one Arabic-Indic set.
-/// The label is any list of characters; its length and its hyphens are not judged here.
+/// Whether the characters may stand as a label. Nine conditions (RFC 5891 section 4.2.3.2, RFC 5892
+/// appendices A.2 to A.9): no mark is first; U+200D stands after a virama, U+00B7 between two `l`,
+/// U+0375 before a Greek character, U+05F3 and U+05F4 after a Hebrew one; no character is one that
+/// RFC 5892 section 2.6 disallows; each is ASCII, a joiner, an exception of that section, kana, Han, or
+/// of category Lu, Ll, Lt, Lm, Lo, Mn, Mc or Nd; U+30FB stands only in a label with kana or Han; and
+/// no label has both Arabic-Indic digits and extended ones.
+///
+/// The label is any list of characters. Its length, hyphens, direction and normal form are not judged.
 pub fn validate_unicode_label(label: &[char]) -> bool
     ensures { IsTrue result ↔ spec.IsAdmittedLabel label.now }
 {
@@ -64,10 +69,7 @@ fn stands_well(label: &[char], place: usize) -> bool
     if is_excluded(label[place]) {
         return false;
     }
-    if !is_admitted_character(label[place]) {
-        return false;
-    }
-    true
+    is_admitted_character(label[place])
 }
 
 /// Zero width joiner: only after a virama (RFC 5892 appendix A.2).

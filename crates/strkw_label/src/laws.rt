@@ -1,8 +1,8 @@
 //! Laws over the definitions that the calls of this crate name. Each function has an empty body, and its clause is the law.
-ghost use Rattle.std.specs.Prelude.{◌≡◌, ◌≤◌, ℕ, List, length, codes};
+ghost use Rattle.std.specs.Prelude.{◌≡◌, ◌≤◌, ◌++◌, ℕ, List, [], ◌∷◌, length, codes};
 ghost use Rattle.strkw_net.specs.HostName.{IsAsciiHostName};
 ghost use Rattle.strkw_label.specs.HostName.{IsHostName};
-ghost use Rattle.strkw_label.specs.Punycode.{AreDigitsOf, digits_of, punycode, SameUpToCase};
+ghost use Rattle.strkw_label.specs.Punycode.{AreDigitsOf, digits_of, punycode, encoded_part, SameUpToCase};
 
 /// Under each bias exactly one list of digits stands for a delta.
 pub fn digits_are_unique()
@@ -13,6 +13,28 @@ pub fn digits_are_unique()
 /// Payloads that decode to one text differ at most in the letter case of their encoded parts.
 pub fn payloads_of_one_text()
     ensures { (text p q : List ℕ) → SameUpToCase p (punycode text) → SameUpToCase q (punycode text) → SameUpToCase p q }
+{}
+
+/// The samples (B), (D), (L) and (S) of RFC 3492 section 7.1 are encoded as they stand there.
+pub fn published_samples()
+    ensures chinese { punycode (codes "他们为什么不说中文") ≡ codes "ihqwcrb4cv8a8dqg056pqjye" }
+    ensures czech { punycode (codes "Pročprostěnemluvíčesky") ≡ codes "Proprostnemluvesky-uyb24dma41a" }
+    ensures japanese { punycode (codes "3年B組金八先生") ≡ codes "3B-ww4c5e180e575a65lsy2b" }
+    ensures ascii { punycode (codes "-> $1.00 <-") ≡ codes "-> $1.00 <--" }
+{}
+
+/// Texts with at most one character beyond ASCII: with none, a middle dot, the least and the greatest.
+pub fn encodings_of_single_characters()
+    ensures none { punycode (codes "abc") ≡ codes "abc-" }
+    ensures middle_dot { punycode (codes "l·l") ≡ codes "ll-0ea" }
+    ensures least { punycode (0x80 ∷ []) ≡ codes "a" }
+    ensures greatest { punycode (codes "aaaaaaaaaaaaaaaaaaaaaaaaaaaaaaaaaaaaaaaaaaaaaaaaaaa" ++ 0x10FFFF ∷ []) ≡ codes "aaaaaaaaaaaaaaaaaaaaaaaaaaaaaaaaaaaaaaaaaaaaaaaaaaa-6q1048b" }
+{}
+
+/// The last hyphen of a payload delimits, unless it is the first character.
+pub fn delimiting_hyphens()
+    ensures last { encoded_part (codes "-> $1.00 <--") ≡ [] }
+    ensures first { encoded_part (codes "-a") ≡ codes "-a" }
 {}
 
 /// A host name is an ASCII host name.

@@ -1,8 +1,20 @@
 //! The decoder of Punycode (RFC 3492).
+//!
+//! Punycode writes the ASCII characters of a text, and for each other character, in order of code
+//! point and then of place, the distance from the one before it, a delta. The decoder reads delta
+//! after delta, divides by the number of places for the code point and the place, and keeps both in
+//! fixed lists; at the end of the encoded part it puts the characters in, in that order.
+//!
+//! This is right because under a bias a number has one list of digits, because a delta and its code
+//! point and place settle each other, and because a character is put among those that are not above
+//! it, so the places read are those of the text. No 32-bit test refuses an encoding of at most 59
+//! bytes: it places fewer than 60 characters below 0x110000, so each running sum stays below
+//! 60 * 0x110000, and a digit's weight below 35 times that, which is below 2^32.
 ghost use Rattle.std.specs.Prelude.{[], ◌≡◌, ◌≢◌, ℕ, List, ◌+◌, ◌<◌, ◌≤◌, ◌++◌, IfSome, IsSomeAnd, MatchOption, map, length, All, ⊤};
 ghost use Rattle.std.specs.Char.{to_ascii_lowercase, IsScalar};
+ghost use Rattle.std.specs.Str.{chars};
 ghost use Rattle.strkw_label.specs.Punycode.{Insertion, SameUpToCase};
-ghost use Rattle.strkw_label.specs.Encoded.{IsEncoded, InOrder, pair_up};
+ghost use Rattle.strkw_label.specs.Encoded.{IsEncoded, InOrder, index_bound, pair_up};
 ghost use Rattle.strkw_label.specs.Placement.{place_all};
 ghost use Rattle.strkw_label.specs.Punycode as spec;
 
@@ -33,8 +45,8 @@ const INITIAL_POINT: u32 = 128;
 pub fn decode_punycode<const CAP: usize>(input: &str) -> Option<ArrayVec<char, CAP>>
     requires { length input.now ≤ CAP }
     ensures scalar { IfSome result (λ text. All IsScalar text.items) }
-    ensures sound { IfSome result (λ text. SameUpToCase input.now (spec.punycode text.items)) }
-    ensures complete { (text : List ℕ) → All IsScalar text → length input.now ≤ 59 → SameUpToCase input.now (spec.punycode text) → IsSomeAnd result (λ t. t.items ≡ text) }
+    ensures sound { IfSome result (λ text. SameUpToCase (chars input.now) (spec.punycode text.items)) }
+    ensures complete { (text : List ℕ) → All IsScalar text → length input.now ≤ 59 → SameUpToCase (chars input.now) (spec.punycode text) → IsSomeAnd result (λ t. t.items ≡ text) }
 {
     decode_payload(input.as_bytes())
 }
@@ -117,7 +129,7 @@ fn adapt(delta: u32, count: u32, first: bool) -> u32
 /// is none, or where it or a weight passes 32 bits.
 fn read_delta(digits: &[u8], bias: u32) -> Option<(u32, &[u8])>
     ensures sound { IfSome result (λ r. map to_ascii_lowercase digits.now ≡ map spec.digit_char (spec.digits_of bias r.0) ++ map to_ascii_lowercase r.1.now) }
-    ensures complete { (delta : ℕ) (rest : List ℕ) → delta < 66846720 → map to_ascii_lowercase digits.now ≡ map spec.digit_char (spec.digits_of bias delta) ++ rest → IsSomeAnd result (λ r. (r.0 ≡ delta) × (map to_ascii_lowercase r.1.now ≡ rest)) }
+    ensures complete { (delta : ℕ) (rest : List ℕ) → delta < index_bound → map to_ascii_lowercase digits.now ≡ map spec.digit_char (spec.digits_of bias delta) ++ rest → IsSomeAnd result (λ r. (r.0 ≡ delta) × (map to_ascii_lowercase r.1.now ≡ rest)) }
     ensures shorter { IfSome result (λ r. length r.1.now < length digits.now) }
 {
     let mut delta: u32 = 0;

@@ -1,3 +1,4 @@
+//! The rows of the decoder, of the label rules and of host names.
 use crate::{decode_punycode, is_valid_hostname, validate_unicode_label};
 use strkw_net::is_valid_hostname_rfc1034;
 
@@ -101,7 +102,8 @@ fn samples_of_rfc_3492(rt: HostRuntime) {
     }
 }
 
-// The encoded part counts in either case. The last rows reach the greatest code point and the
+// The encoded part counts in either case. The rows have the payloads of the labels and host names
+// below, whether these are admitted or refused, and the last rows reach the greatest code point and the
 // greatest weights that 59 bytes can ask for.
 #[test]
 fn payloads_are_decoded(rt: HostRuntime) {
@@ -114,6 +116,32 @@ fn payloads_are_decoded(rt: HostRuntime) {
         ("0y0c", "0Y0C", "\u{E000}"),
         ("9krt00a", "9KRT00A", "微博"),
         ("9krT00a", "9KRt00A", "微博"),
+        ("aa---o47jg78q", "aa---O47JG78Q", "aa--點看"),
+        ("11b6iy14e", "11B6IY14E", "\u{915}\u{94D}\u{200D}"),
+        ("cckyj", "CCKYJ", "\u{30FB}\u{30A2}"),
+        ("wva4j", "WVA4J", "\u{375}\u{3B1}"),
+        ("4db4e", "4DB4E", "\u{5D0}\u{5F3}"),
+        ("0ug", "0UG", "\u{200C}"),
+        ("1ug", "1UG", "\u{200D}"),
+        ("veka", "VEKA", "\u{30FB}\u{30FB}"),
+        ("wva3j", "WVA3J", "\u{3B1}\u{375}"),
+        ("9hb20a", "9HB20A", "\u{661}\u{6F1}"),
+        ("chb", "CHB", "\u{640}"),
+        (
+            "11b2ezcw70k",
+            "11B2EZCW70K",
+            "\u{915}\u{94D}\u{200D}\u{937}",
+        ),
+        ("11b6iv14e", "11B6IV14E", "\u{915}\u{94D}\u{200C}"),
+        ("ab-j1t", "ab-J1T", "a\u{200C}b"),
+        ("vek", "VEK", "\u{30FB}"),
+        ("l-fda", "l-FDA", "\u{B7}l"),
+        ("l-gda", "l-GDA", "l\u{B7}"),
+        ("02b508i", "02B508I", "\u{200D}\u{937}"),
+        ("11b2er09f", "11B2ER09F", "\u{915}\u{200D}\u{937}"),
+        ("hello-zed", "hello-ZED", "\u{300}hello"),
+        ("hello-txk", "hello-TXK", "\u{903}hello"),
+        ("hello-6bf", "hello-6BF", "\u{488}hello"),
         (
             "aaaaaaaaaaaaaaaaaaaaaaaaaaaaaaaaaaaaaaaaaaaaaaaaaaa-6q1048b",
             "aaaaaaaaaaaaaaaaaaaaaaaaaaaaaaaaaaaaaaaaaaaaaaaaaaa-6Q1048B",
@@ -201,8 +229,11 @@ fn host_names_are_accepted(rt: HostRuntime) {
         "xn--ll-0ea",
         "xn--ll-0EA",
         "xn--11b2ezcw70k",
+        "xn--9krt00a",
         "xn--9krT00a",
+        "xn--9KRT00A",
         "xn--aa---o47jg78q",
+        "xn--aa---O47JG78Q",
         "xn--ab-j1t",
         "xn--11b6iv14e",
         "example.com",

@@ -14,7 +14,7 @@ use Rattle.std.proofs.lemmas.List.{append-nil, length-map, length-append}
 use Rattle.std.proofs.lemmas.Fmt.{IsAscii-decimal}
 use Rattle.strkw_text.specs.Bounds.{DerivesAscii}
 use Rattle.strkw_text.proofs.AsciiForms.{IsAscii-joined, IsAscii-from_each, Literal-ascii, Then-ascii, Times-ascii, HexDigit-ascii}
-use Rattle.strkw_text.proofs.Laws.{then}
+use Rattle.strkw_text.proofs.Laws.{then, each_push}
 use Rattle.strkw_text.proofs.Classes.{hexdigits_between}
 use Rattle.strkw_text.specs.Abnf.{◌⨾◌, Literal}
 use Rattle.strkw_text.specs.Characters.{HexDigit}
@@ -198,17 +198,13 @@ h16s_ascii : (groups : List (List ℕ)) → AllByRecursion H16 groups → AllByR
 h16s_ascii [] a = tt
 h16s_ascii (group ∷ groups) a = (H16-ascii group a.0, h16s_ascii groups a.1)
 
-then_last : (groups : List (List ℕ)) (last : List ℕ) → AllByRecursion IsAscii groups → IsAscii last → AllByRecursion IsAscii (groups ++ last ∷ [])
-then_last [] last a l = (l, tt)
-then_last (group ∷ groups) last a l = (a.0, then_last groups last a.1 l)
-
 groups_ascii : (count : ℕ) → DerivesAscii (Groups count)
 groups_ascii count text g = subst IsAscii (sym g.spelled) (IsAscii-joined 58 g.groups (omega arith) (h16s_ascii g.groups g.each))
 
 last_ascii : (count : ℕ) → DerivesAscii (LastGroups count)
 last_ascii count text (inl g) = groups_ascii count text g
 last_ascii count text (inr g) = subst IsAscii (sym g.spelled)
-    (IsAscii-joined 58 (g.groups ++ g.address ∷ []) (omega arith) (then_last g.groups g.address (h16s_ascii g.groups g.each) (IsIpv4-ascii g.address g.address_is)))
+    (IsAscii-joined 58 (g.groups ++ g.address ∷ []) (omega arith) (each_push IsAscii g.groups g.address (h16s_ascii g.groups g.each) (IsIpv4-ascii g.address g.address_is)))
 
 pub IsIpv6-ascii : DerivesAscii IsIpv6
 IsIpv6-ascii text (inl g) = last_ascii 8 text g

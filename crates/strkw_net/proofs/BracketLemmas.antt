@@ -5,6 +5,8 @@ use Rattle.std.specs.List.{AllByRecursion, join_with_byte}
 use Rattle.std.specs.Char.{digit_value}
 use Rattle.std.specs.Str.Parse.{AllDigits}
 use Rattle.std.proofs.lemmas.Fmt.{decimal_is_IsNumeral}
+use Rattle.strkw_text.proofs.Laws.{each_push}
+use Rattle.strkw_text.proofs.Delimiters.{Without-append}
 use Rattle.strkw_net.specs.Addresses.{IsIpv4, Groups, LastGroups, IsIpv6, HasNoBracket}
 use Rattle.strkw_net.proofs.AddressLemmas.{IsGroupOfDigits, group_digits, compressed_text}
 
@@ -15,14 +17,10 @@ digits_no_bracket radix (c ∷ cs) r d = (
   digits_no_bracket radix cs r d.1,
 )
 
-append_no_bracket : (a b : List ℕ) → HasNoBracket a → HasNoBracket b → HasNoBracket (a ++ b)
-append_no_bracket [] b n m = m
-append_no_bracket (c ∷ a) b n m = (n.0, append_no_bracket a b n.1 m)
-
 joined_no_bracket : (c : ℕ) (parts : List (List ℕ)) → c ≢ 93 → AllByRecursion HasNoBracket parts → HasNoBracket (join_with_byte c parts)
 joined_no_bracket c [] h a = tt
 joined_no_bracket c (part ∷ []) h a = a.0
-joined_no_bracket c (part ∷ next ∷ parts) h a = append_no_bracket part (c ∷ join_with_byte c (next ∷ parts)) a.0 (h, joined_no_bracket c (next ∷ parts) h a.1)
+joined_no_bracket c (part ∷ next ∷ parts) h a = Without-append 93 (omega arith) part (c ∷ join_with_byte c (next ∷ parts)) a.0 (h, joined_no_bracket c (next ∷ parts) h a.1)
 
 no_bracket_is : (c : ℕ) → c < 60 → c ≢ 93
 no_bracket_is c h e = omega arith
@@ -38,10 +36,6 @@ h16s_no_bracket : (groups : List (List ℕ)) → AllByRecursion IsGroupOfDigits 
 h16s_no_bracket [] a = tt
 h16s_no_bracket (group ∷ groups) a = (digits_no_bracket 16 group (omega arith) a.0.0, h16s_no_bracket groups a.1)
 
-then_last : (groups : List (List ℕ)) (last : List ℕ) → AllByRecursion HasNoBracket groups → HasNoBracket last → AllByRecursion HasNoBracket (groups ++ last ∷ [])
-then_last [] last a l = (l, tt)
-then_last (group ∷ groups) last a l = (a.0, then_last groups last a.1 l)
-
 groups_no_bracket : (count : ℕ) (text : List ℕ) → Groups count text → HasNoBracket text
 groups_no_bracket count text g = subst HasNoBracket (sym g.spelled) (joined_no_bracket 58 g.groups (no_bracket_is 58 (omega arith)) (h16s_no_bracket g.groups (group_digits g.groups g.each)))
 
@@ -49,10 +43,10 @@ last_no_bracket : (count : ℕ) (text : List ℕ) → LastGroups count text → 
 last_no_bracket count text (inl g) = groups_no_bracket count text g
 last_no_bracket count text (inr g) = subst HasNoBracket (sym g.spelled)
     (joined_no_bracket 58 (g.groups ++ g.address ∷ []) (no_bracket_is 58 (omega arith))
-    (then_last g.groups g.address (h16s_no_bracket g.groups (group_digits g.groups g.each)) (ipv4_no_bracket g.address g.address_is)))
+    (each_push HasNoBracket g.groups g.address (h16s_no_bracket g.groups (group_digits g.groups g.each)) (ipv4_no_bracket g.address g.address_is)))
 
 pub ipv6_no_bracket : (text : List ℕ) → IsIpv6 text → HasNoBracket text
 ipv6_no_bracket text (inl g) = last_no_bracket 8 text g
 ipv6_no_bracket text (inr w) = subst HasNoBracket (sym (compressed_text text w))
-    (append_no_bracket w.spelled.front (codes "::" ++ w.spelled.second.back) (groups_no_bracket w.before w.spelled.front w.spelled.first)
-    (append_no_bracket (codes "::") w.spelled.second.back (no_bracket_is 58 (omega arith), (no_bracket_is 58 (omega arith), tt)) (last_no_bracket w.after w.spelled.second.back w.spelled.second.second)))
+    (Without-append 93 (omega arith) w.spelled.front (codes "::" ++ w.spelled.second.back) (groups_no_bracket w.before w.spelled.front w.spelled.first)
+    (Without-append 93 (omega arith) (codes "::") w.spelled.second.back (no_bracket_is 58 (omega arith), (no_bracket_is 58 (omega arith), tt)) (last_no_bracket w.after w.spelled.second.back w.spelled.second.second)))

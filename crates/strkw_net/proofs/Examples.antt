@@ -2,14 +2,13 @@
 use Rattle.std.proofs.Common.{ℕ, zero, suc, [], ◌∷◌, refl, arith, inl, inr}
 use Rattle.std.specs.Prelude.{codes, replicate}
 use Rattle.std.specs.Fmt.{digits}
-use Rattle.std.specs.List.{AllByRecursion, All}
-use Rattle.std.proofs.lemmas.List.Elements.{All-from_recursion}
+use Rattle.std.proofs.lemmas.List.Sums.{AllPass-from_list_all}
 use Rattle.std.specs.Str.Parse.{AllDigits}
 use Rattle.strkw_text.proofs.Classes.{hexdigits_between}
 use Rattle.strkw_text.proofs.Laws.{then}
 use Rattle.strkw_text.proofs.Separated.{separated-from_joined}
 use Rattle.strkw_net.specs.Addresses.{IsIpv4, IsIpv6, Groups, H16}
-use Rattle.strkw_net.specs.HostName.{IsAsciiHostName, IsLabel, IsLetterDigitHyphen}
+use Rattle.strkw_net.specs.HostName.{IsAsciiHostName, IsLabel, is_letter_digit_hyphen}
 use Rattle.strkw_net.specs.Uuid.{IsUuid}
 use Rattle.strkw_net.proofs.UuidLemmas.{uuid_at}
 
@@ -54,19 +53,11 @@ ipv6_longest = inl (inr (record {
   spelled = refl;
 }))
 
--- labels of one letter repeated
-letters : (n : ℕ) → All IsLetterDigitHyphen (replicate n 97)
-letters n = All-from_recursion IsLetterDigitHyphen (replicate n 97) (by_recursion n)
-  where
-    by_recursion : (n : ℕ) → AllByRecursion IsLetterDigitHyphen (replicate n 97)
-    by_recursion zero = tt
-    by_recursion (suc n) = (inl refl, by_recursion n)
-
 label_63 : IsLabel (replicate 63 97)
-label_63 = record { size = (omega arith, omega arith); letters = letters 63; first = λ e. omega arith; last = λ e. omega arith }
+label_63 = record { size = (omega arith, omega arith); letters = AllPass-from_list_all is_letter_digit_hyphen (replicate 63 97) refl; first = λ e. omega arith; last = λ e. omega arith }
 
 label_61 : IsLabel (replicate 61 97)
-label_61 = record { size = (omega arith, omega arith); letters = letters 61; first = λ e. omega arith; last = λ e. omega arith }
+label_61 = record { size = (omega arith, omega arith); letters = AllPass-from_list_all is_letter_digit_hyphen (replicate 61 97) refl; first = λ e. omega arith; last = λ e. omega arith }
 
 pub hostname_longest : IsAsciiHostName (codes "aaaaaaaaaaaaaaaaaaaaaaaaaaaaaaaaaaaaaaaaaaaaaaaaaaaaaaaaaaaaaaa.aaaaaaaaaaaaaaaaaaaaaaaaaaaaaaaaaaaaaaaaaaaaaaaaaaaaaaaaaaaaaaa.aaaaaaaaaaaaaaaaaaaaaaaaaaaaaaaaaaaaaaaaaaaaaaaaaaaaaaaaaaaaaaa.aaaaaaaaaaaaaaaaaaaaaaaaaaaaaaaaaaaaaaaaaaaaaaaaaaaaaaaaaaaaa")
 hostname_longest = record {
@@ -75,7 +66,7 @@ hostname_longest = record {
 }
 
 label_a : IsLabel (codes "a")
-label_a = record { size = (omega arith, omega arith); letters = letters 1; first = λ e. omega arith; last = λ e. omega arith }
+label_a = record { size = (omega arith, omega arith); letters = AllPass-from_list_all is_letter_digit_hyphen (codes "a") refl; first = λ e. omega arith; last = λ e. omega arith }
 
 pub hostname_shortest : IsAsciiHostName (codes "a")
 hostname_shortest = record {
@@ -84,10 +75,10 @@ hostname_shortest = record {
 }
 
 label_example : IsLabel (codes "example")
-label_example = record { size = (omega arith, omega arith); letters = All-from_recursion IsLetterDigitHyphen (codes "example") (inl refl, (inl refl, (inl refl, (inl refl, (inl refl, (inl refl, (inl refl, tt))))))); first = λ e. omega arith; last = λ e. omega arith }
+label_example = record { size = (omega arith, omega arith); letters = AllPass-from_list_all is_letter_digit_hyphen (codes "example") refl; first = λ e. omega arith; last = λ e. omega arith }
 
 label_com : IsLabel (codes "com")
-label_com = record { size = (omega arith, omega arith); letters = All-from_recursion IsLetterDigitHyphen (codes "com") (inl refl, (inl refl, (inl refl, tt))); first = λ e. omega arith; last = λ e. omega arith }
+label_com = record { size = (omega arith, omega arith); letters = AllPass-from_list_all is_letter_digit_hyphen (codes "com") refl; first = λ e. omega arith; last = λ e. omega arith }
 
 pub hostname_example : IsAsciiHostName (codes "example.com")
 hostname_example = record {

@@ -8,7 +8,7 @@ use Rattle.std.proofs.lemmas.List.{length-take-le, get_or-take, take_all}
 use Rattle.std.proofs.lemmas.List.Sums.{prefix_len-le-length, prefix_len_is, prefix_len_passes, position_or_len_is, passes_at_first, fails_before_first}
 use Rattle.std.proofs.lemmas.List.Splits.{slice_split_none, slice_split_first}
 use Rattle.strkw_text.specs.Abnf.{Form}
-use Rattle.strkw_net.specs.HostName.{IsLabel, IsLetterDigitHyphen, is_letter_digit_hyphen}
+use Rattle.strkw_net.specs.HostName.{IsLabel, is_letter_digit_hyphen}
 use Rattle.strkw_net.proofs.HostNameLemmas.{parts}
 
 abbrev pub run : List ℕ → ℕ
@@ -19,13 +19,6 @@ first_dot bs = position_or_len (λ c. eqb c 46) bs
 
 abbrev pub front : List ℕ → List ℕ
 front bs = before_first (λ c. eqb c 46) bs
-
-in_class : (c : ℕ) → IsLetterDigitHyphen c → is_letter_digit_hyphen c ≡ true
-in_class c (inl e) = grind (arith, nat_tests)
-in_class c (inr e) = grind (arith, nat_tests)
-
-of_class : (c : ℕ) → is_letter_digit_hyphen c ≡ true → IsLetterDigitHyphen c
-of_class c h = grind (arith, nat_tests)
 
 class_no_dot : (c : ℕ) → is_letter_digit_hyphen c ≡ true → eqb c 46 ≡ false
 class_no_dot c h = grind (arith, nat_tests)
@@ -47,7 +40,7 @@ run_to_dot bs stop =
 pub label_is_run : (bs : List ℕ) → IsLabel (front bs) → run bs ≡ first_dot bs
 label_is_run bs w =
     prefix_len_is is_letter_digit_hyphen bs (first_dot bs) 0 (prefix_len-le-length _ bs)
-    (λ k h. in_class (get_or bs k 0) (subst IsLetterDigitHyphen (get_or-take (first_dot bs) bs k 0 h) (w.letters k 0 (omega (arith, length-front bs)))))
+    (λ k h. ap is_letter_digit_hyphen (sym (get_or-take (first_dot bs) bs k 0 h)) ∙ w.letters k 0 (omega (arith, length-front bs)))
     (λ h. dot_no_class (get_or bs (first_dot bs) 0) (passes_at_first (λ c. eqb c 46) bs 0 h))
 
 not_not : (p : ℕ → Bool) (bs : List ℕ) → position_or_len (λ b. not (p b)) bs ≡ prefix_len p bs
@@ -93,7 +86,7 @@ run_is_label bs n is some few first last stop =
       ap (λ m. take m bs) (is ∙ sym (run_to_dot bs (subst (λ m. m < length bs → get_or bs m 0 ≡ 46) is stop))),
       record {
         size = (omega (arith, size), omega (arith, size));
-        letters = λ k d lt. of_class _ (ap is_letter_digit_hyphen (read k d (omega (arith, size, lt))) ∙ prefix_len_passes is_letter_digit_hyphen bs k d (omega (arith, size, lt, is)));
+        letters = λ k d lt. ap is_letter_digit_hyphen (read k d (omega (arith, size, lt))) ∙ prefix_len_passes is_letter_digit_hyphen bs k d (omega (arith, size, lt, is));
         first = λ e. first (sym (read 0 0 (omega arith)) ∙ e);
         last = λ e. last (sym (read (n - 1) 0 (omega arith)) ∙ subst (λ m. get_or (take n bs) (m - 1) 0 ≡ 45) size e);
       },

@@ -1,24 +1,20 @@
 -- A host name's labels are its parts between dots.
-use Rattle.std.proofs.Common.{◌≢◌, ℕ, ◌<◌, ◌≤◌, Bool, true, false, eqb, List, [], ◌∷◌, ◌↔◌, length, get_or, arith, refl, sym, subst, inl, inr}
-use Rattle.std.specs.List.{AllByRecursion, slice_split, AllWithin, HoldsAt}
+use Rattle.std.proofs.Common.{◌≡◌, ◌≢◌, ℕ, ◌<◌, ◌≤◌, true, eqb, List, [], ◌∷◌, ◌↔◌, length, get_or, arith, sym, subst}
+use Rattle.std.specs.List.{AllByRecursion, slice_split}
 use Rattle.std.specs.Str.{IsAscii}
-use Rattle.std.specs.Bool.{MatchBool, IsTrue}
-use Rattle.std.proofs.lemmas.Bool.{false≢true}
 use Rattle.std.proofs.lemmas.Bool.Decides.{nat_tests}
-use Rattle.std.proofs.lemmas.List.Elements.{All-from_recursion, recursion_from_All}
+use Rattle.std.proofs.lemmas.List.Elements.{recursion_from_All}
 use Rattle.strkw_text.specs.Bounds.{DerivesAscii}
 use Rattle.strkw_text.specs.Delimiters.{Without}
 use Rattle.strkw_text.proofs.Separated.{joined-from_separated, separated_parts}
 use Rattle.strkw_text.proofs.AsciiForms.{IsAscii-joined, IsAscii-from_each}
-use Rattle.strkw_net.specs.HostName.{IsAsciiHostName, IsLabel, IsLetterDigitHyphen}
+use Rattle.strkw_net.specs.HostName.{IsAsciiHostName, IsLabel, is_letter_digit_hyphen}
 
-letter_no_dot : (c : ℕ) → IsLetterDigitHyphen c → c ≢ 46
-letter_no_dot c (inl e) dot = grind (arith, nat_tests)
-letter_no_dot c (inr e) dot = omega arith
+letter_no_dot : (c : ℕ) → is_letter_digit_hyphen c ≡ true → c ≢ 46
+letter_no_dot c e dot = grind (arith, nat_tests)
 
-letter_ascii : (c : ℕ) → IsLetterDigitHyphen c → c < 128
-letter_ascii c (inl e) = grind (arith, nat_tests)
-letter_ascii c (inr e) = omega arith
+letter_ascii : (c : ℕ) → is_letter_digit_hyphen c ≡ true → c < 128
+letter_ascii c e = grind (arith, nat_tests)
 
 abbrev pub parts : List ℕ → List (List ℕ)
 parts bs = slice_split (λ b. eqb b 46) bs
@@ -37,13 +33,6 @@ host_name_parts bs w = ((host_name_by_parts bs).0 w).1
 
 pub IsAsciiHostName-from_parts : (bs : List ℕ) → length bs ≤ 253 → AllByRecursion IsLabel (parts bs) → IsAsciiHostName bs
 IsAsciiHostName-from_parts bs n a = (host_name_by_parts bs).1 (n, a)
-
--- from the cases of `all`
-pub host_name_from_all : (bs : List ℕ) (r : Bool) → length bs ≤ 253
-    → MatchBool r (AllWithin IsLabel (parts bs) 0 (length (parts bs))) ((k : ℕ) × (k < length (parts bs)) × HoldsAt (λ x. IsLabel x → ⊥) (parts bs) k)
-    → IsTrue r ↔ IsAsciiHostName bs
-host_name_from_all bs true n m = (λ t. IsAsciiHostName-from_parts bs n (recursion_from_All IsLabel (parts bs) (λ k d h. m k d (omega arith) h)), λ w. refl)
-host_name_from_all bs false n m = (λ t. absurd (false≢true t), λ w. absurd (m.2 [] (All-from_recursion IsLabel (parts bs) (host_name_parts bs w) m.0 [] m.1)))
 
 labels_ascii : (labels : List (List ℕ)) → AllByRecursion IsLabel labels → AllByRecursion IsAscii labels
 labels_ascii [] a = tt

@@ -1,27 +1,23 @@
 -- ASCII host names, RFC 1034 section 3.5, as RFC 1123 section 2.1 changed it: a label may begin with a digit.
-use Rattle.std.specs.Prelude.{◌≡◌, ◌≢◌, ℕ, ◌-◌, ◌≤◌, ◌⊎◌, Bool, ◌||◌, ◌==◌, List, length, slice_index, IsTrue}
-use Rattle.std.specs.List.{All}
+use Rattle.std.specs.Prelude.{◌≢◌, ℕ, ◌-◌, ◌≤◌, Bool, ◌||◌, ◌==◌, List, length, slice_index}
+use Rattle.std.specs.List.{AllPass}
 use Rattle.std.specs.Str.{byte}
 use Rattle.std.specs.Char.{is_ascii_alphanumeric}
 use Rattle.strkw_text.specs.Abnf.{SeparatedBy}
 
 -- let-dig-hyp
-abbrev pub IsLetterDigitHyphen : ℕ → Type 0
-IsLetterDigitHyphen c = IsTrue (is_ascii_alphanumeric c) ⊎ (c ≡ byte "-")
+abbrev pub is_letter_digit_hyphen : ℕ → Bool
+is_letter_digit_hyphen c = is_ascii_alphanumeric c || (c == byte "-")
 
 -- label: 1 to 63 letters, digits and hyphens, no hyphen first or last
 pub record IsLabel (label : List ℕ) : Type 0 where
   pub size : (1 ≤ length label) × (length label ≤ 63)
-  pub letters : All IsLetterDigitHyphen label
+  pub letters : AllPass is_letter_digit_hyphen label
   pub first : slice_index label 0 ≢ byte "-"
   pub last : slice_index label (length label - 1) ≢ byte "-"
 
--- label *("." label), of at most 253 characters
+-- label *("." label), of at most 253 characters: 255 octets, a length octet for each label and one for the root among them
+-- (RFC 1034 section 3.1)
 pub record IsAsciiHostName (text : List ℕ) : Type 0 where
   pub labels : SeparatedBy (byte ".") IsLabel text
   pub size : length text ≤ 253
-
--- ---- what a private function asks of a byte
-
-abbrev pub is_letter_digit_hyphen : ℕ → Bool
-is_letter_digit_hyphen c = is_ascii_alphanumeric c || (c == byte "-")

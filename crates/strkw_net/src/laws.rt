@@ -33,28 +33,29 @@ pub fn ipv6_has_no_bracket()
     ensures { (text : List ℕ) → IsIpv6 text → HasNoBracket text }
 {}
 
-/// An IPv4 address, one of least and one of greatest length.
+/// `127.0.0.1` is an IPv4 address, `0.0.0.0` one of least length, and `255.255.255.255` one of greatest.
 pub fn ipv4_texts()
     ensures example { IsIpv4 (codes "127.0.0.1") }
     ensures shortest { IsIpv4 (codes "0.0.0.0") }
     ensures longest { IsIpv4 (codes "255.255.255.255") }
 {}
 
-/// An IPv6 address, one of least and one of greatest length.
+/// `::1` is an IPv6 address, `::` one of least length, and
+/// `0000:0000:0000:0000:0000:0000:255.255.255.255` one of greatest.
 pub fn ipv6_texts()
     ensures example { IsIpv6 (codes "::1") }
     ensures shortest { IsIpv6 (codes "::") }
     ensures longest { IsIpv6 (codes "0000:0000:0000:0000:0000:0000:255.255.255.255") }
 {}
 
-/// An ASCII host name, one of least and one of greatest length, whose labels have 63, 63, 63 and 61 letters.
+/// `example.com` is an ASCII host name, `a` one of least length, and labels of 63, 63, 63 and 61 letters one of greatest.
 pub fn hostname_texts()
     ensures example { IsAsciiHostName (codes "example.com") }
     ensures shortest { IsAsciiHostName (codes "a") }
     ensures longest { IsAsciiHostName (codes "aaaaaaaaaaaaaaaaaaaaaaaaaaaaaaaaaaaaaaaaaaaaaaaaaaaaaaaaaaaaaaa.aaaaaaaaaaaaaaaaaaaaaaaaaaaaaaaaaaaaaaaaaaaaaaaaaaaaaaaaaaaaaaa.aaaaaaaaaaaaaaaaaaaaaaaaaaaaaaaaaaaaaaaaaaaaaaaaaaaaaaaaaaaaaaa.aaaaaaaaaaaaaaaaaaaaaaaaaaaaaaaaaaaaaaaaaaaaaaaaaaaaaaaaaaaaa") }
 {}
 
-/// A UUID, which is as long as each.
+/// `00000000-0000-4000-8000-000000000000` is a UUID.
 pub fn uuid_example()
     ensures { IsUuid (codes "00000000-0000-4000-8000-000000000000") }
 {}

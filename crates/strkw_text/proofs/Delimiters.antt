@@ -1,8 +1,8 @@
 -- Where a delimiter first stands, a text is cut.
-use Rattle.std.proofs.Common.{◌≡◌, ◌≢◌, ◌↔◌, ℕ, ◌+◌, ◌<◌, Bool, true, false, eqb, IsTrue, List, [], ◌∷◌, ◌++◌, inl, inr, length, get_or, take, drop, encode_utf8, encode_utf8_all, IsUtf8, refl, sym, ap, subst, ◌∙◌, append_assoc, arith}
+use Rattle.std.proofs.Common.{◌≡◌, ◌≢◌, ◌↔◌, ℕ, ◌+◌, ◌<◌, Bool, true, false, eqb, IsTrue, List, [], ◌∷◌, ◌++◌, inl, inr, length, get_or, take, drop, encode_utf8, encode_utf8_all, IsUtf8, refl, sym, ap, subst, ◌∙◌, arith}
 use Rattle.std.specs.Str.{chars}
 use Rattle.std.specs.List.{concat, AllByRecursion}
-use Rattle.std.proofs.lemmas.Str.{encodes-chars, encode_ascii, chars-append, chars_past_char, IsUtf8-take, IsUtf8-drop, IsCharBoundary-before_ascii, IsCharBoundary-after_ascii}
+use Rattle.std.proofs.lemmas.Str.{encodes-chars, encode_ascii, chars-append, chars_past_char, IsUtf8-take, IsUtf8-drop, IsCharBoundary-before_ascii}
 use Rattle.std.proofs.lemmas.List.{length-append, get_or-append-add, get_or_at, take_at, drop_at}
 use Rattle.strkw_text.specs.Abnf.{Form, ◌⨾◌, ◌∣◌, Literal, Optional, Repeat, Times, OneOf, SeparatedBy}
 use Rattle.strkw_text.specs.Delimiters.{Without}
@@ -27,7 +27,6 @@ module _ (w : ℕ) (low : w < 128) where
   -- the two parts of the bytes are those of the characters
   pub record Cut (bs xs ys : List ℕ) : Type 0 where
     pub utf8 : IsUtf8 xs
-    pub rest_utf8 : IsUtf8 ys
     pub is : chars bs ≡ chars xs ++ w ∷ chars ys
 
   pub chars_cut : (bs xs ys : List ℕ) → IsUtf8 bs → bs ≡ xs ++ w ∷ ys → Cut bs xs ys
@@ -36,16 +35,11 @@ module _ (w : ℕ) (low : w < 128) where
       let at : get_or bs (length xs) 0 ≡ w = ap (λ s. get_or s (length xs) 0) e ∙ get_or_at xs w ys 0 (length xs) refl in
       let below : get_or bs (length xs) 0 < 128 = omega arith in
       let front : take (length xs) bs ≡ xs = ap (take (length xs)) e ∙ take_at xs (w ∷ ys) (length xs) refl in
-      let regroup : bs ≡ (xs ++ w ∷ []) ++ ys = e ∙ sym (append_assoc xs (w ∷ []) ys) in
-      let longer : length (xs ++ w ∷ []) ≡ length xs + 1 = length-append xs (w ∷ []) in
-      let back : drop (length xs + 1) bs ≡ ys = ap (drop (length xs + 1)) regroup ∙ drop_at (xs ++ w ∷ []) ys (length xs + 1) longer in
       let mid : drop (length xs) bs ≡ w ∷ ys = ap (drop (length xs)) e ∙ drop_at xs (w ∷ ys) (length xs) refl in
       let fx : IsUtf8 xs = subst IsUtf8 front (IsUtf8-take bs (length xs) u (IsCharBoundary-before_ascii bs (length xs) inside below)) in
       let fm : IsUtf8 (w ∷ ys) = subst IsUtf8 mid (IsUtf8-drop bs (length xs) u (IsCharBoundary-before_ascii bs (length xs) inside below)) in
-      let fy : IsUtf8 ys = subst IsUtf8 back (IsUtf8-drop bs (length xs + 1) u (IsCharBoundary-after_ascii bs (length xs) u inside below)) in
       record {
         utf8 = fx;
-        rest_utf8 = fy;
         is = ap chars e ∙ chars-append xs (w ∷ ys) fx ∙ ap (λ s. chars xs ++ s) (chars_past_char (w ∷ ys) ys w fm (ap (λ s. s ++ ys) (sym (encode_ascii w (omega arith)))));
       }
 

@@ -1,8 +1,8 @@
-use Rattle.std.proofs.Common.{◌≡◌, ◌==◌, ◌||◌, ℕ, ◌<◌, length, get_or, arith, below_more, refl, sym, ap, ◌∙◌}
+use Rattle.std.proofs.Common.{◌≡◌, ◌==◌, ◌||◌, length, get_or, arith, below_more, refl, sym, ap, ◌∙◌}
 use Rattle.std.specs.Int.{is_in_range}
 use Rattle.std.proofs.lemmas.List.{get_or_read}
 use Rattle.std.proofs.lemmas.Bool.{false≢true, false_from_ne_true}
-use Rattle.strkw_label.specs.LabelRules.{StandsWell, is_kana_or_han}
+use Rattle.strkw_label.specs.LabelRules.{is_kana_or_han}
 use Rattle.strkw_label.proofs.LabelRules.{Tells-none, Tells-more, Tells-all}
 use Rattle.strkw_label.proofs.label_rules.validate_unicode_label.Goals as goal
 
@@ -12,17 +12,7 @@ returns-then-begins_with_mark c = (λ e. absurd (false≢true e), λ a. let h = 
 pub returns-then-not-stands_well : goal.returns-then-not-stands_well
 returns-then-not-stands_well c = (
   λ e. absurd (false≢true e),
-  λ a.
-      let k = c.loop-place.place in
-      let lt = c.loop-place-test.true in
-      c.if-not-stands_well.ensures.1 (record {
-        joiner = a.joiners k lt;
-        middle_dot = a.middle_dots k lt;
-        keraia = a.keraias k lt;
-        geresh = a.gereshes k lt;
-        not_excluded = a.none_excluded k lt;
-        character = a.characters k lt;
-      }),
+  λ a. c.if-not-stands_well.ensures.1 (a.each c.loop-place.place c.loop-place-test.true),
 )
 
 pub loop-place-init : goal.loop-place-init
@@ -56,7 +46,6 @@ returns c =
     let last = c.loop-place.invariant in
     let seen = c.loop-place.seen in
     let end : c.loop-place.place ≡ length text = omega (arith, c.loop-place.auto.place-end, c.loop-place-test.false) in
-    let all : (k : ℕ) → k < length text → StandsWell text k = λ k lt. last.places k (omega (arith, end)) in
     let dot = Tells-all seen.katakana_dot (λ x. x == 0x30FB) _ text last.katakana_dot end in
     let kana = Tells-all seen.kana_or_han is_kana_or_han _ text last.kana_or_han end in
     let arabic = Tells-all seen.arabic_indic_digit (λ x. is_in_range 0x660 0x669 x) _ text last.arabic_indic_digit end in
@@ -64,14 +53,9 @@ returns c =
     let together = c.may_stand_together.ensures in (
       λ t. record {
         no_leading_mark = λ some. false_from_ne_true _ (λ m. false≢true (c.if-begins_with_mark.ensures.1 (some, m)));
-        joiners = λ k lt. (all k lt).joiner;
-        middle_dots = λ k lt. (all k lt).middle_dot;
-        keraias = λ k lt. (all k lt).keraia;
-        gereshes = λ k lt. (all k lt).geresh;
+        each = λ k lt. last.places k (omega (arith, end));
         katakana_dots = λ h. kana.0 (together.katakana_dots t (dot.1 h));
         one_digit_set = λ x y. together.one_digit_set t (arabic.1 x) (extended.1 y);
-        none_excluded = λ k lt. (all k lt).not_excluded;
-        characters = λ k lt. (all k lt).character;
       },
       λ a. together.both (λ t. kana.1 (a.katakana_dots (dot.0 t))) (λ x y. a.one_digit_set (arabic.0 x) (extended.0 y)),
     )
