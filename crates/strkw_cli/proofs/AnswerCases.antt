@@ -1,10 +1,9 @@
 -- From what is compiled and evaluated to the answer.
-use Rattle.std.proofs.Common.{◌≡◌, ◌≢◌, ◌⊎◌, inl, inr, ℕ, List, ◌++◌, Option, Some, None, Result, Ok, Err, OnOk, false, refl, sym, ap, ◌∙◌, subst, codes}
-use Rattle.std.proofs.lemmas.List.Elements.{All-nil}
+use Rattle.std.proofs.Common.{◌≡◌, ◌≢◌, ◌⊎◌, inl, inr, ℕ, List, ◌++◌, Option, Some, None, Result, Ok, Err, OnOk, refl, ap, ◌∙◌, subst, codes}
 use Rattle.serde_json.specs.Data.{Members}
 use Rattle.serde_json.specs.Find.{as_str}
 use Rattle.strkw_report.specs.Kinds.{Report}
-use Rattle.strkw_report.specs.Refusals.{reason_of, refusal_of, prints_float, memory}
+use Rattle.strkw_report.specs.Refusals.{reason_of, refusal_of, memory}
 use Rattle.strkw_report.specs.declared.refusal.CompileError.{CompileError}
 use Rattle.strkw_pattern.specs.declared.engine.Outcome.{Outcome}
 use Rattle.strkw_keywords.specs.Meanings.{no_lists}
@@ -16,19 +15,14 @@ use Rattle.strkw_cli.specs.Noted.{FirstRefusal, remarks_on}
 use Rattle.strkw_cli.specs.Compiled.{IsCompiledFrom, keywords_assertions, keywords_remarks}
 use Rattle.strkw_keywords.specs.Compiled.{out_of_memory}
 use Rattle.strkw_cli.specs.Request.{Request}
-use Rattle.strkw_cli.specs.Printed.{HasText, ArePrintable, refused_line, verdict_lines, note_lines}
+use Rattle.strkw_cli.specs.Printed.{ArePrintable, refused_line, verdict_lines, note_lines}
 use Rattle.strkw_cli.specs.Answer.{settings_for, root_site, Answers}
-use Rattle.strkw_cli.proofs.Printable.{remarks_printable, refusal_printable}
-
-node_printable : (node : Option (List ℕ)) (rs : List Remark) → ArePrintable rs → ArePrintable (remarks_on node rs)
-node_printable None rs p = All-nil HasText
-node_printable (Some text) rs p = p
+use Rattle.strkw_cli.proofs.Printable.{notes_printable}
 
 -- what a compiled object notes has a text
-pub notes_printable : {E : Type 0} (outcome : E → List ℕ → Outcome) (s : Settings) (ms : Members) (k : StringKeywords E) → IsCompiledFrom outcome s ms k
+pub compiled_printable : {E : Type 0} (outcome : E → List ℕ → Outcome) (s : Settings) (ms : Members) (k : StringKeywords E) → IsCompiledFrom outcome s ms k
     → (node : Option (List ℕ)) (rs : List Remark) → rs ≡ remarks_on node (keywords_remarks k) → ArePrintable rs
-notes_printable outcome s ms k of node rs is =
-    subst ArePrintable (sym is) (node_printable node (keywords_remarks k) (subst ArePrintable (sym of.notes) (remarks_printable s ms of.entries of.are_entries)))
+compiled_printable outcome s ms k of node rs is = notes_printable s ms node rs (of.entries, of.are_entries, is ∙ ap (remarks_on node) of.notes)
 
 -- the answer by a compiled object
 pub answer_of_compiled : {E : Type 0} (outcome : E → List ℕ → Outcome) (r : Request) (k : StringKeywords E) (errors : List Report) (notes : List Remark)
@@ -48,11 +42,6 @@ answer_of_compiled outcome r k errors notes of reports noted =
         refl,
       ),
     )
-
--- a refusal prints no fractional number, want of memory included
-pub refused_prints : (s : Settings) (ms : Members) (e : CompileError) → (refusal_of e ≡ out_of_memory) ⊎ FirstRefusal s ms (Some (refusal_of e)) → prints_float (reason_of e.kind) ≡ false
-refused_prints s ms e (inl none) = ap (λ r. prints_float r.reason) none
-refused_prints s ms e (inr first) = refusal_printable s ms (refusal_of e) first
 
 -- the answer by a refusal that is not want of memory
 pub answer_of_refusal : (r : Request) (e : CompileError) → (refusal_of e ≡ out_of_memory) ⊎ FirstRefusal (settings_for r) r.schema (Some (refusal_of e)) → reason_of e.kind ≢ memory

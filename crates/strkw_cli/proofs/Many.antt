@@ -1,41 +1,30 @@
 -- What several validators assert and note.
 use Rattle.std.proofs.Common.{◌≡◌, ◌<◌, ℕ, zero, suc, ◌+◌, List, [], ◌∷◌, ◌++◌, Bool, true, false, Option, Some, None, refl, sym, ap, ◌∙◌, subst, length, get_or, take, arith, append_assoc, ◌&&◌}
+use Rattle.std.proofs.lemmas.Bool.{true_from_ne_false}
 use Rattle.std.proofs.lemmas.List.{append-nil, take_more}
 use Rattle.strkw_report.specs.Kinds.{Report}
 use Rattle.strkw_report.specs.declared.error.Site.{Site}
 use Rattle.strkw_pattern.specs.declared.engine.Outcome.{Outcome}
 use Rattle.strkw_keywords.specs.Meanings.{Lists}
-use Rattle.strkw_keywords.specs.Places.{Place, standing}
-use Rattle.strkw_keywords.specs.Demands.{Finding, is_quiet}
-use Rattle.strkw_keywords.specs.Errors.{Assertion, reported, AllReport, NodeReports, IsInUse, all_quiet, Appends}
+use Rattle.strkw_keywords.specs.Demands.{is_quiet}
+use Rattle.strkw_keywords.specs.Errors.{Assertion, NodeReports, IsInUse, all_quiet, Appends}
+use Rattle.strkw_keywords.proofs.InTurn.{in_turn}
 use Rattle.strkw_keywords.specs.declared.validator.Validator.{Validator}
 use Rattle.strkw_keywords.specs.Validators.{assertions_of, assertions_in, remarks_in, listed_remark, remark_made}
 
 -- the errors by one list of assertions, and then by another
-all_append : (front back : List Assertion) (lists : Lists) (site : Site) (text : List ℕ) (es fs : List Report) → AllReport front lists site text es → AllReport back lists site text fs → AllReport (front ++ back) lists site text (es ++ fs)
-all_append [] back lists site text es fs a b = rw a b
-all_append (x ∷ front) back lists site text es fs a b =
-    (a.0, a.1 ++ fs, a.2, ap (λ l. l ++ fs) a.3 ∙ append_assoc (reported (standing x.place site) text a.0) a.1 fs, all_append front back lists site text a.1 fs a.4 b)
-
 pub report_append : (front back : List Assertion) (lists : Lists) (site : Site) (at : Option (List ℕ)) (es fs : List Report) → NodeReports front lists site at es → NodeReports back lists site at fs → NodeReports (front ++ back) lists site at (es ++ fs)
-report_append front back lists site None es fs a b = rw (a, b) refl
-report_append front back lists site (Some text) es fs a b = all_append front back lists site text es fs a b
+report_append front back lists site at es fs a b = (in_turn front back lists site at (es ++ fs)).1 (record { early = es; late = fs; of_first = a; of_others = b; joined = refl })
 
 -- where nothing is reported, no part reports anything
-nothing_from : (place : Place) (site : Site) (fault : Option Finding) (text : List ℕ) (rest : List Report) → [] ≡ reported (standing place site) text fault ++ rest → ([] ≡ reported (standing place site) text fault) × (rest ≡ [])
-nothing_from place site None text rest e = (refl, sym e)
-nothing_from place site (Some f) text rest e = absurd (cc)
-
-all_split : (front back : List Assertion) (lists : Lists) (site : Site) (text : List ℕ) → AllReport (front ++ back) lists site text [] → AllReport front lists site text [] × AllReport back lists site text []
-all_split [] back lists site text a = (refl, a)
-all_split (x ∷ front) back lists site text a =
-    let parts = nothing_from x.place site a.0 text a.1 a.3 in
-    let below = all_split front back lists site text (subst (λ l. AllReport (front ++ back) lists site text l) parts.1 a.4) in
-    ((a.0, [], a.2, parts.0 ∙ sym (append-nil (reported (standing x.place site) text a.0)), below.0), below.1)
+no_part : (P Q : List Report → Type 0) (early late : List Report) → [] ≡ early ++ late → P early → Q late → P [] × Q []
+no_part P Q [] late joined p q = (p, subst Q (sym joined) q)
+no_part P Q (r ∷ early) late joined p q = absurd (cc)
 
 pub nothing_split : (front back : List Assertion) (lists : Lists) (site : Site) (at : Option (List ℕ)) → NodeReports (front ++ back) lists site at [] → NodeReports front lists site at [] × NodeReports back lists site at []
-nothing_split front back lists site None a = (refl, refl)
-nothing_split front back lists site (Some text) a = all_split front back lists site text a
+nothing_split front back lists site at a =
+    let turn = (in_turn front back lists site at []).0 a in
+    no_part (NodeReports front lists site at) (NodeReports back lists site at) turn.early turn.late turn.joined turn.of_first turn.of_others
 
 -- nothing is added where nothing is asserted
 pub nothing_yet : (lists : Lists) (site : Site) (at : Option (List ℕ)) (old : List Report) → Appends (NodeReports [] lists site at) old old
@@ -98,10 +87,6 @@ and_false : (a : Bool) → (a && false) ≡ false
 and_false true = refl
 and_false false = refl
 
-not_false : (b : Bool) → (b ≡ false → ⊥) → b ≡ true
-not_false true h = refl
-not_false false h = absurd (h refl)
-
 pub quiet-append : (front back : List Assertion) → all_quiet (front ++ back) ≡ (all_quiet front && all_quiet back)
 quiet-append [] back = refl
 quiet-append (a ∷ front) back = ap (λ b. is_quiet a.demand && b) (quiet-append front back) ∙ and_assoc (is_quiet a.demand) (all_quiet front) (all_quiet back)
@@ -113,7 +98,7 @@ module _ {E : Type 0} (outcome : E → List ℕ → Outcome) where
   loud_at (w ∷ vs) (suc i) v h e q = rw (quiet-append (assertions_of outcome w) (assertions_in outcome vs), loud_at vs i v (omega (arith, h)) e q, and_false (all_quiet (assertions_of outcome w))) refl
 
   pub quiet_at : (vs : List (Validator E)) (i : ℕ) (v : Validator E) → i < length vs → v ≡ get_or vs i v → all_quiet (assertions_in outcome vs) ≡ true → all_quiet (assertions_of outcome v) ≡ true
-  quiet_at vs i v h e q = not_false (all_quiet (assertions_of outcome v)) (λ loud. let f = loud_at vs i v h e loud in cc)
+  quiet_at vs i v h e q = true_from_ne_false (all_quiet (assertions_of outcome v)) (λ loud. let f = loud_at vs i v h e loud in cc)
 
   pub quiet_more : (vs : List (Validator E)) (i : ℕ) (v : Validator E) → i < length vs → v ≡ get_or vs i v → all_quiet (assertions_in outcome (take i vs)) ≡ true → all_quiet (assertions_of outcome v) ≡ true → all_quiet (assertions_in outcome (take (i + 1) vs)) ≡ true
   quiet_more vs i v h e before one = rw (in_more outcome vs i v h e, quiet-append (assertions_in outcome (take i vs)) (assertions_of outcome v), before, one) refl

@@ -1,5 +1,5 @@
 -- Lemmas on what a run has written.
-use Rattle.std.proofs.Common.{◌≡◌, ℕ, ◌+◌, ◌-◌, ◌<◌, true, false, Option, List, [], ◌∷◌, ◌++◌, Result, Ok, Err, OnOk, OnErr, is_err, length, take, drop, refl, sym, ap, subst, ◌∙◌, append_assoc, arith, inl, inr, cond, eqb, length-append, take-append-drop, eq-eqb}
+use Rattle.std.proofs.Common.{◌≡◌, ℕ, ◌+◌, ◌-◌, ◌<◌, true, false, Option, List, [], ◌∷◌, ◌++◌, Result, Ok, Err, OnOk, OnErr, is_err, length, take, drop, refl, sym, ap, subst, ◌∙◌, append_assoc, append-nil, arith, inl, inr, cond, eqb, length-append, take-append-drop, eq-eqb}
 use Rattle.std.proofs.lemmas.List.{take-append-le}
 use Rattle.std.proofs.Math.Seq.{take-append-add}
 use Rattle.std.proofs.lemmas.Bool.{cases_lt, ne_eqb}
@@ -10,6 +10,7 @@ use Rattle.strkw_cli.specs.Outcome.{AnswersSome, IsCutShort, IsOutcome}
 use Rattle.strkw_cli.specs.Serving.{Serves}
 use Rattle.strkw_cli.specs.declared.faults.RunFault.{RunFault}
 use Rattle.strkw_cli.specs.declared.faults.RunFault.TheVariants.{Read, Write, Memory, TooLong}
+use Rattle.strkw_cli.proofs.LineLemmas.{ended_lines-append, lines-append}
 use Rattle.strkw_cli.proofs.AnswerLemmas.{AreAnswers-append, AreAnswers-one, none_ended}
 
 -- the same after the lines that were answered before
@@ -64,24 +65,31 @@ cut_short (line ∷ more) later out count (first, rest, is, are, e) short = elim
 pub cut_short_from_some : (requests : List (List ℕ)) (out : List ℕ) (count : ℕ) → AnswersSome requests out → count < length out → IsCutShort requests (take count out)
 cut_short_from_some requests out count some short = rw some.of_requests (cut_short some.answered some.later out count some.wrote short)
 
-pub some_ended : (bytes out : List ℕ) → AreAnswers (ended_lines bytes) out → AnswersSome (lines bytes) out
+-- the answers to some beginning of the lines that end
+pub some_ended : (bytes out : List ℕ) → AnswersSome (ended_lines bytes) out → AnswersSome (lines bytes) out
 unfolding lines
-some_ended bytes out are = record {
-  answered = ended_lines bytes;
-  later = cond (eqb (length (last_part bytes)) 0) [] (last_part bytes ∷ []);
-  of_requests = refl;
-  wrote = are;
-}
+some_ended bytes out some =
+    let last : List (List ℕ) = cond (eqb (length (last_part bytes)) 0) [] (last_part bytes ∷ []) in
+    record {
+      answered = some.answered;
+      later = some.later ++ last;
+      of_requests = ap (λ x. x ++ last) some.of_requests ∙ append_assoc some.answered some.later last;
+      wrote = some.wrote;
+    }
+
+-- the answers to all of them
+pub some_all : (requests : List (List ℕ)) (out : List ℕ) → AreAnswers requests out → AnswersSome requests out
+some_all requests out are = record { answered = requests; later = []; of_requests = sym (append-nil requests); wrote = are }
 
 -- nothing is the answers to no line
 pub some_none : (requests : List (List ℕ)) → AnswersSome requests []
 some_none requests = record { answered = []; later = requests; of_requests = refl; wrote = refl }
 
 -- whether a piece was answered whole or not
-pub some_either : {T E : Type 0} (r : Result T E) (old out bytes : List ℕ) → old ≡ [] → OnOk r ((made : List ℕ) × (out ≡ old ++ made) × AreAnswers (ended_lines bytes) made)
-    → OnErr r ((written : List ℕ) × (out ≡ old ++ written) × AnswersSome (lines bytes) written) → AnswersSome (lines bytes) out
-some_either (Ok x) old out bytes none (made, is, are) part = subst (AnswersSome (lines bytes)) (sym (is ∙ ap (λ x. x ++ made) none)) (some_ended bytes made are)
-some_either (Err x) old out bytes none whole (written, is, some) = subst (AnswersSome (lines bytes)) (sym (is ∙ ap (λ x. x ++ written) none)) some
+pub some_either : {T E : Type 0} (r : Result T E) (old out : List ℕ) (requests : List (List ℕ)) → old ≡ [] → OnOk r ((made : List ℕ) × (out ≡ old ++ made) × AreAnswers requests made)
+    → OnErr r ((written : List ℕ) × (out ≡ old ++ written) × AnswersSome requests written) → AnswersSome requests out
+some_either (Ok x) old out requests none (made, is, are) part = subst (AnswersSome requests) (sym (is ∙ ap (λ x. x ++ made) none)) (some_all requests made are)
+some_either (Err x) old out requests none whole (written, is, some) = subst (AnswersSome requests) (sym (is ∙ ap (λ x. x ++ written) none)) some
 
 -- what a failed write of the answers to some beginning of the lines has written
 pub written_short : {T E : Type 0} (r : Result T E) (a b : Option (List ℕ)) (requests : List (List ℕ)) (out : List ℕ) → is_err r ≡ true
@@ -107,22 +115,23 @@ unfolding lines
 lines-last_one line begun some = rw (none_ended line begun, begun, ne_eqb (length line) 0 some) refl
 
 -- a part of a run, after the lines that were answered before
-pub Serves-after : {T : Type 0} (r : Result T RunFault) (whole front requests : List (List ℕ)) (made written : List ℕ) → AreAnswers front made → Serves r whole requests written → Serves r (front ++ whole) (front ++ requests) (made ++ written)
-Serves-after (Ok x) whole front requests made written are s = AreAnswers-append front whole made written are s
-Serves-after (Err Read) whole front requests made written are s = s
-Serves-after (Err TooLong) whole front requests made written are s = s
-Serves-after (Err Memory) whole front requests made written are s = AnswersSome-after front requests made written are s
-Serves-after (Err Write) whole front requests made written are s = IsCutShort-after front requests made written are s
+pub Serves-after : {T : Type 0} (r : Result T RunFault) (whole : List (List ℕ)) (before more made written : List ℕ) → AreAnswers (ended_lines before) made → Serves r whole (last_part before ++ more) written
+    → Serves r (ended_lines before ++ whole) (before ++ more) (made ++ written)
+Serves-after (Ok x) whole before more made written are s = AreAnswers-append (ended_lines before) whole made written are s
+Serves-after (Err Read) whole before more made written are s = s
+Serves-after (Err TooLong) whole before more made written are s = s
+Serves-after (Err Memory) whole before more made written are s = rw (ended_lines-append before more) (AnswersSome-after (ended_lines before) (ended_lines (last_part before ++ more)) made written are s)
+Serves-after (Err Write) whole before more made written are s = rw (lines-append before more) (IsCutShort-after (ended_lines before) (lines (last_part before ++ more)) made written are s)
 
 -- the fault of a part of a run is that of the run
-pub outcome_from_fault : {T : Type 0} (U : Type 0) (r : Result T RunFault) (e : RunFault) (whole : List (List ℕ)) (read written : List ℕ) → r ≡ Err e → Serves {T = U} (Err e) whole (lines read) written → IsOutcome r read written
+pub outcome_from_fault : {T : Type 0} (U : Type 0) (r : Result T RunFault) (e : RunFault) (whole : List (List ℕ)) (read written : List ℕ) → r ≡ Err e → Serves {T = U} (Err e) whole read written → IsOutcome r read written
 outcome_from_fault U r Read whole read written is s = absurd s
 outcome_from_fault U r TooLong whole read written is s = absurd s
 outcome_from_fault U r Memory whole read written is s = rw is s
 outcome_from_fault U r Write whole read written is s = rw is s
 
 -- the result of the last part of a run is that of the run
-pub outcome_from_last : {T : Type 0} (r : Result T RunFault) (read written : List ℕ) → Serves r (lines read) (lines read) written → IsOutcome r read written
+pub outcome_from_last : {T : Type 0} (r : Result T RunFault) (read written : List ℕ) → Serves r (lines read) read written → IsOutcome r read written
 outcome_from_last (Ok x) read written s = s
 outcome_from_last (Err Read) read written s = absurd s
 outcome_from_last (Err TooLong) read written s = absurd s

@@ -1,14 +1,16 @@
 -- The notes of a schema object hold no number but whole ones of 64 bits, and neither does what its refusal prints. So
 -- each has a text.
-use Rattle.std.proofs.Common.{◌≡◌, inl, inr, ℕ, List, [], ◌∷◌, Bool, true, false, if◌then◌else◌, Option, Some, None, MatchOption, refl, sym, subst}
+use Rattle.std.proofs.Common.{◌≡◌, ◌⊎◌, inl, inr, ℕ, List, [], ◌∷◌, Bool, true, false, if◌then◌else◌, Option, Some, None, MatchOption, refl, sym, ap, subst}
 use Rattle.std.specs.List.{AllByRecursion}
 use Rattle.std.proofs.lemmas.List.Elements.{All-nil, All-cons, All-append}
 use Rattle.std.specs.Str.{chars}
 use Rattle.serde_json.specs.Data.{Data, null, boolean, number, string, array, object, Members}
 use Rattle.serde_json.specs.Find.{get_member, as_str}
 use Rattle.serde_json.specs.Written.{has_float}
-use Rattle.strkw_report.specs.Refusals.{Refusal, not_string, unknown_format, fractional_number, prints_float}
-use Rattle.strkw_cli.specs.Noted.{FirstRefusal}
+use Rattle.strkw_report.specs.Refusals.{Refusal, not_string, unknown_format, fractional_number, prints_float, reason_of, refusal_of}
+use Rattle.strkw_report.specs.declared.refusal.CompileError.{CompileError}
+use Rattle.strkw_keywords.specs.Compiled.{out_of_memory}
+use Rattle.strkw_cli.specs.Noted.{FirstRefusal, remarks_on, Notes}
 use Rattle.strkw_coding.specs.declared.codec.Codec.{Codec}
 use Rattle.strkw_coding.specs.declared.media_type.BuiltinMediaType.{BuiltinMediaType}
 use Rattle.strkw_keywords.specs.declared.builtin.BuiltinFormat.{BuiltinFormat}
@@ -18,7 +20,7 @@ use Rattle.strkw_keywords.specs.Keywords.{keyword_name}
 use Rattle.strkw_keywords.specs.Meanings.{Choice}
 use Rattle.strkw_keywords.specs.Places.{Place}
 use Rattle.strkw_keywords.specs.Demands.{Demand, at_least, at_most}
-use Rattle.strkw_keywords.specs.Remarks.{remark_at}
+use Rattle.strkw_keywords.specs.Remarks.{Remark, remark_at}
 use Rattle.strkw_keywords.specs.Object.{Settings, Entry, nothing, malformed, gives, Keyed, of_string, of_text, known_media_type, known_codec, known_format, ContentRule, ignored, checked, noted, content_rule, encoded_check, media_type_beside, media_type_check, encoding_check, encoding_beside, noted_text, schema_beside, media_type_entry, encoding_entry, schema_entry, checks_formats, ignores_unknown, checked_format, format_entry, limit_entry, as_limit, min_entry, max_entry, engine_entry, entry_of, value_at, IsPatternEntry, IsPatternValue, AreEntries, remark_by, remarked, refusal_or, refusal, no_string}
 use Rattle.strkw_cli.specs.Printed.{HasText, ArePrintable}
 
@@ -176,8 +178,15 @@ listed_printable : (place : Place) (es : List Keyed) → ArePrintableEntries es 
 listed_printable place [] each = All-nil HasText
 listed_printable place (e ∷ others) each = All-append HasText (remark_by place e.keyword e.entry) (remarked place others) (remark_printable place e.keyword e.entry each.0) (listed_printable place others each.1)
 
-pub remarks_printable : (s : Settings) (ms : Members) (es : List Keyed) → AreEntries s ms es → ArePrintable (remarked s.place es)
+node_printable : (node : Option (List ℕ)) (rs : List Remark) → ArePrintable rs → ArePrintable (remarks_on node rs)
+node_printable None rs p = All-nil HasText
+node_printable (Some text) rs p = p
+
+remarks_printable : (s : Settings) (ms : Members) (es : List Keyed) → AreEntries s ms es → ArePrintable (remarked s.place es)
 remarks_printable s ms es are = listed_printable s.place es (entries_printable s ms es are)
+
+pub notes_printable : (s : Settings) (ms : Members) (node : Option (List ℕ)) (remarks : List Remark) → Notes s ms node remarks → ArePrintable remarks
+notes_printable s ms node remarks (es, are, is) = subst ArePrintable (sym is) (node_printable node (remarked s.place es) (remarks_printable s ms es are))
 
 abbrev pub PrintsNoFloat : Option Refusal → Type 0
 PrintsNoFloat None = Unit {0}
@@ -194,3 +203,8 @@ first_printable place (e ∷ others) each = refused_printable place e.entry (ref
 
 pub refusal_printable : (s : Settings) (ms : Members) (why : Refusal) → FirstRefusal s ms (Some why) → prints_float why.reason ≡ false
 refusal_printable s ms why (es, are, first) = subst PrintsNoFloat first (first_printable s.place es (entries_printable s ms es are))
+
+-- want of memory included
+pub refused_prints : (s : Settings) (ms : Members) (e : CompileError) → (refusal_of e ≡ out_of_memory) ⊎ FirstRefusal s ms (Some (refusal_of e)) → prints_float (reason_of e.kind) ≡ false
+refused_prints s ms e (inl none) = ap (λ r. prints_float r.reason) none
+refused_prints s ms e (inr first) = refusal_printable s ms (refusal_of e) first

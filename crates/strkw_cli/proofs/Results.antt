@@ -1,5 +1,9 @@
 -- On results, and on lists that grow.
-use Rattle.std.proofs.Common.{◌≡◌, ℕ, List, ◌++◌, Result, Ok, Err, OnErr, ◌↔◌, Bool, false, IsTrue, ap, ◌∙◌, append_assoc}
+use Rattle.std.proofs.Common.{◌≡◌, ℕ, List, ◌++◌, Result, Ok, Err, OnOk, OnErr, ap, ◌∙◌, append_assoc}
+
+pub on_ok : {T E P : Type 0} (r : Result T E) → P → OnOk r P
+on_ok (Ok x) p = p
+on_ok (Err e) p = tt
 
 pub on_err : {T E P : Type 0} (r : Result T E) → P → OnErr r P
 on_err (Ok x) p = tt
@@ -8,6 +12,3 @@ on_err (Err e) p = p
 -- what grew twice has grown
 pub grown_more : (old a mid more new : List ℕ) → mid ≡ old ++ a → new ≡ mid ++ more → (x : List ℕ) × (new ≡ old ++ x)
 grown_more old a mid more new e f = (a ++ more, f ∙ ap (λ z. z ++ more) e ∙ append_assoc old a more)
-
-pub no_truth : {P : Type 0} (b : Bool) → b ≡ false → IsTrue b ↔ P → P → ⊥
-no_truth b untrue told p = let yes = told.1 p in absurd (cc)

@@ -48,17 +48,17 @@ module _ (left left' left'' taken taken' taken'' : Option (List ℕ)) (line : Li
 
   -- the clause of `run` at the end, after what the last part of the run has written
   pub written_at_end : {T : Type 0} (r : Result T RunFault) → Consumes left' left'' []
-      → (written : List ℕ) × Appends taken' taken'' written × Serves r (lines line) (lines line) written
+      → (written : List ℕ) × Appends taken' taken'' written × Serves r (lines line) line written
       → (read : List ℕ) × (written : List ℕ) × Consumes left left'' read × Appends taken taken'' written × IsOutcome r read written
   written_at_end r none (written, took, serves) =
-      let all : ended_lines runs.read ++ lines line ≡ lines runs.read =
-      ap (λ x. ended_lines runs.read ++ lines x) (runs.begun ∙ sym (append-nil (last_part runs.read))) ∙ sym (lines-append runs.read []) ∙ ap lines (append-nil runs.read) in
-      let joined = Serves-after r (lines line) (ended_lines runs.read) (lines line) runs.written written runs.answered serves in (
-        runs.read,
+      let begun : line ≡ last_part runs.read ++ [] = runs.begun ∙ sym (append-nil (last_part runs.read)) in
+      let all : ended_lines runs.read ++ lines line ≡ lines (runs.read ++ []) = ap (λ l. ended_lines runs.read ++ lines l) begun ∙ sym (lines-append runs.read []) in
+      let joined = Serves-after r (lines line) runs.read [] runs.written written runs.answered (subst (λ l. Serves r (lines line) l written) begun serves) in (
+        runs.read ++ [],
         runs.written ++ written,
-        subst (Consumes left left'') (append-nil runs.read) (Consumes-trans left left' left'' runs.read [] runs.consumed none),
+        Consumes-trans left left' left'' runs.read [] runs.consumed none,
         Appends-trans taken taken' taken'' runs.written written runs.took took,
-        outcome_from_last r runs.read (runs.written ++ written) (subst (λ q. Serves r q q (runs.written ++ written)) all joined),
+        outcome_from_last r (runs.read ++ []) (runs.written ++ written) (subst (λ q. Serves r q (runs.read ++ []) (runs.written ++ written)) all joined),
       )
 
   -- one more piece that is served
@@ -79,16 +79,14 @@ module _ (left left' left'' taken taken' taken'' : Option (List ℕ)) (line : Li
 
   -- the clause of `run` at a fault while a piece is served
   pub written_at_fault : {T : Type 0} (U : Type 0) (r : Result T RunFault) (e : RunFault) (piece : List ℕ) → Consumes left' left'' piece → r ≡ Err e
-      → (written : List ℕ) × Appends taken' taken'' written × Serves {T = U} (Err e) (ended_lines (line ++ piece)) (lines (line ++ piece)) written
+      → (written : List ℕ) × Appends taken' taken'' written × Serves {T = U} (Err e) (ended_lines (line ++ piece)) (line ++ piece) written
       → (read : List ℕ) × (written : List ℕ) × Consumes left left'' read × Appends taken taken'' written × IsOutcome r read written
   written_at_fault U r e piece consumed is (written, took, serves) =
-      let all : ended_lines runs.read ++ lines (line ++ piece) ≡ lines (runs.read ++ piece) =
-      ap (λ x. ended_lines runs.read ++ lines (x ++ piece)) runs.begun ∙ sym (lines-append runs.read piece) in
-      let whole = ended_lines runs.read ++ ended_lines (line ++ piece) in
-      let joined = Serves-after {T = U} (Err e) (ended_lines (line ++ piece)) (ended_lines runs.read) (lines (line ++ piece)) runs.written written runs.answered serves in (
+      let whole = ended_lines (line ++ piece) in
+      let joined = Serves-after {T = U} (Err e) whole runs.read piece runs.written written runs.answered (subst (λ l. Serves {T = U} (Err e) whole (l ++ piece) written) runs.begun serves) in (
         runs.read ++ piece,
         runs.written ++ written,
         Consumes-trans left left' left'' runs.read piece runs.consumed consumed,
         Appends-trans taken taken' taken'' runs.written written runs.took took,
-        outcome_from_fault U r e whole (runs.read ++ piece) (runs.written ++ written) is (subst (λ q. Serves {T = U} (Err e) whole q (runs.written ++ written)) all joined),
+        outcome_from_fault U r e (ended_lines runs.read ++ whole) (runs.read ++ piece) (runs.written ++ written) is joined,
       )

@@ -10,3 +10,4 @@ pub mod Lines
 pub mod Outcome
 pub mod Serving
 pub mod Faults
+pub mod HostDevices

@@ -25,10 +25,11 @@ pub record IsCutShort (requests : List (List ℕ)) (written : List ℕ) : Type 0
   pub of_next : IsAnswer next (begun ++ missing)
   pub wrote : written ≡ whole ++ begun
 
--- What is written for the bytes read, by the result of the run.
+-- What is written for the bytes read, by the result of the run. After a fault of reading, of memory or of length, only
+-- lines whose line feed was read are answered, and each of their answers is whole.
 abbrev pub IsOutcome : {T : Type 0} → Result T RunFault → List ℕ → List ℕ → Type 0
 IsOutcome (Ok done) read written = IsOutput read written
 IsOutcome (Err Read) read written = AreAnswers (ended_lines read) written
 IsOutcome (Err TooLong) read written = AreAnswers (ended_lines read) written × (2 ^ 64 - 1 ≤ length read)
-IsOutcome (Err Memory) read written = AnswersSome (lines read) written
+IsOutcome (Err Memory) read written = AnswersSome (ended_lines read) written
 IsOutcome (Err Write) read written = IsCutShort (lines read) written

@@ -1,6 +1,6 @@
 //! Why a run ended before the end of its input.
 
-ghost use Rattle.std.specs.Prelude.{◌≡◌, codes};
+ghost use Rattle.std.specs.Prelude.{◌≡◌};
 ghost use Rattle.strkw_cli.specs.declared.faults.RunFault.TheVariants.{Memory};
 ghost use Rattle.strkw_cli.specs.Faults.{fault_text};
 
@@ -37,7 +37,7 @@ impl RunFault {
 impl From<AllocError> for RunFault {
     ghost from_gives = { λ _ e. e ≡ Memory };
 
-    fn from(_e: AllocError) -> RunFault {
-        RunFault::Memory
+    fn from(_e: AllocError) -> Self {
+        Self::Memory
     }
 }

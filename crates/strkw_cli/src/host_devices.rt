@@ -1,7 +1,8 @@
 //! Devices of the host. They tell none of their bytes.
 
-ghost use Rattle.std.specs.Prelude.{◌≡◌, ◌<◌, ◌≤◌, None, IfSome, IfOk, OnOk, OnErr, true, false, length, take};
+ghost use Rattle.std.specs.Prelude.{◌≡◌, ◌<◌, ◌≤◌, None, IfSome, IfOk, OnOk, OnErr, true, false, not, length, take};
 ghost use Rattle.std.specs.Io.KnownBytes.{Appends, ReadConsumes, WriteAppends};
+ghost use Rattle.strkw_cli.specs.HostDevices.{reader_of, writer_of};
 
 use super::devices::{DeviceFailed, Sink, Source};
 use std::io::{Read, Write};
@@ -10,17 +11,18 @@ use std::io::{Read, Write};
 #[derive(Drop)]
 pub struct HostSource<R: Read> {
     reader: R,
-    failed: bool,
+    reader_works: bool,
 }
 
 impl<R: Read> HostSource<R> {
-    /// A reader that has not failed.
+    /// A source over a reader, which it keeps. It has not failed.
     pub fn new(reader: R) -> Self
-        ensures { ⟦<HostSource<R> as Source>⟧.has_failed result ≡ false }
+        ensures reader { reader_of result ≡ reader }
+        ensures works { ⟦<HostSource<R> as Source>⟧.has_failed result ≡ false }
     {
         HostSource {
             reader,
-            failed: false,
+            reader_works: true,
         }
     }
 }
@@ -28,27 +30,27 @@ impl<R: Read> HostSource<R> {
 impl<R: Read> Source for HostSource<R> {
     ghost left = { λ _. None };
 
-    ghost has_failed = { λ source. source.failed };
+    ghost has_failed = { λ source. not source.reader_works };
 
     fn read(&mut self, buffer: &mut [u8]) -> Result<usize, DeviceFailed>
         ensures count { IfOk result (λ count. count ≤ length buffer.new) }
         ensures moved { ReadConsumes None None result buffer.new }
-        ensures ok { OnOk result (self.new.failed ≡ self.old.failed) }
-        ensures err { OnErr result (self.new.failed ≡ true) }
+        ensures ok { OnOk result (⟦<HostSource<R> as Source>⟧.has_failed self.new ≡ ⟦<HostSource<R> as Source>⟧.has_failed self.old) }
+        ensures err { OnErr result (⟦<HostSource<R> as Source>⟧.has_failed self.new ≡ true) }
         // Where the reader tells its bytes, they are the ones that were read.
-        ensures reader { ReadConsumes (R.remaining self.old.reader) (R.remaining self.new.reader) result buffer.new }
+        ensures reader { ReadConsumes (R.remaining (reader_of self.old)) (R.remaining (reader_of self.new)) result buffer.new }
     {
         match self.reader.read(buffer) {
             Ok(count) => Ok(count),
             Err(_) => {
-                self.failed = true;
+                self.reader_works = false;
                 Err(DeviceFailed)
             }
         }
     }
 
     fn has_failed(&self) -> bool {
-        self.failed
+        !self.reader_works
     }
 }
 
@@ -57,17 +59,18 @@ impl<R: Read> Source for HostSource<R> {
 #[derive(Drop)]
 pub struct HostSink<W: Write> {
     writer: W,
-    failed: bool,
+    writer_works: bool,
 }
 
 impl<W: Write> HostSink<W> {
-    /// A writer that has not failed.
+    /// A sink over a writer, which it keeps. It has not failed.
     pub fn new(writer: W) -> Self
-        ensures { ⟦<HostSink<W> as Sink>⟧.has_failed result ≡ false }
+        ensures writer { writer_of result ≡ writer }
+        ensures works { ⟦<HostSink<W> as Sink>⟧.has_failed result ≡ false }
     {
         HostSink {
             writer,
-            failed: false,
+            writer_works: true,
         }
     }
 
@@ -75,8 +78,8 @@ impl<W: Write> HostSink<W> {
     fn write_through(&mut self, bytes: &[u8]) -> Option<usize>
         ensures count { IfSome result (λ count. count ≤ length bytes.now) }
         ensures some { IfSome result (λ count. 0 < length bytes.now → 0 < count) }
-        ensures failed { self.new.failed ≡ self.old.failed }
-        ensures writer { IfSome result (λ count. Appends (W.contents self.old.writer) (W.contents self.new.writer) (take count bytes.now)) }
+        ensures works { self.new.writer_works ≡ self.old.writer_works }
+        ensures writer { IfSome result (λ count. Appends (W.contents (writer_of self.old)) (W.contents (writer_of self.new)) (take count bytes.now)) }
     {
         let count = self.writer.write(bytes).ok()?;
         if count == 0 && !bytes.is_empty() {
@@ -90,28 +93,28 @@ impl<W: Write> HostSink<W> {
 impl<W: Write> Sink for HostSink<W> {
     ghost taken = { λ _. None };
 
-    ghost has_failed = { λ sink. sink.failed };
+    ghost has_failed = { λ sink. not sink.writer_works };
 
     fn write(&mut self, bytes: &[u8]) -> Result<usize, DeviceFailed>
         ensures count { IfOk result (λ count. count ≤ length bytes.now) }
         ensures some { IfOk result (λ count. 0 < length bytes.now → 0 < count) }
         ensures moved { WriteAppends None None result bytes.now }
-        ensures ok { OnOk result (self.new.failed ≡ self.old.failed) }
-        ensures err { OnErr result (self.new.failed ≡ true) }
+        ensures ok { OnOk result (⟦<HostSink<W> as Sink>⟧.has_failed self.new ≡ ⟦<HostSink<W> as Sink>⟧.has_failed self.old) }
+        ensures err { OnErr result (⟦<HostSink<W> as Sink>⟧.has_failed self.new ≡ true) }
         // Where the writer tells its bytes, the ones taken were appended.
-        ensures writer { IfOk result (λ count. Appends (W.contents self.old.writer) (W.contents self.new.writer) (take count bytes.now)) }
+        ensures writer { IfOk result (λ count. Appends (W.contents (writer_of self.old)) (W.contents (writer_of self.new)) (take count bytes.now)) }
     {
         let count = self.write_through(bytes);
         match count {
             Some(count) => Ok(count),
             None => {
-                self.failed = true;
+                self.writer_works = false;
                 Err(DeviceFailed)
             }
         }
     }
 
     fn has_failed(&self) -> bool {
-        self.failed
+        !self.writer_works
     }
 }

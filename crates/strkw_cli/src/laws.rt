@@ -1,9 +1,9 @@
 //! Laws of the definitions. Each is a fact that a caller gains by the call; the calls do nothing.
 
-ghost use Rattle.std.specs.Prelude.{◌≡◌, ◌↔◌, List, [], ℕ, Option, None};
+ghost use Rattle.std.specs.Prelude.{◌≡◌, ◌↔◌, List, [], ℕ, Option, None, Some, false};
 ghost use Rattle.serde_json.specs.Data.{Members};
 ghost use Rattle.strkw_report.specs.Kinds.{Report};
-ghost use Rattle.strkw_report.specs.Refusals.{Refusal};
+ghost use Rattle.strkw_report.specs.Refusals.{Refusal, prints_float};
 ghost use Rattle.strkw_report.specs.declared.error.Site.{Site};
 ghost use Rattle.strkw_keywords.specs.Meanings.{Lists};
 ghost use Rattle.strkw_keywords.specs.Errors.{NodeReports, IsInUse};
@@ -11,6 +11,7 @@ ghost use Rattle.strkw_keywords.specs.Remarks.{Remark};
 ghost use Rattle.strkw_keywords.specs.Object.{Settings, Keyed, AreEntries, Errors};
 ghost use Rattle.strkw_cli.specs.declared.strings.StringKeywords.{StringKeywords};
 ghost use Rattle.strkw_cli.specs.Noted.{FirstRefusal, remarks_on, Notes};
+ghost use Rattle.strkw_cli.specs.Printed.{ArePrintable};
 ghost use Rattle.strkw_cli.specs.Answer.{IsAnswer, IsOutput};
 ghost use Rattle.strkw_cli.specs.Compiled.{keywords_assertions, keywords_remarks, IsCompiledFrom};
 
@@ -44,25 +45,35 @@ pub fn compiled_object_has_no_refusal<E: RegexEngine>()
     ensures { (s : Settings) (ms : Members) (k : StringKeywords E) (first : Option Refusal) → IsCompiledFrom E.outcome s ms k → FirstRefusal s ms first → first ≡ None }
 {}
 
-/// A schema object has entries.
+/// A schema object has a list of entries.
 pub fn entries_exist()
     ensures { (s : Settings) (ms : Members) → (es : List Keyed) × AreEntries s ms es }
 {}
 
-/// A schema object has one list of entries.
+/// A schema object has at most one list of entries.
 pub fn entries_are_determined()
     ensures { (s : Settings) (ms : Members) (a b : List Keyed) → AreEntries s ms a → AreEntries s ms b → a ≡ b }
 {}
 
-/// A schema object has one first refusal, or none.
+/// What the first refusal of a schema object is, or that it has none, has at most one answer.
 pub fn first_refusal_is_determined()
     ensures { (s : Settings) (ms : Members) (a b : Option Refusal) → FirstRefusal s ms a → FirstRefusal s ms b → a ≡ b }
 {}
 
-/// An instance has one list of notes by a schema object.
+/// An instance has at most one list of notes by a schema object.
 pub fn notes_are_determined()
     ensures { (s : Settings) (ms : Members) (instance : Option (List ℕ)) (a b : List Remark)
         → Notes s ms instance a → Notes s ms instance b → a ≡ b }
+{}
+
+/// A first refusal prints no number but whole ones of 64 bits: `CompileError::text` gives its text.
+pub fn refusals_have_texts()
+    ensures { (s : Settings) (ms : Members) (why : Refusal) → FirstRefusal s ms (Some why) → prints_float why.reason ≡ false }
+{}
+
+/// The value of a note holds no number but whole ones of 64 bits, so that its compact JSON text is defined.
+pub fn notes_have_texts()
+    ensures { (s : Settings) (ms : Members) (instance : Option (List ℕ)) (remarks : List Remark) → Notes s ms instance remarks → ArePrintable remarks }
 {}
 
 /// An instance that is no text has no errors.
@@ -75,7 +86,7 @@ pub fn no_text_has_no_notes()
     ensures { (s : Settings) (ms : Members) (remarks : List Remark) → Notes s ms None remarks → remarks ≡ [] }
 {}
 
-/// A line has one answer.
+/// A line has at most one answer.
 pub fn answer_is_determined()
     ensures { (line a b : List ℕ) → IsAnswer line a → IsAnswer line b → a ≡ b }
 {
@@ -84,7 +95,7 @@ pub fn answer_is_determined()
     notes_are_determined();
 }
 
-/// An input has one output.
+/// An input has at most one output.
 pub fn output_is_determined()
     ensures { (input a b : List ℕ) → IsOutput input a → IsOutput input b → a ≡ b }
 {

@@ -1,6 +1,6 @@
 //! Devices in memory. They tell their bytes.
 
-ghost use Rattle.std.specs.Prelude.{◌≡◌, ◌≤◌, Some, [], false, vec_len, drop};
+ghost use Rattle.std.specs.Prelude.{◌≡◌, ◌≤◌, Some, [], false, not, vec_len, drop};
 
 use super::devices::{DeviceFailed, Sink, Source};
 use std::alloc::Global;
@@ -45,7 +45,7 @@ impl Source for MemorySource {
 #[derive(Drop)]
 pub struct MemorySink {
     bytes: Vec<u8>,
-    failed: bool,
+    works: bool,
 }
 
 impl MemorySink {
@@ -56,7 +56,7 @@ impl MemorySink {
     {
         MemorySink {
             bytes: Vec::new(alloc),
-            failed: false,
+            works: true,
         }
     }
 
@@ -71,19 +71,19 @@ impl MemorySink {
 impl Sink for MemorySink {
     ghost taken = { λ sink. Some sink.bytes.items };
 
-    ghost has_failed = { λ sink. sink.failed };
+    ghost has_failed = { λ sink. not sink.works };
 
     fn write(&mut self, bytes: &[u8]) -> Result<usize, DeviceFailed> {
         match self.bytes.extend_from_slice(bytes) {
             Ok(()) => Ok(bytes.len()),
             Err(_) => {
-                self.failed = true;
+                self.works = false;
                 Err(DeviceFailed)
             }
         }
     }
 
     fn has_failed(&self) -> bool {
-        self.failed
+        !self.works
     }
 }

@@ -1,6 +1,6 @@
 //! The lines of an answer. Each call appends them, or a beginning of them where a growth is refused.
 
-ghost use Rattle.std.specs.Prelude.{◌≡◌, ℕ, List, ◌++◌, ◌≢◌, false, IsTrue, OnOk, OnErr, codes, map};
+ghost use Rattle.std.specs.Prelude.{◌≡◌, ◌↔◌, ℕ, List, ◌++◌, ◌≢◌, false, IsTrue, OnOk, OnErr, codes, map};
 ghost use Rattle.std.specs.List.{flat_map};
 ghost use Rattle.serde_json.specs.Written.{has_float};
 ghost use Rattle.strkw_report.specs.Refusals.{refusal_of, reason_of, prints_float, memory};
@@ -159,7 +159,7 @@ fn push_printed(text: &[u8], out: &mut Vec<u8>) -> Result<(), AllocError>
 
 // Whether each byte is printed as it stands.
 fn is_plain(text: &[u8]) -> bool
-    ensures { IsTrue result → printed text.now ≡ text.now }
+    ensures { IsTrue result ↔ (printed text.now ≡ text.now) }
 {
     for byte in text {
         if *byte < 32 {

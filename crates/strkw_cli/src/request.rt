@@ -1,7 +1,6 @@
 //! The request that a line is.
 
-ghost use Rattle.std.specs.Prelude.{◌≡◌, Option, Bool, option_map, option_and_then, IfOk};
-ghost use Rattle.std.specs.Str.{IsUtf8};
+ghost use Rattle.std.specs.Prelude.{◌≡◌, option_map, IfOk};
 ghost use Rattle.serde_json.specs.View.{view, members_view};
 ghost use Rattle.strkw_cli.specs.Request.{IsReading, draft_numbered, draft_in, flag_in, is_request_key, has_only_request_keys, request_in};
 ghost use Rattle.strkw_cli.specs.Borrowed.{request_view};
@@ -40,18 +39,13 @@ pub fn read_line(alloc: Global, line: &[u8]) -> Result<Option<Value>, AllocError
 fn draft_numbered(number: u64) -> Option<Draft>
     ensures { result ≡ draft_numbered number }
 {
-    if number == 4 {
-        Some(Draft::Draft4)
-    } else if number == 6 {
-        Some(Draft::Draft6)
-    } else if number == 7 {
-        Some(Draft::Draft7)
-    } else if number == 201909 {
-        Some(Draft::Draft201909)
-    } else if number == 202012 {
-        Some(Draft::Draft202012)
-    } else {
-        None
+    match number {
+        4 => Some(Draft::Draft4),
+        6 => Some(Draft::Draft6),
+        7 => Some(Draft::Draft7),
+        201909 => Some(Draft::Draft201909),
+        202012 => Some(Draft::Draft202012),
+        _ => None,
     }
 }
 

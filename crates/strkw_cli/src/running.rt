@@ -1,6 +1,6 @@
 //! The loop over the pieces of the input.
 
-ghost use Rattle.std.specs.Prelude.{◌≡◌, ◌↔◌, ℕ, ◌<◌, ◌≤◌, List, ◌++◌, [], true, false, length, take, vec_len, IfOk, IsTrue, OnOk, OnErr, IsErrOf, position};
+ghost use Rattle.std.specs.Prelude.{◌≡◌, ◌↔◌, ℕ, ◌<◌, List, ◌++◌, true, false, length, take, vec_len, IfOk, OnOk, OnErr, IsErrOf, position};
 ghost use Rattle.std.specs.Io.KnownBytes.{Appends, Consumes, IsAtEnd};
 ghost use Rattle.strkw_cli.specs.Lines.{is_line_feed, ended_lines, last_part, lines};
 ghost use Rattle.strkw_cli.specs.Answer.{AreAnswers};
@@ -50,7 +50,7 @@ fn answer_piece(
         × AreAnswers (ended_lines (line.old.items ++ piece.now)) made) }
     ensures begun { OnOk result (line.new.items ≡ last_part (line.old.items ++ piece.now)) }
     ensures err { OnErr result ((written : List ℕ) × (out.new.items ≡ out.old.items ++ written)
-        × AnswersSome (lines (line.old.items ++ piece.now)) written) }
+        × AnswersSome (ended_lines (line.old.items ++ piece.now)) written) }
 {
     let mut at = 0;
     while let Some(offset) = find_line_feed(&piece[at..]) {
@@ -74,7 +74,7 @@ fn serve_piece<K: Sink>(
     requires begun { last_part line.old.items ≡ line.old.items }
     requires sink_works { K.has_failed sink.old ≡ false }
     ensures written { (written : List ℕ) × Appends (K.taken sink.old) (K.taken sink.new) written
-        × Serves result (ended_lines (line.old.items ++ piece.now)) (lines (line.old.items ++ piece.now)) written }
+        × Serves result (ended_lines (line.old.items ++ piece.now)) (line.old.items ++ piece.now) written }
     ensures begun { OnOk result (line.new.items ≡ last_part (line.old.items ++ piece.now)) }
     ensures write_fault { IsErrOf result RunFault.Write ↔ (K.has_failed sink.new ≡ true) }
 {
@@ -97,7 +97,7 @@ fn serve_last<K: Sink>(
     requires begun { last_part line.now ≡ line.now }
     requires sink_works { K.has_failed sink.old ≡ false }
     ensures written { (written : List ℕ) × Appends (K.taken sink.old) (K.taken sink.new) written
-        × Serves result (lines line.now) (lines line.now) written }
+        × Serves result (lines line.now) line.now written }
     ensures write_fault { IsErrOf result RunFault.Write ↔ (K.has_failed sink.new ≡ true) }
 {
     if line.is_empty() {
@@ -128,7 +128,8 @@ fn piece_room(alloc: Global) -> Result<Vec<u8>, AllocError>
 /// registered, and a pattern that is not literal is refused.
 ///
 /// `Read` and `Write` come exactly where the source and the sink have failed, `Memory` where a growth was refused,
-/// `TooLong` after 2^64 - 1 reads that each gave bytes. Each answer is made whole before its first byte is written.
+/// `TooLong` after 2^64 - 1 reads that each gave bytes. Each answer is made whole before its first byte is written. What
+/// is written after `Read`, `Memory` and `TooLong` are whole answers, to lines whose line feed was read.
 /// The run holds the longest line, a piece of 64 KiB, and the answers of a piece.
 pub fn run<S: Source, K: Sink>(alloc: Global, source: &mut S, sink: &mut K) -> Result<(), RunFault>
     requires source_works { S.has_failed source.old ≡ false }

@@ -15,7 +15,8 @@ use strkw_keywords::{Checks, Fault, Note, Uses, Validate, Validator};
 use strkw_pattern::RegexEngine;
 use strkw_report::{Node, Site, ValidationError};
 
-/// The string keywords of one schema object, compiled.
+/// The string keywords of one schema object, compiled. Its four calls on an instance rest on one meaning: the errors that
+/// the instance has by the schema object. Each asks that `uses` is true of the lists that it is given.
 #[derive(Drop)]
 pub struct StringKeywords<E> {
     pub(crate) validators: Vec<Validator<E>>,
@@ -32,7 +33,8 @@ pub struct ObjectEvaluation {
 
 impl<E: RegexEngine> StringKeywords<E> {
     /// Whether these lists of checks may be handed in with an instance: each registered check, media type and codec
-    /// that was chosen at compile is, by its name, the first row of that name, at the position that it had.
+    /// that was chosen at compile is, by its name, the first row of that name, at the position that it had. So it is
+    /// with the lists of compile; and with empty lists, where no row was chosen.
     pub fn uses(&self, checks: &Checks) -> bool
         ensures { IsTrue result ↔ IsInUse (keywords_assertions E.outcome self.now) (lists_of admits accepted encoded decoding checks.now) }
     {
@@ -57,8 +59,8 @@ impl<E: RegexEngine> StringKeywords<E> {
         true
     }
 
-    /// Whether an instance has no errors. The only error is a refused growth, and there is none where
-    /// `takes_no_memory` is true.
+    /// Whether an instance has no errors, under lists of which `uses` is true. The only error is want of memory, and none
+    /// where `takes_no_memory` is true.
     pub fn is_valid<N: Node>(
         &self,
         alloc: Global,
@@ -78,8 +80,9 @@ impl<E: RegexEngine> StringKeywords<E> {
         Ok(true)
     }
 
-    /// Appends the errors of an instance, in the order of the entries. Where a growth is refused, the vector is as
-    /// it was.
+    /// Appends the errors of an instance, in the order of the entries, each with the place of its keyword in the schema
+    /// and on the way of evaluation, and with the place of the instance. The lists are such that `uses` is true of them.
+    /// The only error is want of memory; the vector then holds what it held.
     pub fn collect_errors<N: Node>(
         &self,
         alloc: Global,
@@ -107,7 +110,10 @@ impl<E: RegexEngine> StringKeywords<E> {
         Ok(())
     }
 
-    /// The first error of an instance, or `Ok` where it has none.
+    /// `Ok` where an instance has no errors, under lists of which `uses` is true.
+    ///
+    /// Errors: `Fault::Invalid` of the first of the errors that `collect_errors` appends, and `Fault::Memory` where a
+    /// growth was refused.
     pub fn validate<N: Node>(
         &self,
         alloc: Global,
@@ -130,7 +136,8 @@ impl<E: RegexEngine> StringKeywords<E> {
         }
     }
 
-    /// The errors of an instance, and what is noted of it whether it has errors or not.
+    /// The errors of an instance, and what is noted of it where it is a text, whether it has errors or not, under lists
+    /// of which `uses` is true. The only error is want of memory.
     pub fn evaluate<N: Node>(
         &self,
         alloc: Global,

@@ -1,39 +1,11 @@
--- What a decoder answers, from what the bytes are and what they spell.
+-- What a decoder answers, from what the bytes are.
 use Rattle.std.proofs.Common.{◌≡◌, List, ℕ, Option, Some, None, Result, Ok, Err, refl, sym, ◌∙◌}
-use Rattle.std.specs.Prelude.{◌↔◌, IfOk, IsErrOf, MatchOption, MatchResult, IsSomeAnd}
-use Rattle.std.specs.Str.{IsUtf8}
+use Rattle.std.specs.Prelude.{◌↔◌, IfOk, MatchOption}
 use Rattle.std.specs.declared.alloc.AllocError.{AllocError}
-use Rattle.strkw_coding.specs.Rfc4648.{Encodes, IsEncoding, EncodesNoText, AreBytes, alphabet, code, folded}
+use Rattle.strkw_coding.specs.Rfc4648.{IsEncoding, Reads, AreBytes, alphabet, code, folded}
 use Rattle.strkw_coding.specs.Blocks.{IsCodeOf, code32}
 use Rattle.strkw_coding.specs.declared.codec.Codec.TheVariants.{Base32, Base32Hex}
 use Rattle.strkw_coding.specs.declared.codec.Codec.{Codec}
-use Rattle.strkw_coding.specs.declared.codec.DecodeError.{DecodeError}
-use Rattle.strkw_coding.specs.declared.codec.DecodeError.TheVariants.{NotUtf8}
-
--- the text decodes to these bytes, or encodes none
-abbrev pub Reads : {V : Type 0} → (V → List ℕ) → Codec → List ℕ → Option V → Type 0
-Reads items c text o = MatchOption o (IsEncoding c text → ⊥) (λ v. Encodes c text (items v))
-
--- the text of the bytes, if they are UTF-8
-abbrev pub Spells : {V S : Type 0} → (V → List ℕ) → (S → List ℕ) → Option V → Result (Option S) DecodeError → Type 0
-Spells items bytes o r = MatchOption o (r ≡ Ok None) (λ v. MatchResult r (λ o. IsSomeAnd o (λ s. bytes s ≡ items v)) (λ e. (e ≡ NotUtf8) × (IsUtf8 (items v) → ⊥)))
-
-pub decoded_text : {V S : Type 0} (items : V → List ℕ) (bytes : S → List ℕ) (c : Codec) (text : List ℕ) (o : Option V) (r : Result (Option S) DecodeError)
-    → Reads items c text o → Spells items bytes o r → IfOk r (λ o. MatchOption o (IsEncoding c text → ⊥) (λ s. Encodes c text (bytes s)))
-decoded_text items bytes c text None (Ok None) reads spells = reads
-decoded_text items bytes c text None (Ok (Some s)) reads spells = cc spells
-decoded_text items bytes c text None (Err e) reads spells = tt
-decoded_text items bytes c text (Some v) (Ok None) reads spells = absurd spells
-decoded_text items bytes c text (Some v) (Ok (Some s)) reads spells = rw spells reads
-decoded_text items bytes c text (Some v) (Err e) reads spells = tt
-
-pub decoded_other : {V S : Type 0} (items : V → List ℕ) (bytes : S → List ℕ) (c : Codec) (text : List ℕ) (o : Option V) (r : Result (Option S) DecodeError)
-    → Reads items c text o → Spells items bytes o r → IsErrOf r NotUtf8 → EncodesNoText c text
-decoded_other items bytes c text None (Ok None) reads spells err = cc err
-decoded_other items bytes c text None (Ok (Some s)) reads spells err = cc err
-decoded_other items bytes c text None (Err e) reads spells err = cc spells
-decoded_other items bytes c text (Some v) (Ok o) reads spells err = cc err
-decoded_other items bytes c text (Some v) (Err e) reads spells err = (items v, reads, spells.1)
 
 -- no text both decodes and does not
 pub refused : {E : Type 0} (r : Result (List ℕ) E) (b : List ℕ) (e : E) → r ≡ Ok b → r ≡ Err e → ⊥

@@ -1,7 +1,7 @@
 -- What a block of eight characters stands for.
-use Rattle.std.proofs.Common.{◌≡◌, ℕ, ◌+◌, ◌-◌, ◌*◌, ◌/◌, ◌%◌, ◌<◌, ◌≤◌, ◌==◌, ◌&&◌, nat_lt, Bool, true, false, not, unwrap_or, List, [], ◌∷◌, ◌++◌, length, replicate, slice_index, refl, arith}
+use Rattle.std.proofs.Common.{◌≡◌, ℕ, ◌+◌, ◌-◌, ◌*◌, ◌/◌, ◌%◌, ◌<◌, ◌≤◌, ◌==◌, ◌&&◌, nat_lt, true, false, unwrap_or, List, [], ◌∷◌, ◌++◌, length, replicate, slice_index, refl, arith}
 use Rattle.std.specs.Prelude.{position}
-use Rattle.std.proofs.lemmas.Bool.{and_parts, eqb-true, ltb-true}
+use Rattle.std.proofs.lemmas.Bool.{and_parts, eqb-true, ltb-true, not-true}
 use Rattle.strkw_coding.specs.Rfc4648.{AreBytes}
 use Rattle.strkw_coding.specs.Blocks.{code32, passes_below, value_of, is_letter_at, is_alphabet, is_table, group_len}
 use Rattle.strkw_coding.proofs.Passes.{passes_below-at}
@@ -20,12 +20,8 @@ unfolding value_of
 letter_value abc d alpha lt = eqb-true _ _ (and_parts _ _ (letter_at abc d alpha lt)).0
 
 -- a letter is no padding
-not_true : (b : Bool) → not b ≡ true → b ≡ false
-not_true true h = cc h
-not_true false h = refl
-
 letter_not_padding : (abc : List ℕ) (d : ℕ) → is_alphabet abc ≡ true → d < 32 → (slice_index abc d == 61) ≡ false
-letter_not_padding abc d alpha lt = not_true _ (and_parts _ _ (letter_at abc d alpha lt)).1
+letter_not_padding abc d alpha lt = not-true _ (and_parts _ _ (letter_at abc d alpha lt)).1
 
 -- padding counts as 0
 padding_value : (abc : List ℕ) → is_alphabet abc ≡ true → value_of abc 61 ≡ 0
@@ -44,8 +40,8 @@ pub record IsGroup (abc block p : List ℕ) : Type 0 where
   pub bytes : group_bytes (value_of abc (slice_index block 0)) (value_of abc (slice_index block 1)) (value_of abc (slice_index block 2)) (value_of abc (slice_index block 3))
       (value_of abc (slice_index block 4)) (value_of abc (slice_index block 5)) (value_of abc (slice_index block 6)) (value_of abc (slice_index block 7)) ≡ p ++ replicate (5 - length p) 0
 
-cons_same : (a b : ℕ) (xs ys : List ℕ) → a ≡ b → xs ≡ ys → a ∷ xs ≡ b ∷ ys
-cons_same a b xs ys e es = rw (e, es) refl
+same_five : {a b c d e v w x y z : ℕ} → a ≡ v → b ≡ w → c ≡ x → d ≡ y → e ≡ z → a ∷ b ∷ c ∷ d ∷ e ∷ [] ≡ v ∷ w ∷ x ∷ y ∷ z ∷ []
+same_five p q r s t = rw (p, q, r, s, t) refl
 
 group-1 : (abc : List ℕ) (a : ℕ) → is_alphabet abc ≡ true → a < 256 → IsGroup abc (code32 abc (a ∷ [])) (a ∷ [])
 group-1 abc a alpha fa =
@@ -54,7 +50,7 @@ group-1 abc a alpha fa =
     let pad = padding_value abc alpha in
     rw (code32-1 abc a fa) record {
       len = refl;
-      bytes = rw (v0, v1, pad) (cons_same _ _ _ _ (omega arith) (cons_same _ _ _ _ (omega arith) (cons_same _ _ _ _ (omega arith) (cons_same _ _ _ _ (omega arith) (cons_same _ _ _ _ (omega arith) refl)))));
+      bytes = rw (v0, v1, pad) (same_five (omega arith) (omega arith) (omega arith) (omega arith) (omega arith));
     }
 
 group-2 : (abc : List ℕ) (a b : ℕ) → is_alphabet abc ≡ true → a < 256 → b < 256 → IsGroup abc (code32 abc (a ∷ b ∷ [])) (a ∷ b ∷ [])
@@ -67,7 +63,7 @@ group-2 abc a b alpha fa fb =
     let pad = padding_value abc alpha in
     rw (code32-2 abc a b fa fb) record {
       len = rw n2 refl;
-      bytes = rw (v0, v1, v2, v3, pad) (cons_same _ _ _ _ (omega arith) (cons_same _ _ _ _ (omega arith) (cons_same _ _ _ _ (omega arith) (cons_same _ _ _ _ (omega arith) (cons_same _ _ _ _ (omega arith) refl)))));
+      bytes = rw (v0, v1, v2, v3, pad) (same_five (omega arith) (omega arith) (omega arith) (omega arith) (omega arith));
     }
 
 group-3 : (abc : List ℕ) (a b c : ℕ) → is_alphabet abc ≡ true → a < 256 → b < 256 → c < 256 → IsGroup abc (code32 abc (a ∷ b ∷ c ∷ [])) (a ∷ b ∷ c ∷ [])
@@ -82,7 +78,7 @@ group-3 abc a b c alpha fa fb fc =
     let pad = padding_value abc alpha in
     rw (code32-3 abc a b c fa fb fc) record {
       len = rw (n2, n4) refl;
-      bytes = rw (v0, v1, v2, v3, v4, pad) (cons_same _ _ _ _ (omega arith) (cons_same _ _ _ _ (omega arith) (cons_same _ _ _ _ (omega arith) (cons_same _ _ _ _ (omega arith) (cons_same _ _ _ _ (omega arith) refl)))));
+      bytes = rw (v0, v1, v2, v3, v4, pad) (same_five (omega arith) (omega arith) (omega arith) (omega arith) (omega arith));
     }
 
 group-4 : (abc : List ℕ) (a b c d : ℕ) → is_alphabet abc ≡ true → a < 256 → b < 256 → c < 256 → d < 256 → IsGroup abc (code32 abc (a ∷ b ∷ c ∷ d ∷ [])) (a ∷ b ∷ c ∷ d ∷ [])
@@ -100,7 +96,7 @@ group-4 abc a b c d alpha fa fb fc fd =
     let pad = padding_value abc alpha in
     rw (code32-4 abc a b c d fa fb fc fd) record {
       len = rw (n2, n4, n5) refl;
-      bytes = rw (v0, v1, v2, v3, v4, v5, v6, pad) (cons_same _ _ _ _ (omega arith) (cons_same _ _ _ _ (omega arith) (cons_same _ _ _ _ (omega arith) (cons_same _ _ _ _ (omega arith) (cons_same _ _ _ _ (omega arith) refl)))));
+      bytes = rw (v0, v1, v2, v3, v4, v5, v6, pad) (same_five (omega arith) (omega arith) (omega arith) (omega arith) (omega arith));
     }
 
 group-5 : (abc : List ℕ) (a b c d e : ℕ) → is_alphabet abc ≡ true → a < 256 → b < 256 → c < 256 → d < 256 → e < 256 → IsGroup abc (code32 abc (a ∷ b ∷ c ∷ d ∷ e ∷ [])) (a ∷ b ∷ c ∷ d ∷ e ∷ [])
@@ -120,7 +116,7 @@ group-5 abc a b c d e alpha fa fb fc fd fe =
     let pad = padding_value abc alpha in
     rw (code32-5 abc a b c d e fa fb fc fd fe) record {
       len = rw (n2, n4, n5, n7) refl;
-      bytes = rw (v0, v1, v2, v3, v4, v5, v6, v7) (cons_same _ _ _ _ (omega arith) (cons_same _ _ _ _ (omega arith) (cons_same _ _ _ _ (omega arith) (cons_same _ _ _ _ (omega arith) (cons_same _ _ _ _ (omega arith) refl)))));
+      bytes = rw (v0, v1, v2, v3, v4, v5, v6, v7) (same_five (omega arith) (omega arith) (omega arith) (omega arith) (omega arith));
     }
 
 -- the group of the code of one to five bytes

@@ -1,6 +1,7 @@
 -- What the private contracts of the code for base32 and base32hex speak of: blocks of eight
 -- characters, which stand for one to five bytes. None of it stands in a public contract.
 use Rattle.std.specs.Prelude.{◌≡◌, ℕ, zero, suc, ◌<◌, ◌≤◌, Bool, true, if◌then◌else◌, List, [], ◌++◌, length, drop, slice_index, ◌&&◌, ◌==◌, nat_lt, unwrap_or, position, not, take}
+use Rattle.std.specs.Str.{byte}
 use Rattle.strkw_coding.specs.Rfc4648.{code_by, AreBytes}
 
 -- a test of each number below n
@@ -15,11 +16,11 @@ value_of abc character = unwrap_or (position (λ x. x == character) abc) 0
 -- the letter at place d is at no other place, and is not "="
 abbrev pub is_letter_at : List ℕ → ℕ → Bool
 is_letter_at abc d =
-    unwrap_or (position (λ x. x == slice_index abc d) abc) 0 == d && not (slice_index abc d == 61)
+    unwrap_or (position (λ x. x == slice_index abc d) abc) 0 == d && not (slice_index abc d == byte "=")
 
 -- there are 32 letters, no two are the same, and none is "="
 unfoldable pub is_alphabet : List ℕ → Bool
-is_alphabet abc = passes_below (is_letter_at abc) 32 && unwrap_or (position (λ x. x == 61) abc) 0 == 0
+is_alphabet abc = passes_below (is_letter_at abc) 32 && unwrap_or (position (λ x. x == byte "=") abc) 0 == 0
 
 -- the table has the place of each character among the letters
 unfoldable pub is_table : List ℕ → List ℕ → Bool
@@ -40,10 +41,10 @@ IsCode32 abc text = IsCodeOf (code32 abc) text
 -- how many bytes a block of eight characters stands for, by where its padding begins
 abbrev pub group_len : List ℕ → ℕ
 group_len block =
-    if slice_index block 2 == 61 then 1
-    else if slice_index block 4 == 61 then 2
-    else if slice_index block 5 == 61 then 3
-    else if slice_index block 7 == 61 then 4
+    if slice_index block 2 == byte "=" then 1
+    else if slice_index block 4 == byte "=" then 2
+    else if slice_index block 5 == byte "=" then 3
+    else if slice_index block 7 == byte "=" then 4
     else 5
 
 -- the block is the code of the first len of five bytes

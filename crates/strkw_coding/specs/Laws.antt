@@ -1,5 +1,5 @@
 -- Laws of the encodings.
-use Rattle.std.specs.Prelude.{◌≡◌, ◌↔◌, ℕ, String, Bool, false, IsTrue, List, ◌∷◌, [], map, codes, Option, None, Some, Result, Ok, Err, IfOk, IsErrOf, MatchOption}
+use Rattle.std.specs.Prelude.{◌≡◌, ◌↔◌, ℕ, String, Bool, false, IsTrue, List, ◌∷◌, [], map, codes, Option, None, Some, Result, Ok, Err, IfOk, IsErrOf}
 use Rattle.std.specs.Str.{IsUtf8}
 use Rattle.std.specs.String.{string_bytes}
 use Rattle.std.specs.declared.alloc.Global.{Global}
@@ -7,7 +7,7 @@ use Rattle.strkw_coding.specs.declared.codec.Codec.{Codec}
 use Rattle.strkw_coding.specs.declared.codec.Codec.TheVariants.{Base64, Base32, Base32Hex, Base16}
 use Rattle.strkw_coding.specs.declared.codec.DecodeError.{DecodeError}
 use Rattle.strkw_coding.specs.declared.codec.DecodeError.TheVariants.{NotUtf8, Memory}
-use Rattle.strkw_coding.specs.Rfc4648.{code, Encodes, IsEncoding, EncodesNoText}
+use Rattle.strkw_coding.specs.Rfc4648.{code, Encodes, IsEncoding, EncodesNoText, IsTextOf}
 
 -- a text encodes one list of bytes at most
 abbrev pub EncodesOnce : Type 0
@@ -18,7 +18,7 @@ DecoderAnswer = Result (Option (String Global)) DecodeError
 
 -- what a decoder's two clauses say of its answer to a text, where memory did not run out
 pub record IsDecoded (c : Codec) (text : List ℕ) (answer : DecoderAnswer) : Type 0 where
-  pub text_clause : IfOk answer (λ o. MatchOption o (IsEncoding c text → ⊥) (λ s. Encodes c text (string_bytes s)))
+  pub text_clause : IfOk answer (IsTextOf c text)
   pub not_utf8_clause : IsErrOf answer NotUtf8 → EncodesNoText c text
   -- as of every text
   pub is_utf8 : (s : String Global) → answer ≡ Ok (Some s) → IsUtf8 (string_bytes s)

@@ -1,8 +1,10 @@
 -- The base encodings of RFC 4648: one definition, from three figures an encoding. Texts and data are
 -- lists of bytes; an encoding is ASCII, so the bytes of a text that is one are its characters.
-use Rattle.std.specs.Prelude.{◌≡◌, ℕ, zero, suc, ◌+◌, ◌-◌, ◌*◌, ◌/◌, ◌%◌, ◌^◌, ◌<◌, List, [], ◌∷◌, ◌++◌, drop, length, replicate, slice_index, codes}
+use Rattle.std.specs.Prelude.{◌≡◌, ℕ, zero, suc, ◌+◌, ◌-◌, ◌*◌, ◌/◌, ◌%◌, ◌^◌, ◌<◌, List, [], ◌∷◌, ◌++◌, drop, length, replicate, slice_index, codes, String, Option, MatchOption}
 use Rattle.std.specs.List.{flat_map}
-use Rattle.std.specs.Str.{str_to_ascii_uppercase, IsUtf8}
+use Rattle.std.specs.Str.{byte, str_to_ascii_uppercase, IsUtf8}
+use Rattle.std.specs.String.{string_bytes}
+use Rattle.std.specs.declared.alloc.Global.{Global}
 use Rattle.strkw_coding.specs.declared.codec.Codec.{Codec}
 use Rattle.strkw_coding.specs.declared.codec.Codec.TheVariants.{Base64, Base64Url, Base32, Base32Hex, Base16}
 
@@ -60,11 +62,11 @@ padding_count k n = (k - n % k) % k
 
 -- the text that encodes some bytes by the letters abc, w bits a letter and k letters a block: the
 -- bits of the bytes, first bit first, filled with zeros to whole letters (sections 3.5, 4 and 6),
--- and "=", which is 61, to a whole block (section 3.2); no line breaks (3.1) and no other characters (3.3)
+-- and "=" to a whole block (section 3.2); no line breaks (3.1) and no other characters (3.3)
 abbrev pub code_by : List ℕ → ℕ → ℕ → List ℕ → List ℕ
 code_by abc w k bytes =
     letters abc w (letter_count w (length bytes)) (bits_of bytes)
-    ++ replicate (padding_count k (letter_count w (length bytes))) 61
+    ++ replicate (padding_count k (letter_count w (length bytes))) (byte "=")
 
 -- the text that encodes some bytes
 abbrev pub code : Codec → List ℕ → List ℕ
@@ -94,3 +96,11 @@ IsEncoding c text = (bytes : List ℕ) × Encodes c text bytes
 -- the text encodes bytes that are no UTF-8
 abbrev pub EncodesNoText : Codec → List ℕ → Type 0
 EncodesNoText c text = (bytes : List ℕ) × Encodes c text bytes × (IsUtf8 bytes → ⊥)
+
+-- what a decoder reads: a value that holds the bytes which the text encodes, or none where it is no encoding
+abbrev pub Reads : {V : Type 0} → (V → List ℕ) → Codec → List ℕ → Option V → Type 0
+Reads bytes_of c text read = MatchOption read (IsEncoding c text → ⊥) (λ v. Encodes c text (bytes_of v))
+
+-- the text whose UTF-8 bytes a text encodes
+abbrev pub IsTextOf : Codec → List ℕ → Option (String Global) → Type 0
+IsTextOf c text read = Reads string_bytes c text read

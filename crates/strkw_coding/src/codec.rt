@@ -4,7 +4,7 @@ ghost use Rattle.std.specs.Prelude.{◌≡◌, ◌↔◌, ◌<◌, IfOk, IsOk, M
 ghost use Rattle.std.specs.Str.{IsUtf8};
 ghost use Rattle.std.specs.String.{string_bytes};
 ghost use Rattle.strkw_coding.specs.Names.{codec_name};
-ghost use Rattle.strkw_coding.specs.Rfc4648.{Encodes, IsEncoding, EncodesNoText, letter_bits};
+ghost use Rattle.strkw_coding.specs.Rfc4648.{IsEncoding, IsTextOf, Reads, EncodesNoText, letter_bits};
 
 use crate::{radix16, radix32, radix64};
 use std::alloc::{AllocError, Global};
@@ -59,8 +59,21 @@ impl Codec {
         }
     }
 
+    /// The name by which `by_name` knows the encoding.
+    pub fn as_str(self) -> &'static str
+        ensures { result.now ≡ codec_name self }
+    {
+        match self {
+            Codec::Base64 => "base64",
+            Codec::Base64Url => "base64url",
+            Codec::Base32 => "base32",
+            Codec::Base32Hex => "base32hex",
+            Codec::Base16 => "base16",
+        }
+    }
+
     /// Whether a text encodes some bytes: letters of the encoding alone, the spare bits of the last one
-    /// zero, and `=` to a whole block. The empty text encodes no bytes, and is an encoding.
+    /// zero, and `=` to a whole block. The empty text is the encoding of no bytes.
     ///
     /// `Err` is for want of memory. The encodings of fewer than six bits a letter are always answered.
     pub fn is_encoded(self, alloc: Global, text: &str) -> Result<bool, AllocError>
@@ -77,11 +90,11 @@ impl Codec {
         }
     }
 
-    /// The text whose UTF-8 bytes a text encodes; `None` where it encodes no bytes.
+    /// The text whose UTF-8 bytes a text encodes; `None` where it is no encoding.
     ///
     /// Errors: `NotUtf8` where it encodes bytes that are not UTF-8, and `Memory`.
     pub fn decode(self, alloc: Global, text: &str) -> Result<Option<String>, DecodeError>
-        ensures text { IfOk result (λ o. MatchOption o (IsEncoding self text.now → ⊥) (λ s. Encodes self text.now (string_bytes s))) }
+        ensures text { IfOk result (IsTextOf self text.now) }
         ensures not_utf8 { IsErrOf result DecodeError.NotUtf8 → EncodesNoText self text.now }
     {
         text_of(bytes_of(self, alloc, text.as_bytes())?)
@@ -90,7 +103,7 @@ impl Codec {
 
 // The bytes that a text encodes.
 fn bytes_of(codec: Codec, alloc: Global, text: &[u8]) -> Result<Option<Vec<u8>>, AllocError>
-    ensures { IfOk result (λ o. MatchOption o (IsEncoding codec text.now → ⊥) (λ v. Encodes codec text.now v.items)) }
+    ensures { IfOk result (Reads (λ v. v.items) codec text.now) }
 {
     match codec {
         Codec::Base64 => radix64::bytes_of_base64(alloc, text),

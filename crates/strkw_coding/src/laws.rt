@@ -1,6 +1,12 @@
 //! What holds of the encodings, as functions without a body: call one, and its clause is a fact.
 
+ghost use Rattle.std.specs.Prelude.{◌≡◌, ◌↔◌, IsTrue};
 ghost use Rattle.strkw_coding.specs.Laws.{EncodesOnce, DecodesExactly, NoneWhereFalse, PublishedVectors};
+ghost use Rattle.strkw_coding.specs.declared.codec.Codec.{Codec};
+ghost use Rattle.strkw_coding.specs.declared.media_type.BuiltinMediaType.{BuiltinMediaType};
+
+use crate::codec::Codec;
+use crate::media_type::BuiltinMediaType;
 
 /// A text encodes at most one list of bytes.
 pub fn encodes_once()
@@ -8,7 +14,7 @@ pub fn encodes_once()
 {}
 
 /// What a decoder answers, memory aside: a text exactly where the text encodes its UTF-8 bytes, `NotUtf8`
-/// exactly where it encodes other bytes, and `None` exactly where it encodes nothing.
+/// exactly where it encodes other bytes, and `None` exactly where it is no encoding.
 pub fn decodes_exactly()
     ensures { DecodesExactly }
 {}
@@ -21,4 +27,14 @@ pub fn none_where_false()
 /// The test vectors of RFC 4648, section 10, hold of the definition.
 pub fn published_vectors()
     ensures { PublishedVectors }
+{}
+
+/// Two encodings are equal by `==` exactly where they are the same encoding.
+pub fn codecs_equal_by_variant()
+    ensures { (a b : Codec) → IsTrue (⟦<Codec as PartialEq>⟧.eq a b) ↔ (a ≡ b) }
+{}
+
+/// Two media types are equal by `==` exactly where they are the same media type.
+pub fn media_types_equal_by_variant()
+    ensures { (a b : BuiltinMediaType) → IsTrue (⟦<BuiltinMediaType as PartialEq>⟧.eq a b) ↔ (a ≡ b) }
 {}

@@ -24,6 +24,15 @@ impl BuiltinMediaType {
         }
     }
 
+    /// The name by which `by_name` knows the media type.
+    pub fn as_str(self) -> &'static str
+        ensures { result.now ≡ media_type_name self }
+    {
+        match self {
+            BuiltinMediaType::Json => "application/json",
+        }
+    }
+
     /// Whether a text is of the media type. `Err` is for want of memory.
     pub fn accepts(self, alloc: Global, text: &str) -> Result<bool, AllocError>
         ensures { IfOk result (λ b. IsTrue b ↔ IsOfMediaType self text.now) }

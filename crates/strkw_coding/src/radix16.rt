@@ -2,8 +2,8 @@
 
 ghost use Rattle.std.specs.Char.{is_ascii_hexdigit};
 ghost use Rattle.std.specs.List.{list_all};
-ghost use Rattle.std.specs.Prelude.{◌≡◌, ◌↔◌, IfOk, IsTrue, MatchOption};
-ghost use Rattle.strkw_coding.specs.Rfc4648.{Encodes, IsEncoding};
+ghost use Rattle.std.specs.Prelude.{◌≡◌, ◌↔◌, IfOk, IsTrue};
+ghost use Rattle.strkw_coding.specs.Rfc4648.{IsEncoding, Reads};
 
 use crate::codec::Codec;
 use hex::FromHexError;
@@ -25,7 +25,7 @@ fn are_hex_digits(text: &[u8]) -> bool
 
 /// The bytes that a text encodes by base16.
 pub(crate) fn bytes_of_base16(alloc: Global, text: &[u8]) -> Result<Option<Vec<u8>>, AllocError>
-    ensures { IfOk result (λ o. MatchOption o (IsEncoding Codec.Base16 text.now → ⊥) (λ v. Encodes Codec.Base16 text.now v.items)) }
+    ensures { IfOk result (Reads (λ v. v.items) Codec.Base16 text.now) }
 {
     match hex::decode(alloc, text) {
         Ok(bytes) => Ok(Some(bytes)),

@@ -1,42 +1,51 @@
-//! base32 and base32hex: five bits a letter, blocks of eight letters. Written once, over the letters and
-//! the places of all characters among them.
+//! base32 and base32hex: five bits a letter, blocks of eight letters. Written once, over the alphabet.
 
 ghost use Rattle.std.specs.Prelude.{◌≡◌, ◌↔◌, ◌<◌, ◌≤◌, ◌-◌, ◌++◌, ℕ, List, length, take, drop, replicate, slice_index, if◌then◌else◌, IsTrue, IfOk, IfSome, IsSomeAnd, MatchOption};
+ghost use Rattle.std.specs.Str.{byte};
 ghost use Rattle.strkw_coding.specs.Blocks.{BeginsWithBlock, IsBlockOf, IsCode32, code32, group_len, is_alphabet, is_table, value_of};
-ghost use Rattle.strkw_coding.specs.Rfc4648.{AreBytes, Encodes, IsEncoding};
+ghost use Rattle.strkw_coding.specs.Rfc4648.{AreBytes, IsEncoding, Reads};
 
 use crate::codec::Codec;
 use std::alloc::{AllocError, Global};
 
-const BASE32: [u8; 32] = *b"ABCDEFGHIJKLMNOPQRSTUVWXYZ234567";
+// The 32 letters of an encoding, in the order of their values, and the place of each character among them, or
+// 0 for a character that is no letter.
+struct Alphabet {
+    letters: [u8; 32],
+    places: [u8; 256],
+    ghost alphabet: { IsTrue (is_alphabet letters) },
+    ghost table: { IsTrue (is_table letters places) },
+}
 
-const BASE32_HEX: [u8; 32] = *b"0123456789ABCDEFGHIJKLMNOPQRSTUV";
+const BASE32: Alphabet = Alphabet {
+    letters: *b"ABCDEFGHIJKLMNOPQRSTUVWXYZ234567",
+    places: [
+        0, 0, 0, 0, 0, 0, 0, 0, 0, 0, 0, 0, 0, 0, 0, 0, 0, 0, 0, 0, 0, 0, 0, 0, 0, 0, 0, 0, 0, 0,
+        0, 0, 0, 0, 0, 0, 0, 0, 0, 0, 0, 0, 0, 0, 0, 0, 0, 0, 0, 0, 26, 27, 28, 29, 30, 31, 0, 0,
+        0, 0, 0, 0, 0, 0, 0, 0, 1, 2, 3, 4, 5, 6, 7, 8, 9, 10, 11, 12, 13, 14, 15, 16, 17, 18, 19,
+        20, 21, 22, 23, 24, 25, 0, 0, 0, 0, 0, 0, 0, 0, 0, 0, 0, 0, 0, 0, 0, 0, 0, 0, 0, 0, 0, 0,
+        0, 0, 0, 0, 0, 0, 0, 0, 0, 0, 0, 0, 0, 0, 0, 0, 0, 0, 0, 0, 0, 0, 0, 0, 0, 0, 0, 0, 0, 0,
+        0, 0, 0, 0, 0, 0, 0, 0, 0, 0, 0, 0, 0, 0, 0, 0, 0, 0, 0, 0, 0, 0, 0, 0, 0, 0, 0, 0, 0, 0,
+        0, 0, 0, 0, 0, 0, 0, 0, 0, 0, 0, 0, 0, 0, 0, 0, 0, 0, 0, 0, 0, 0, 0, 0, 0, 0, 0, 0, 0, 0,
+        0, 0, 0, 0, 0, 0, 0, 0, 0, 0, 0, 0, 0, 0, 0, 0, 0, 0, 0, 0, 0, 0, 0, 0, 0, 0, 0, 0, 0, 0,
+        0, 0, 0, 0, 0, 0, 0, 0, 0, 0, 0, 0, 0, 0, 0, 0, 0, 0, 0, 0, 0, 0, 0,
+    ],
+};
 
-// The place of each character among the letters of base32, or 0.
-const BASE32_PLACES: [u8; 256] = [
-    0, 0, 0, 0, 0, 0, 0, 0, 0, 0, 0, 0, 0, 0, 0, 0, 0, 0, 0, 0, 0, 0, 0, 0, 0, 0, 0, 0, 0, 0, 0, 0,
-    0, 0, 0, 0, 0, 0, 0, 0, 0, 0, 0, 0, 0, 0, 0, 0, 0, 0, 26, 27, 28, 29, 30, 31, 0, 0, 0, 0, 0, 0,
-    0, 0, 0, 0, 1, 2, 3, 4, 5, 6, 7, 8, 9, 10, 11, 12, 13, 14, 15, 16, 17, 18, 19, 20, 21, 22, 23,
-    24, 25, 0, 0, 0, 0, 0, 0, 0, 0, 0, 0, 0, 0, 0, 0, 0, 0, 0, 0, 0, 0, 0, 0, 0, 0, 0, 0, 0, 0, 0,
-    0, 0, 0, 0, 0, 0, 0, 0, 0, 0, 0, 0, 0, 0, 0, 0, 0, 0, 0, 0, 0, 0, 0, 0, 0, 0, 0, 0, 0, 0, 0, 0,
-    0, 0, 0, 0, 0, 0, 0, 0, 0, 0, 0, 0, 0, 0, 0, 0, 0, 0, 0, 0, 0, 0, 0, 0, 0, 0, 0, 0, 0, 0, 0, 0,
-    0, 0, 0, 0, 0, 0, 0, 0, 0, 0, 0, 0, 0, 0, 0, 0, 0, 0, 0, 0, 0, 0, 0, 0, 0, 0, 0, 0, 0, 0, 0, 0,
-    0, 0, 0, 0, 0, 0, 0, 0, 0, 0, 0, 0, 0, 0, 0, 0, 0, 0, 0, 0, 0, 0, 0, 0, 0, 0, 0, 0, 0, 0, 0, 0,
-    0, 0, 0, 0, 0, 0, 0, 0,
-];
-
-// The place of each character among the letters of base32hex, or 0.
-const BASE32_HEX_PLACES: [u8; 256] = [
-    0, 0, 0, 0, 0, 0, 0, 0, 0, 0, 0, 0, 0, 0, 0, 0, 0, 0, 0, 0, 0, 0, 0, 0, 0, 0, 0, 0, 0, 0, 0, 0,
-    0, 0, 0, 0, 0, 0, 0, 0, 0, 0, 0, 0, 0, 0, 0, 0, 0, 1, 2, 3, 4, 5, 6, 7, 8, 9, 0, 0, 0, 0, 0, 0,
-    0, 10, 11, 12, 13, 14, 15, 16, 17, 18, 19, 20, 21, 22, 23, 24, 25, 26, 27, 28, 29, 30, 31, 0,
-    0, 0, 0, 0, 0, 0, 0, 0, 0, 0, 0, 0, 0, 0, 0, 0, 0, 0, 0, 0, 0, 0, 0, 0, 0, 0, 0, 0, 0, 0, 0, 0,
-    0, 0, 0, 0, 0, 0, 0, 0, 0, 0, 0, 0, 0, 0, 0, 0, 0, 0, 0, 0, 0, 0, 0, 0, 0, 0, 0, 0, 0, 0, 0, 0,
-    0, 0, 0, 0, 0, 0, 0, 0, 0, 0, 0, 0, 0, 0, 0, 0, 0, 0, 0, 0, 0, 0, 0, 0, 0, 0, 0, 0, 0, 0, 0, 0,
-    0, 0, 0, 0, 0, 0, 0, 0, 0, 0, 0, 0, 0, 0, 0, 0, 0, 0, 0, 0, 0, 0, 0, 0, 0, 0, 0, 0, 0, 0, 0, 0,
-    0, 0, 0, 0, 0, 0, 0, 0, 0, 0, 0, 0, 0, 0, 0, 0, 0, 0, 0, 0, 0, 0, 0, 0, 0, 0, 0, 0, 0, 0, 0, 0,
-    0, 0, 0, 0, 0, 0, 0, 0,
-];
+const BASE32_HEX: Alphabet = Alphabet {
+    letters: *b"0123456789ABCDEFGHIJKLMNOPQRSTUV",
+    places: [
+        0, 0, 0, 0, 0, 0, 0, 0, 0, 0, 0, 0, 0, 0, 0, 0, 0, 0, 0, 0, 0, 0, 0, 0, 0, 0, 0, 0, 0, 0,
+        0, 0, 0, 0, 0, 0, 0, 0, 0, 0, 0, 0, 0, 0, 0, 0, 0, 0, 0, 1, 2, 3, 4, 5, 6, 7, 8, 9, 0, 0,
+        0, 0, 0, 0, 0, 10, 11, 12, 13, 14, 15, 16, 17, 18, 19, 20, 21, 22, 23, 24, 25, 26, 27, 28,
+        29, 30, 31, 0, 0, 0, 0, 0, 0, 0, 0, 0, 0, 0, 0, 0, 0, 0, 0, 0, 0, 0, 0, 0, 0, 0, 0, 0, 0,
+        0, 0, 0, 0, 0, 0, 0, 0, 0, 0, 0, 0, 0, 0, 0, 0, 0, 0, 0, 0, 0, 0, 0, 0, 0, 0, 0, 0, 0, 0,
+        0, 0, 0, 0, 0, 0, 0, 0, 0, 0, 0, 0, 0, 0, 0, 0, 0, 0, 0, 0, 0, 0, 0, 0, 0, 0, 0, 0, 0, 0,
+        0, 0, 0, 0, 0, 0, 0, 0, 0, 0, 0, 0, 0, 0, 0, 0, 0, 0, 0, 0, 0, 0, 0, 0, 0, 0, 0, 0, 0, 0,
+        0, 0, 0, 0, 0, 0, 0, 0, 0, 0, 0, 0, 0, 0, 0, 0, 0, 0, 0, 0, 0, 0, 0, 0, 0, 0, 0, 0, 0, 0,
+        0, 0, 0, 0, 0, 0, 0, 0, 0, 0, 0, 0, 0, 0, 0, 0, 0, 0, 0, 0, 0, 0, 0,
+    ],
+};
 
 // The bytes of a block: the first `len` of these.
 #[derive(Clone, Copy)]
@@ -49,118 +58,173 @@ struct Group {
 pub(crate) fn is_base32(text: &[u8]) -> bool
     ensures { IsTrue result ↔ IsEncoding Codec.Base32 text.now }
 {
-    is_code(&BASE32, &BASE32_PLACES, text)
+    BASE32.is_code(text)
 }
 
 /// Whether a text encodes some bytes by base32hex.
 pub(crate) fn is_base32hex(text: &[u8]) -> bool
     ensures { IsTrue result ↔ IsEncoding Codec.Base32Hex text.now }
 {
-    is_code(&BASE32_HEX, &BASE32_HEX_PLACES, text)
+    BASE32_HEX.is_code(text)
 }
 
 /// The bytes that a text encodes by base32.
 pub(crate) fn bytes_of_base32(alloc: Global, text: &[u8]) -> Result<Option<Vec<u8>>, AllocError>
-    ensures { IfOk result (λ o. MatchOption o (IsEncoding Codec.Base32 text.now → ⊥) (λ v. Encodes Codec.Base32 text.now v.items)) }
+    ensures { IfOk result (Reads (λ v. v.items) Codec.Base32 text.now) }
 {
-    decode(alloc, &BASE32, &BASE32_PLACES, text)
+    BASE32.decode(alloc, text)
 }
 
 /// The bytes that a text encodes by base32hex.
 pub(crate) fn bytes_of_base32hex(alloc: Global, text: &[u8]) -> Result<Option<Vec<u8>>, AllocError>
-    ensures { IfOk result (λ o. MatchOption o (IsEncoding Codec.Base32Hex text.now → ⊥) (λ v. Encodes Codec.Base32Hex text.now v.items)) }
+    ensures { IfOk result (Reads (λ v. v.items) Codec.Base32Hex text.now) }
 {
-    decode(alloc, &BASE32_HEX, &BASE32_HEX_PLACES, text)
+    BASE32_HEX.decode(alloc, text)
 }
 
-// Whether a text encodes some bytes by these letters.
-fn is_code(letters: &[u8; 32], places: &[u8; 256], text: &[u8]) -> bool
-    requires alphabet { IsTrue (is_alphabet letters.now) }
-    requires table { IsTrue (is_table letters.now places.now) }
-    ensures { IsTrue result ↔ IsCode32 letters.now text.now }
-{
-    let mut rest = text;
-    while !rest.is_empty() {
-        let Some((_, after)) = first_block(letters, places, rest) else {
-            return false;
+impl Alphabet {
+    // Whether a text encodes some bytes by these letters.
+    fn is_code(&self, text: &[u8]) -> bool
+        ensures { IsTrue result ↔ IsCode32 self.now.letters text.now }
+    {
+        let mut rest = text;
+        while !rest.is_empty() {
+            let Some((_, after)) = self.first_block(rest) else {
+                return false;
+            };
+            rest = after;
+        }
+        true
+    }
+
+    // The bytes that a text encodes by these letters.
+    fn decode(&self, alloc: Global, text: &[u8]) -> Result<Option<Vec<u8>>, AllocError>
+        ensures { IfOk result (λ o. MatchOption o (IsCode32 self.now.letters text.now → ⊥)
+            (λ v. AreBytes v.items × (text.now ≡ code32 self.now.letters v.items))) }
+    {
+        let mut bytes = Vec::with_capacity(alloc, text.len() / 8 * 5)?;
+        let mut rest = text;
+        while !rest.is_empty() {
+            let Some((group, after)) = self.first_block(rest) else {
+                return Ok(None);
+            };
+            let group_bytes = group.bytes;
+            bytes.extend_from_slice(&group_bytes[..group.len])?;
+            rest = after;
+        }
+        Ok(Some(bytes))
+    }
+
+    // What the first block of a text stands for, and the text after it. Only the last block is padded.
+    fn first_block<'a>(&self, text: &'a [u8]) -> Option<(Group, &'a [u8])>
+        requires some { 0 < length text.now }
+        ensures { MatchOption result (IsCode32 self.now.letters text.now → ⊥)
+            (λ r. BeginsWithBlock self.now.letters text.now r.0.bytes r.0.len r.1.now) }
+    {
+        if text.len() < 8 {
+            return None;
+        }
+        let (block, after) = text.split_at(8);
+        let Some(group) = self.decode_block(block) else {
+            return None;
         };
-        rest = after;
+        if group.len < 5 && !after.is_empty() {
+            return None;
+        }
+        Some((group, after))
     }
-    true
-}
 
-// The bytes that a text encodes by these letters.
-fn decode(
-    alloc: Global,
-    letters: &[u8; 32],
-    places: &[u8; 256],
-    text: &[u8],
-) -> Result<Option<Vec<u8>>, AllocError>
-    requires alphabet { IsTrue (is_alphabet letters.now) }
-    requires table { IsTrue (is_table letters.now places.now) }
-    ensures { IfOk result (λ o. MatchOption o (IsCode32 letters.now text.now → ⊥)
-        (λ v. AreBytes v.items × (text.now ≡ code32 letters.now v.items))) }
-{
-    let mut bytes = Vec::with_capacity(alloc, text.len() / 8 * 5)?;
-    let mut rest = text;
-    while !rest.is_empty() {
-        let Some((group, after)) = first_block(letters, places, rest) else {
-            return Ok(None);
-        };
-        let group_bytes = group.bytes;
-        bytes.extend_from_slice(&group_bytes[..group.len])?;
-        rest = after;
+    // What a block stands for: one to five bytes whose code it is. Whatever the characters are, they are
+    // read as letters; that they were, with the padding in place and the spare bits zero, is seen by encoding
+    // what was read.
+    fn decode_block(&self, block: &[u8]) -> Option<Group>
+        requires block { length block.now ≡ 8 }
+        ensures found { IfSome result (λ g. IsBlockOf self.now.letters block.now g.bytes g.len) }
+        ensures only { (p : List ℕ) → AreBytes p → 0 < length p → length p ≤ 5 → block.now ≡ code32 self.now.letters p
+            → IsSomeAnd result (λ g. take g.len g.bytes ≡ p) }
+    {
+        let group = self.group_of(block);
+        let bytes = group.bytes;
+        let len = group.len;
+        if !is_zero(&bytes[len..]) {
+            return None;
+        }
+        let code = self.code_of(&bytes, len);
+        if block == code.as_slice() {
+            Some(group)
+        } else {
+            None
+        }
     }
-    Ok(Some(bytes))
-}
 
-// What the first block of a text stands for, and the text after it. Only the last block is padded.
-fn first_block<'a>(
-    letters: &[u8; 32],
-    places: &[u8; 256],
-    text: &'a [u8],
-) -> Option<(Group, &'a [u8])>
-    requires some { 0 < length text.now }
-    requires alphabet { IsTrue (is_alphabet letters.now) }
-    requires table { IsTrue (is_table letters.now places.now) }
-    ensures { MatchOption result (IsCode32 letters.now text.now → ⊥)
-        (λ r. BeginsWithBlock letters.now text.now r.0.bytes r.0.len r.1.now) }
-{
-    if text.len() < 8 {
-        return None;
+    // What a block stands for, if it is a code.
+    fn group_of(&self, block: &[u8]) -> Group
+        requires block { length block.now ≡ 8 }
+        ensures some { 0 < result.len }
+        ensures few { result.len ≤ 5 }
+        ensures five { length result.bytes ≡ 5 }
+        ensures are_bytes { AreBytes result.bytes }
+        ensures only { (p : List ℕ) → AreBytes p → 0 < length p → length p ≤ 5 → block.now ≡ code32 self.now.letters p
+            → (result.len ≡ length p) × (result.bytes ≡ p ++ replicate (5 - length p) 0) }
+    {
+        let v0 = self.value_of(block[0]);
+        let v1 = self.value_of(block[1]);
+        let v2 = self.value_of(block[2]);
+        let v3 = self.value_of(block[3]);
+        let v4 = self.value_of(block[4]);
+        let v5 = self.value_of(block[5]);
+        let v6 = self.value_of(block[6]);
+        let v7 = self.value_of(block[7]);
+        Group {
+            bytes: [
+                (v0 * 8 + v1 / 4) as u8,
+                (v1 % 4 * 64 + v2 * 2 + v3 / 16) as u8,
+                (v3 % 16 * 16 + v4 / 2) as u8,
+                (v4 % 2 * 128 + v5 * 4 + v6 / 8) as u8,
+                (v6 % 8 * 32 + v7) as u8,
+            ],
+            len: group_len(block),
+        }
     }
-    let (block, after) = text.split_at(8);
-    let Some(group) = decode_block(letters, places, block) else {
-        return None;
-    };
-    if group.len < 5 && !after.is_empty() {
-        return None;
-    }
-    Some((group, after))
-}
 
-// What a block stands for: one to five bytes whose code it is. Whatever the characters are, they are
-// read as letters; that they were, with the padding in place and the spare bits zero, is seen by encoding
-// what was read.
-fn decode_block(letters: &[u8; 32], places: &[u8; 256], block: &[u8]) -> Option<Group>
-    requires block { length block.now ≡ 8 }
-    requires alphabet { IsTrue (is_alphabet letters.now) }
-    requires table { IsTrue (is_table letters.now places.now) }
-    ensures found { IfSome result (λ g. IsBlockOf letters.now block.now g.bytes g.len) }
-    ensures only { (p : List ℕ) → AreBytes p → 0 < length p → length p ≤ 5 → block.now ≡ code32 letters.now p
-        → IsSomeAnd result (λ g. take g.len g.bytes ≡ p) }
-{
-    let group = group_of(letters, places, block);
-    let bytes = group.bytes;
-    let len = group.len;
-    if !is_zero(&bytes[len..]) {
-        return None;
+    // The code of the first `len` of these bytes, of which the others are 0.
+    fn code_of(&self, bytes: &[u8; 5], len: usize) -> [u8; 8]
+        requires some { 0 < len }
+        requires few { len ≤ 5 }
+        requires zeros { drop len bytes.now ≡ replicate (5 - len) 0 }
+        ensures { result ≡ code32 self.now.letters (take len bytes.now) }
+    {
+        let [a, b, c, d, e] = *bytes;
+        [
+            self.letter(a / 8, false),
+            self.letter(a % 8 * 4 + b / 64, false),
+            self.letter(b / 2 % 32, len < 2),
+            self.letter(b % 2 * 16 + c / 16, len < 2),
+            self.letter(c % 16 * 2 + d / 128, len < 3),
+            self.letter(d / 4 % 32, len < 4),
+            self.letter(d % 4 * 8 + e / 32, len < 4),
+            self.letter(e % 32, len < 5),
+        ]
     }
-    let code = code_of(letters, &bytes, len);
-    if block == code.as_slice() {
-        Some(group)
-    } else {
-        None
+
+    // The place of a letter, or 0 for a character that is none.
+    fn value_of(&self, character: u8) -> usize
+        ensures value { result ≡ value_of self.now.letters character }
+        ensures below { result < 32 }
+    {
+        usize::from(self.places[usize::from(character)])
+    }
+
+    // The letter of a value, or "=" past the letters.
+    fn letter(&self, value: u8, is_padding: bool) -> u8
+        requires { value < 32 }
+        ensures { result ≡ (if is_padding then byte "=" else slice_index self.now.letters value) }
+    {
+        if is_padding {
+            b'='
+        } else {
+            self.letters[usize::from(value)]
+        }
     }
 }
 
@@ -184,82 +248,9 @@ fn group_len(block: &[u8]) -> usize
     }
 }
 
-// What a block stands for, if it is a code.
-fn group_of(letters: &[u8; 32], places: &[u8; 256], block: &[u8]) -> Group
-    requires block { length block.now ≡ 8 }
-    requires alphabet { IsTrue (is_alphabet letters.now) }
-    requires table { IsTrue (is_table letters.now places.now) }
-    ensures some { 0 < result.len }
-    ensures few { result.len ≤ 5 }
-    ensures five { length result.bytes ≡ 5 }
-    ensures are_bytes { AreBytes result.bytes }
-    ensures only { (p : List ℕ) → AreBytes p → 0 < length p → length p ≤ 5 → block.now ≡ code32 letters.now p
-        → (result.len ≡ length p) × (result.bytes ≡ p ++ replicate (5 - length p) 0) }
-{
-    let v0 = value_of(letters, places, block[0]);
-    let v1 = value_of(letters, places, block[1]);
-    let v2 = value_of(letters, places, block[2]);
-    let v3 = value_of(letters, places, block[3]);
-    let v4 = value_of(letters, places, block[4]);
-    let v5 = value_of(letters, places, block[5]);
-    let v6 = value_of(letters, places, block[6]);
-    let v7 = value_of(letters, places, block[7]);
-    Group {
-        bytes: [
-            (v0 * 8 + v1 / 4) as u8,
-            (v1 % 4 * 64 + v2 * 2 + v3 / 16) as u8,
-            (v3 % 16 * 16 + v4 / 2) as u8,
-            (v4 % 2 * 128 + v5 * 4 + v6 / 8) as u8,
-            (v6 % 8 * 32 + v7) as u8,
-        ],
-        len: group_len(block),
-    }
-}
-
-// The code of the first `len` of these bytes, of which the others are 0.
-fn code_of(letters: &[u8; 32], bytes: &[u8; 5], len: usize) -> [u8; 8]
-    requires some { 0 < len }
-    requires few { len ≤ 5 }
-    requires zeros { drop len bytes.now ≡ replicate (5 - len) 0 }
-    ensures { result ≡ code32 letters.now (take len bytes.now) }
-{
-    let [a, b, c, d, e] = *bytes;
-    [
-        letter(letters, a / 8, false),
-        letter(letters, a % 8 * 4 + b / 64, false),
-        letter(letters, b / 2 % 32, len < 2),
-        letter(letters, b % 2 * 16 + c / 16, len < 2),
-        letter(letters, c % 16 * 2 + d / 128, len < 3),
-        letter(letters, d / 4 % 32, len < 4),
-        letter(letters, d % 4 * 8 + e / 32, len < 4),
-        letter(letters, e % 32, len < 5),
-    ]
-}
-
 // Whether bytes are all 0.
 fn is_zero(bytes: &[u8]) -> bool
     ensures { IsTrue result ↔ (bytes.now ≡ replicate (length bytes.now) 0) }
 {
     bytes.iter().all(|byte| *byte == 0)
-}
-
-// The place of a letter, or 0 for a character that is none.
-fn value_of(letters: &[u8; 32], places: &[u8; 256], character: u8) -> usize
-    requires { IsTrue (is_table letters.now places.now) }
-    ensures value { result ≡ value_of letters.now character }
-    ensures below { result < 32 }
-{
-    usize::from(places[usize::from(character)])
-}
-
-// The letter of a value, or "=" past the letters.
-fn letter(letters: &[u8; 32], value: u8, is_padding: bool) -> u8
-    requires { value < 32 }
-    ensures { result ≡ (if is_padding then 61 else slice_index letters.now value) }
-{
-    if is_padding {
-        b'='
-    } else {
-        letters[usize::from(value)]
-    }
 }

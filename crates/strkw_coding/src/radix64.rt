@@ -3,7 +3,7 @@
 ghost use Rattle.std.specs.Prelude.{◌≡◌, IfOk, MatchOption};
 ghost use Rattle.base64.specs.GeneralPurpose.{IsStrict, encode_of};
 ghost use Rattle.strkw_coding.specs.Blocks.{IsCodeOf};
-ghost use Rattle.strkw_coding.specs.Rfc4648.{AreBytes, Encodes, IsEncoding};
+ghost use Rattle.strkw_coding.specs.Rfc4648.{AreBytes, Reads};
 
 use crate::codec::Codec;
 use base64::DecodeAllocError;
@@ -12,14 +12,14 @@ use std::alloc::{AllocError, Global};
 
 /// The bytes that a text encodes by base64.
 pub(crate) fn bytes_of_base64(alloc: Global, text: &[u8]) -> Result<Option<Vec<u8>>, AllocError>
-    ensures { IfOk result (λ o. MatchOption o (IsEncoding Codec.Base64 text.now → ⊥) (λ v. Encodes Codec.Base64 text.now v.items)) }
+    ensures { IfOk result (Reads (λ v. v.items) Codec.Base64 text.now) }
 {
     decode(alloc, &STANDARD, text)
 }
 
 /// The bytes that a text encodes by base64url.
 pub(crate) fn bytes_of_base64url(alloc: Global, text: &[u8]) -> Result<Option<Vec<u8>>, AllocError>
-    ensures { IfOk result (λ o. MatchOption o (IsEncoding Codec.Base64Url text.now → ⊥) (λ v. Encodes Codec.Base64Url text.now v.items)) }
+    ensures { IfOk result (Reads (λ v. v.items) Codec.Base64Url text.now) }
 {
     decode(alloc, &URL_SAFE, text)
 }

@@ -157,6 +157,25 @@ fn base16_and_json_checks(rt: HostRuntime) -> Result<(), Fail> {
     Ok(())
 }
 
+// `serde_json` reads arrays nested 127 deep, and no deeper.
+#[test]
+fn json_nesting(rt: HostRuntime) -> Result<(), Fail> {
+    let alloc = rt.alloc();
+    for (depth, expected) in [(127usize, true), (128, false)] {
+        let text = format!(in alloc;
+            "{}{}",
+            "[".repeat(alloc, depth)?,
+            "]".repeat(alloc, depth)?
+        )?;
+        assert!(rt; is_json(alloc, text.as_str())? == expected, "{depth} deep");
+        assert!(rt;
+            BuiltinMediaType::Json.accepts(alloc, text.as_str())? == expected,
+            "{depth} deep"
+        );
+    }
+    Ok(())
+}
+
 #[test]
 fn decoders(rt: HostRuntime) -> Result<(), Fail> {
     let alloc = rt.alloc();
@@ -245,6 +264,16 @@ fn names(rt: HostRuntime) {
     ] {
         assert!(rt; Codec::by_name(name) == expected, "{name}");
     }
+    for (codec, name) in [
+        (Codec::Base64, "base64"),
+        (Codec::Base64Url, "base64url"),
+        (Codec::Base32, "base32"),
+        (Codec::Base32Hex, "base32hex"),
+        (Codec::Base16, "base16"),
+    ] {
+        assert!(rt; codec.as_str() == name, "{name}");
+    }
+    assert!(rt; BuiltinMediaType::Json.as_str() == "application/json");
     assert!(rt; BuiltinMediaType::by_name("application/json") == Some(BuiltinMediaType::Json));
     for name in ["application/JSON", "application/xml", ""] {
         assert!(rt; BuiltinMediaType::by_name(name).is_none(), "{name}");
@@ -295,4 +324,34 @@ fn decoders_under_refusal(rt: HostRuntime) {
     assert!(rt; is_refused_or_text(from_base32(alloc, "MY=====M"), None));
     assert!(rt; is_refused_or_text(from_base32hex(alloc, "CPNMUOJ1E8======"), Some("foobar")));
     assert!(rt; is_refused_or_text(from_base16(alloc, "666F6f"), Some("foo")));
+}
+
+// "foo" by each encoding (RFC 4648, section 10), and a text that is no encoding.
+#[test]
+fn codecs_under_refusal(rt: HostRuntime) {
+    let alloc = rt.alloc();
+    for (codec, text) in [
+        (Codec::Base64, "Zm9v"),
+        (Codec::Base64Url, "Zm9v"),
+        (Codec::Base32, "MZXW6==="),
+        (Codec::Base32Hex, "CPNMU==="),
+        (Codec::Base16, "666F6F"),
+    ] {
+        assert!(rt;
+            is_refused_or(codec.is_encoded(alloc, text), true),
+            "{text}"
+        );
+        assert!(rt;
+            is_refused_or(codec.is_encoded(alloc, "?"), false),
+            "{text}"
+        );
+        assert!(rt;
+            is_refused_or_text(codec.decode(alloc, text), Some("foo")),
+            "{text}"
+        );
+        assert!(rt;
+            is_refused_or_text(codec.decode(alloc, "?"), None),
+            "{text}"
+        );
+    }
 }

@@ -1,6 +1,6 @@
 -- On the errors that assertions report.
 use Rattle.std.proofs.Common.{◌≡◌, ◌<◌, ◌↔◌, ℕ, List, [], ◌∷◌, ◌++◌, map, Bool, false, Option, Some, None, refl, sym, ap, ◌∙◌, subst, inl, inr, length, get_or, arith, MatchOption, IsTrue, slice_get, Result, Ok, Err, OnOk}
-use Rattle.std.proofs.lemmas.List.{append-nil, append_assoc}
+use Rattle.std.proofs.lemmas.List.{append_assoc}
 use Rattle.strkw_report.specs.Kinds.{Kind, content_encoding, format, Report, report_at, Standing}
 use Rattle.strkw_report.specs.declared.error.Site.{Site}
 use Rattle.strkw_coding.specs.Laws.{EncodesOnce}
@@ -23,15 +23,6 @@ first_collected P [] [] x o a h e = absurd (omega arith)
 first_collected P (z ∷ zs) [] x o a h e = absurd (omega arith)
 first_collected P [] (y ∷ ys) x o a h e = (ys, rw e (subst P (sym a.grown) a.reported))
 first_collected P (z ∷ zs) (y ∷ ys) x o a h e = absurd (cc)
-
--- nothing was collected
-pub nothing_collected : (P : List Report → Type 0) (old new : List Report) → old ≡ [] → Appends P old new → length new ≡ 0 → P []
-nothing_collected P [] [] o a h = subst P (sym a.grown) a.reported
-nothing_collected P (z ∷ zs) new o a h = absurd (cc)
-nothing_collected P [] (y ∷ ys) o a h = absurd (omega arith)
-
-pub all_collected : (P : List Report → Type 0) (new : List Report) → Appends P [] new → P new
-all_collected P new a = subst P (sym a.grown) a.reported
 
 -- ---- a text has one finding by a demand, or none
 
@@ -133,15 +124,11 @@ pub collected_ok : {E : Type 0} (r : Result (Unit {0}) E) (place : Place) (ds : 
 collected_ok (Ok x) place ds lists site there text a b old new e h g = collected_by_findings place ds lists site there text a b old new e h g
 collected_ok (Err x) place ds lists site there text a b old new e h g = tt
 
--- ---- one and two findings
+-- ---- one finding
 
 pub finds_one : (d : Demand) (lists : Lists) (node : Option (List ℕ)) (found : Option Finding) → NodeFinding d lists node found → NodeFinds (d ∷ []) lists node (listed found ++ [])
 finds_one d lists None found h = rw h refl
 finds_one d lists (Some text) found h = (found, [], h, refl, refl)
-
-pub finds_two : (d e : Demand) (lists : Lists) (node : Option (List ℕ)) (a b : Option Finding) → NodeFinding d lists node a → NodeFinding e lists node b → NodeFinds (d ∷ e ∷ []) lists node (listed a ++ listed b)
-finds_two d e lists None a b h k = rw (h, k) refl
-finds_two d e lists (Some text) a b h k = (a, listed b, h, refl, (b, [], k, sym (append-nil (listed b)), refl))
 
 -- ---- one text
 

@@ -10,18 +10,20 @@ use Rattle.strkw_keywords.specs.declared.compile.Refused.TheVariants.{Malformed,
 use Rattle.strkw_keywords.specs.declared.validator.Validator.{Validator}
 use Rattle.strkw_keywords.specs.Keywords.{keyword_name}
 use Rattle.strkw_keywords.specs.Places.{Place}
-use Rattle.strkw_keywords.specs.Validators.{assertions_of, remark_made, listed_remark}
+use Rattle.strkw_keywords.specs.Validators.{place_of, assertions_of, remark_made, listed_remark}
 use Rattle.strkw_keywords.specs.Object.{Settings, Entry, Keyed, pattern_keyed, IsPatternAt, refusal, asserted, remarked}
 
 -- the refusal of a growth: it stands at the root
 abbrev pub out_of_memory : Refusal
 out_of_memory = record { reason = memory; location = [] }
 
--- the validator stands for these entries: none of them is refused, and it asserts and notes what they do
+-- the validator stands for these entries: none of them is refused, it asserts and notes what they do, and it stands
+-- where their object does
 pub record StandsFor {E : Type 0} (outcome : E → List ℕ → Outcome) (place : Place) (es : List Keyed) (v : Validator E) : Type 0 where
   pub good : refusal place es ≡ None
   pub asserts : assertions_of outcome v ≡ asserted place es
   pub notes : listed_remark (remark_made v) ≡ remarked place es
+  pub stands : place_of v ≡ place
 
 -- these entries add nothing
 pub record AddsNothing (place : Place) (es : List Keyed) : Type 0 where

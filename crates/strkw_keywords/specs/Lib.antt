@@ -11,6 +11,7 @@ pub mod Remarks
 pub mod Findings
 pub mod Verdicts
 pub mod Decodings
+pub mod LiteralKinds
 pub mod Validators
 pub mod Object
 pub mod Settings

@@ -23,9 +23,11 @@ pub enum BuiltinFormat {
     Date,
     /// `date-time` of RFC 3339, section 5.6.
     DateTime,
-    /// `duration` of RFC 3339, appendix A.
+    /// `duration` of RFC 3339, appendix A. Its letters are upper case.
     Duration,
-    /// `hostname` from draft 7 on: ASCII host names whose labels that begin with `xn--` are Punycode (RFC 5891, section 4.4).
+    /// `hostname` from draft 7 on: ASCII host names in which only `xn--` labels have hyphens in third and fourth place,
+    /// each payload being the Punycode (RFC 3492) of a text that `validate_unicode_label` admits. The prefix counts in
+    /// lower case.
     Hostname,
     /// `hostname` in drafts 4 and 6: ASCII host names of RFC 1034, section 3.5, and RFC 1123, section 2.1.
     HostnameDraft4,
@@ -47,7 +49,7 @@ pub enum BuiltinFormat {
     Uri,
     /// `uri-reference` of RFC 3986, appendix A.
     UriReference,
-    /// `uri-template` of RFC 6570, section 2.
+    /// `uri-template` of RFC 6570, section 2. `'` and characters past ASCII stand in literals.
     UriTemplate,
     /// `uuid` of RFC 9562, section 4 (before it RFC 4122, section 3).
     Uuid,

@@ -21,7 +21,7 @@ pub trait Format: Drop {
 
 /// A check of a media type that the caller registers. It says by `accepted` which texts are of the media type.
 pub trait MediaTypeCheck: Drop {
-    /// Whether it admits a text.
+    /// Which texts are of the media type.
     ghost accepted: { Self → List ℕ → Bool };
 
     /// Whether the text is of the media type. The only error is want of memory.

@@ -5,9 +5,9 @@ ghost use Rattle.strkw_keywords.specs.Keywords.{keyword_name, keyword_place};
 /// object are looked at.
 #[derive(Debug, Clone, Copy, PartialEq, Eq)]
 pub enum Keyword {
-    /// `contentMediaType`, from draft 6 on.
+    /// `contentMediaType`, from draft 6 on, as the Rust crate has it (the drafts have it from draft 7 on).
     ContentMediaType,
-    /// `contentEncoding`, from draft 6 on.
+    /// `contentEncoding`, from draft 6 on, as the Rust crate has it (the drafts have it from draft 7 on).
     ContentEncoding,
     /// `contentSchema`, from draft 2019-09 on.
     ContentSchema,

@@ -5,7 +5,7 @@ ghost use Rattle.std.specs.Ordering.{nat_cmp};
 ghost use Rattle.std.specs.Hash as fed;
 ghost use Rattle.strkw_keywords.specs.declared.builtin.BuiltinFormat.{BuiltinFormat};
 ghost use Rattle.strkw_keywords.specs.Formats.{IsOfBuiltin, format_place, formats, window_of, example_of, window_texts_of};
-ghost use Rattle.strkw_keywords.specs.FormatLaws.{IsInside, AreBoth, AreTextsAtEnds};
+ghost use Rattle.strkw_keywords.specs.FormatLaws.{IsInside, AreBoth, AreTextsAtEnds, BuiltinFormatOfName};
 ghost use Rattle.strkw_keywords.specs.Laws.{AssertionsReportInTurn, FusedLengthsReportBoth, OthersHaveNone, EngineFailuresAreErrors, ReportsAreDetermined, ErrorsAreDetermined, CompiledIsInUse, FirstRowCounts};
 
 use crate::builtin::BuiltinFormat;
@@ -88,6 +88,12 @@ pub fn window_texts_are_at_the_ends()
     strkw_net::laws::uuid_example();
     strkw_label::laws::ends_of_the_length_window_are_host_names();
 }
+
+/// A name has a built-in format in a draft exactly where that format has the name and the draft has the format, whatever
+/// the order of the list.
+pub fn builtin_format_of_name()
+    ensures { BuiltinFormatOfName }
+{}
 
 /// The errors of several assertions are those of the first, and then those of the others.
 pub fn assertions_report_in_turn()

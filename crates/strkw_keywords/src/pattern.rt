@@ -1,6 +1,7 @@
 ghost use Rattle.std.specs.Prelude.{◌≡◌, [], ◌∷◌, Some, None, IfOk, option_map, string_bytes};
 ghost use Rattle.strkw_pattern.specs.Matcher.{literal_outcome, outcome_of};
 ghost use Rattle.strkw_keywords.specs.Meanings.{no_lists};
+ghost use Rattle.strkw_keywords.specs.LiteralKinds.{kind_of, prefix, exact, alternation, no_whitespace};
 ghost use Rattle.strkw_keywords.specs.Demands.{compares, matches, NodeFinding};
 ghost use Rattle.strkw_keywords.specs.Findings.{finding_of};
 ghost use Rattle.std.specs.Str.{chars};
@@ -51,6 +52,7 @@ fn is_matched(alloc: Global, matcher: &LiteralMatcher, text: &str) -> bool
 pub struct PrefixPatternValidator {
     pub(crate) origin: Origin,
     pub(crate) literal: Literal,
+    ghost kind: { kind_of literal.matcher ≡ prefix },
 }
 
 impl Uses for PrefixPatternValidator {
@@ -96,6 +98,7 @@ impl<N: Node> Validate<N> for PrefixPatternValidator {
 pub struct ExactPatternValidator {
     pub(crate) origin: Origin,
     pub(crate) literal: Literal,
+    ghost kind: { kind_of literal.matcher ≡ exact },
 }
 
 impl Uses for ExactPatternValidator {
@@ -141,6 +144,7 @@ impl<N: Node> Validate<N> for ExactPatternValidator {
 pub struct AlternationPatternValidator {
     pub(crate) origin: Origin,
     pub(crate) literal: Literal,
+    ghost kind: { kind_of literal.matcher ≡ alternation },
 }
 
 impl Uses for AlternationPatternValidator {
@@ -186,6 +190,7 @@ impl<N: Node> Validate<N> for AlternationPatternValidator {
 pub struct NoWhitespacePatternValidator {
     pub(crate) origin: Origin,
     pub(crate) literal: Literal,
+    ghost kind: { kind_of literal.matcher ≡ no_whitespace },
 }
 
 impl Uses for NoWhitespacePatternValidator {

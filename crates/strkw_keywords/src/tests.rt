@@ -119,30 +119,52 @@ fn lines<B: EngineBuilder>(
     schema: &str,
     instance: &str,
 ) -> Result<String, AllocError> {
-    let mut lines = String::new(alloc);
     let (Ok(schema), Ok(instance)) = (
         Value::from_str(alloc, schema),
         Value::from_str(alloc, instance),
     ) else {
-        lines.push_str("no JSON\n")?;
-        return Ok(lines);
+        return String::from_str(alloc, "no JSON\n");
     };
-    let Some(schema) = schema.as_object() else {
-        lines.push_str("no object\n")?;
-        return Ok(lines);
-    };
+    match schema.as_object() {
+        Some(object) => answer_lines(alloc, ctx, keyword, object, &instance),
+        None => String::from_str(alloc, "no object\n"),
+    }
+}
+
+fn answer_lines<B: EngineBuilder>(
+    alloc: Global,
+    ctx: &Context<'_, B>,
+    keyword: Keyword,
+    schema: &Map<String, Value>,
+    instance: &Value,
+) -> Result<String, AllocError> {
     match compiled(alloc, ctx, keyword, schema) {
-        None => lines.push_str("adds nothing\n")?,
-        Some(Ok(validator)) => {
-            push_answers(alloc, &validator, &ctx.checks, &instance, &mut lines)?;
-        }
-        Some(Err(refusal)) => {
-            let text = refusal.text(alloc)?;
-            lines.push_str("refused ")?;
-            push_line(&mut lines, refusal.location.as_str(), &text)?;
+        None => String::from_str(alloc, "adds nothing\n"),
+        Some(Ok(validator)) => answers(alloc, &validator, &ctx.checks, instance),
+        Some(Err(refusal)) => refusal_line(alloc, &refusal),
+    }
+}
+
+// The first row whose entry answers otherwise, and what it answers; empty where there is none. A row is a keyword, a
+// schema object, an instance, and the lines.
+fn first_difference<B: EngineBuilder>(
+    alloc: Global,
+    ctx: Context<'_, B>,
+    rows: &[(Keyword, &str, &str, &str)],
+) -> Result<String, AllocError> {
+    for (keyword, schema, instance, wanted) in rows {
+        let found = lines(alloc, &ctx, *keyword, schema, instance)?;
+        if found.as_str() != *wanted {
+            return format!(in alloc; "{schema} on {instance}: {found}");
         }
     }
-    Ok(lines)
+    Ok(String::new(alloc))
+}
+
+fn refusal_line(alloc: Global, refusal: &CompileError) -> Result<String, AllocError> {
+    let text = refusal.text(alloc)?;
+    let place = refusal.location.as_str();
+    format!(in alloc; "refused {place}: {text}\n")
 }
 
 fn push_line(lines: &mut String, place: &str, text: &str) -> Result<(), AllocError> {
@@ -234,4 +256,15 @@ fn push_answers<E: RegexEngine, N: Node>(
         lines.push_str("is_valid says otherwise\n")?;
     }
     Ok(())
+}
+
+fn answers<E: RegexEngine, N: Node>(
+    alloc: Global,
+    validator: &Validator<E>,
+    checks: &Checks,
+    node: &N,
+) -> Result<String, AllocError> {
+    let mut lines = String::new(alloc);
+    push_answers(alloc, validator, checks, node, &mut lines)?;
+    Ok(lines)
 }

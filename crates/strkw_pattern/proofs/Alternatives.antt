@@ -76,6 +76,3 @@ continues_step pattern rest text after next texts continues (xs, each, split, sa
         | inr more ↦ (more.0, more.1, ap (drop 1) (sym e ∙ more.2))
       ];
 }
-
-pub cons_same : (a b : ℕ) (xs ys : List ℕ) → a ≡ b → xs ≡ ys → a ∷ xs ≡ b ∷ ys
-cons_same a b xs ys e es = rw (e, es) refl

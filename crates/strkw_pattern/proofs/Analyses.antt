@@ -1,14 +1,9 @@
 -- The one way in which a pattern can be literal, by its first characters.
-use Rattle.std.proofs.Common.{◌≡◌, ℕ, ◌<◌, List, [], ◌∷◌, ◌++◌, slice_index, drop, length, refl, sym, ap, ◌∙◌, codes, arith, Option, Some, None, Result, Ok, Err}
-use Rattle.std.specs.Prelude.{IfOk, MatchOption}
-use Rattle.std.specs.declared.alloc.AllocError.{AllocError}
+use Rattle.std.proofs.Common.{◌≡◌, ℕ, ◌<◌, List, [], ◌∷◌, ◌++◌, slice_index, drop, length, refl, sym, ap, ◌∙◌, codes, arith}
 use Rattle.std.proofs.lemmas.List.{append_assoc, append-nil, length-append}
 use Rattle.std.proofs.lemmas.List.Elements.{All-head}
 use Rattle.strkw_pattern.specs.Literal.{Item, plain, escaped, IsItem, AreItems, item_spelling, spelling_of, is_plain, prefix, exact, alternation, no_whitespace, IsLiteral}
-use Rattle.strkw_pattern.specs.Reading.{NoItem, IsRun, IsNoRun, IsNoGroup}
-use Rattle.strkw_pattern.specs.Analysis.{IsAnalysis}
-use Rattle.strkw_pattern.specs.declared.literal.PatternOptimization.{PatternOptimization}
-use Rattle.strkw_pattern.specs.declared.literal.PatternOptimization.TheVariants.{Prefix, Exact, Alternation, NoWhitespace}
+use Rattle.strkw_pattern.specs.Reading.{NoItem, IsNoRun, IsNoGroup}
 use Rattle.strkw_pattern.proofs.Items.{no_item-cons}
 
 -- an item is written
@@ -48,13 +43,3 @@ no_literal-group group none (prefix xs, are, e) = no_run_here (40 ∷ group) [] 
 no_literal-group group none (exact xs, are, e) = no_run_here (40 ∷ group) (codes "$") xs (no_parenthesis group) are (ap (drop 1) e)
 no_literal-group group none (alternation xss, are, e) = none xss are (ap (drop 2) e)
 no_literal-group group none (no_whitespace, are, e) = let bad = ap (λ (r : List ℕ). slice_index r 1) e in omega (arith, bad)
-
--- the analysis of a run
-pub run_analysis : (pattern : List ℕ) (first : ℕ) (group : List ℕ) (r : Result (Option PatternOptimization) AllocError) → pattern ≡ 94 ∷ first ∷ group → (first ≡ 40 → ⊥) → (pattern ≡ codes "^\\S*$" → ⊥)
-    → IfOk r (λ o. MatchOption o (IsNoRun (first ∷ group)) (IsRun (first ∷ group))) → IfOk r (λ o. MatchOption o (IsLiteral pattern → ⊥) (IsAnalysis pattern))
-run_analysis pattern first group (Err e) is other not_this run = tt
-run_analysis pattern first group (Ok None) is other not_this run = rw is (no_literal-run first group other (λ e. not_this (is ∙ e)) run)
-run_analysis pattern first group (Ok (Some (Prefix s))) is other not_this run = (run.0, run.1, is ∙ ap (λ (r : List ℕ). 94 ∷ r) run.2, run.3)
-run_analysis pattern first group (Ok (Some (Exact s))) is other not_this run = (run.0, run.1, is ∙ ap (λ (r : List ℕ). 94 ∷ r) run.2, run.3)
-run_analysis pattern first group (Ok (Some (Alternation v))) is other not_this run = absurd run
-run_analysis pattern first group (Ok (Some NoWhitespace)) is other not_this run = absurd run

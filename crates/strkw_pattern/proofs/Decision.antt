@@ -1,5 +1,5 @@
 -- A pattern is literal, or it is not.
-use Rattle.std.proofs.Common.{◌≡◌, ℕ, suc, ◌<◌, ◌≤◌, Bool, true, false, List, [], ◌∷◌, ◌++◌, ◌⊎◌, slice_index, drop, length, refl, sym, ap, ◌∙◌, inl, inr, codes, arith, subst, append-nil, zero}
+use Rattle.std.proofs.Common.{◌≡◌, ℕ, suc, ◌<◌, ◌≤◌, List, [], ◌∷◌, ◌++◌, ◌⊎◌, slice_index, length, refl, sym, ap, ◌∙◌, inl, inr, codes, arith, subst, append-nil, zero}
 use Rattle.std.specs.Str.{bytes_eq}
 use Rattle.std.proofs.lemmas.Bool.{cases_Bool, cases_eq}
 use Rattle.std.proofs.lemmas.List.{append_assoc}

@@ -20,3 +20,11 @@ IsAnalysis pattern (Exact s) = (xs : List Item) × AreItems xs × (pattern ≡ s
 IsAnalysis pattern (Alternation v) = (xss : List (List Item)) × AreAlternatives xss × (pattern ≡ spelling (alternation xss))
     × IsSortedGroup (map text_of xss) (map string_bytes v.items)
 IsAnalysis pattern NoWhitespace = pattern ≡ spelling no_whitespace
+
+-- two analyses of one kind, with the same texts in the same order
+abbrev pub SameAnalysis : PatternOptimization → PatternOptimization → Type 0
+SameAnalysis (Prefix s) (Prefix t) = string_bytes s ≡ string_bytes t
+SameAnalysis (Exact s) (Exact t) = string_bytes s ≡ string_bytes t
+SameAnalysis (Alternation v) (Alternation w) = map string_bytes v.items ≡ map string_bytes w.items
+SameAnalysis NoWhitespace NoWhitespace = Unit {0}
+SameAnalysis a b = ⊥

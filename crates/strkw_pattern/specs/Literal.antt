@@ -3,6 +3,7 @@
 use Rattle.std.specs.Prelude.{◌≡◌, ℕ, ◌<◌, Bool, true, ◌||◌, List, [], ◌∷◌, ◌++◌, map, length, codes, All}
 use Rattle.std.specs.Char.{is_ascii_alphanumeric}
 use Rattle.std.specs.List.{flat_map, join_with_byte}
+use Rattle.std.specs.Str.{byte}
 use Rattle.strkw_text.specs.Characters.{is_one_of}
 
 -- a character of a literal: one that stands for itself, or one after a backslash
@@ -25,7 +26,7 @@ IsItem (escaped c) = is_escapable c ≡ true
 -- an item as it is written
 abbrev pub item_spelling : Item → List ℕ
 item_spelling (plain c) = c ∷ []
-item_spelling (escaped c) = 92 ∷ c ∷ []
+item_spelling (escaped c) = byte "\\" ∷ c ∷ []
 
 -- the character that it stands for
 abbrev pub item_char : Item → ℕ
@@ -62,11 +63,11 @@ IsWellFormed (exact xs) = AreItems xs
 IsWellFormed (alternation xss) = AreAlternatives xss
 IsWellFormed no_whitespace = Unit {0}
 
--- a literal as it is written; 124 is the bar
+-- a literal as it is written
 abbrev pub spelling : Literal → List ℕ
 spelling (prefix xs) = codes "^" ++ spelling_of xs
 spelling (exact xs) = codes "^" ++ spelling_of xs ++ codes "$"
-spelling (alternation xss) = codes "^(" ++ join_with_byte 124 (map spelling_of xss) ++ codes ")$"
+spelling (alternation xss) = codes "^(" ++ join_with_byte (byte "|") (map spelling_of xss) ++ codes ")$"
 spelling no_whitespace = codes "^\\S*$"
 
 -- the pattern is literal

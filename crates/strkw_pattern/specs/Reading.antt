@@ -1,6 +1,7 @@
 -- What the steps of the analysis read at the front of a pattern.
 use Rattle.std.specs.Prelude.{◌≡◌, ℕ, List, ◌++◌, map, codes, All}
 use Rattle.std.specs.List.{join_with_byte}
+use Rattle.std.specs.Str.{byte}
 use Rattle.std.specs.String.{string_bytes}
 use Rattle.strkw_pattern.specs.Literal.{Item, IsItem, item_spelling, item_char, spelling_of, text_of, AreItems, AreAlternatives}
 use Rattle.strkw_pattern.specs.declared.literal.PatternOptimization.{PatternOptimization}
@@ -32,7 +33,7 @@ IsRun pattern NoWhitespace = ⊥
 
 -- what follows the `^(` of an alternation
 abbrev pub group_spelling : List (List Item) → List ℕ
-group_spelling xss = join_with_byte 124 (map spelling_of xss) ++ codes ")$"
+group_spelling xss = join_with_byte (byte "|") (map spelling_of xss) ++ codes ")$"
 
 -- alternatives with these texts follow the `^(`
 abbrev pub IsGroup : List ℕ → List (List ℕ) → Type 0

@@ -1,3 +1,5 @@
+//! The engines that match patterns which are not literal: what each answers, and what builds it.
+
 ghost use Rattle.std.specs.Prelude.{◌≡◌, ℕ, List, Bool, true, false, IfOk, IfErr};
 ghost use Rattle.std.specs.Str.{chars};
 

@@ -1,3 +1,5 @@
+//! Which patterns are literal, and the kind and the text of each.
+
 ghost use Rattle.std.specs.Prelude.{◌≡◌, IfOk, MatchOption, [], ◌∷◌, map};
 ghost use Rattle.std.specs.Str.{chars};
 ghost use Rattle.std.specs.String.{string_bytes};
@@ -84,9 +86,7 @@ fn split_front(bytes: &[u8]) -> Option<(u8, &[u8])>
 fn first_item(pattern: &[u8]) -> Option<(u8, &[u8])>
     ensures { MatchOption result (NoItem pattern.now) (λ r. BeginsWithItem pattern.now r.0 r.1.now) }
 {
-    let Some((first, after)) = split_front(pattern) else {
-        return None;
-    };
+    let (first, after) = split_front(pattern)?;
     if first != b'\\' {
         return if is_plain(first) {
             Some((first, after))
@@ -94,9 +94,7 @@ fn first_item(pattern: &[u8]) -> Option<(u8, &[u8])>
             None
         };
     }
-    let Some((second, rest)) = split_front(after) else {
-        return None;
-    };
+    let (second, rest) = split_front(after)?;
     if is_escapable(second) {
         Some((second, rest))
     } else {

@@ -1,3 +1,5 @@
+//! The engine of a literal pattern: a comparison of texts.
+
 ghost use Rattle.std.specs.Prelude.{◌≡◌, IsOk, nat_eq};
 ghost use Rattle.std.specs.List.{list_any, starts_with};
 ghost use Rattle.std.specs.Str.{chars, bytes_eq};

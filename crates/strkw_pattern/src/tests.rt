@@ -5,8 +5,6 @@ use crate::{
 use std::alloc::{AllocError, Global};
 use std::test::Fail;
 
-mod scripted;
-
 // The kind of an analysis, and its texts, each after a space.
 fn shown(alloc: Global, found: &Option<PatternOptimization>) -> Result<String, AllocError> {
     match found {

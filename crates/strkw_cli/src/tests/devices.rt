@@ -207,6 +207,30 @@ fn an_interrupted_read_is_a_fault(rt: HostRuntime) {
     assert!(rt; sink.bytes().is_empty());
 }
 
+// A writer that a signal interrupts.
+#[derive(Drop)]
+struct InterruptedWriter;
+
+impl Write for InterruptedWriter {
+    fn write(&mut self, _buf: &[u8]) -> io::Result<usize> {
+        Err(ErrorKind::Interrupted.into())
+    }
+
+    fn flush(&mut self) -> io::Result<()> {
+        Ok(())
+    }
+}
+
+#[test]
+fn an_interrupted_write_is_a_fault(rt: HostRuntime) -> Result<(), Fail> {
+    let mut source = MemorySource::new(script().to_vec(rt.alloc())?);
+    let mut sink = HostSink::new(InterruptedWriter);
+    let ended = run(rt.alloc(), &mut source, &mut sink);
+    assert_eq!(rt; ended, Err(RunFault::Write));
+    assert!(rt; sink.has_failed());
+    Ok(())
+}
+
 // A writer that takes so many bytes a write at most, and flushes or not.
 #[derive(Drop)]
 struct Writer {

@@ -9,6 +9,10 @@ use std::test::Fail;
 use strkw_keywords::Options;
 use strkw_report::{CompileErrorKind, Draft, ErrorKind, Location, Node, Site, char_count};
 
+// What is checked of a text that is decoded first.
+const JSON_IN_BASE64: &str =
+    r#"{"contentMediaType":"application/json","contentEncoding":"base64"}"#;
+
 // A schema object, an instance, and the lines of the answer.
 fn schemas_and_instances() -> [(&'static str, &'static str, &'static str); 23] {
     [
@@ -126,6 +130,81 @@ fn errors_and_refusals_in_draft_7(rt: HostRuntime) -> Result<(), Fail> {
             "{schema} on {instance}"
         );
     }
+    Ok(())
+}
+
+// The same, by the keywords of content and by `pattern`.
+fn contents_and_patterns() -> [(&'static str, &'static str, &'static str); 7] {
+    [
+        (
+            JSON_IN_BASE64,
+            r#""ezp9Cg==""#,
+            "/contentMediaType: \"ezp9Cg==\" is not compliant with \"application/json\" media type\n",
+        ),
+        (
+            JSON_IN_BASE64,
+            r#""{}""#,
+            "/contentEncoding: \"{}\" is not compliant with \"base64\" content encoding\n",
+        ),
+        (
+            JSON_IN_BASE64,
+            r#""//4=""#,
+            "/contentEncoding: \"//4=\" does not decode to UTF-8 text\n",
+        ),
+        (r#"{"contentEncoding":"base64"}"#, r#""//4=""#, ""),
+        (
+            r#"{"contentMediaType":"application/json","contentEncoding":5}"#,
+            "1",
+            "/contentEncoding: 5 is not of type \"string\"\n",
+        ),
+        (
+            r#"{"pattern":5}"#,
+            "1",
+            "/pattern: 5 is not of type \"string\"\n",
+        ),
+        (
+            r#"{"pattern":1.5}"#,
+            "1",
+            "/pattern: the value holds a number that is no whole number of 64 bits\n",
+        ),
+    ]
+}
+
+#[test]
+fn contents_and_patterns_in_draft_7(rt: HostRuntime) -> Result<(), Fail> {
+    let alloc = rt.alloc();
+    let builder = NoPatterns;
+    let ctx = root_context(alloc, Draft::Draft7, Options::default(), &builder);
+    for (schema, instance, lines) in contents_and_patterns() {
+        assert_eq!(rt;
+            answer_lines(alloc, &ctx, schema, instance)?.as_str(),
+            lines,
+            "{schema} on {instance}"
+        );
+    }
+    Ok(())
+}
+
+// What decodes to bytes that are no UTF-8 has an error of its own kind.
+#[test]
+fn bytes_that_are_no_utf8(rt: HostRuntime) -> Result<(), Fail> {
+    let alloc = rt.alloc();
+    let builder = NoPatterns;
+    let ctx = root_context(alloc, Draft::Draft7, Options::default(), &builder);
+    let Some(Ok(keywords)) = compiled(alloc, &ctx, JSON_IN_BASE64) else {
+        assert!(rt; false, "{JSON_IN_BASE64}");
+        return Ok(());
+    };
+    let node = Value::try_from_str(alloc, "//4=")?;
+    if !keywords.uses(&ctx.checks) {
+        assert!(rt; false);
+        return Ok(());
+    }
+    let mut errors = Vec::new(alloc);
+    keywords.collect_errors(alloc, &node, &root_site(alloc), &ctx.checks, &mut errors)?;
+    assert_eq!(rt; errors.len(), 1);
+    assert!(rt; matches!(errors[0].kind, ErrorKind::FromUtf8));
+    assert_eq!(rt; errors[0].schema_path.as_str(), "/contentEncoding");
     Ok(())
 }
 

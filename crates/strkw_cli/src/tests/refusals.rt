@@ -128,11 +128,37 @@ fn is_valid_under_refusal(rt: HostRuntime) {
     }
 }
 
+// Where an error stands, the keyword that its kind is named after, and the name that the kind keeps.
+fn summary(error: &ValidationError) -> (&str, &'static str, &str) {
+    let path = error.schema_path.as_str();
+    match &error.kind {
+        ErrorKind::ContentMediaType { name } => (path, "contentMediaType", name.as_str()),
+        ErrorKind::ContentEncoding { name } => (path, "contentEncoding", name.as_str()),
+        ErrorKind::MinLength { .. } => (path, "minLength", ""),
+        _ => (path, "another kind", ""),
+    }
+}
+
+// A text, and the first error that `JSON_IN_BASE64` gives of it.
+fn texts_and_first_errors() -> [(
+    &'static str,
+    Option<(&'static str, &'static str, &'static str)>,
+); 3] {
+    [
+        ("e30=", None),
+        (
+            "ezp9Cg==",
+            Some(("/contentMediaType", "contentMediaType", "application/json")),
+        ),
+        ("x", Some(("/contentEncoding", "contentEncoding", "base64"))),
+    ]
+}
+
 #[test]
 fn validate_under_refusal(rt: HostRuntime) {
     let alloc = rt.alloc();
     let builder = NoPatterns;
-    for (text, valid) in [("e30=", true), ("ezp9Cg==", false), ("x", false)] {
+    for (text, wanted) in texts_and_first_errors() {
         let Some(ctx) = context_with_prefix(alloc, Draft::Draft7, &builder) else {
             return;
         };
@@ -144,8 +170,10 @@ fn validate_under_refusal(rt: HostRuntime) {
         };
         if keywords.uses(&ctx.checks) {
             match keywords.validate(alloc, &node, &root_site(alloc), &ctx.checks) {
-                Ok(()) => assert!(rt; valid, "{text}"),
-                Err(Fault::Invalid(_)) => assert!(rt; !valid, "{text}"),
+                Ok(()) => assert!(rt; wanted.is_none(), "{text}"),
+                Err(Fault::Invalid(error)) => {
+                    assert!(rt; Some(summary(&error)) == wanted, "{text}");
+                }
                 Err(Fault::Memory) => {}
             }
         }
@@ -183,6 +211,16 @@ fn collect_errors_under_refusal(rt: HostRuntime) {
     assert!(rt; matches!(errors[0].kind, ErrorKind::FromUtf8));
 }
 
+// Where each note stands, and the text that it is, if it is one.
+fn places_and_texts_of_notes() -> [(&'static str, Option<&'static str>); 4] {
+    [
+        ("/contentMediaType", Some("a")),
+        ("/contentEncoding", Some("b")),
+        ("/contentSchema", None),
+        ("/format", Some("c")),
+    ]
+}
+
 #[test]
 fn evaluate_under_refusal(rt: HostRuntime) {
     let alloc = rt.alloc();
@@ -203,7 +241,15 @@ fn evaluate_under_refusal(rt: HostRuntime) {
             return;
         };
         assert_eq!(rt; found.errors.len(), 1);
+        for error in found.errors.as_slice() {
+            assert!(rt; matches!(error.kind, ErrorKind::MinLength { limit: 5 }));
+            assert_eq!(rt; error.schema_path.as_str(), "/minLength");
+        }
         assert_eq!(rt; found.notes.len(), 4);
+        for (note, (place, text)) in found.notes.iter().zip(places_and_texts_of_notes()) {
+            assert_eq!(rt; note.schema_path.as_str(), place);
+            assert_eq!(rt; note.value.as_str(), text);
+        }
     }
 }
 
@@ -222,7 +268,8 @@ fn run_under_refusal(rt: HostRuntime) {
     match ended {
         Ok(()) => assert!(rt; bytes == answers()),
         Err(RunFault::Memory) => {
-            let is_whole = ends().iter().any(|end| *end == bytes.len());
+            // The last request has no line feed: it is not answered before a fault.
+            let is_whole = ends()[..5].iter().any(|end| *end == bytes.len());
             assert!(rt; is_whole);
         }
         Err(RunFault::Write) => assert!(rt; sink.has_failed()),

@@ -295,18 +295,3 @@ pub(super) fn no_patterns() -> ScriptedBuilder<'static> {
         calls: Cell::new(0),
     }
 }
-
-#[test]
-fn a_kept_test_is_asked(rt: HostRuntime) -> Result<(), std::test::Fail> {
-    let test = Box::new(
-        rt.alloc(),
-        |s: &str| -> bool
-            ensures { result ≡ (length (chars s.now) % 2 == 0) }
-        { char_count(s) % 2 == 0 },
-    )?;
-    let check = KeptTest { test };
-    for (text, admitted) in [("", true), ("a", false), ("é", false), ("éa", true)] {
-        assert_eq!(rt; check.is_valid(rt.alloc(), text)?, admitted, "{text}");
-    }
-    Ok(())
-}

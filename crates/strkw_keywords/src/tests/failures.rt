@@ -1,7 +1,7 @@
 //! Handed-in checks, engines and builders that answer want of memory.
 
 use super::doubles::{NoMemory, NoMemoryEngines, Plain, no_patterns};
-use super::{compiled, no_checks, root_context, root_site};
+use super::{compiled, first_difference, no_checks, root_context, root_site};
 use crate::{
     Checks, Context, Fault, Keyword, NamedCodec, NamedFormat, NamedMediaType, Options, Uses,
     Validate, Validator,
@@ -10,7 +10,7 @@ use serde_json::Value;
 use std::alloc::{AllocError, Global};
 use std::test::Fail;
 use strkw_pattern::{EngineBuilder, RegexEngine};
-use strkw_report::{CompileErrorKind, Draft, ErrorKind, Location, ValidationError, error_at};
+use strkw_report::{Draft, ErrorKind, Location, ValidationError, error_at};
 
 // Whether `collect_errors` is refused, and leaves the one error of a lent vector there alone.
 fn keeps_what_is_lent<E: RegexEngine>(
@@ -35,56 +35,63 @@ fn keeps_what_is_lent<E: RegexEngine>(
     }
 }
 
-// Whether each of the four calls on a text answers want of memory.
+// Whether each of the four calls on a node answers want of memory.
+fn answers_no_memory<E: RegexEngine>(
+    alloc: Global,
+    validator: &Validator<E>,
+    checks: &Checks,
+    node: &Value,
+) -> Result<bool, AllocError> {
+    if !validator.uses(checks) {
+        return Ok(false);
+    }
+    let site = root_site(alloc);
+    let verdict = validator.validate(alloc, node, &site, checks);
+    Ok(
+        validator.is_valid(alloc, node, checks) == Err(AllocError)
+            && matches!(verdict, Err(Fault::Memory))
+            && validator.evaluate(alloc, node, &site, checks).is_err()
+            && keeps_what_is_lent(alloc, validator, checks, node)?,
+    )
+}
+
+// Whether the calls of an entry's validator on a text answer want of memory.
 fn is_refused<B: EngineBuilder>(
     alloc: Global,
     ctx: &Context<'_, B>,
     keyword: Keyword,
     schema: &str,
 ) -> Result<bool, AllocError> {
+    let node = Value::try_from_str(alloc, "x")?;
     let Ok(schema) = Value::from_str(alloc, schema) else {
         return Ok(false);
     };
     let Some(object) = schema.as_object() else {
         return Ok(false);
     };
-    let Some(Ok(validator)) = compiled(alloc, ctx, keyword, object) else {
-        return Ok(false);
-    };
-    let (node, site) = (Value::try_from_str(alloc, "x")?, root_site(alloc));
-    if !validator.uses(&ctx.checks) {
-        return Ok(false);
+    match compiled(alloc, ctx, keyword, object) {
+        Some(Ok(validator)) => answers_no_memory(alloc, &validator, &ctx.checks, &node),
+        _ => Ok(false),
     }
-    let is_valid = validator.is_valid(alloc, &node, &ctx.checks);
-    let verdict = validator.validate(alloc, &node, &site, &ctx.checks);
-    let evaluation = validator.evaluate(alloc, &node, &site, &ctx.checks);
-    Ok(
-        is_valid == Err(AllocError)
-            && matches!(verdict, Err(Fault::Memory))
-            && evaluation.is_err()
-            && keeps_what_is_lent(alloc, &validator, &ctx.checks, &node)?,
-    )
 }
 
 // An entry that rests on a registered row.
-fn entries() -> [(Keyword, &'static str); 5] {
-    [
-        (Keyword::Format, r#"{"format":"custom"}"#),
-        (
-            Keyword::ContentMediaType,
-            r#"{"contentMediaType":"text/x"}"#,
-        ),
-        (Keyword::ContentEncoding, r#"{"contentEncoding":"x"}"#),
-        (
-            Keyword::ContentMediaType,
-            r#"{"contentMediaType":"application/json","contentEncoding":"x"}"#,
-        ),
-        (
-            Keyword::ContentMediaType,
-            r#"{"contentMediaType":"text/x","contentEncoding":"plain"}"#,
-        ),
-    ]
-}
+const ENTRIES: [(Keyword, &str); 5] = [
+    (Keyword::Format, r#"{"format":"custom"}"#),
+    (
+        Keyword::ContentMediaType,
+        r#"{"contentMediaType":"text/x"}"#,
+    ),
+    (Keyword::ContentEncoding, r#"{"contentEncoding":"x"}"#),
+    (
+        Keyword::ContentMediaType,
+        r#"{"contentMediaType":"application/json","contentEncoding":"x"}"#,
+    ),
+    (
+        Keyword::ContentMediaType,
+        r#"{"contentMediaType":"text/x","contentEncoding":"plain"}"#,
+    ),
+];
 
 #[test]
 fn checks_without_memory(rt: HostRuntime) -> Result<(), Fail> {
@@ -118,7 +125,7 @@ fn checks_without_memory(rt: HostRuntime) -> Result<(), Fail> {
         codecs: codecs.as_slice(),
     };
     let ctx = root_context(alloc, Draft::Draft7, Options::default(), checks, &builder);
-    for (keyword, schema) in entries() {
+    for (keyword, schema) in ENTRIES {
         assert!(rt; is_refused(alloc, &ctx, keyword, schema)?, "{schema}");
     }
     Ok(())
@@ -138,6 +145,14 @@ fn engines_without_memory(rt: HostRuntime) -> Result<(), Fail> {
     Ok(())
 }
 
+const REFUSED_BUILDER: [(Keyword, &str, &str, &str); 1] = [(
+    Keyword::Pattern,
+    r#"{"pattern":"a+"}"#,
+    "1",
+    "refused : out of memory\n",
+)];
+
+// Want of memory is refused at the root, wherever the object stands.
 #[test]
 fn builders_without_memory(rt: HostRuntime) -> Result<(), Fail> {
     let alloc = rt.alloc();
@@ -149,15 +164,7 @@ fn builders_without_memory(rt: HostRuntime) -> Result<(), Fail> {
         &NoMemory,
     );
     ctx.location = Location::root(alloc).join("a")?;
-    let schema = Value::from_str(alloc, r#"{"pattern":"a+"}"#)?;
-    let Some(object) = schema.as_object() else {
-        return Err(Fail::from("no object"));
-    };
-    let Some(Err(refusal)) = compiled(alloc, &ctx, Keyword::Pattern, object) else {
-        return Err(Fail::from("not refused"));
-    };
-    assert!(rt; matches!(refusal.kind, CompileErrorKind::Memory));
-    assert_eq!(rt; refusal.location.as_str(), "");
-    assert_eq!(rt; refusal.text(alloc)?.as_str(), "out of memory");
+    let found = first_difference(alloc, ctx, &REFUSED_BUILDER)?;
+    assert_eq!(rt; found.as_str(), "");
     Ok(())
 }

@@ -1,102 +1,102 @@
 //! The table of the built-in formats, row by row, and rows of `format`.
 
 use super::doubles::no_patterns;
-use super::{lines, no_checks, root_context};
+use super::{first_difference, no_checks, root_context};
 use crate::{BuiltinFormat, Keyword, Options, builtin_format};
+use std::alloc::{AllocError, Global};
+use std::hash::{DefaultHasher, Hash, Hasher};
 use std::test::Fail;
 use strkw_report::Draft;
 
 // The rows in order, under their variants' names: each name, the first and the last draft, and an example.
-fn rows() -> [(BuiltinFormat, &'static str, Draft, Draft); 16] {
-    [
-        (
-            BuiltinFormat::Date,
-            "date",
-            Draft::Draft4,
-            Draft::Draft202012,
-        ),
-        (
-            BuiltinFormat::DateTime,
-            "date-time",
-            Draft::Draft4,
-            Draft::Draft202012,
-        ),
-        (
-            BuiltinFormat::Duration,
-            "duration",
-            Draft::Draft201909,
-            Draft::Draft202012,
-        ),
-        (
-            BuiltinFormat::Hostname,
-            "hostname",
-            Draft::Draft7,
-            Draft::Draft202012,
-        ),
-        (
-            BuiltinFormat::HostnameDraft4,
-            "hostname",
-            Draft::Draft4,
-            Draft::Draft6,
-        ),
-        (
-            BuiltinFormat::Ipv4,
-            "ipv4",
-            Draft::Draft4,
-            Draft::Draft202012,
-        ),
-        (
-            BuiltinFormat::Ipv6,
-            "ipv6",
-            Draft::Draft4,
-            Draft::Draft202012,
-        ),
-        (BuiltinFormat::Iri, "iri", Draft::Draft7, Draft::Draft202012),
-        (
-            BuiltinFormat::IriReference,
-            "iri-reference",
-            Draft::Draft7,
-            Draft::Draft202012,
-        ),
-        (
-            BuiltinFormat::JsonPointer,
-            "json-pointer",
-            Draft::Draft6,
-            Draft::Draft202012,
-        ),
-        (
-            BuiltinFormat::RelativeJsonPointer,
-            "relative-json-pointer",
-            Draft::Draft7,
-            Draft::Draft202012,
-        ),
-        (
-            BuiltinFormat::Time,
-            "time",
-            Draft::Draft4,
-            Draft::Draft202012,
-        ),
-        (BuiltinFormat::Uri, "uri", Draft::Draft4, Draft::Draft202012),
-        (
-            BuiltinFormat::UriReference,
-            "uri-reference",
-            Draft::Draft6,
-            Draft::Draft202012,
-        ),
-        (
-            BuiltinFormat::UriTemplate,
-            "uri-template",
-            Draft::Draft6,
-            Draft::Draft202012,
-        ),
-        (
-            BuiltinFormat::Uuid,
-            "uuid",
-            Draft::Draft201909,
-            Draft::Draft202012,
-        ),
-    ]
-}
+const ROWS: [(BuiltinFormat, &str, Draft, Draft); 16] = [
+    (
+        BuiltinFormat::Date,
+        "date",
+        Draft::Draft4,
+        Draft::Draft202012,
+    ),
+    (
+        BuiltinFormat::DateTime,
+        "date-time",
+        Draft::Draft4,
+        Draft::Draft202012,
+    ),
+    (
+        BuiltinFormat::Duration,
+        "duration",
+        Draft::Draft201909,
+        Draft::Draft202012,
+    ),
+    (
+        BuiltinFormat::Hostname,
+        "hostname",
+        Draft::Draft7,
+        Draft::Draft202012,
+    ),
+    (
+        BuiltinFormat::HostnameDraft4,
+        "hostname",
+        Draft::Draft4,
+        Draft::Draft6,
+    ),
+    (
+        BuiltinFormat::Ipv4,
+        "ipv4",
+        Draft::Draft4,
+        Draft::Draft202012,
+    ),
+    (
+        BuiltinFormat::Ipv6,
+        "ipv6",
+        Draft::Draft4,
+        Draft::Draft202012,
+    ),
+    (BuiltinFormat::Iri, "iri", Draft::Draft7, Draft::Draft202012),
+    (
+        BuiltinFormat::IriReference,
+        "iri-reference",
+        Draft::Draft7,
+        Draft::Draft202012,
+    ),
+    (
+        BuiltinFormat::JsonPointer,
+        "json-pointer",
+        Draft::Draft6,
+        Draft::Draft202012,
+    ),
+    (
+        BuiltinFormat::RelativeJsonPointer,
+        "relative-json-pointer",
+        Draft::Draft7,
+        Draft::Draft202012,
+    ),
+    (
+        BuiltinFormat::Time,
+        "time",
+        Draft::Draft4,
+        Draft::Draft202012,
+    ),
+    (BuiltinFormat::Uri, "uri", Draft::Draft4, Draft::Draft202012),
+    (
+        BuiltinFormat::UriReference,
+        "uri-reference",
+        Draft::Draft6,
+        Draft::Draft202012,
+    ),
+    (
+        BuiltinFormat::UriTemplate,
+        "uri-template",
+        Draft::Draft6,
+        Draft::Draft202012,
+    ),
+    (
+        BuiltinFormat::Uuid,
+        "uuid",
+        Draft::Draft201909,
+        Draft::Draft202012,
+    ),
+];
 
 const DRAFTS: [Draft; 5] = [
     Draft::Draft4,
@@ -109,7 +109,7 @@ const DRAFTS: [Draft; 5] = [
 #[test]
 fn variants_stand_in_order(rt: HostRuntime) {
     let mut place = 0usize;
-    for (format, _, _, _) in rows() {
+    for (format, _, _, _) in ROWS {
         assert_eq!(rt; BuiltinFormat::VARIANTS.get(place), Some(&format));
         place = place.wrapping_add(1);
     }
@@ -117,15 +117,47 @@ fn variants_stand_in_order(rt: HostRuntime) {
 }
 
 #[test]
+fn formats_are_ordered_by_place(rt: HostRuntime) {
+    for (i, a) in BuiltinFormat::VARIANTS.iter().enumerate() {
+        for (j, b) in BuiltinFormat::VARIANTS.iter().enumerate() {
+            assert_eq!(rt; *a == *b, i == j);
+            assert_eq!(rt; *a < *b, i < j);
+            assert!(rt; a.cmp(b) == i.cmp(&j));
+        }
+    }
+}
+
+fn hash_of<T: Hash>(value: &T) -> u64 {
+    let mut hasher = DefaultHasher::new();
+    value.hash(&mut hasher);
+    hasher.finish()
+}
+
+// A derived hash feeds the place of the variant, as a number of 64 bits.
+#[test]
+fn formats_and_drafts_are_hashed_by_place(rt: HostRuntime) {
+    let mut place = 0u64;
+    for format in BuiltinFormat::VARIANTS {
+        assert_eq!(rt; hash_of(format), hash_of(&place));
+        place = place.wrapping_add(1);
+    }
+    let mut place = 0u64;
+    for draft in DRAFTS {
+        assert_eq!(rt; hash_of(&draft), hash_of(&place));
+        place = place.wrapping_add(1);
+    }
+}
+
+#[test]
 fn names_by_draft(rt: HostRuntime) {
-    for (format, name, first, last) in rows() {
+    for (format, name, first, last) in ROWS {
         assert_eq!(rt; format.as_str(), name);
         for draft in DRAFTS {
             let is_known = first <= draft && draft <= last;
             assert_eq!(rt;
                 builtin_format(draft, name) == Some(format),
                 is_known,
-                "{name}"
+                "{draft:?}"
             );
         }
     }
@@ -287,163 +319,155 @@ const UNKNOWN: &str =
 const UNKNOWN_BY_DIALECT: &str =
     "refused /format: Unknown format: 'custom'. The meta-schema asserts formats, so unrecognized ones cannot be ignored. Register a check for it or disable format validation\n";
 
-// The lines of `date` and of a format that is not known, by the draft and the options.
-fn drafts_and_options() -> [(Draft, Options, &'static str, &'static str); 12] {
-    [
-        (Draft::Draft4, Options::default(), NO_DATE, IGNORED),
-        (Draft::Draft6, Options::default(), NO_DATE, IGNORED),
-        (Draft::Draft7, Options::default(), NO_DATE, IGNORED),
-        (Draft::Draft201909, Options::default(), DATE, CUSTOM),
-        (Draft::Draft202012, Options::default(), DATE, CUSTOM),
-        (
-            Draft::Draft7,
-            format_options(None, false, false),
-            NO_DATE,
-            UNKNOWN,
-        ),
-        (
-            Draft::Draft7,
-            format_options(Some(false), false, false),
-            DATE,
-            CUSTOM,
-        ),
-        (
-            Draft::Draft7,
-            format_options(None, true, true),
-            NO_DATE,
-            UNKNOWN_BY_DIALECT,
-        ),
-        (
-            Draft::Draft202012,
-            format_options(None, false, false),
-            DATE,
-            CUSTOM,
-        ),
-        (
-            Draft::Draft202012,
-            format_options(Some(true), true, false),
-            NO_DATE,
-            IGNORED,
-        ),
-        (
-            Draft::Draft202012,
-            format_options(None, true, true),
-            NO_DATE,
-            UNKNOWN_BY_DIALECT,
-        ),
-        (
-            Draft::Draft202012,
-            format_options(Some(false), true, true),
-            DATE,
-            CUSTOM,
-        ),
-    ]
+// The lines of `date` and of a format that is not known, by the draft, where nothing is set.
+const DRAFTS_AND_LINES: [(Draft, &str, &str); 5] = [
+    (Draft::Draft4, NO_DATE, IGNORED),
+    (Draft::Draft6, NO_DATE, IGNORED),
+    (Draft::Draft7, NO_DATE, IGNORED),
+    (Draft::Draft201909, DATE, CUSTOM),
+    (Draft::Draft202012, DATE, CUSTOM),
+];
+
+// The same by the draft and three options: whether formats are checked, whether unknown ones are ignored, and whether
+// the dialect asserts them.
+const OPTIONS_AND_LINES: [(Draft, (Option<bool>, bool, bool), &str, &str); 7] = [
+    (Draft::Draft7, (None, false, false), NO_DATE, UNKNOWN),
+    (Draft::Draft7, (Some(false), false, false), DATE, CUSTOM),
+    (
+        Draft::Draft7,
+        (None, true, true),
+        NO_DATE,
+        UNKNOWN_BY_DIALECT,
+    ),
+    (Draft::Draft202012, (None, false, false), DATE, CUSTOM),
+    (
+        Draft::Draft202012,
+        (Some(true), true, false),
+        NO_DATE,
+        IGNORED,
+    ),
+    (
+        Draft::Draft202012,
+        (None, true, true),
+        NO_DATE,
+        UNKNOWN_BY_DIALECT,
+    ),
+    (Draft::Draft202012, (Some(false), true, true), DATE, CUSTOM),
+];
+
+// The first difference in the lines of `date` and of a format that is not known.
+fn date_and_custom(
+    alloc: Global,
+    draft: Draft,
+    options: Options,
+    date: &str,
+    custom: &str,
+) -> Result<String, AllocError> {
+    let builder = no_patterns();
+    let ctx = root_context(alloc, draft, options, no_checks(), &builder);
+    let x = r#""x""#;
+    let rows = [
+        (Keyword::Format, r#"{"format":"date"}"#, x, date),
+        (Keyword::Format, r#"{"format":"custom"}"#, x, custom),
+    ];
+    first_difference(alloc, ctx, &rows)
 }
 
 #[test]
-fn formats_by_draft_and_options(rt: HostRuntime) -> Result<(), Fail> {
-    let alloc = rt.alloc();
-    let builder = no_patterns();
-    for (draft, options, date_lines, custom_lines) in drafts_and_options() {
-        let ctx = root_context(alloc, draft, options, no_checks(), &builder);
-        let found = lines(
-            alloc,
-            &ctx,
-            Keyword::Format,
-            r#"{"format":"date"}"#,
-            r#""x""#,
-        )?;
-        assert_eq!(rt; found.as_str(), date_lines, "{draft:?}");
-        let found = lines(
-            alloc,
-            &ctx,
-            Keyword::Format,
-            r#"{"format":"custom"}"#,
-            r#""x""#,
-        )?;
-        assert_eq!(rt; found.as_str(), custom_lines, "{draft:?}");
+fn formats_by_draft(rt: HostRuntime) -> Result<(), Fail> {
+    for (draft, date, custom) in DRAFTS_AND_LINES {
+        let found = date_and_custom(rt.alloc(), draft, Options::default(), date, custom)?;
+        assert_eq!(rt; found.as_str(), "", "{draft:?}");
+    }
+    Ok(())
+}
+
+#[test]
+fn formats_by_options(rt: HostRuntime) -> Result<(), Fail> {
+    for (draft, (validate, ignore_unknown, by_dialect), date, custom) in OPTIONS_AND_LINES {
+        let options = format_options(validate, ignore_unknown, by_dialect);
+        let found = date_and_custom(rt.alloc(), draft, options, date, custom)?;
+        assert_eq!(rt; found.as_str(), "", "{draft:?}");
     }
     Ok(())
 }
 
 // A draft, a schema object, an instance, and the lines, unknown formats not being ignored.
-fn formats_and_lines() -> [(Draft, &'static str, &'static str, &'static str); 12] {
-    [
-        (
-            Draft::Draft7,
-            r#"{"format":"date"}"#,
-            r#""abcd""#,
-            "/format: \"abcd\" is not a \"date\"\nnote: \"date\"\n",
-        ),
-        (
-            Draft::Draft7,
-            r#"{"format":"date"}"#,
-            r#""2000-02-29""#,
-            "note: \"date\"\n",
-        ),
-        (Draft::Draft7, r#"{"format":"date"}"#, "5", ""),
-        (
-            Draft::Draft4,
-            r#"{"format":"hostname"}"#,
-            r#""XN--9krT00a""#,
-            "note: \"hostname\"\n",
-        ),
-        (
-            Draft::Draft4,
-            r#"{"format":"hostname"}"#,
-            r#""ex--ample.com""#,
-            "note: \"hostname\"\n",
-        ),
-        (
-            Draft::Draft7,
-            r#"{"format":"hostname"}"#,
-            r#""ex--ample.com""#,
-            "/format: \"ex--ample.com\" is not a \"hostname\"\nnote: \"hostname\"\n",
-        ),
-        (
-            Draft::Draft7,
-            r#"{"format":"uri"}"#,
-            r#""a:""#,
-            "note: \"uri\"\n",
-        ),
-        (
-            Draft::Draft7,
-            r#"{"format":"uuid"}"#,
-            "1",
-            "refused /format: Unknown format: 'uuid'. Adjust configuration to ignore unrecognized formats\n",
-        ),
-        (
-            Draft::Draft7,
-            r#"{"format":5}"#,
-            "1",
-            "refused /format: 5 is not of type \"string\"\n",
-        ),
-        (
-            Draft::Draft202012,
-            r#"{"format":5}"#,
-            "1",
-            "refused /format: 5 is not of type \"string\"\n",
-        ),
-        (
-            Draft::Draft7,
-            r#"{"format":[1,{"a":null}]}"#,
-            "1",
-            "refused /format: [1,{\"a\":null}] is not of type \"string\"\n",
-        ),
-        (
-            Draft::Draft7,
-            r#"{"format":{"a":[1.5]}}"#,
-            "1",
-            "refused /format: the value holds a number that is no whole number of 64 bits\n",
-        ),
-    ]
-}
+const FORMATS_AND_LINES: [(Draft, &str, &str, &str); 12] = [
+    (
+        Draft::Draft7,
+        r#"{"format":"date"}"#,
+        r#""abcd""#,
+        "/format: \"abcd\" is not a \"date\"\nnote: \"date\"\n",
+    ),
+    (
+        Draft::Draft7,
+        r#"{"format":"date"}"#,
+        r#""2000-02-29""#,
+        "note: \"date\"\n",
+    ),
+    (Draft::Draft7, r#"{"format":"date"}"#, "5", ""),
+    (
+        Draft::Draft4,
+        r#"{"format":"hostname"}"#,
+        r#""XN--9krT00a""#,
+        "note: \"hostname\"\n",
+    ),
+    (
+        Draft::Draft4,
+        r#"{"format":"hostname"}"#,
+        r#""ex--ample.com""#,
+        "note: \"hostname\"\n",
+    ),
+    (
+        Draft::Draft7,
+        r#"{"format":"hostname"}"#,
+        r#""ex--ample.com""#,
+        "/format: \"ex--ample.com\" is not a \"hostname\"\nnote: \"hostname\"\n",
+    ),
+    (
+        Draft::Draft7,
+        r#"{"format":"uri"}"#,
+        r#""a:""#,
+        "note: \"uri\"\n",
+    ),
+    (
+        Draft::Draft7,
+        r#"{"format":"uuid"}"#,
+        "1",
+        "refused /format: Unknown format: 'uuid'. Adjust configuration to ignore unrecognized formats\n",
+    ),
+    (
+        Draft::Draft7,
+        r#"{"format":5}"#,
+        "1",
+        "refused /format: 5 is not of type \"string\"\n",
+    ),
+    (
+        Draft::Draft202012,
+        r#"{"format":5}"#,
+        "1",
+        "refused /format: 5 is not of type \"string\"\n",
+    ),
+    (
+        Draft::Draft7,
+        r#"{"format":[1,{"a":null}]}"#,
+        "1",
+        "refused /format: [1,{\"a\":null}] is not of type \"string\"\n",
+    ),
+    (
+        Draft::Draft7,
+        r#"{"format":{"a":[1.5]}}"#,
+        "1",
+        "refused /format: the value holds a number that is no whole number of 64 bits\n",
+    ),
+];
 
 #[test]
 fn formats_of_schema_objects(rt: HostRuntime) -> Result<(), Fail> {
     let alloc = rt.alloc();
     let builder = no_patterns();
-    for (draft, schema, instance, answer) in formats_and_lines() {
+    for (draft, schema, instance, answer) in FORMATS_AND_LINES {
         let ctx = root_context(
             alloc,
             draft,
@@ -451,8 +475,9 @@ fn formats_of_schema_objects(rt: HostRuntime) -> Result<(), Fail> {
             no_checks(),
             &builder,
         );
-        let found = lines(alloc, &ctx, Keyword::Format, schema, instance)?;
-        assert_eq!(rt; found.as_str(), answer, "{schema} on {instance}");
+        let row = (Keyword::Format, schema, instance, answer);
+        let found = first_difference(alloc, ctx, &[row])?;
+        assert_eq!(rt; found.as_str(), "");
     }
     Ok(())
 }

@@ -12,23 +12,19 @@ use strkw_report::{
     CompileError, CompileErrorKind, Draft, ErrorKind, Location, ValidationError, error_at,
 };
 
-// What is compiled of an entry, under a location and a prefix that are copied; `None` where there was no memory to
-// read the schema object.
-fn entry<B: EngineBuilder>(
+// A schema object under a location and a prefix that are copied; `None` where there was no memory for them.
+fn copied_context<'a, B: EngineBuilder>(
     alloc: Global,
     draft: Draft,
-    builder: &B,
-    formats: &[NamedFormat],
-    keyword: Keyword,
-    schema: &str,
-) -> Option<Option<Result<Validator<B::Engine>, CompileError>>> {
+    builder: &'a B,
+    formats: &'a [NamedFormat],
+) -> Option<Context<'a, B>> {
     let mut options = Options::default();
     options.ignore_unknown_formats = false;
     let mut ctx = root_context(alloc, draft, options, formats_alone(formats), builder);
     ctx.location = Location::root(alloc).join("a").ok()?;
     ctx.absolute = Some(String::from_str(alloc, "https://example.com").ok()?);
-    let schema = Value::from_str(alloc, schema).ok()?;
-    Some(compiled(alloc, &ctx, keyword, schema.as_object()?))
+    Some(ctx)
 }
 
 // Whether an answer is a value where no place is given, or a refusal at the place, or want of memory at the root.
@@ -45,91 +41,110 @@ fn is_memory_or<E>(outcome: &Result<Validator<E>, CompileError>, place: Option<&
     }
 }
 
-// A draft, a keyword, a schema object, and where it is refused with ample memory.
-fn entries_and_places() -> [(Draft, Keyword, &'static str, Option<&'static str>); 15] {
-    [
-        (
-            Draft::Draft7,
-            Keyword::ContentMediaType,
-            r#"{"contentMediaType":"application/json","contentEncoding":"base64"}"#,
-            None,
-        ),
-        (
-            Draft::Draft7,
-            Keyword::ContentMediaType,
-            r#"{"contentMediaType":["a"]}"#,
-            Some("/a/contentMediaType"),
-        ),
-        (
-            Draft::Draft7,
-            Keyword::ContentEncoding,
-            r#"{"contentEncoding":"base64"}"#,
-            None,
-        ),
-        (
-            Draft::Draft202012,
-            Keyword::ContentMediaType,
-            r#"{"contentMediaType":"a/b"}"#,
-            None,
-        ),
-        (
-            Draft::Draft202012,
-            Keyword::ContentEncoding,
-            r#"{"contentEncoding":"x"}"#,
-            None,
-        ),
-        (
-            Draft::Draft202012,
-            Keyword::ContentSchema,
-            r#"{"contentMediaType":"a/b","contentSchema":{"a":["b"]}}"#,
-            None,
-        ),
-        (
-            Draft::Draft202012,
-            Keyword::ContentSchema,
-            r#"{"contentMediaType":"a/b","contentSchema":1.5}"#,
-            Some("/a/contentSchema"),
-        ),
-        (Draft::Draft7, Keyword::Format, r#"{"format":"date"}"#, None),
-        (
-            Draft::Draft7,
-            Keyword::Format,
-            r#"{"format":"custom"}"#,
-            Some("/a/format"),
-        ),
-        (
-            Draft::Draft202012,
-            Keyword::Format,
-            r#"{"format":"custom"}"#,
-            None,
-        ),
-        (
-            Draft::Draft7,
-            Keyword::MinLength,
-            r#"{"minLength":1,"maxLength":2}"#,
-            None,
-        ),
-        (
-            Draft::Draft7,
-            Keyword::MaxLength,
-            r#"{"maxLength":-1}"#,
-            Some("/a/maxLength"),
-        ),
-        (
-            Draft::Draft7,
-            Keyword::Pattern,
-            r#"{"pattern":"^(c|b|a)$"}"#,
-            None,
-        ),
-        (Draft::Draft7, Keyword::Pattern, r#"{"pattern":"a+"}"#, None),
-        (
-            Draft::Draft7,
-            Keyword::Pattern,
-            r#"{"pattern":"b+"}"#,
-            Some("/a/pattern"),
-        ),
-    ]
+// Whether an entry is compiled where no place is given, or refused at the place, or refused for want of memory. It is
+// not asked where there was no memory to read the schema object.
+fn is_compiled_or_refused<B: EngineBuilder>(
+    alloc: Global,
+    ctx: &Context<'_, B>,
+    keyword: Keyword,
+    schema: &str,
+    place: Option<&str>,
+) -> bool {
+    let Ok(schema) = Value::from_str(alloc, schema) else {
+        return true;
+    };
+    match schema.as_object() {
+        Some(object) => match compiled(alloc, ctx, keyword, object) {
+            Some(outcome) => is_memory_or(&outcome, place),
+            None => false,
+        },
+        None => false,
+    }
 }
+
+// A draft, a keyword, a schema object, and where it is refused with ample memory.
+const ENTRIES_AND_PLACES: [(Draft, Keyword, &str, Option<&str>); 15] = [
+    (
+        Draft::Draft7,
+        Keyword::ContentMediaType,
+        r#"{"contentMediaType":"application/json","contentEncoding":"base64"}"#,
+        None,
+    ),
+    (
+        Draft::Draft7,
+        Keyword::ContentMediaType,
+        r#"{"contentMediaType":["a"]}"#,
+        Some("/a/contentMediaType"),
+    ),
+    (
+        Draft::Draft7,
+        Keyword::ContentEncoding,
+        r#"{"contentEncoding":"base64"}"#,
+        None,
+    ),
+    (
+        Draft::Draft202012,
+        Keyword::ContentMediaType,
+        r#"{"contentMediaType":"a/b"}"#,
+        None,
+    ),
+    (
+        Draft::Draft202012,
+        Keyword::ContentEncoding,
+        r#"{"contentEncoding":"x"}"#,
+        None,
+    ),
+    (
+        Draft::Draft202012,
+        Keyword::ContentSchema,
+        r#"{"contentMediaType":"a/b","contentSchema":{"a":["b"]}}"#,
+        None,
+    ),
+    (
+        Draft::Draft202012,
+        Keyword::ContentSchema,
+        r#"{"contentMediaType":"a/b","contentSchema":1.5}"#,
+        Some("/a/contentSchema"),
+    ),
+    (Draft::Draft7, Keyword::Format, r#"{"format":"date"}"#, None),
+    (
+        Draft::Draft7,
+        Keyword::Format,
+        r#"{"format":"custom"}"#,
+        Some("/a/format"),
+    ),
+    (
+        Draft::Draft202012,
+        Keyword::Format,
+        r#"{"format":"custom"}"#,
+        None,
+    ),
+    (
+        Draft::Draft7,
+        Keyword::MinLength,
+        r#"{"minLength":1,"maxLength":2}"#,
+        None,
+    ),
+    (
+        Draft::Draft7,
+        Keyword::MaxLength,
+        r#"{"maxLength":-1}"#,
+        Some("/a/maxLength"),
+    ),
+    (
+        Draft::Draft7,
+        Keyword::Pattern,
+        r#"{"pattern":"^(c|b|a)$"}"#,
+        None,
+    ),
+    (Draft::Draft7, Keyword::Pattern, r#"{"pattern":"a+"}"#, None),
+    (
+        Draft::Draft7,
+        Keyword::Pattern,
+        r#"{"pattern":"b+"}"#,
+        Some("/a/pattern"),
+    ),
+];
 
 #[test]
 fn compile_functions_under_refusal(rt: HostRuntime) {
@@ -143,109 +158,107 @@ fn compile_functions_under_refusal(rt: HostRuntime) {
         rows: &rows,
         calls: Cell::new(0),
     };
-    for (draft, keyword, schema, place) in entries_and_places() {
-        if let Some(outcome) = entry(alloc, draft, &builder, &[], keyword, schema) {
-            match outcome {
-                Some(outcome) => assert!(rt; is_memory_or(&outcome, place), "{schema}"),
-                None => assert!(rt; false, "{schema}"),
-            }
+    for (draft, keyword, schema, place) in ENTRIES_AND_PLACES {
+        if let Some(ctx) = copied_context(alloc, draft, &builder, &[]) {
+            assert!(rt;
+                is_compiled_or_refused(alloc, &ctx, keyword, schema, place),
+                "{schema}"
+            );
         }
     }
 }
 
 // A draft, a keyword, a schema object, a text, how many errors it has, and whether a test of it takes no memory.
-fn entries_and_counts() -> [(Draft, Keyword, &'static str, &'static str, usize, bool); 11] {
-    [
-        (
-            Draft::Draft7,
-            Keyword::ContentMediaType,
-            r#"{"contentMediaType":"application/json"}"#,
-            "[{}]",
-            0,
-            false,
-        ),
-        (
-            Draft::Draft7,
-            Keyword::ContentMediaType,
-            r#"{"contentMediaType":"application/json","contentEncoding":"base64"}"#,
-            "ezp9Cg==",
-            1,
-            false,
-        ),
-        (
-            Draft::Draft7,
-            Keyword::ContentEncoding,
-            r#"{"contentEncoding":"base32"}"#,
-            "MZXW6YQ=",
-            0,
-            false,
-        ),
-        (
-            Draft::Draft202012,
-            Keyword::ContentSchema,
-            r#"{"contentMediaType":"a/b","contentSchema":{"a":["b"]}}"#,
-            "x",
-            0,
-            true,
-        ),
-        (
-            Draft::Draft7,
-            Keyword::Format,
-            r#"{"format":"date"}"#,
-            "x",
-            1,
-            true,
-        ),
-        (
-            Draft::Draft7,
-            Keyword::Format,
-            r#"{"format":"even"}"#,
-            "abc",
-            1,
-            false,
-        ),
-        (
-            Draft::Draft7,
-            Keyword::MinLength,
-            r#"{"minLength":5,"maxLength":3}"#,
-            "abcd",
-            2,
-            true,
-        ),
-        (
-            Draft::Draft7,
-            Keyword::MaxLength,
-            r#"{"maxLength":3}"#,
-            "abcd",
-            1,
-            true,
-        ),
-        (
-            Draft::Draft7,
-            Keyword::Pattern,
-            r#"{"pattern":"^(c|b|a)$"}"#,
-            "d",
-            1,
-            true,
-        ),
-        (
-            Draft::Draft7,
-            Keyword::Pattern,
-            r#"{"pattern":"a+"}"#,
-            "x",
-            1,
-            false,
-        ),
-        (
-            Draft::Draft7,
-            Keyword::Pattern,
-            r#"{"pattern":"a+"}"#,
-            "aa",
-            0,
-            false,
-        ),
-    ]
-}
+const ENTRIES_AND_COUNTS: [(Draft, Keyword, &str, &str, usize, bool); 11] = [
+    (
+        Draft::Draft7,
+        Keyword::ContentMediaType,
+        r#"{"contentMediaType":"application/json"}"#,
+        "[{}]",
+        0,
+        false,
+    ),
+    (
+        Draft::Draft7,
+        Keyword::ContentMediaType,
+        r#"{"contentMediaType":"application/json","contentEncoding":"base64"}"#,
+        "ezp9Cg==",
+        1,
+        false,
+    ),
+    (
+        Draft::Draft7,
+        Keyword::ContentEncoding,
+        r#"{"contentEncoding":"base32"}"#,
+        "MZXW6YQ=",
+        0,
+        false,
+    ),
+    (
+        Draft::Draft202012,
+        Keyword::ContentSchema,
+        r#"{"contentMediaType":"a/b","contentSchema":{"a":["b"]}}"#,
+        "x",
+        0,
+        true,
+    ),
+    (
+        Draft::Draft7,
+        Keyword::Format,
+        r#"{"format":"date"}"#,
+        "x",
+        1,
+        true,
+    ),
+    (
+        Draft::Draft7,
+        Keyword::Format,
+        r#"{"format":"even"}"#,
+        "abc",
+        1,
+        false,
+    ),
+    (
+        Draft::Draft7,
+        Keyword::MinLength,
+        r#"{"minLength":5,"maxLength":3}"#,
+        "abcd",
+        2,
+        true,
+    ),
+    (
+        Draft::Draft7,
+        Keyword::MaxLength,
+        r#"{"maxLength":3}"#,
+        "abcd",
+        1,
+        true,
+    ),
+    (
+        Draft::Draft7,
+        Keyword::Pattern,
+        r#"{"pattern":"^(c|b|a)$"}"#,
+        "d",
+        1,
+        true,
+    ),
+    (
+        Draft::Draft7,
+        Keyword::Pattern,
+        r#"{"pattern":"a+"}"#,
+        "x",
+        1,
+        false,
+    ),
+    (
+        Draft::Draft7,
+        Keyword::Pattern,
+        r#"{"pattern":"a+"}"#,
+        "aa",
+        0,
+        false,
+    ),
+];
 
 // One of the four calls.
 #[derive(Clone, Copy)]
@@ -315,12 +328,56 @@ fn answers<E: RegexEngine>(
     }
 }
 
+// Whether the validator of an entry answers so of a text: how many errors, and whether a test takes no memory. It is
+// not asked where there was no memory for it.
+fn is_entry_right<B: EngineBuilder>(
+    alloc: Global,
+    call: Call,
+    ctx: &Context<'_, B>,
+    keyword: Keyword,
+    schema: &str,
+    wanted: (&str, usize, bool),
+) -> bool {
+    let (text, count, is_quiet) = wanted;
+    let (Ok(schema), Ok(node)) = (
+        Value::from_str(alloc, schema),
+        Value::try_from_str(alloc, text),
+    ) else {
+        return true;
+    };
+    match schema.as_object() {
+        Some(object) => match compiled(alloc, ctx, keyword, object) {
+            Some(Ok(validator)) => {
+                validator.takes_no_memory() == is_quiet
+                    && answers(alloc, call, &validator, &ctx.checks, &node, count)
+            }
+            _ => true,
+        },
+        None => true,
+    }
+}
+
+// The same of the draft, the keyword and the schema object of an entry.
+fn is_right<B: EngineBuilder>(
+    alloc: Global,
+    call: Call,
+    builder: &B,
+    formats: &[NamedFormat],
+    entry: (Draft, Keyword, &str),
+    wanted: (&str, usize, bool),
+) -> bool {
+    let (draft, keyword, schema) = entry;
+    match copied_context(alloc, draft, builder, formats) {
+        Some(ctx) => is_entry_right(alloc, call, &ctx, keyword, schema, wanted),
+        None => true,
+    }
+}
+
 // The first schema object at which a call answers wrongly.
 fn first_wrong(alloc: Global, call: Call) -> Option<&'static str> {
     let name = String::from_str(alloc, "even").ok()?;
     let check = Box::new(alloc, EvenLength).ok()?;
     let formats = vec![in alloc; NamedFormat { name, check }].ok()?;
-    let checks = formats_alone(formats.as_slice());
     let rows = [Row {
         pattern: "a+",
         text: "aa",
@@ -330,17 +387,9 @@ fn first_wrong(alloc: Global, call: Call) -> Option<&'static str> {
         rows: &rows,
         calls: Cell::new(0),
     };
-    for (draft, keyword, schema, text, count, is_quiet) in entries_and_counts() {
-        let (Some(Some(Ok(validator))), Ok(node)) = (
-            entry(alloc, draft, &builder, formats.as_slice(), keyword, schema),
-            Value::try_from_str(alloc, text),
-        ) else {
-            continue;
-        };
-        if validator.takes_no_memory() != is_quiet {
-            return Some(schema);
-        }
-        if !answers(alloc, call, &validator, &checks, &node, count) {
+    for (draft, keyword, schema, text, count, is_quiet) in ENTRIES_AND_COUNTS {
+        let (entry, wanted) = ((draft, keyword, schema), (text, count, is_quiet));
+        if !is_right(alloc, call, &builder, formats.as_slice(), entry, wanted) {
             return Some(schema);
         }
     }

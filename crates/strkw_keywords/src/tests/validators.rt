@@ -1,10 +1,10 @@
 //! Each of the validators is compiled, and each of its four calls answers on a text.
 
-use super::doubles::{EvenLength, Row, ScriptedBuilder};
+use super::doubles::{EvenLength, Row, ScriptedBuilder, no_patterns};
 use super::{compiled, formats_alone, lines, no_checks, root_context};
 use crate::{Context, Keyword, NamedFormat, Options, Validator};
 use serde_json::Value;
-use std::alloc::Global;
+use std::alloc::{AllocError, Global};
 use std::cell::Cell;
 use std::test::Fail;
 use strkw_pattern::{EngineBuilder, Outcome};
@@ -52,89 +52,104 @@ fn compiled_name<B: EngineBuilder>(
     }
 }
 
-// A keyword, a schema object of draft 7, the validator, and its lines on `"x"`.
-fn checks_of_draft_7() -> [(Keyword, &'static str, &'static str, &'static str); 13] {
-    [
-        (
-            Keyword::ContentMediaType,
-            r#"{"contentMediaType":"application/json"}"#,
-            "ContentMediaType",
-            "/contentMediaType: \"x\" is not compliant with \"application/json\" media type\n",
-        ),
-        (
-            Keyword::ContentEncoding,
-            r#"{"contentEncoding":"base16"}"#,
-            "ContentEncoding",
-            "/contentEncoding: \"x\" is not compliant with \"base16\" content encoding\n",
-        ),
-        (
-            Keyword::ContentMediaType,
-            r#"{"contentMediaType":"application/json","contentEncoding":"base16"}"#,
-            "ContentMediaTypeAndEncoding",
-            "/contentEncoding: \"x\" is not compliant with \"base16\" content encoding\n",
-        ),
-        (
-            Keyword::Format,
-            r#"{"format":"date"}"#,
-            "Format",
-            "/format: \"x\" is not a \"date\"\nnote: \"date\"\n",
-        ),
-        (
-            Keyword::Format,
-            r#"{"format":"custom"}"#,
-            "CustomFormat",
-            "/format: \"x\" is not a \"custom\"\nnote: \"custom\"\n",
-        ),
-        (
-            Keyword::MinLength,
-            r#"{"minLength":2}"#,
-            "MinLength",
-            "/minLength: \"x\" is shorter than 2 characters\n",
-        ),
-        (
-            Keyword::MaxLength,
-            r#"{"maxLength":0}"#,
-            "MaxLength",
-            "/maxLength: \"x\" is longer than 0 characters\n",
-        ),
-        (
-            Keyword::MinLength,
-            r#"{"minLength":2,"maxLength":2}"#,
-            "LengthRange",
-            "/minLength: \"x\" is shorter than 2 characters\n",
-        ),
-        (
-            Keyword::Pattern,
-            r#"{"pattern":"^a"}"#,
-            "PrefixPattern",
-            "/pattern: \"x\" does not match \"^a\"\n",
-        ),
-        (
-            Keyword::Pattern,
-            r#"{"pattern":"^a$"}"#,
-            "ExactPattern",
-            "/pattern: \"x\" does not match \"^a$\"\n",
-        ),
-        (
-            Keyword::Pattern,
-            r#"{"pattern":"^(a|b)$"}"#,
-            "AlternationPattern",
-            "/pattern: \"x\" does not match \"^(a|b)$\"\n",
-        ),
-        (
-            Keyword::Pattern,
-            r#"{"pattern":"^\\S*$"}"#,
-            "NoWhitespacePattern",
-            "",
-        ),
-        (
-            Keyword::Pattern,
-            r#"{"pattern":"a+"}"#,
-            "Pattern",
-            "/pattern: \"x\" does not match \"a+\"\n",
-        ),
-    ]
+// The first schema object whose validator has another name, or answers otherwise on `"x"`.
+fn first_wrong<B: EngineBuilder>(
+    alloc: Global,
+    ctx: Context<'_, B>,
+    rows: &[(Keyword, &'static str, &str, &str)],
+) -> Result<Option<&'static str>, AllocError> {
+    for (keyword, schema, name, answer) in rows {
+        if compiled_name(alloc, &ctx, *keyword, schema) != *name {
+            return Ok(Some(*schema));
+        }
+        if lines(alloc, &ctx, *keyword, schema, r#""x""#)?.as_str() != *answer {
+            return Ok(Some(*schema));
+        }
+    }
+    Ok(None)
 }
+
+// A keyword, a schema object of draft 7, the validator, and its lines on `"x"`.
+const CHECKS_OF_DRAFT_7: [(Keyword, &str, &str, &str); 13] = [
+    (
+        Keyword::ContentMediaType,
+        r#"{"contentMediaType":"application/json"}"#,
+        "ContentMediaType",
+        "/contentMediaType: \"x\" is not compliant with \"application/json\" media type\n",
+    ),
+    (
+        Keyword::ContentEncoding,
+        r#"{"contentEncoding":"base16"}"#,
+        "ContentEncoding",
+        "/contentEncoding: \"x\" is not compliant with \"base16\" content encoding\n",
+    ),
+    (
+        Keyword::ContentMediaType,
+        r#"{"contentMediaType":"application/json","contentEncoding":"base16"}"#,
+        "ContentMediaTypeAndEncoding",
+        "/contentEncoding: \"x\" is not compliant with \"base16\" content encoding\n",
+    ),
+    (
+        Keyword::Format,
+        r#"{"format":"date"}"#,
+        "Format",
+        "/format: \"x\" is not a \"date\"\nnote: \"date\"\n",
+    ),
+    (
+        Keyword::Format,
+        r#"{"format":"custom"}"#,
+        "CustomFormat",
+        "/format: \"x\" is not a \"custom\"\nnote: \"custom\"\n",
+    ),
+    (
+        Keyword::MinLength,
+        r#"{"minLength":2}"#,
+        "MinLength",
+        "/minLength: \"x\" is shorter than 2 characters\n",
+    ),
+    (
+        Keyword::MaxLength,
+        r#"{"maxLength":0}"#,
+        "MaxLength",
+        "/maxLength: \"x\" is longer than 0 characters\n",
+    ),
+    (
+        Keyword::MinLength,
+        r#"{"minLength":2,"maxLength":2}"#,
+        "LengthRange",
+        "/minLength: \"x\" is shorter than 2 characters\n",
+    ),
+    (
+        Keyword::Pattern,
+        r#"{"pattern":"^a"}"#,
+        "PrefixPattern",
+        "/pattern: \"x\" does not match \"^a\"\n",
+    ),
+    (
+        Keyword::Pattern,
+        r#"{"pattern":"^a$"}"#,
+        "ExactPattern",
+        "/pattern: \"x\" does not match \"^a$\"\n",
+    ),
+    (
+        Keyword::Pattern,
+        r#"{"pattern":"^(a|b)$"}"#,
+        "AlternationPattern",
+        "/pattern: \"x\" does not match \"^(a|b)$\"\n",
+    ),
+    (
+        Keyword::Pattern,
+        r#"{"pattern":"^\\S*$"}"#,
+        "NoWhitespacePattern",
+        "",
+    ),
+    (
+        Keyword::Pattern,
+        r#"{"pattern":"a+"}"#,
+        "Pattern",
+        "/pattern: \"x\" does not match \"a+\"\n",
+    ),
+];
 
 #[test]
 fn validators_of_draft_7(rt: HostRuntime) -> Result<(), Fail> {
@@ -156,55 +171,42 @@ fn validators_of_draft_7(rt: HostRuntime) -> Result<(), Fail> {
     };
     let checks = formats_alone(formats.as_slice());
     let ctx = root_context(alloc, Draft::Draft7, Options::default(), checks, &builder);
-    for (keyword, schema, name, answer) in checks_of_draft_7() {
-        assert_eq!(rt;
-            compiled_name(alloc, &ctx, keyword, schema),
-            name,
-            "{schema}"
-        );
-        let found = lines(alloc, &ctx, keyword, schema, r#""x""#)?;
-        assert_eq!(rt; found.as_str(), answer, "{schema}");
-    }
+    assert_eq!(rt; first_wrong(alloc, ctx, &CHECKS_OF_DRAFT_7)?, None);
     Ok(())
 }
 
 // The same of draft 2020-12.
-fn annotations_of_draft_2020_12() -> [(Keyword, &'static str, &'static str, &'static str); 4] {
-    [
-        (
-            Keyword::ContentMediaType,
-            r#"{"contentMediaType":"a/b"}"#,
-            "ContentMediaTypeAnnotation",
-            "note: \"a/b\"\n",
-        ),
-        (
-            Keyword::ContentEncoding,
-            r#"{"contentEncoding":"base16"}"#,
-            "ContentEncodingAnnotation",
-            "note: \"base16\"\n",
-        ),
-        (
-            Keyword::ContentSchema,
-            r#"{"contentMediaType":"a/b","contentSchema":{}}"#,
-            "ContentSchemaAnnotation",
-            "note: {}\n",
-        ),
-        (
-            Keyword::Format,
-            r#"{"format":"date"}"#,
-            "AnnotationOnlyFormat",
-            "note: \"date\"\n",
-        ),
-    ]
-}
+const ANNOTATIONS_OF_DRAFT_2020_12: [(Keyword, &str, &str, &str); 4] = [
+    (
+        Keyword::ContentMediaType,
+        r#"{"contentMediaType":"a/b"}"#,
+        "ContentMediaTypeAnnotation",
+        "note: \"a/b\"\n",
+    ),
+    (
+        Keyword::ContentEncoding,
+        r#"{"contentEncoding":"base16"}"#,
+        "ContentEncodingAnnotation",
+        "note: \"base16\"\n",
+    ),
+    (
+        Keyword::ContentSchema,
+        r#"{"contentMediaType":"a/b","contentSchema":{}}"#,
+        "ContentSchemaAnnotation",
+        "note: {}\n",
+    ),
+    (
+        Keyword::Format,
+        r#"{"format":"date"}"#,
+        "AnnotationOnlyFormat",
+        "note: \"date\"\n",
+    ),
+];
 
 #[test]
 fn validators_of_draft_2020_12(rt: HostRuntime) -> Result<(), Fail> {
     let alloc = rt.alloc();
-    let builder = ScriptedBuilder {
-        rows: &[],
-        calls: Cell::new(0),
-    };
+    let builder = no_patterns();
     let ctx = root_context(
         alloc,
         Draft::Draft202012,
@@ -212,14 +214,9 @@ fn validators_of_draft_2020_12(rt: HostRuntime) -> Result<(), Fail> {
         no_checks(),
         &builder,
     );
-    for (keyword, schema, name, answer) in annotations_of_draft_2020_12() {
-        assert_eq!(rt;
-            compiled_name(alloc, &ctx, keyword, schema),
-            name,
-            "{schema}"
-        );
-        let found = lines(alloc, &ctx, keyword, schema, r#""x""#)?;
-        assert_eq!(rt; found.as_str(), answer, "{schema}");
-    }
+    assert_eq!(rt;
+        first_wrong(alloc, ctx, &ANNOTATIONS_OF_DRAFT_2020_12)?,
+        None
+    );
     Ok(())
 }

@@ -11,7 +11,7 @@ use Rattle.strkw_cli.specs.Borrowed.{request_view}
 use Rattle.strkw_cli.specs.Answer.{settings_for, root_site}
 use Rattle.strkw_cli.specs.Noted.{FirstRefusal}
 use Rattle.strkw_cli.specs.Printed.{ArePrintable}
-use Rattle.strkw_cli.proofs.AnswerCases.{notes_printable, answer_of_compiled, refused_prints, appended_answer, appended_refusal}
+use Rattle.strkw_cli.proofs.AnswerCases.{compiled_printable, answer_of_compiled, appended_answer, appended_refusal}
 use Rattle.strkw_cli.proofs.answering.answer_request.Goals as goal
 
 pub push_findings-requires : goal.push_findings-requires
@@ -19,7 +19,7 @@ push_findings-requires c =
     let r = request_view c.args.request.now in
     let compiled = subst (λ s. IsCompiledFrom literal_outcome s r.schema c.in-Ok.keywords) c.context_of-ctx.ensures c.in-Ok.ensures.compiled in
     subst (λ ns. ArePrintable (map remark_of ns)) (sym c.deref-in-Ok.ensures.value)
-    (notes_printable literal_outcome (settings_for r) r.schema c.in-Ok.keywords compiled (as_str r.instance) (map remark_of c.in_ok-found-in-Ok.found.notes.items) c.in_ok-found-in-Ok.ensures.notes)
+    (compiled_printable literal_outcome (settings_for r) r.schema c.in-Ok.keywords compiled (as_str r.instance) (map remark_of c.in_ok-found-in-Ok.found.notes.items) c.in_ok-found-in-Ok.ensures.notes)
 
 pub returns-in-Ok-clause-ok : goal.returns-in-Ok-clause-ok
 returns-in-Ok-clause-ok c =
@@ -31,11 +31,6 @@ returns-in-Ok-clause-ok c =
     (rw (← c.root_site-site.ensures) c.in_ok-found-in-Ok.ensures.errors) in
     let answer = answer_of_compiled literal_outcome r c.in-Ok.keywords found.errors.items (map remark_of found.notes.items) compiled reports c.in_ok-found-in-Ok.ensures.notes in
     appended_answer c.push_findings.result (Some r) c.args.out.now.items c.push_findings.new.out.items _ answer (rw (← c.deref.ensures.value, ← c.deref-in-Ok.ensures.value) c.push_findings.ensures.ok)
-
-pub push_refusal-requires : goal.push_refusal-requires
-push_refusal-requires c =
-    let r = request_view c.args.request.now in
-    refused_prints (settings_for r) r.schema c.in-Err.refusal (subst (λ s. (refusal_of c.in-Err.refusal ≡ out_of_memory) ⊎ FirstRefusal s r.schema (Some (refusal_of c.in-Err.refusal))) c.context_of-ctx.ensures c.in-Err.ensures.refused)
 
 pub returns-clause-ok : goal.returns-clause-ok
 returns-clause-ok c =

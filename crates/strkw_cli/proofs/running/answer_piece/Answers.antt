@@ -1,18 +1,11 @@
-use Rattle.std.proofs.Common.{◌≡◌, ℕ, ◌+◌, ◌-◌, ◌++◌, List, Some, None, Result, Ok, Err, OnOk, OnErr, is_ok, cond, position, take, drop, arith, sym, ap, ◌∙◌, append-nil, refl, subst, append_assoc, []}
+use Rattle.std.proofs.Common.{◌≡◌, ℕ, ◌+◌, ◌-◌, ◌++◌, List, Some, None, Result, Ok, Err, OnOk, is_ok, cond, position, take, drop, arith, sym, ap, ◌∙◌, append-nil, refl, subst, append_assoc, []}
 use Rattle.std.proofs.lemmas.List.{take_rest}
 use Rattle.strkw_cli.specs.Lines.{is_line_feed, ended_lines, last_part}
 use Rattle.strkw_cli.specs.Answer.{AreAnswers, IsAnswer}
+use Rattle.strkw_cli.proofs.Results.{on_ok, on_err}
 use Rattle.strkw_cli.proofs.AnswerLemmas.{ends_line, goes_on, some_answered, none_ended, one_more}
 use Rattle.strkw_cli.proofs.running.answer_piece.Goals as goal
 use Rattle.strkw_cli.proofs.running.answer_piece.Goals.{In-Some}
-
-always_on_ok : {T E P : Type 0} (r : Result T E) → P → OnOk r P
-always_on_ok (Ok x) p = p
-always_on_ok (Err e) p = tt
-
-always_on_err : {T E P : Type 0} (r : Result T E) → P → OnErr r P
-always_on_err (Ok x) p = tt
-always_on_err (Err e) p = p
 
 -- what an extension leaves, where it succeeds
 extended : {T E : Type 0} (r : Result T E) (new old more whole : List ℕ) → new ≡ cond (is_ok r) (old ++ more) old → old ++ more ≡ whole → OnOk r (new ≡ whole)
@@ -29,11 +22,11 @@ loop-offset-init c =
     }
 
 pub returns-in_err-extend_from_slice-clause-err : goal.returns-in_err-extend_from_slice-clause-err
-returns-in_err-extend_from_slice-clause-err c = always_on_err c.from_residual.result
+returns-in_err-extend_from_slice-clause-err c = on_err c.from_residual.result
     (c.loop-offset.invariant.answered.0, c.loop-offset.invariant.answered.1, some_answered c.args.line.now.items c.args.piece.now c.loop-offset.at c.loop-offset.invariant.answered.0 c.loop-offset.invariant.answered.2)
 
 pub returns-in_err-answer-clause-err : goal.returns-in_err-answer-clause-err
-returns-in_err-answer-clause-err c = always_on_err c.from_residual-in_err-answer.result
+returns-in_err-answer-clause-err c = on_err c.from_residual-in_err-answer.result
     (c.loop-offset.invariant.answered.0, c.in_err-answer.ensures.err ∙ c.loop-offset.invariant.answered.1, some_answered c.args.line.now.items c.args.piece.now c.loop-offset.at c.loop-offset.invariant.answered.0 c.loop-offset.invariant.answered.2)
 
 pub loop-offset-preserved : goal.loop-offset-preserved
@@ -67,7 +60,7 @@ pub returns-clause-answered : goal.returns-clause-answered
 returns-clause-answered c =
     let on = goes_on c.args.line.now.items c.args.piece.now c.loop-offset.at (no_more c) in
     let (made, is, are) = c.loop-offset.invariant.answered in
-    always_on_ok c.extend_from_slice-2.result (made, is, subst (λ x. AreAnswers x made) (sym on.0) are)
+    on_ok c.extend_from_slice-2.result (made, is, subst (λ x. AreAnswers x made) (sym on.0) are)
 
 pub returns-clause-begun : goal.returns-clause-begun
 returns-clause-begun c =
@@ -76,5 +69,5 @@ returns-clause-begun c =
     (ap (λ x. c.loop-offset.line.items ++ x) (take_rest c.args.piece.now c.loop-offset.at) ∙ ap (λ x. x ++ drop c.loop-offset.at c.args.piece.now) c.loop-offset.invariant.begun ∙ sym on.1)
 
 pub returns-clause-err : goal.returns-clause-err
-returns-clause-err c = always_on_err c.extend_from_slice-2.result
+returns-clause-err c = on_err c.extend_from_slice-2.result
     (c.loop-offset.invariant.answered.0, c.loop-offset.invariant.answered.1, some_answered c.args.line.now.items c.args.piece.now c.loop-offset.at c.loop-offset.invariant.answered.0 c.loop-offset.invariant.answered.2)

@@ -1,10 +1,10 @@
-use Rattle.std.proofs.Common.{◌≡◌, ℕ, List, [], ◌∷◌, ◌++◌, ◌∙◌, length, sym, refl, ap, append-nil, subst}
+use Rattle.std.proofs.Common.{◌≡◌, ℕ, List, [], ◌∷◌, ◌++◌, ◌∙◌, length, sym, refl, ap, subst}
 use Rattle.std.proofs.lemmas.Bool.{eqb-true, eqb-false}
 use Rattle.std.proofs.KnownBytes.{Appends-nil}
 use Rattle.strkw_cli.specs.Answer.{IsAnswer, AreAnswers}
 use Rattle.strkw_cli.specs.Lines.{lines}
 use Rattle.strkw_cli.proofs.AnswerLemmas.{AreAnswers-one}
-use Rattle.strkw_cli.proofs.OutcomeLemmas.{written_short, written_whole, lines-last_empty, lines-last_one}
+use Rattle.strkw_cli.proofs.OutcomeLemmas.{written_short, written_whole, some_all, lines-last_empty, lines-last_one}
 use Rattle.strkw_cli.proofs.running.serve_last.Goals as goal
 
 -- an empty last part is no line
@@ -25,7 +25,7 @@ returns-then-is_err-clause-written g c =
     let answered = one c.args.line.now c.deref.result.now c.answer.new.out.items c.clear.new.self.items c.deref.ensures.value c.clear.ensures.items is c.in_ok-answer.ensures.ok in
     written_short c.write_all.result (g.K.Sink.taken c.args.sink.now) (g.K.Sink.taken c.write_all.new.sink) (lines c.args.line.now) c.deref.result.now
     (sym c.is_err.ensures.value ∙ c.if-is_err.true) c.write_all.ensures.short
-    (record { answered = lines c.args.line.now; later = []; of_requests = sym (append-nil (lines c.args.line.now)); wrote = answered })
+    (some_all (lines c.args.line.now) c.deref.result.now answered)
 
 pub returns-clause-written : goal.returns-clause-written
 returns-clause-written g c =

@@ -6,13 +6,13 @@ use Rattle.strkw_coding.specs.declared.codec.Codec.TheVariants.{Base32}
 use Rattle.strkw_coding.proofs.Decoding.{encoding_by, writes_base32}
 use Rattle.strkw_coding.proofs.radix32.is_base32.Goals as goal
 
-pub is_code-requires-clause-alphabet : goal.is_code-requires-clause-alphabet
+pub invariant_of-is_code-clause-alphabet : goal.invariant_of-is_code-clause-alphabet
 unfolding is_alphabet
-is_code-requires-clause-alphabet c = refl
+invariant_of-is_code-clause-alphabet c = refl
 
-pub is_code-requires-clause-table : goal.is_code-requires-clause-table
+pub invariant_of-is_code-clause-table : goal.invariant_of-is_code-clause-table
 unfolding is_table value_of
-is_code-requires-clause-table c = refl
+invariant_of-is_code-clause-table c = refl
 
 pub returns : goal.returns
 returns c = carry c.is_code.ensures (encoding_by Base32 (code32 (alphabet Base32)) c.args.text.now refl writes_base32)

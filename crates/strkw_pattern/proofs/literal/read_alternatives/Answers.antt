@@ -1,10 +1,10 @@
-use Rattle.std.proofs.Common.{◌≡◌, ℕ, ◌<◌, length, refl, sym, ap, ◌∙◌, arith, [], ◌∷◌, ◌++◌, List, true, map, drop, slice_index, inl, inr}
+use Rattle.std.proofs.Common.{◌≡◌, ℕ, ◌<◌, length, sym, ap, ◌∙◌, arith, [], ◌∷◌, ◌++◌, List, true, map, drop, slice_index, inl, inr}
 use Rattle.std.proofs.lemmas.List.{map-append}
 use Rattle.std.proofs.lemmas.Slice.Eq.{bytes_eq-Decides}
 use Rattle.std.specs.Str.{bytes_eq}
 use Rattle.std.specs.String.{string_bytes}
 use Rattle.strkw_pattern.proofs.Runs.{some_left, none_left}
-use Rattle.strkw_pattern.proofs.Alternatives.{continues_init, continues_step, no_group, group_done, cons_same}
+use Rattle.strkw_pattern.proofs.Alternatives.{continues_init, continues_step, no_group, group_done}
 use Rattle.strkw_pattern.proofs.literal.read_alternatives.Goals as goal
 
 pub loop-alternatives-init : goal.loop-alternatives-init
@@ -31,7 +31,7 @@ returns-then-eq c =
     ap (map string_bytes) c.in_ok-push.ensures.items ∙ map-append string_bytes c.loop-alternatives.alternatives.items (c.in_ok-text.text ∷ []) in
     let some : 0 < length (string_bytes c.in_ok-text.text) = (let left = some_left _ (sym c.is_empty.ensures ∙ c.if-is_empty.false) in let same = ap length c.as_bytes.ensures.value in omega (arith, left, same)) in
     let is = (bytes_eq-Decides c.in-Some.next.now c.as_slice.result.now).0 (sym c.eq.ensures ∙ c.if-eq.true) in
-    let ended : c.in_ok-text.after.now ≡ 41 ∷ 36 ∷ [] = c.in-Some.ensures ∙ cons_same _ _ _ _ c.if-separator-eq41.true (is ∙ c.as_slice.ensures) in
+    let ended : c.in_ok-text.after.now ≡ 41 ∷ 36 ∷ [] = cc (c.in-Some.ensures, c.if-separator-eq41.true, is, c.as_slice.ensures) in
     rw pushed (group_done c.args.pattern.now c.loop-alternatives.rest.now (string_bytes c.in_ok-text.text) c.in_ok-text.after.now (map string_bytes c.loop-alternatives.alternatives.items) c.loop-alternatives.invariant c.in_ok-text.ensures some ended)
 
 pub returns-else-eq : goal.returns-else-eq
@@ -65,5 +65,5 @@ loop-alternatives-preserved c =
     let pushed : map string_bytes c.push.new.self.items ≡ map string_bytes c.loop-alternatives.alternatives.items ++ string_bytes c.in_ok-text.text ∷ [] =
     ap (map string_bytes) c.in_ok-push.ensures.items ∙ map-append string_bytes c.loop-alternatives.alternatives.items (c.in_ok-text.text ∷ []) in
     let some : 0 < length (string_bytes c.in_ok-text.text) = (let left = some_left _ (sym c.is_empty.ensures ∙ c.if-is_empty.false) in let same = ap length c.as_bytes.ensures.value in omega (arith, left, same)) in
-    let follows : c.in_ok-text.after.now ≡ 124 ∷ c.in-Some.next.now = c.in-Some.ensures ∙ cons_same _ _ _ _ c.if-separator-ne124.false refl in
+    let follows : c.in_ok-text.after.now ≡ 124 ∷ c.in-Some.next.now = cc (c.in-Some.ensures, c.if-separator-ne124.false) in
     rw pushed (continues_step c.args.pattern.now c.loop-alternatives.rest.now (string_bytes c.in_ok-text.text) c.in_ok-text.after.now c.in-Some.next.now (map string_bytes c.loop-alternatives.alternatives.items) c.loop-alternatives.invariant c.in_ok-text.ensures some follows)

@@ -13,4 +13,4 @@ returns-in_ok-origin_of-in-Some-builtin_format g c =
     (λ k. (goal.ContentCodec-dyn g (k.codec.vtable, k.codec.value)).decoding k.codec.value) c.args.ctx.now in
     builtin_stands g.B.Engine.RegexEngine.outcome s (members_view c.args.parent.now.entries) (view c.args.value.now)
     c.in-Some.name.now c.in-Some-builtin_format.format _
-    c.requires.present c.requires.kept (search rules) (search rules) (search rules) (search rules) (search rules) (search rules)
+    c.requires.present c.requires.kept (search rules) (search rules) (search rules) (search rules) (search rules) (search rules) (search rules)

@@ -1,9 +1,0 @@
-use Rattle.std.proofs.Common.{◌↔◌, length}
-use Rattle.strkw_coding.specs.Blocks.{IsCode32}
-use Rattle.strkw_coding.proofs.radix32.is_code.Given as goal
-
-abbrev pub invariant-loop-rest : goal.invariant-loop-rest
-invariant-loop-rest l = IsCode32 l.letters l.fn.text ↔ IsCode32 l.letters l.rest
-
-abbrev pub decreases-loop-rest : goal.decreases-loop-rest
-decreases-loop-rest l = length l.rest

@@ -1,7 +1,0 @@
-use Rattle.strkw_keywords.specs.Choices.{choice_of}
-use Rattle.strkw_keywords.proofs.Reports.{not_encoded}
-use Rattle.strkw_keywords.proofs.content.ContentEncodingValidator.finding.Goals as goal
-
--- src/content.rt:213:5
-pub returns-else-branch : goal.returns-else-branch
-returns-else-branch g c = not_encoded (choice_of c.args.self.now.codec) _ _ c.in-Some.text.now c.chosen_codec.result.now c.in_ok-is_encoding.field-0 c.in-Some.ensures c.if-branch.false c.in_ok-is_encoding.ensures c.chosen_codec.ensures

@@ -1,0 +1,225 @@
+//! The content keywords where they are checked: drafts 6 and 7.
+ghost use Rattle.std.specs.Prelude.{[], ◌∷◌, None, IfOk, option_map};
+ghost use Rattle.strkw_keywords.specs.Lists.{lists};
+ghost use Rattle.strkw_keywords.specs.Choices.{choice_of};
+ghost use Rattle.strkw_keywords.specs.Demands.{is_media_type, is_encoded, encodes_media_type, NodeFinding};
+ghost use Rattle.strkw_keywords.specs.Findings.{finding_of};
+
+use super::{
+    DecodedText, accepts, chosen_codec, chosen_media_type, decode, is_encoding, keeps_codec,
+    keeps_media_type,
+};
+use crate::checks::{Checks, Choice, ContentCodec, Format, MediaTypeCheck};
+use crate::findings::{FindingRef, Findings};
+use crate::note::Note;
+use crate::origin::Origin;
+use crate::validate::{Uses, Validate};
+use std::alloc::{AllocError, Global};
+use strkw_coding::{BuiltinMediaType, Codec};
+use strkw_report::Node;
+
+/// Demands that a text is of a media type (draft 7, section 8.4).
+#[derive(Drop)]
+pub struct ContentMediaTypeValidator {
+    pub(crate) origin: Origin,
+    pub(crate) media_type: Choice<BuiltinMediaType>,
+}
+
+impl ContentMediaTypeValidator {
+    fn finding<N: Node>(
+        &self,
+        alloc: Global,
+        node: &N,
+        checks: &Checks,
+    ) -> Result<Option<FindingRef<'_>>, AllocError>
+        ensures { IfOk result (λ o. NodeFinding (is_media_type (choice_of self.now.media_type)) (lists (λ f. admits f.check) (λ m. accepted m.check) (λ c. encoded c.codec) (λ c. decoding c.codec) checks.now) (N.text node.now) (option_map finding_of o)) }
+    {
+        let Some(text) = node.as_text() else {
+            return Ok(None);
+        };
+        if accepts(alloc, &self.media_type, checks, text)? {
+            Ok(None)
+        } else {
+            Ok(Some(FindingRef::ContentMediaType(chosen_media_type(&self.media_type))))
+        }
+    }
+}
+
+impl Uses for ContentMediaTypeValidator {
+    ghost place = { λ v. v.origin };
+
+    ghost demands = { λ v. is_media_type (choice_of v.media_type) ∷ [] };
+
+    ghost remark = { λ _. None };
+
+    fn origin(&self) -> &Origin {
+        &self.origin
+    }
+
+    fn note(&self, _alloc: Global) -> Result<Option<Note>, AllocError> {
+        Ok(None)
+    }
+
+    fn takes_no_memory(&self) -> bool {
+        false
+    }
+
+    fn uses(&self, checks: &Checks) -> bool {
+        keeps_media_type(&self.media_type, checks)
+    }
+}
+
+impl<N: Node> Validate<N> for ContentMediaTypeValidator {
+    fn findings(
+        &self,
+        alloc: Global,
+        node: &N,
+        checks: &Checks,
+    ) -> Result<Findings<'_>, AllocError> {
+        Ok(Findings {
+            first: self.finding(alloc, node, checks)?,
+            second: None,
+        })
+    }
+}
+
+/// Demands that a text is an encoding (draft 7, section 8.3). What it encodes may be any bytes.
+#[derive(Drop)]
+pub struct ContentEncodingValidator {
+    pub(crate) origin: Origin,
+    pub(crate) codec: Choice<Codec>,
+}
+
+impl ContentEncodingValidator {
+    fn finding<N: Node>(
+        &self,
+        alloc: Global,
+        node: &N,
+        checks: &Checks,
+    ) -> Result<Option<FindingRef<'_>>, AllocError>
+        ensures { IfOk result (λ o. NodeFinding (is_encoded (choice_of self.now.codec)) (lists (λ f. admits f.check) (λ m. accepted m.check) (λ c. encoded c.codec) (λ c. decoding c.codec) checks.now) (N.text node.now) (option_map finding_of o)) }
+    {
+        let Some(text) = node.as_text() else {
+            return Ok(None);
+        };
+        if is_encoding(alloc, &self.codec, checks, text)? {
+            Ok(None)
+        } else {
+            Ok(Some(FindingRef::ContentEncoding(chosen_codec(&self.codec))))
+        }
+    }
+}
+
+impl Uses for ContentEncodingValidator {
+    ghost place = { λ v. v.origin };
+
+    ghost demands = { λ v. is_encoded (choice_of v.codec) ∷ [] };
+
+    ghost remark = { λ _. None };
+
+    fn origin(&self) -> &Origin {
+        &self.origin
+    }
+
+    fn note(&self, _alloc: Global) -> Result<Option<Note>, AllocError> {
+        Ok(None)
+    }
+
+    fn takes_no_memory(&self) -> bool {
+        false
+    }
+
+    fn uses(&self, checks: &Checks) -> bool {
+        keeps_codec(&self.codec, checks)
+    }
+}
+
+impl<N: Node> Validate<N> for ContentEncodingValidator {
+    fn findings(
+        &self,
+        alloc: Global,
+        node: &N,
+        checks: &Checks,
+    ) -> Result<Findings<'_>, AllocError> {
+        Ok(Findings {
+            first: self.finding(alloc, node, checks)?,
+            second: None,
+        })
+    }
+}
+
+/// Demands that a text encodes a text of a media type (draft 7, sections 8.3 and 8.4). It has one error at most: at
+/// `contentEncoding` where it is no encoding or encodes bytes that are not UTF-8, and at `contentMediaType` where what
+/// it encodes is not of the media type.
+#[derive(Drop)]
+pub struct ContentMediaTypeAndEncodingValidator {
+    pub(crate) origin: Origin,
+    pub(crate) codec: Choice<Codec>,
+    pub(crate) media_type: Choice<BuiltinMediaType>,
+}
+
+impl ContentMediaTypeAndEncodingValidator {
+    fn finding<N: Node>(
+        &self,
+        alloc: Global,
+        node: &N,
+        checks: &Checks,
+    ) -> Result<Option<FindingRef<'_>>, AllocError>
+        ensures { IfOk result (λ o. NodeFinding (encodes_media_type (choice_of self.now.codec) (choice_of self.now.media_type)) (lists (λ f. admits f.check) (λ m. accepted m.check) (λ c. encoded c.codec) (λ c. decoding c.codec) checks.now) (N.text node.now) (option_map finding_of o)) }
+    {
+        let Some(text) = node.as_text() else {
+            return Ok(None);
+        };
+        match decode(alloc, &self.codec, checks, text)? {
+            DecodedText::NoEncoding => Ok(Some(FindingRef::ContentEncoding(chosen_codec(
+                &self.codec,
+            )))),
+            DecodedText::NoText => Ok(Some(FindingRef::FromUtf8)),
+            DecodedText::Text(decoded) => {
+                if accepts(alloc, &self.media_type, checks, decoded.as_str())? {
+                    Ok(None)
+                } else {
+                    Ok(Some(FindingRef::ContentMediaType(chosen_media_type(&self.media_type))))
+                }
+            }
+        }
+    }
+}
+
+impl Uses for ContentMediaTypeAndEncodingValidator {
+    ghost place = { λ v. v.origin };
+
+    ghost demands = { λ v. encodes_media_type (choice_of v.codec) (choice_of v.media_type) ∷ [] };
+
+    ghost remark = { λ _. None };
+
+    fn origin(&self) -> &Origin {
+        &self.origin
+    }
+
+    fn note(&self, _alloc: Global) -> Result<Option<Note>, AllocError> {
+        Ok(None)
+    }
+
+    fn takes_no_memory(&self) -> bool {
+        false
+    }
+
+    fn uses(&self, checks: &Checks) -> bool {
+        keeps_codec(&self.codec, checks) && keeps_media_type(&self.media_type, checks)
+    }
+}
+
+impl<N: Node> Validate<N> for ContentMediaTypeAndEncodingValidator {
+    fn findings(
+        &self,
+        alloc: Global,
+        node: &N,
+        checks: &Checks,
+    ) -> Result<Findings<'_>, AllocError> {
+        Ok(Findings {
+            first: self.finding(alloc, node, checks)?,
+            second: None,
+        })
+    }
+}
