@@ -27,7 +27,7 @@ pub enum BuiltinFormat {
     Duration,
     /// `hostname` from draft 7 on: ASCII host names in which only `xn--` labels have hyphens in third and fourth place,
     /// each payload being the Punycode (RFC 3492) of a text that `validate_unicode_label` admits. The prefix counts in
-    /// lower case.
+    /// any letter case.
     Hostname,
     /// `hostname` in drafts 4 and 6: ASCII host names of RFC 1034, section 3.5, and RFC 1123, section 2.1.
     HostnameDraft4,

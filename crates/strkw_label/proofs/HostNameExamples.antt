@@ -1,5 +1,5 @@
 -- Texts that are host names: labels of letters and digits alone.
-use Rattle.std.proofs.Common.{◌≡◌, ℕ, ◌-◌, ◌≤◌, true, List, [], ◌∷◌, length, get_or, refl, ap, arith}
+use Rattle.std.proofs.Common.{◌≡◌, ℕ, ◌-◌, ◌≤◌, true, List, [], ◌∷◌, length, get_or, refl, arith}
 use Rattle.std.specs.Prelude.{codes, slice_index}
 use Rattle.std.specs.Char.{is_ascii_alphanumeric}
 use Rattle.std.specs.List.{list_all, AllByRecursion, join_with_byte}
@@ -8,6 +8,7 @@ use Rattle.std.proofs.lemmas.List.Sums.{AllPass-from_list_all}
 use Rattle.strkw_text.proofs.Separated.{separated-from_joined}
 use Rattle.strkw_net.specs.HostName.{is_letter_digit_hyphen}
 use Rattle.strkw_label.specs.HostName.{IsHostName, IsHostNameLabel}
+use Rattle.strkw_label.proofs.XnLabels.{begins_as_xn_label}
 
 no_hyphen : (c : ℕ) → is_ascii_alphanumeric c ≡ true → c ≡ 45 → ⊥
 no_hyphen c is e = grind (arith, nat_tests)
@@ -28,7 +29,7 @@ plain_label label letters some few third =
       };
       xn = record {
         reserved = λ e _. absurd (third e);
-        encodes = λ p e. absurd (third (ap (λ l. slice_index l 2) e));
+        encodes = λ p e. absurd (third (begins_as_xn_label label p e).third);
       };
     }
 

@@ -8,7 +8,7 @@ use Rattle.strkw_label.specs.LabelRules.{Has, StandsWell}
 -- ASCII characters stand anywhere
 pub StandsWell-ascii : (text : List ℕ) (k : ℕ) → slice_index text k < 128 → StandsWell text k
 StandsWell-ascii text k lt = record {
-  joiner = λ e. absurd (omega arith);
+  joiner = λ e. absurd (grind (arith, nat_tests));
   middle_dot = λ e. absurd (omega arith);
   keraia = λ e. absurd (omega arith);
   geresh = λ e. absurd (grind (arith, nat_tests));

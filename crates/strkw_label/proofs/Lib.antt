@@ -12,3 +12,4 @@ pub mod PlaceAll
 pub mod PointsAndPlaces
 pub mod ReadDelta
 pub mod VariableLengthIntegers
+pub mod XnLabels

@@ -1,15 +1,15 @@
 -- Host names with internationalised labels (RFC 5890 section 2.3), as lists of characters.
-use Rattle.std.specs.Prelude.{◌≡◌, ℕ, ◌≤◌, List, ◌++◌, length, All, codes, slice_index}
-use Rattle.std.specs.Char.{IsScalar}
+use Rattle.std.specs.Prelude.{◌≡◌, ℕ, ◌≤◌, List, ◌++◌, length, map, All, codes, slice_index}
+use Rattle.std.specs.Char.{IsScalar, to_ascii_lowercase}
 use Rattle.std.specs.Str.{byte}
 use Rattle.strkw_text.specs.Abnf.{SeparatedBy}
 use Rattle.strkw_net.specs.HostName.{IsLabel}
 use Rattle.strkw_label.specs.Punycode.{punycode, SameUpToCase}
 use Rattle.strkw_label.specs.LabelRules.{IsAdmittedLabel}
 
--- the label is the prefix `xn--` (RFC 5890 section 2.3.2.5) and then the payload
+-- the label is the prefix `xn--` in any letter case (RFC 5890 section 2.3.1) and then the payload
 abbrev pub IsXnLabel : List ℕ → List ℕ → Type 0
-IsXnLabel label payload = label ≡ codes "xn--" ++ payload
+IsXnLabel label payload = (prefix : List ℕ) × (map to_ascii_lowercase prefix ≡ codes "xn--") × (label ≡ prefix ++ payload)
 
 -- the payload is, up to the letter case of its encoded part, the Punycode of a text that the label rules admit
 abbrev pub EncodesAdmitted : List ℕ → Type 0

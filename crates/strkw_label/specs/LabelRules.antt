@@ -1,6 +1,7 @@
 -- Which texts a label may stand for: nine conditions, after RFC 5891 section 4.2.3.2, RFC 5892 sections 2.1 and 2.6, and its
--- appendices A.2 to A.9, over the general categories of Unicode. Not applied are appendix A.1, so U+200C stands anywhere, the
--- rule for text that runs from right to left (RFC 5893), the normal form NFC, and the derived property of RFC 5892 section 3.
+-- appendices A.2 to A.9, over the general categories of Unicode. Of appendix A.1 the first case alone is applied, so U+200C stands
+-- where U+200D does, and its case of joining types is not. Nor are the rule for text that runs from right to left (RFC 5893), the
+-- normal form NFC, and the derived property of RFC 5892 section 3.
 -- A text is a list of characters.
 use Rattle.std.specs.Prelude.{◌≡◌, ℕ, ◌+◌, ◌-◌, ◌<◌, ◌⊎◌, Bool, true, false, ◌||◌, ◌==◌, List, [], ◌∷◌, length, slice_index, IsTrue}
 use Rattle.std.specs.List.{list_any}
@@ -31,7 +32,7 @@ is_letter_mark_or_digit SpacingMark = true
 is_letter_mark_or_digit DecimalNumber = true
 is_letter_mark_or_digit _ = false
 
--- 50 characters of canonical combining class virama, a fixed list: RFC 5892 appendix A.2 speaks of the whole class
+-- 50 characters of canonical combining class virama, a fixed list: RFC 5892 appendices A.1 and A.2 speak of the whole class
 abbrev pub viramas : List ℕ
 viramas =
     0x94D ∷ 0x9CD ∷ 0xA4D ∷ 0xACD ∷ 0xB4D ∷ 0xBCD ∷ 0xC4D ∷ 0xCCD ∷ 0xD4D ∷ 0xDCA
@@ -47,8 +48,8 @@ is_virama c = list_any (λ v. v == c) viramas
 abbrev pub is_excluded : ℕ → Bool
 is_excluded c = c == 0x640 || c == 0x7FA || is_in_range 0x302E 0x302F c || is_in_range 0x3031 0x3035 c || c == 0x303B
 
--- admitted whatever the category: U+200C, what has a rule of its own below, the admitted exceptions of RFC 5892 section 2.6,
--- and kana and Han characters
+-- admitted whatever the category: what has a rule of its own below, the admitted exceptions of RFC 5892 section 2.6, and kana and
+-- Han characters
 abbrev pub is_exception : ℕ → Bool
 is_exception c =
     c == 0x200C || c == 0x200D || c == 0xB7 || c == 0x375 || is_in_range 0x5F3 0x5F4 c || is_in_range 0x6FD 0x6FE c
@@ -60,9 +61,9 @@ is_kana_or_han c = is_in_range 0x3040 0x30FA c || is_in_range 0x30FC 0x30FF c ||
 
 -- ---- at one place
 
--- U+200D, zero width joiner: directly after a virama; RFC 5892 appendix A.2
+-- U+200C and U+200D, zero width non-joiner and joiner: directly after a virama; RFC 5892 appendices A.1 (in part) and A.2
 abbrev pub JoinerStands : List ℕ → ℕ → Type 0
-JoinerStands text k = slice_index text k ≡ 0x200D → (0 < k) × IsTrue (is_virama (slice_index text (k - 1)))
+JoinerStands text k = IsTrue (is_in_range 0x200C 0x200D (slice_index text k)) → (0 < k) × IsTrue (is_virama (slice_index text (k - 1)))
 
 -- U+00B7, middle dot: between two `l`; appendix A.3
 abbrev pub MiddleDotStands : List ℕ → ℕ → Type 0

@@ -5,8 +5,8 @@ ghost use Rattle.strkw_label.specs.LabelRules as spec;
 
 use unicode::properties::GeneralCategory;
 
-/// The characters after which a zero width joiner may stand: 50 of canonical combining class virama,
-/// a fixed list (RFC 5892 appendix A.2 speaks of the whole class).
+/// The characters after which a zero width joiner or non-joiner may stand: 50 of canonical combining
+/// class virama, a fixed list (RFC 5892 appendices A.1 and A.2 speak of the whole class).
 const VIRAMAS: [char; 50] = [
     '\u{94D}',
     '\u{9CD}',
@@ -60,7 +60,7 @@ const VIRAMAS: [char; 50] = [
     '\u{11D97}',
 ];
 
-/// Whether a zero width joiner may stand after `c`.
+/// Whether a zero width joiner or non-joiner may stand after `c`.
 pub(crate) fn is_virama(c: char) -> bool
     ensures { result ≡ spec.is_virama c }
 {

@@ -13,7 +13,7 @@ const LONGEST_HOST_NAME: usize = 253;
 /// letters, digits and hyphens, RFC 1123) in which only labels that begin with `xn--` have hyphens
 /// in third and fourth place (RFC 5890 section 2.3.1), and in which what follows `xn--` is, up to
 /// the case of its encoded part, the Punycode of a text that `validate_unicode_label` admits. The
-/// prefix counts in lower case alone.
+/// prefix counts in any letter case.
 pub fn is_valid_hostname(hostname: &str) -> bool
     ensures { IsTrue result ↔ IsHostName (chars hostname.now) }
 {
@@ -40,8 +40,8 @@ fn is_host_name(bytes: &[u8]) -> bool
     false
 }
 
-/// Whether a label has hyphens in third and fourth place only behind `xn` and before the Punycode
-/// of an admitted text.
+/// Whether a label has hyphens in third and fourth place only behind `xn`, in any letter case, and
+/// before the Punycode of an admitted text.
 fn keeps_xn_rules(label: &[u8]) -> bool
     requires { length label.now ≤ 63 }
     ensures { IsTrue result ↔ KeepsXnRules label.now }
@@ -49,7 +49,7 @@ fn keeps_xn_rules(label: &[u8]) -> bool
     if label.len() < 4 || label[2] != b'-' || label[3] != b'-' {
         return true;
     }
-    if label[0] != b'x' || label[1] != b'n' {
+    if label[0].to_ascii_lowercase() != b'x' || label[1].to_ascii_lowercase() != b'n' {
         return false;
     }
     encodes_admitted(&label[4..])

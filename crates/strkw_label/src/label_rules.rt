@@ -10,7 +10,7 @@ use crate::characters::{
 use unicode::properties::GeneralCategory;
 
 /// Whether the characters may stand as a label. Nine conditions (RFC 5891 section 4.2.3.2, RFC 5892
-/// appendices A.2 to A.9): no mark is first; U+200D stands after a virama, U+00B7 between two `l`,
+/// appendices A.2 to A.9): no mark is first; U+200C and U+200D stand after a virama, U+00B7 between two `l`,
 /// U+0375 before a Greek character, U+05F3 and U+05F4 after a Hebrew one; no character is one that
 /// RFC 5892 section 2.6 disallows; each is ASCII, a joiner, an exception of that section, kana, Han, or
 /// of category Lu, Ll, Lt, Lm, Lo, Mn, Mc or Nd; U+30FB stands only in a label with kana or Han; and
@@ -72,12 +72,13 @@ fn stands_well(label: &[char], place: usize) -> bool
     is_admitted_character(label[place])
 }
 
-/// Zero width joiner: only after a virama (RFC 5892 appendix A.2).
+/// Zero width non-joiner and joiner: only after a virama (RFC 5892 appendix A.2, and of A.1 the first
+/// case alone).
 fn joiner_stands(label: &[char], place: usize) -> bool
     requires { place < length label.now }
     ensures { IsTrue result ↔ spec.JoinerStands label.now place }
 {
-    label[place] != '\u{200D}' || (place > 0 && is_virama(label[place - 1]))
+    !is_within(label[place], '\u{200C}', '\u{200D}') || (place > 0 && is_virama(label[place - 1]))
 }
 
 /// Middle dot: only between two `l` (RFC 5892 appendix A.3).

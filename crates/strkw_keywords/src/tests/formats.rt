@@ -393,7 +393,7 @@ fn formats_by_options(rt: HostRuntime) -> Result<(), Fail> {
 }
 
 // A draft, a schema object, an instance, and the lines, unknown formats not being ignored.
-const FORMATS_AND_LINES: [(Draft, &str, &str, &str); 12] = [
+const FORMATS_AND_LINES: [(Draft, &str, &str, &str); 14] = [
     (
         Draft::Draft7,
         r#"{"format":"date"}"#,
@@ -418,6 +418,18 @@ const FORMATS_AND_LINES: [(Draft, &str, &str, &str); 12] = [
         r#"{"format":"hostname"}"#,
         r#""ex--ample.com""#,
         "note: \"hostname\"\n",
+    ),
+    (
+        Draft::Draft7,
+        r#"{"format":"hostname"}"#,
+        r#""XN--9krT00a""#,
+        "note: \"hostname\"\n",
+    ),
+    (
+        Draft::Draft7,
+        r#"{"format":"hostname"}"#,
+        r#""xn--ab-j1t""#,
+        "/format: \"xn--ab-j1t\" is not a \"hostname\"\nnote: \"hostname\"\n",
     ),
     (
         Draft::Draft7,
