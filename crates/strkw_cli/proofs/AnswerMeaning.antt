@@ -10,8 +10,10 @@ use Rattle.strkw_keywords.specs.Remarks.{Remark}
 use Rattle.strkw_keywords.specs.Object.{Settings, Errors}
 use Rattle.strkw_cli.specs.Noted.{FirstRefusal, Notes}
 use Rattle.strkw_cli.specs.Request.{Request, IsReading, request_in}
-use Rattle.strkw_cli.specs.Printed.{verdict_lines, note_lines}
+use Rattle.strkw_cli.specs.Printed.{fold_lines, verdict_lines, note_lines}
 use Rattle.strkw_cli.specs.Lines.{lines}
+use Rattle.strkw_keywords.specs.Lengths.{is_empty}
+use Rattle.strkw_cli.proofs.Meaning.{HasInterval-unique}
 use Rattle.strkw_cli.specs.Answer.{settings_for, root_site, AnswersBy, Answers, IsAnswer, AreAnswers, IsOutput}
 
 -- what a schema object means is determined
@@ -27,10 +29,13 @@ OneListOfNotes = (s : Settings) (ms : Members) (instance : Option (List ℕ)) (a
 
 by_unique : OneListOfErrors → OneListOfNotes → (why : Option Refusal) (r : Request) (a b : List ℕ) → AnswersBy why r a → AnswersBy why r b → a ≡ b
 by_unique errors notes (Some w) r a b p q = p ∙ sym q
-by_unique errors notes None r a b (es, ns, are, noted, e) (fs, ms, are2, noted2, f) =
+by_unique errors notes None r a b (w, es, ns, has, are, noted, e) (v, fs, ms, has2, are2, noted2, f) =
+    let alone = HasInterval-unique (settings_for r) r.schema w v has has2 in
     let same = errors (settings_for r) r.schema no_lists root_site (as_str r.instance) es fs are are2 in
     let alike = notes (settings_for r) r.schema (as_str r.instance) ns ms noted noted2 in
-    e ∙ ap (λ l. verdict_lines l ++ note_lines ns ++ codes "end\n") same ∙ ap (λ l. verdict_lines fs ++ note_lines l ++ codes "end\n") alike ∙ sym f
+    e ∙ ap (λ x. fold_lines r.fold (is_empty x) ++ (verdict_lines es ++ note_lines ns ++ codes "end\n")) alone
+    ∙ ap (λ l. fold_lines r.fold (is_empty v) ++ (verdict_lines l ++ note_lines ns ++ codes "end\n")) same
+    ∙ ap (λ l. fold_lines r.fold (is_empty v) ++ (verdict_lines fs ++ note_lines l ++ codes "end\n")) alike ∙ sym f
 
 Answers-unique : OneRefusal → OneListOfErrors → OneListOfNotes → (r : Option Request) (a b : List ℕ) → Answers r a → Answers r b → a ≡ b
 Answers-unique refusals errors notes None a b p q = p ∙ sym q

@@ -13,3 +13,4 @@ pub mod LineLemmas
 pub mod AnswerLemmas
 pub mod OutcomeLemmas
 pub mod RunLemmas
+pub mod Folding

@@ -6,11 +6,17 @@ use Rattle.strkw_keywords.specs.Errors.{Assertion}
 use Rattle.strkw_keywords.specs.Remarks.{Remark}
 use Rattle.strkw_keywords.specs.Validators.{assertions_in, remarks_in}
 use Rattle.strkw_keywords.specs.Object.{Settings, Keyed, AreEntries, refusal, asserted, remarked}
+use Rattle.strkw_keywords.specs.Formats.{Window}
+use Rattle.strkw_keywords.specs.Lengths.{interval}
 use Rattle.strkw_cli.specs.declared.strings.StringKeywords.{StringKeywords}
 
 -- what a compiled object asserts, by the outcomes of its engines
 abbrev pub keywords_assertions : {E : Type 0} → (E → List ℕ → Outcome) → StringKeywords E → List Assertion
 keywords_assertions outcome k = assertions_in outcome k.validators.items
+
+-- the lengths that it leaves to a text
+abbrev pub keywords_interval : {E : Type 0} → (E → List ℕ → Outcome) → StringKeywords E → Window
+keywords_interval outcome k = interval (keywords_assertions outcome k)
 
 -- and what it notes of texts
 abbrev pub keywords_remarks : {E : Type 0} → StringKeywords E → List Remark

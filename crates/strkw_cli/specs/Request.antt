@@ -1,5 +1,5 @@
 -- The request that a line is: JSON text (RFC 8259), as serde_json reads it, that is an object of certain members.
-use Rattle.std.specs.Prelude.{◌≡◌, ℕ, ◌==◌, List, ◌&&◌, ◌||◌, Bool, true, Option, Some, None, option_map, option_and_then, unwrap_or, codes, if◌then◌else◌}
+use Rattle.std.specs.Prelude.{◌≡◌, ℕ, ◌==◌, List, ◌&&◌, ◌||◌, Bool, true, false, Option, Some, None, option_map, option_and_then, unwrap_or, codes, if◌then◌else◌}
 use Rattle.std.specs.Str.{IsUtf8, bytes_eq}
 use Rattle.serde_json.specs.Data.{Data, Members, no_members, member}
 use Rattle.serde_json.specs.Find.{get_member, as_number, as_u64, as_bool, as_object}
@@ -7,13 +7,14 @@ use Rattle.serde_json.specs.Read.{read as read_text}
 use Rattle.strkw_report.specs.declared.draft.Draft.{Draft}
 use Rattle.strkw_report.specs.declared.draft.Draft.TheVariants.{Draft4, Draft6, Draft7, Draft201909, Draft202012}
 
--- what is asked: the draft, the schema object, the instance and two options
+-- what is asked: the draft, the schema object, the instance, two options, and whether the object folds to false
 pub record Request : Type 0 where
   pub draft : Draft
   pub schema : Members
   pub instance : Data
   pub validate_formats : Option Bool
   pub ignore_unknown_formats : Bool
+  pub fold : Bool
 
 -- the value that a line is, or that it is none: where it is no UTF-8 text, or no JSON
 abbrev pub IsReading : List ℕ → Option Data → Type 0
@@ -39,17 +40,17 @@ flag_in (Some d) = option_map Some (as_bool d)
 abbrev pub is_request_key : List ℕ → Bool
 is_request_key k =
     bytes_eq k (codes "draft") || bytes_eq k (codes "schema") || bytes_eq k (codes "instance")
-    || bytes_eq k (codes "validate_formats") || bytes_eq k (codes "ignore_unknown_formats")
+    || bytes_eq k (codes "validate_formats") || bytes_eq k (codes "ignore_unknown_formats") || bytes_eq k (codes "fold")
 
 abbrev pub has_only_request_keys : Members → Bool
 has_only_request_keys no_members = true
 has_only_request_keys (member k d ms) = is_request_key k && has_only_request_keys ms
 
 -- the parts of a request, each of its kind
-abbrev pub request_of_parts : Option Draft → Option Members → Option Data → Option (Option Bool) → Option (Option Bool) → Option Request
-request_of_parts draft schema instance validate ignore =
-    option_and_then (λ d. option_and_then (λ s. option_and_then (λ i. option_and_then (λ v. option_map (λ g.
-    record { draft = d; schema = s; instance = i; validate_formats = v; ignore_unknown_formats = unwrap_or g true }) ignore) validate) instance) schema) draft
+abbrev pub request_of_parts : Option Draft → Option Members → Option Data → Option (Option Bool) → Option (Option Bool) → Option (Option Bool) → Option Request
+request_of_parts draft schema instance validate ignore fold =
+    option_and_then (λ d. option_and_then (λ s. option_and_then (λ i. option_and_then (λ v. option_and_then (λ g. option_map (λ f.
+    record { draft = d; schema = s; instance = i; validate_formats = v; ignore_unknown_formats = unwrap_or g true; fold = unwrap_or f false }) fold) ignore) validate) instance) schema) draft
 
 abbrev pub request_of_members : Members → Option Request
 request_of_members ms = if has_only_request_keys ms then request_of_parts
@@ -58,6 +59,7 @@ request_of_members ms = if has_only_request_keys ms then request_of_parts
     (get_member (codes "instance") ms)
     (flag_in (get_member (codes "validate_formats") ms))
     (flag_in (get_member (codes "ignore_unknown_formats") ms))
+    (flag_in (get_member (codes "fold") ms))
     else None
 
 -- the request that a value is: an object of these members, and of no other

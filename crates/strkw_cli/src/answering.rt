@@ -6,15 +6,19 @@ ghost use Rattle.strkw_cli.specs.Request.{request_in as request_of};
 ghost use Rattle.strkw_cli.specs.Handed.{settings_of};
 ghost use Rattle.strkw_cli.specs.Borrowed.{request_view};
 ghost use Rattle.strkw_cli.specs.Answer.{IsAnswer, Answers, settings_for, root_site};
+ghost use Rattle.strkw_cli.specs.Compiled.{keywords_interval};
+ghost use Rattle.strkw_cli.specs.Printed.{fold_lines};
+ghost use Rattle.strkw_keywords.specs.Lengths.{is_empty};
 
 use super::compile::compile_strings;
 use super::no_patterns::NoPatterns;
-use super::printing::{push_bad_request, push_findings, push_refusal};
+use super::printing::{push_bad_request, push_findings, push_fold, push_refusal};
 use super::request::{Request, read_line, request_in};
+use super::strings::StringKeywords;
 use serde_json::Value;
 use std::alloc::{AllocError, Global};
 use strkw_keywords::{Checks, ContentCodec, Context, Format, MediaTypeCheck, Options};
-use strkw_pattern::EngineBuilder;
+use strkw_pattern::{EngineBuilder, RegexEngine};
 use strkw_report::{Location, Site};
 
 /// Appends the answer to a line. Where a growth is refused, the vector is as it was.
@@ -52,7 +56,8 @@ fn answer_value(alloc: Global, value: &Value, out: &mut Vec<u8>) -> Result<(), A
     }
 }
 
-// Appends the answer to a request: the refusal of its schema object, or the errors and the notes of its instance.
+// Appends the answer to a request: the refusal of its schema object, or whether that folds to false, where this is asked,
+// with the errors and the notes of its instance.
 fn answer_request(alloc: Global, request: &Request<'_>, out: &mut Vec<u8>) -> Result<(), AllocError>
     ensures ok { OnOk result ((made : List ℕ) × (out.new.items ≡ out.old.items ++ made) × Answers (Some (request_view request.now)) made) }
     ensures err { OnErr result ((more : List ℕ) × (out.new.items ≡ out.old.items ++ more)) }
@@ -63,9 +68,26 @@ fn answer_request(alloc: Global, request: &Request<'_>, out: &mut Vec<u8>) -> Re
         Ok(keywords) => {
             let site = root_site(alloc);
             let found = keywords.evaluate(alloc, request.instance, &site, &ctx.checks)?;
+            answer_fold(request.fold, &keywords, out)?;
             push_findings(alloc, &found.errors, &found.notes, out)
         }
         Err(refusal) => push_refusal(alloc, &refusal, out),
+    }
+}
+
+// Appends whether an object folds to false, where that is asked.
+fn answer_fold<E: RegexEngine>(
+    asked: bool,
+    keywords: &StringKeywords<E>,
+    out: &mut Vec<u8>,
+) -> Result<(), AllocError>
+    ensures ok { OnOk result (out.new.items ≡ out.old.items ++ fold_lines asked (is_empty (keywords_interval E.outcome keywords.now))) }
+    ensures err { OnErr result ((more : List ℕ) × (out.new.items ≡ out.old.items ++ more)) }
+{
+    if asked {
+        push_fold(keywords.folds_to_false(), out)
+    } else {
+        Ok(())
     }
 }
 

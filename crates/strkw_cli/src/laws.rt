@@ -1,21 +1,26 @@
 //! Laws of the definitions. Each is a fact that a caller gains by the call; the calls do nothing.
 
-ghost use Rattle.std.specs.Prelude.{◌≡◌, ◌↔◌, List, [], ℕ, Option, None, Some, false};
+ghost use Rattle.std.specs.Prelude.{◌≡◌, ◌↔◌, List, [], ℕ, Option, None, Some, true, false};
 ghost use Rattle.serde_json.specs.Data.{Members};
 ghost use Rattle.strkw_report.specs.Kinds.{Report};
 ghost use Rattle.strkw_report.specs.Refusals.{Refusal, prints_float};
 ghost use Rattle.strkw_report.specs.declared.error.Site.{Site};
 ghost use Rattle.strkw_keywords.specs.Meanings.{Lists};
+ghost use Rattle.strkw_keywords.specs.Formats.{Window};
+ghost use Rattle.strkw_keywords.specs.Lengths.{is_empty, AreLimits, IsTextOfLength};
 ghost use Rattle.strkw_keywords.specs.Errors.{NodeReports, IsInUse};
 ghost use Rattle.strkw_keywords.specs.Remarks.{Remark};
-ghost use Rattle.strkw_keywords.specs.Object.{Settings, Keyed, AreEntries, Errors};
+ghost use Rattle.strkw_keywords.specs.Object.{Settings, Keyed, AreEntries, Errors, asserted};
 ghost use Rattle.strkw_cli.specs.declared.strings.StringKeywords.{StringKeywords};
-ghost use Rattle.strkw_cli.specs.Noted.{FirstRefusal, remarks_on, Notes};
+ghost use Rattle.strkw_cli.specs.Noted.{FirstRefusal, HasInterval, remarks_on, Notes};
 ghost use Rattle.strkw_cli.specs.Printed.{ArePrintable};
 ghost use Rattle.strkw_cli.specs.Answer.{IsAnswer, IsOutput};
-ghost use Rattle.strkw_cli.specs.Compiled.{keywords_assertions, keywords_remarks, IsCompiledFrom};
+ghost use Rattle.strkw_cli.specs.Compiled.{keywords_assertions, keywords_interval, keywords_remarks, IsCompiledFrom};
 
-use strkw_keywords::laws::compiled_is_in_use;
+use strkw_keywords::laws::{
+    compiled_is_in_use, empty_windows_have_no_length, lengths_inside_are_no_errors,
+    lengths_outside_are_errors, texts_of_every_length,
+};
 pub use strkw_keywords::laws::errors_are_determined;
 use strkw_pattern::RegexEngine;
 
@@ -25,6 +30,32 @@ pub fn compiled_errors_are_those_of_the_object<E: RegexEngine>()
         → IsCompiledFrom E.outcome s ms k
         → NodeReports (keywords_assertions E.outcome k) lists site instance rs ↔ Errors s ms lists site instance rs }
 {}
+
+/// The interval of a compiled object is that of its schema object.
+pub fn compiled_interval_is_that_of_the_object<E: RegexEngine>()
+    ensures { (s : Settings) (ms : Members) (k : StringKeywords E) (w : Window)
+        → IsCompiledFrom E.outcome s ms k → (w ≡ keywords_interval E.outcome k) ↔ HasInterval s ms w }
+{}
+
+/// A schema object with an empty interval accepts no text: each has an error.
+pub fn folded_objects_accept_no_text()
+    ensures { (s : Settings) (ms : Members) (w : Window) (lists : Lists) (site : Site) (text : List ℕ)
+        → HasInterval s ms w → is_empty w ≡ true → Errors s ms lists site (Some text) [] → ⊥ }
+{
+    empty_windows_have_no_length();
+    lengths_outside_are_errors();
+}
+
+/// A schema object whose interval is not empty accepts some text, where only its limits of the length can make errors.
+pub fn other_limits_accept_some_text()
+    ensures { (s : Settings) (ms : Members) (es : List Keyed) (w : Window) (lists : Lists) (site : Site)
+        → AreEntries s ms es → AreLimits (asserted s.place es) → HasInterval s ms w → is_empty w ≡ false
+        → (n : ℕ) × (text : List ℕ) × IsTextOfLength n text × Errors s ms lists site (Some text) [] }
+{
+    empty_windows_have_no_length();
+    lengths_inside_are_no_errors();
+    texts_of_every_length();
+}
 
 /// What a compiled object notes of an instance are the notes that its schema object means, entry by entry.
 pub fn compiled_notes_are_those_of_the_object<E: RegexEngine>()

@@ -18,6 +18,7 @@ pub struct Request<'a> {
     pub instance: &'a Value,
     pub validate_formats: Option<bool>,
     pub ignore_unknown_formats: bool,
+    pub fold: bool,
 }
 
 /// The value that a line is, or that it is none.
@@ -75,6 +76,7 @@ fn is_request_key(key: &str) -> bool
         || key == "instance"
         || key == "validate_formats"
         || key == "ignore_unknown_formats"
+        || key == "fold"
 }
 
 fn has_only_request_keys(members: &Map<String, Value>) -> bool
@@ -101,11 +103,13 @@ pub fn request_in(value: &Value) -> Option<Request<'_>>
     let instance = member(members, "instance")?;
     let validate_formats = flag_in(member(members, "validate_formats"))?;
     let ignore_unknown_formats = flag_in(member(members, "ignore_unknown_formats"))?;
+    let fold = flag_in(member(members, "fold"))?;
     Some(Request {
         draft,
         schema,
         instance,
         validate_formats,
         ignore_unknown_formats: ignore_unknown_formats.unwrap_or(true),
+        fold: fold.unwrap_or(false),
     })
 }

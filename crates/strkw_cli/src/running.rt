@@ -121,11 +121,11 @@ fn piece_room(alloc: Global) -> Result<Vec<u8>, AllocError>
 /// Answers the requests of a source on a sink, until the source is at its end.
 ///
 /// Each line, ended by a line feed or the last one without, is a request: a JSON object with the members `draft` (4, 6,
-/// 7, 201909 or 202012), `schema` (an object) and `instance`, and at will `validate_formats` and
-/// `ignore_unknown_formats` (true or false). Its answer is lines: `bad request` where the line is no such object;
-/// `refused L: T` where the schema object is refused at the location L, with the text T; `error L: T` for each error,
-/// or `valid`, and then `note L: V` for each note, with its value V as compact JSON; and at last `end`. No check is
-/// registered, and a pattern that is not literal is refused.
+/// 7, 201909 or 202012), `schema` (an object) and `instance`, and at will `validate_formats`, `ignore_unknown_formats`
+/// and `fold` (true or false). Its answer is lines: `bad request` where the line is no such object; `refused L: T` where
+/// the schema object is refused at the location L, with the text T; where `fold` is true, `fold true` or `fold false`, as
+/// `folds_to_false` says; `error L: T` for each error, or `valid`, and then `note L: V` for each note, with its value V as
+/// compact JSON; and at last `end`. No check is registered, and a pattern that is not literal is refused.
 ///
 /// `Read` and `Write` come exactly where the source and the sink have failed, `Memory` where a growth was refused,
 /// `TooLong` after 2^64 - 1 reads that each gave bytes. Each answer is made whole before its first byte is written. What

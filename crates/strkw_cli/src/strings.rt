@@ -4,11 +4,12 @@ ghost use Rattle.std.specs.Prelude.{◌≡◌, ◌↔◌, [], ◌++◌, true, ma
 ghost use Rattle.strkw_report.specs.declared.error.Site.{Site};
 ghost use Rattle.strkw_keywords.specs.Errors.{NodeReports, IsInUse, Appends, all_quiet};
 ghost use Rattle.strkw_keywords.specs.Remarks.{remark_of};
+ghost use Rattle.strkw_keywords.specs.Lengths.{is_empty};
 ghost use Rattle.strkw_keywords.specs.Validators.{listed_remark, remark_made};
 ghost use Rattle.strkw_keywords.specs.Verdicts.{IsVerdict};
 ghost use Rattle.strkw_cli.specs.Handed.{lists_of};
 ghost use Rattle.strkw_cli.specs.Noted.{remarks_on};
-ghost use Rattle.strkw_cli.specs.Compiled.{keywords_assertions, keywords_remarks};
+ghost use Rattle.strkw_cli.specs.Compiled.{keywords_assertions, keywords_interval, keywords_remarks};
 
 use std::alloc::{AllocError, Global};
 use strkw_keywords::{Checks, Fault, Note, Uses, Validate, Validator};
@@ -57,6 +58,22 @@ impl<E: RegexEngine> StringKeywords<E> {
             }
         }
         true
+    }
+
+    /// Whether no text can be without errors for its length alone: where no number of characters is at least the least
+    /// length, at most the greatest, and inside the window of a checked built-in format. Then every text has an error; the
+    /// converse holds where only the limits of the length are there. It takes no memory.
+    pub fn folds_to_false(&self) -> bool
+        ensures { result ≡ is_empty (keywords_interval E.outcome self.now) }
+    {
+        let mut least = 0u64;
+        let mut greatest = u64::MAX;
+        for validator in &self.validators {
+            let (low, high) = validator.interval();
+            least = least.max(low);
+            greatest = greatest.min(high);
+        }
+        greatest < least
     }
 
     /// Whether an instance has no errors, under lists of which `uses` is true. The only error is want of memory, and none

@@ -2,6 +2,7 @@
 
 mod devices;
 mod doubles;
+mod folding;
 mod notes;
 mod objects;
 mod patterns;

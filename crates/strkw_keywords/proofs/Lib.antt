@@ -8,3 +8,4 @@ pub mod Determined
 pub mod InUse
 pub mod FirstRow
 pub mod BuiltinNames
+pub mod Lengths

@@ -83,7 +83,7 @@ found_reports place [] lists site text fs h = rw h refl
 found_reports place (d ∷ others) lists site text fs h =
     (h.0, errors_of (standing place site) text h.1, h.2, ap (errors_of (standing place site) text) h.3 ∙ errors_listed (standing place site) text h.0 h.1, found_reports place others lists site text h.1 h.4)
 
-none_reported : (s : Standing) (text : List ℕ) (found : Option Finding) (rest : List Report) → [] ≡ reported s text found ++ rest → (found ≡ None) × (rest ≡ [])
+pub none_reported : (s : Standing) (text : List ℕ) (found : Option Finding) (rest : List Report) → [] ≡ reported s text found ++ rest → (found ≡ None) × (rest ≡ [])
 none_reported s text None rest e = (refl, sym e)
 none_reported s text (Some f) rest e = absurd (cc)
 

@@ -17,3 +17,4 @@ pub mod Object
 pub mod Settings
 pub mod Compiled
 pub mod Laws
+pub mod Lengths

@@ -1,8 +1,9 @@
-ghost use Rattle.std.specs.Prelude.{[], ◌∷◌, Some, None, IfOk, option_map, string_bytes};
+ghost use Rattle.std.specs.Prelude.{◌≡◌, [], ◌∷◌, Some, None, IfOk, option_map, string_bytes};
 ghost use Rattle.serde_json.specs.Data.{string};
 ghost use Rattle.strkw_keywords.specs.Lists.{lists};
 ghost use Rattle.strkw_keywords.specs.Meanings.{no_lists, builtin, row};
-ghost use Rattle.strkw_keywords.specs.Formats.{format_name};
+ghost use Rattle.strkw_keywords.specs.Formats.{format_name, bounds};
+ghost use Rattle.strkw_keywords.specs.Lengths.{window_left};
 ghost use Rattle.strkw_keywords.specs.Demands.{is_format, NodeFinding};
 ghost use Rattle.strkw_keywords.specs.Findings.{finding_of};
 ghost use Rattle.strkw_keywords.specs.Remarks.{remark_at};
@@ -38,6 +39,14 @@ impl FormatValidator {
         } else {
             Some(FindingRef::Format(self.format.as_str()))
         }
+    }
+
+    // The lengths that it leaves to a text.
+    #[tactic(auto, using(crate::proofs::Lengths::bounds_unwrapped))]
+    pub(crate) fn interval(&self) -> (u64, u64)
+        ensures { result ≡ bounds (window_left (is_format (builtin self.now.format))) }
+    {
+        self.format.length_window().unwrap_or((0, u64::MAX))
     }
 }
 

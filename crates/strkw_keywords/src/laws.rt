@@ -6,6 +6,7 @@ ghost use Rattle.std.specs.Hash as fed;
 ghost use Rattle.strkw_keywords.specs.declared.builtin.BuiltinFormat.{BuiltinFormat};
 ghost use Rattle.strkw_keywords.specs.Formats.{IsOfBuiltin, format_place, formats, window_of, example_of, window_texts_of};
 ghost use Rattle.strkw_keywords.specs.FormatLaws.{IsInside, AreBoth, AreTextsAtEnds, BuiltinFormatOfName};
+ghost use Rattle.strkw_keywords.specs.Lengths.{CommonIsInBoth, EmptyHasNoLength, OutsideIsAnError, InsideIsNoError, TextsOfEveryLength};
 ghost use Rattle.strkw_keywords.specs.Laws.{AssertionsReportInTurn, FusedLengthsReportBoth, OthersHaveNone, EngineFailuresAreErrors, ReportsAreDetermined, ErrorsAreDetermined, CompiledIsInUse, FirstRowCounts};
 
 use crate::builtin::BuiltinFormat;
@@ -93,6 +94,33 @@ pub fn window_texts_are_at_the_ends()
 /// the order of the list.
 pub fn builtin_format_of_name()
     ensures { BuiltinFormatOfName }
+{}
+
+/// A length is inside what two windows have in common exactly where it is inside each.
+pub fn common_windows_are_in_both()
+    ensures { CommonIsInBoth }
+{}
+
+/// A window is empty exactly where no length is inside it. One whose upper end is open is not.
+pub fn empty_windows_have_no_length()
+    ensures { EmptyHasNoLength }
+{}
+
+/// A text whose length is outside the interval of some assertions has an error by them.
+pub fn lengths_outside_are_errors()
+    ensures { OutsideIsAnError }
+{
+    texts_are_inside_their_windows();
+}
+
+/// Where only limits are asserted, a text whose length is inside their interval has no errors.
+pub fn lengths_inside_are_no_errors()
+    ensures { InsideIsNoError }
+{}
+
+/// There is a text of every length.
+pub fn texts_of_every_length()
+    ensures { TextsOfEveryLength }
 {}
 
 /// The errors of several assertions are those of the first, and then those of the others.

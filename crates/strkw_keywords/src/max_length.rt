@@ -3,6 +3,8 @@ ghost use Rattle.std.specs.Str.{chars};
 ghost use Rattle.strkw_keywords.specs.Demands.{at_most, NodeFinding};
 ghost use Rattle.strkw_keywords.specs.Meanings.{no_lists};
 ghost use Rattle.strkw_keywords.specs.Findings.{finding_of};
+ghost use Rattle.strkw_keywords.specs.Formats.{bounds};
+ghost use Rattle.strkw_keywords.specs.Lengths.{window_left};
 
 mod build;
 
@@ -32,6 +34,15 @@ pub(crate) fn too_long(limit: u64, characters: Option<u64>) -> Option<FindingRef
         Some(FindingRef::MaxLength(limit))
     } else {
         None
+    }
+}
+
+impl MaxLengthValidator {
+    // The lengths that it leaves to a text.
+    pub(crate) fn interval(&self) -> (u64, u64)
+        ensures { result ≡ bounds (window_left (at_most self.now.limit)) }
+    {
+        (0, self.limit)
     }
 }
 

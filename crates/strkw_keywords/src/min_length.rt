@@ -3,6 +3,8 @@ ghost use Rattle.std.specs.Str.{chars};
 ghost use Rattle.strkw_keywords.specs.Demands.{at_least, at_most, NodeFinding};
 ghost use Rattle.strkw_keywords.specs.Meanings.{no_lists};
 ghost use Rattle.strkw_keywords.specs.Findings.{finding_of};
+ghost use Rattle.strkw_keywords.specs.Formats.{bounds};
+ghost use Rattle.strkw_keywords.specs.Lengths.{window_left, common};
 
 mod build;
 
@@ -33,6 +35,15 @@ fn too_short(limit: u64, characters: Option<u64>) -> Option<FindingRef<'static>>
         Some(FindingRef::MinLength(limit))
     } else {
         None
+    }
+}
+
+impl MinLengthValidator {
+    // The lengths that it leaves to a text.
+    pub(crate) fn interval(&self) -> (u64, u64)
+        ensures { result ≡ bounds (window_left (at_least self.now.limit)) }
+    {
+        (self.limit, u64::MAX)
     }
 }
 
@@ -81,6 +92,15 @@ pub struct LengthRangeValidator {
     pub(crate) origin: Origin,
     pub(crate) min: u64,
     pub(crate) max: u64,
+}
+
+impl LengthRangeValidator {
+    // The lengths that it leaves to a text.
+    pub(crate) fn interval(&self) -> (u64, u64)
+        ensures { result ≡ bounds (common (window_left (at_least self.now.min)) (window_left (at_most self.now.max))) }
+    {
+        (self.min, self.max)
+    }
 }
 
 impl Uses for LengthRangeValidator {

@@ -1,4 +1,7 @@
-ghost use Rattle.strkw_keywords.specs.Validators.{place_of, demands_of, remark_made};
+ghost use Rattle.std.specs.Prelude.{◌≡◌};
+ghost use Rattle.strkw_keywords.specs.Formats.{bounds};
+ghost use Rattle.strkw_keywords.specs.Lengths.{interval};
+ghost use Rattle.strkw_keywords.specs.Validators.{place_of, demands_of, remark_made, assertions_of};
 
 use crate::checks::Checks;
 use crate::content::{
@@ -58,6 +61,36 @@ pub enum Validator<E> {
     NoWhitespacePattern(NoWhitespacePatternValidator),
     /// `pattern`, matched by an engine.
     Pattern(PatternValidator<E>),
+}
+
+impl<E: RegexEngine> Validator<E> {
+    /// The least and the greatest number of characters that it leaves to a text, both inclusive: by its limits, or by the
+    /// window of its built-in format. An open end is `u64::MAX`, and a validator that bounds no length answers
+    /// `(0, u64::MAX)`. The first is above the second where no length is left.
+    #[tactic(auto, using(crate::proofs::Lengths::common_any))]
+    pub fn interval(&self) -> (u64, u64)
+        ensures { result ≡ bounds (interval (assertions_of E.outcome self.now)) }
+    {
+        match self {
+            Validator::Format(v) => v.interval(),
+            Validator::MinLength(v) => v.interval(),
+            Validator::MaxLength(v) => v.interval(),
+            Validator::LengthRange(v) => v.interval(),
+            Validator::ContentMediaType(_)
+            | Validator::ContentEncoding(_)
+            | Validator::ContentMediaTypeAndEncoding(_)
+            | Validator::ContentMediaTypeAnnotation(_)
+            | Validator::ContentEncodingAnnotation(_)
+            | Validator::ContentSchemaAnnotation(_)
+            | Validator::CustomFormat(_)
+            | Validator::AnnotationOnlyFormat(_)
+            | Validator::PrefixPattern(_)
+            | Validator::ExactPattern(_)
+            | Validator::AlternationPattern(_)
+            | Validator::NoWhitespacePattern(_)
+            | Validator::Pattern(_) => (0, u64::MAX),
+        }
+    }
 }
 
 impl<E: RegexEngine> Uses for Validator<E> {

@@ -1,4 +1,4 @@
-use Rattle.std.proofs.Common.{◌≡◌, ◌⊎◌, Some, subst, sym, map}
+use Rattle.std.proofs.Common.{◌≡◌, ◌⊎◌, ◌++◌, Some, OnOk, subst, sym, map, codes}
 use Rattle.serde_json.specs.Find.{as_str}
 use Rattle.strkw_report.specs.Refusals.{refusal_of}
 use Rattle.strkw_pattern.specs.Matcher.{literal_outcome}
@@ -10,8 +10,8 @@ use Rattle.strkw_cli.specs.Compiled.{IsCompiledFrom, keywords_assertions}
 use Rattle.strkw_cli.specs.Borrowed.{request_view}
 use Rattle.strkw_cli.specs.Answer.{settings_for, root_site}
 use Rattle.strkw_cli.specs.Noted.{FirstRefusal}
-use Rattle.strkw_cli.specs.Printed.{ArePrintable}
-use Rattle.strkw_cli.proofs.AnswerCases.{compiled_printable, answer_of_compiled, appended_answer, appended_refusal}
+use Rattle.strkw_cli.specs.Printed.{ArePrintable, verdict_lines, note_lines}
+use Rattle.strkw_cli.proofs.AnswerCases.{compiled_printable, answer_of_compiled, appended_twice, appended_more, appended_answer, appended_refusal}
 use Rattle.strkw_cli.proofs.answering.answer_request.Goals as goal
 
 pub push_findings-requires : goal.push_findings-requires
@@ -30,7 +30,14 @@ returns-in-Ok-clause-ok c =
     subst (λ s. NodeReports (keywords_assertions literal_outcome c.in-Ok.keywords) s.lists root_site (as_str r.instance) found.errors.items) c.context_of-ctx.ensures
     (rw (← c.root_site-site.ensures) c.in_ok-found-in-Ok.ensures.errors) in
     let answer = answer_of_compiled literal_outcome r c.in-Ok.keywords found.errors.items (map remark_of found.notes.items) compiled reports c.in_ok-found-in-Ok.ensures.notes in
-    appended_answer c.push_findings.result (Some r) c.args.out.now.items c.push_findings.new.out.items _ answer (rw (← c.deref.ensures.value, ← c.deref-in-Ok.ensures.value) c.push_findings.ensures.ok)
+    let findings : OnOk c.push_findings.result (c.push_findings.new.out.items ≡ c.answer_fold.new.out.items ++ (verdict_lines found.errors.items ++ note_lines (map remark_of found.notes.items) ++ codes "end\n")) =
+    rw (← c.deref.ensures.value, ← c.deref-in-Ok.ensures.value) c.push_findings.ensures.ok in
+    appended_answer c.push_findings.result (Some r) c.args.out.now.items c.push_findings.new.out.items _ answer
+    (appended_twice c.push_findings.result c.args.out.now.items c.answer_fold.new.out.items c.push_findings.new.out.items _ _ c.in_ok-answer_fold-in-Ok.ensures.ok findings)
+
+pub returns-in-Ok-clause-err : goal.returns-in-Ok-clause-err
+returns-in-Ok-clause-err c =
+    appended_more c.push_findings.result c.args.out.now.items c.answer_fold.new.out.items c.push_findings.new.out.items _ c.in_ok-answer_fold-in-Ok.ensures.ok c.push_findings.ensures.err
 
 pub returns-clause-ok : goal.returns-clause-ok
 returns-clause-ok c =

@@ -1,0 +1,14 @@
+use Rattle.std.proofs.Common.{◌≡◌, arith, refl, sym}
+use Rattle.strkw_cli.proofs.Folding.{ends_more, empty_at_end}
+use Rattle.strkw_cli.proofs.strings.StringKeywords.folds_to_false.Goals as goal
+
+pub loop-validator-init : goal.loop-validator-init
+loop-validator-init g c = record { low = refl; high = refl; low_fits = omega arith; high_fits = omega arith }
+
+pub loop-validator-preserved : goal.loop-validator-preserved
+loop-validator-preserved g c =
+    rw (c.max-least.ensures, c.min-greatest.ensures)
+    (ends_more g.E.RegexEngine.outcome c.args.self.now.validators.items c.loop-validator.validator-index c.validator-item.result c.loop-validator.least c.loop-validator.greatest _ _
+    (rw c.deref-validator-items.ensures.value at c.loop-validator-test.true)
+    (rw c.deref-validator-items.ensures.value at c.validator-item.is)
+    c.loop-validator.invariant c.interval-low.ensures (omega arith) (omega arith))

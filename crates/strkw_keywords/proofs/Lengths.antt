@@ -1,0 +1,227 @@
+-- On the lengths that keywords leave to a text.
+use Rattle.std.proofs.Common.{◌≡◌, ◌<◌, ◌≤◌, ◌↔◌, ℕ, zero, suc, List, [], ◌∷◌, ◌++◌, length, Bool, true, false, Option, Some, None, IfSome, refl, sym, ap, ap₂, subst, ◌∙◌, inl, inr, arith}
+use Rattle.std.specs.Prelude.{IsTrue, unwrap_or, option_map, nat_lt, max, min, ◌-◌, ◌^◌}
+use Rattle.std.specs.Str.{chars, IsAscii}
+use Rattle.std.proofs.lemmas.Bool.{cases_lt, false≢true}
+use Rattle.std.proofs.lemmas.Bool.Decides.{nat_tests}
+use Rattle.std.proofs.lemmas.Str.{chars-IsAscii, IsUtf8-from_ascii}
+use Rattle.std.proofs.lemmas.Str.Ascii.{IsAscii-nil, IsAscii-cons}
+use Rattle.strkw_report.specs.declared.error.Site.{Site}
+use Rattle.strkw_keywords.specs.declared.builtin.BuiltinFormat.{BuiltinFormat}
+use Rattle.strkw_keywords.specs.Meanings.{Lists, builtin, row}
+use Rattle.strkw_keywords.specs.Places.{standing}
+use Rattle.strkw_keywords.specs.Formats.{IsOfBuiltin, Window, window_of, bounds}
+use Rattle.strkw_keywords.specs.FormatLaws.{IsInside}
+use Rattle.strkw_keywords.specs.Demands.{Demand, is_media_type, is_encoded, encodes_media_type, is_format, at_least, at_most, compares, matches, HasFinding}
+use Rattle.strkw_keywords.specs.Errors.{Assertion, AllReport}
+use Rattle.strkw_keywords.specs.Lengths.{any_length, lesser_end, common, window_left, interval, ends_below, is_empty, CommonIsInBoth, EmptyHasNoLength, OutsideIsAnError, IsLimit, AreLimits, InsideIsNoError, IsTextOfLength, TextsOfEveryLength}
+use Rattle.strkw_keywords.proofs.Reports.{none_reported}
+
+-- ---- numbers
+
+max_both : (a b n : ℕ) → max a b ≤ n → (a ≤ n) × (b ≤ n)
+max_both a b n h = (omega (arith, h), omega (arith, h))
+
+both_max : (a b n : ℕ) → a ≤ n → b ≤ n → max a b ≤ n
+both_max a b n h k = omega (arith, h, k)
+
+min_both : (a b n : ℕ) → n ≤ min a b → (n ≤ a) × (n ≤ b)
+min_both a b n h = (omega (arith, h), omega (arith, h))
+
+both_min : (a b n : ℕ) → n ≤ a → n ≤ b → n ≤ min a b
+both_min a b n h k = omega (arith, h, k)
+
+max_zero : (a : ℕ) → max a 0 ≡ a
+max_zero a = omega arith
+
+zero_max : (a : ℕ) → max 0 a ≡ a
+zero_max a = omega arith
+
+max_assoc : (a b c : ℕ) → max a (max b c) ≡ max (max a b) c
+max_assoc a b c = omega arith
+
+min_assoc : (a b c : ℕ) → min a (min b c) ≡ min (min a b) c
+min_assoc a b c = omega arith
+
+min_same : (a : ℕ) → a ≡ min a a
+min_same a = omega arith
+
+min_left : (a top : ℕ) → a ≤ top → a ≡ min a top
+min_left a top h = omega (arith, h)
+
+min_right : (a top : ℕ) → a ≤ top → a ≡ min top a
+min_right a top h = omega (arith, h)
+
+below : (g least : ℕ) → g < least → nat_lt g least ≡ true
+below g least h = grind (arith, nat_tests)
+
+not_below : (g least : ℕ) → least ≤ g → nat_lt g least ≡ false
+not_below g least h = grind (arith, nat_tests)
+
+none_between : (g least n : ℕ) → nat_lt g least ≡ true → least ≤ n → n ≤ g → ⊥
+none_between g least n t low high = grind (arith, nat_tests)
+
+-- ---- windows
+
+below_both : (a b : Option ℕ) (n : ℕ) → IfSome (lesser_end a b) (λ g. n ≤ g) ↔ (IfSome a (λ g. n ≤ g) × IfSome b (λ g. n ≤ g))
+below_both None None n = ((λ h. (tt, tt)), (λ h. tt))
+below_both None (Some b) n = ((λ h. (tt, h)), (λ h. h.1))
+below_both (Some a) None n = ((λ h. (h, tt)), (λ h. h.0))
+below_both (Some a) (Some b) n = ((λ h. min_both a b n h), (λ h. both_min a b n h.0 h.1))
+
+pub inside_common : CommonIsInBoth
+inside_common v w n =
+    let ends = below_both v.greatest w.greatest n in (
+      (λ h.
+          let both = ends.0 h.short_enough in
+          let low = max_both v.least w.least n h.long_enough in
+          (record { long_enough = low.0; short_enough = both.0 }, record { long_enough = low.1; short_enough = both.1 })),
+      (λ h. record { long_enough = both_max v.least w.least n h.0.long_enough h.1.long_enough; short_enough = ends.1 (h.0.short_enough, h.1.short_enough) }),
+    )
+
+empty_ends : (least : ℕ) (end : Option ℕ) → IsTrue (ends_below least end) ↔ ((n : ℕ) → least ≤ n → IfSome end (λ g. n ≤ g) → ⊥)
+empty_ends least None = ((λ t. absurd (false≢true t)), (λ h. absurd (h least (omega arith) tt)))
+empty_ends least (Some g) = (
+  (λ t n low high. none_between g least n t low high),
+  (λ h.
+      elim (cases_lt g least) [
+        | inl lt ↦ below g least lt
+        | inr ge ↦ absurd (h least (omega arith) ge)
+      ]),
+)
+
+pub empty_has_no_length : EmptyHasNoLength
+empty_has_no_length w =
+    let ends = empty_ends w.least w.greatest in (
+      (λ t n i. ends.0 t n i.long_enough i.short_enough),
+      (λ h. ends.1 (λ n low high. h n (record { long_enough = low; short_enough = high }))),
+    )
+
+-- ---- windows in common
+
+abbrev window : ℕ → Option ℕ → Window
+window least greatest = record { least = least; greatest = greatest }
+
+window_path : (v w : Window) → v.least ≡ w.least → v.greatest ≡ w.greatest → v ≡ w
+window_path v w l g = ap₂ window l g
+
+lesser-open : (a : Option ℕ) → lesser_end a None ≡ a
+lesser-open None = refl
+lesser-open (Some a) = refl
+
+lesser-assoc : (a b c : Option ℕ) → lesser_end a (lesser_end b c) ≡ lesser_end (lesser_end a b) c
+lesser-assoc None b c = refl
+lesser-assoc (Some a) None c = refl
+lesser-assoc (Some a) (Some b) None = refl
+lesser-assoc (Some a) (Some b) (Some c) = ap Some (min_assoc a b c)
+
+pub common_any : (w : Window) → common w any_length ≡ w
+common_any w = window_path (common w any_length) w (max_zero w.least) (lesser-open w.greatest)
+
+pub any-common : (w : Window) → common any_length w ≡ w
+any-common w = window_path (common any_length w) w (zero_max w.least) refl
+
+common-assoc : (u v w : Window) → common u (common v w) ≡ common (common u v) w
+common-assoc u v w = window_path (common u (common v w)) (common (common u v) w) (max_assoc u.least v.least w.least) (lesser-assoc u.greatest v.greatest w.greatest)
+
+-- the interval of assertions and of others behind them
+pub interval-append : (front back : List Assertion) → interval (front ++ back) ≡ common (interval front) (interval back)
+interval-append [] back = sym (any-common (interval back))
+interval-append (a ∷ front) back = ap (common (window_left a.demand)) (interval-append front back) ∙ common-assoc (window_left a.demand) (interval front) (interval back)
+
+-- ---- both ends as numbers, of which none is above an open end
+
+pub ends_in_common : (a b : Option ℕ) (top : ℕ) → unwrap_or a top ≤ top → unwrap_or b top ≤ top → unwrap_or (lesser_end a b) top ≡ min (unwrap_or a top) (unwrap_or b top)
+ends_in_common None None top l m = min_same top
+ends_in_common None (Some b) top l m = min_right b top m
+ends_in_common (Some a) None top l m = min_left a top l
+ends_in_common (Some a) (Some b) top l m = refl
+
+pub empty_by_ends : (least : ℕ) (end : Option ℕ) (top : ℕ) → least ≤ top → nat_lt (unwrap_or end top) least ≡ ends_below least end
+empty_by_ends least None top l = not_below top least l
+empty_by_ends least (Some g) top l = refl
+
+pub bounds_unwrapped : (o : Option Window) → unwrap_or (option_map bounds o) (0, 2 ^ 64 - 1) ≡ bounds (unwrap_or o any_length)
+bounds_unwrapped None = refl
+bounds_unwrapped (Some w) = refl
+
+-- ---- a text without errors has a length inside
+
+-- texts of formats are inside their windows
+abbrev pub TextsAreInside : Type 0
+TextsAreInside = (f : BuiltinFormat) (text : List ℕ) → IsOfBuiltin f text → IfSome (window_of f) (λ w. IsInside w (length text))
+
+inside_any : (n : ℕ) → IsInside any_length n
+inside_any n = record { long_enough = omega arith; short_enough = tt }
+
+inside_unwrapped : (o : Option Window) (n : ℕ) → IfSome o (λ w. IsInside w n) → IsInside (unwrap_or o any_length) n
+inside_unwrapped None n h = inside_any n
+inside_unwrapped (Some w) n h = h
+
+inside_one : TextsAreInside → (d : Demand) (lists : Lists) (text : List ℕ) → HasFinding d lists text None → IsInside (window_left d) (length (chars text))
+inside_one law (is_media_type m) lists text h = inside_any (length (chars text))
+inside_one law (is_encoded c) lists text h = inside_any (length (chars text))
+inside_one law (encodes_media_type c m) lists text h = inside_any (length (chars text))
+inside_one law (is_format (builtin f)) lists text (inl h) = inside_unwrapped (window_of f) (length (chars text)) (law f (chars text) h.0)
+inside_one law (is_format (builtin f)) lists text (inr h) = let e = h.1 in absurd (cc)
+inside_one law (is_format (row at name)) lists text h = inside_any (length (chars text))
+inside_one law (at_least n) lists text (inl h) = record { long_enough = h.0; short_enough = tt }
+inside_one law (at_least n) lists text (inr h) = let e = h.1 in absurd (cc)
+inside_one law (at_most n) lists text (inl h) = record { long_enough = omega arith; short_enough = h.0 }
+inside_one law (at_most n) lists text (inr h) = let e = h.1 in absurd (cc)
+inside_one law (compares p outcome) lists text h = inside_any (length (chars text))
+inside_one law (matches p outcome) lists text h = inside_any (length (chars text))
+
+inside_all : TextsAreInside → (assertions : List Assertion) (lists : Lists) (site : Site) (text : List ℕ) → AllReport assertions lists site text [] → IsInside (interval assertions) (length (chars text))
+inside_all law [] lists site text h = inside_any (length (chars text))
+inside_all law (a ∷ others) lists site text h =
+    let parts = none_reported (standing a.place site) text h.0 h.1 h.3 in
+    let first = inside_one law a.demand lists text (subst (λ found. HasFinding a.demand lists text found) parts.0 h.2) in
+    let rest = inside_all law others lists site text (subst (λ rs. AllReport others lists site text rs) parts.1 h.4) in
+    (inside_common (window_left a.demand) (interval others) (length (chars text))).1 (first, rest)
+
+pub outside_is_an_error : TextsAreInside → OutsideIsAnError
+outside_is_an_error law assertions lists site text outside h = outside (inside_all law assertions lists site text h)
+
+-- ---- a text of a length inside meets limits
+
+meets_limit : (d : Demand) (lists : Lists) (text : List ℕ) → IsLimit d → IsInside (window_left d) (length (chars text)) → HasFinding d lists text None
+meets_limit (is_media_type m) lists text l i = absurd l
+meets_limit (is_encoded c) lists text l i = absurd l
+meets_limit (encodes_media_type c m) lists text l i = absurd l
+meets_limit (is_format f) lists text l i = absurd l
+meets_limit (at_least n) lists text l i = inl (i.long_enough, refl)
+meets_limit (at_most n) lists text l i = inl (i.short_enough, refl)
+meets_limit (compares p outcome) lists text l i = absurd l
+meets_limit (matches p outcome) lists text l i = absurd l
+
+pub inside_is_no_error : InsideIsNoError
+inside_is_no_error [] lists site text l i = refl
+inside_is_no_error (a ∷ others) lists site text l i =
+    let both = (inside_common (window_left a.demand) (interval others) (length (chars text))).0 i in
+    (None, [], meets_limit a.demand lists text l.0 both.0, refl, inside_is_no_error others lists site text l.1 both.1)
+
+-- ---- there is a text of every length
+
+letters : ℕ → List ℕ
+letters zero = []
+letters (suc n) = 97 ∷ letters n
+
+letters_are_ascii : (n : ℕ) → IsAscii (letters n)
+unfolding letters
+letters_are_ascii zero = IsAscii-nil
+letters_are_ascii (suc n) = IsAscii-cons 97 (letters n) (omega arith) (letters_are_ascii n)
+
+length-letters : (n : ℕ) → length (letters n) ≡ n
+unfolding letters
+length-letters zero = refl
+length-letters (suc n) = ap suc (length-letters n)
+
+pub texts_of_every_length : TextsOfEveryLength
+texts_of_every_length n = (
+  letters n,
+  record {
+    utf8 = IsUtf8-from_ascii (letters n) (letters_are_ascii n);
+    size = ap (λ x. length x) (chars-IsAscii (letters n) (letters_are_ascii n)) ∙ length-letters n;
+  },
+)

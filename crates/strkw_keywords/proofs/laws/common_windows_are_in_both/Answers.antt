@@ -1,0 +1,5 @@
+use Rattle.strkw_keywords.proofs.Lengths.{inside_common}
+use Rattle.strkw_keywords.proofs.laws.common_windows_are_in_both.Goals as goal
+
+pub returns : goal.returns
+returns c = inside_common
