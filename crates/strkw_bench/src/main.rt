@@ -2,6 +2,7 @@
 //! the least time of some rounds.
 #![tactic(auto)]
 
+mod characters;
 mod coding;
 mod label;
 mod plain_parts;
@@ -14,11 +15,12 @@ use std::{env, io};
 fn main(rt: HostRuntime) -> io::Result<()> {
     for topic in env::args(&rt)?.skip(1) {
         match topic.as_str() {
+            "characters" => characters::measure(rt)?,
             "coding" => coding::measure(rt)?,
             "label" => label::measure(rt)?,
             "time_net" => time_net::measure(rt)?,
             "uri" => uri::measure(rt)?,
-            _ => println!(rt; "topics: coding, label, time_net, uri")?,
+            _ => println!(rt; "topics: characters, coding, label, time_net, uri")?,
         }
     }
     Ok(())

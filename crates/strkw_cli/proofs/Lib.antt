@@ -1,6 +1,7 @@
 pub mod Results
 pub mod Many
 pub mod Entries
+mod FirstPlaces
 pub mod Steps
 pub mod Whole
 pub mod Meaning

@@ -1,15 +1,16 @@
 //! The loop over the pieces of the input.
 
-ghost use Rattle.std.specs.Prelude.{◌≡◌, ◌↔◌, ℕ, ◌<◌, List, ◌++◌, true, false, length, take, vec_len, IfOk, OnOk, OnErr, IsErrOf, position};
+ghost use Rattle.std.specs.Prelude.{[], ◌≡◌, ◌↔◌, ℕ, ◌<◌, List, ◌++◌, true, false, length, take, vec_len, IfOk, OnOk, OnErr, IsErrOf, position};
 ghost use Rattle.std.specs.Io.KnownBytes.{Appends, Consumes, IsAtEnd};
 ghost use Rattle.strkw_cli.specs.Lines.{is_line_feed, ended_lines, last_part, lines};
-ghost use Rattle.strkw_cli.specs.Answer.{AreAnswers};
+ghost use Rattle.strkw_cli.specs.Answer.{AreAnswers, IsAnswer};
 ghost use Rattle.strkw_cli.specs.Outcome.{AnswersSome, IsOutcome};
 ghost use Rattle.strkw_cli.specs.Serving.{Serves};
 
 use super::answering::answer;
 use super::devices::{DeviceFailed, Sink, Source};
 use super::faults::RunFault;
+use memchr::memchr;
 use std::alloc::{AllocError, Global};
 
 // The room for a piece of the input.
@@ -34,7 +35,7 @@ fn write_all<K: Sink>(sink: &mut K, bytes: &[u8]) -> Result<(), DeviceFailed>
 fn find_line_feed(bytes: &[u8]) -> Option<usize>
     ensures { result ≡ position is_line_feed bytes.now }
 {
-    bytes.iter().position(|byte| *byte == b'\n')
+    memchr(b'\n', bytes)
 }
 
 // Goes on from a line that has begun by a piece of the input, and appends the answers to the lines
@@ -55,12 +56,30 @@ fn answer_piece(
     let mut at = 0;
     while let Some(offset) = find_line_feed(&piece[at..]) {
         let end = at + offset;
-        line.extend_from_slice(&piece[at..end])?;
-        answer(alloc, line, out)?;
-        line.clear();
+        answer_ending(alloc, &piece[at..end], line, out)?;
         at = end + 1;
     }
     line.extend_from_slice(&piece[at..])
+}
+
+// Answers the line that ends here, and keeps none of it. A line that lies whole in the piece is not copied.
+fn answer_ending(
+    alloc: Global,
+    ending: &[u8],
+    line: &mut Vec<u8>,
+    out: &mut Vec<u8>,
+) -> Result<(), AllocError>
+    ensures ok { OnOk result ((made : List ℕ) × (out.new.items ≡ out.old.items ++ made) × IsAnswer (line.old.items ++ ending.now) made) }
+    ensures cleared { OnOk result (line.new.items ≡ []) }
+    ensures err { OnErr result (out.new.items ≡ out.old.items) }
+{
+    if line.is_empty() {
+        return answer(alloc, ending, out);
+    }
+    line.extend_from_slice(ending)?;
+    answer(alloc, line, out)?;
+    line.clear();
+    Ok(())
 }
 
 // Answers the lines that end in a piece of the input. The answers are whole before the first is written.

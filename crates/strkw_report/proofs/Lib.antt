@@ -1,2 +1,3 @@
+mod CharBlocks
 mod CharStarts
 mod Escaping

@@ -6,6 +6,7 @@ ghost use Rattle.serde_json.specs.Find.{as_str};
 ghost use Rattle.serde_json.specs.View.{view};
 
 use serde_json::Value;
+use std::simd::prelude::*;
 
 /// An instance in any representation: a text, or a value that is none.
 ///
@@ -40,6 +41,9 @@ impl Node for Value {
     }
 }
 
+// So many bytes are judged at once.
+const BLOCK: usize = 32;
+
 /// The number of characters (Unicode scalar values) of a text.
 pub fn char_count(text: &str) -> u64
     ensures { result ≡ length (chars text.now) }
@@ -47,8 +51,20 @@ pub fn char_count(text: &str) -> u64
     char_start_count(text.as_bytes())
 }
 
-// How many bytes begin a character. It reads each byte by itself, so that many are read at once.
+// How many bytes begin a character: block by block, and what is left byte by byte.
 fn char_start_count(bytes: &[u8]) -> u64
+    ensures { result ≡ count_by is_char_start bytes.now }
+{
+    let (blocks, rest) = bytes.as_chunks::<BLOCK>();
+    let mut count = starts_among(rest);
+    for block in blocks {
+        count += starts_in_block(block) as u64;
+    }
+    count
+}
+
+// How many bytes of fewer than a block begin a character.
+fn starts_among(bytes: &[u8]) -> u64
     ensures { result ≡ count_by is_char_start bytes.now }
 {
     let mut count = 0;
@@ -58,6 +74,17 @@ fn char_start_count(bytes: &[u8]) -> u64
         }
     }
     count
+}
+
+// How many bytes of a block begin a character. All are judged at once, each as `is_char_start` judges it.
+#[inline(always)]
+fn starts_in_block(block: &[u8; BLOCK]) -> u32
+    ensures { result ≡ count_by is_char_start block.now }
+{
+    let bytes = u8x32::from_array(*block);
+    let ascii = bytes.simd_lt(u8x32::splat(0x80));
+    let leading = bytes.simd_ge(u8x32::splat(0xC0));
+    (ascii | leading).to_bitmask().count_ones()
 }
 
 // Whether the byte is the first of a character: the others are 10xxxxxx (RFC 3629, section 3).

@@ -21,13 +21,9 @@ loop-offset-init c =
       answered = ([], sym (append-nil c.args.out.now.items), rw (start, none_ended c.args.line.now.items c.requires) refl);
     }
 
-pub returns-in_err-extend_from_slice-clause-err : goal.returns-in_err-extend_from_slice-clause-err
-returns-in_err-extend_from_slice-clause-err c = on_err c.from_residual.result
-    (c.loop-offset.invariant.answered.0, c.loop-offset.invariant.answered.1, some_answered c.args.line.now.items c.args.piece.now c.loop-offset.at c.loop-offset.invariant.answered.0 c.loop-offset.invariant.answered.2)
-
-pub returns-in_err-answer-clause-err : goal.returns-in_err-answer-clause-err
-returns-in_err-answer-clause-err c = on_err c.from_residual-in_err-answer.result
-    (c.loop-offset.invariant.answered.0, c.in_err-answer.ensures.err ∙ c.loop-offset.invariant.answered.1, some_answered c.args.line.now.items c.args.piece.now c.loop-offset.at c.loop-offset.invariant.answered.0 c.loop-offset.invariant.answered.2)
+pub returns-in_err-answer_ending-clause-err : goal.returns-in_err-answer_ending-clause-err
+returns-in_err-answer_ending-clause-err c = on_err c.from_residual.result
+    (c.loop-offset.invariant.answered.0, c.in_err-answer_ending.ensures.err ∙ c.loop-offset.invariant.answered.1, some_answered c.args.line.now.items c.args.piece.now c.loop-offset.at c.loop-offset.invariant.answered.0 c.loop-offset.invariant.answered.2)
 
 pub loop-offset-preserved : goal.loop-offset-preserved
 loop-offset-preserved c =
@@ -38,14 +34,13 @@ loop-offset-preserved c =
     let found : position is_line_feed (drop at piece) ≡ Some offset = ap (position is_line_feed) (sym (take_rest piece at)) ∙ sym c.find_line_feed.ensures ∙ c.in-Some.is in
     let line = ends_line start piece at offset found in
     let count : at + offset - at ≡ offset = omega arith in
-    let whole : c.deref.result.now ≡ last_part (start ++ take at piece) ++ take offset (drop at piece) =
-    c.deref.ensures.value ∙ c.in_ok-extend_from_slice.ensures.items ∙ ap (λ x. x ++ take (at + offset - at) (drop at piece)) c.loop-offset.invariant.begun
-    ∙ ap (λ n. last_part (start ++ take at piece) ++ take n (drop at piece)) count in
+    let whole : c.loop-offset.line.items ++ take (at + offset - at) (drop at piece) ≡ last_part (start ++ take at piece) ++ take offset (drop at piece) =
+    ap (λ x. x ++ take (at + offset - at) (drop at piece)) c.loop-offset.invariant.begun ∙ ap (λ n. last_part (start ++ take at piece) ++ take n (drop at piece)) count in
     let (made, is, are) = c.loop-offset.invariant.answered in
-    let (answer, answer_is, answered) = c.in_ok-answer.ensures.ok in
+    let (answer, answer_is, answered) = c.in_ok-answer_ending.ensures.ok in
     record {
       within = omega (arith, line.within);
-      begun = c.clear.ensures.items ∙ sym line.begun;
+      begun = c.in_ok-answer_ending.ensures.cleared ∙ sym line.begun;
       answered = (
         made ++ answer,
         answer_is ∙ ap (λ x. x ++ answer) is ∙ append_assoc c.args.out.now.items made answer,
@@ -53,21 +48,21 @@ loop-offset-preserved c =
       );
     }
 
-no_more : (c : goal.After-extend_from_slice-2) → position is_line_feed (drop c.loop-offset.at c.args.piece.now) ≡ None
+no_more : (c : goal.After-extend_from_slice) → position is_line_feed (drop c.loop-offset.at c.args.piece.now) ≡ None
 no_more c = ap (position is_line_feed) (sym (take_rest c.args.piece.now c.loop-offset.at)) ∙ sym c.find_line_feed.ensures ∙ c.in_default.is
 
 pub returns-clause-answered : goal.returns-clause-answered
 returns-clause-answered c =
     let on = goes_on c.args.line.now.items c.args.piece.now c.loop-offset.at (no_more c) in
     let (made, is, are) = c.loop-offset.invariant.answered in
-    on_ok c.extend_from_slice-2.result (made, is, subst (λ x. AreAnswers x made) (sym on.0) are)
+    on_ok c.extend_from_slice.result (made, is, subst (λ x. AreAnswers x made) (sym on.0) are)
 
 pub returns-clause-begun : goal.returns-clause-begun
 returns-clause-begun c =
     let on = goes_on c.args.line.now.items c.args.piece.now c.loop-offset.at (no_more c) in
-    extended c.extend_from_slice-2.result c.extend_from_slice-2.new.self.items c.loop-offset.line.items _ _ c.extend_from_slice-2.ensures.items
+    extended c.extend_from_slice.result c.extend_from_slice.new.self.items c.loop-offset.line.items _ _ c.extend_from_slice.ensures.items
     (ap (λ x. c.loop-offset.line.items ++ x) (take_rest c.args.piece.now c.loop-offset.at) ∙ ap (λ x. x ++ drop c.loop-offset.at c.args.piece.now) c.loop-offset.invariant.begun ∙ sym on.1)
 
 pub returns-clause-err : goal.returns-clause-err
-returns-clause-err c = on_err c.extend_from_slice-2.result
+returns-clause-err c = on_err c.extend_from_slice.result
     (c.loop-offset.invariant.answered.0, c.loop-offset.invariant.answered.1, some_answered c.args.line.now.items c.args.piece.now c.loop-offset.at c.loop-offset.invariant.answered.0 c.loop-offset.invariant.answered.2)

@@ -1,0 +1,156 @@
+#!/usr/bin/env python3
+"""Shows that each stored wrong definition is noticed by the tests or by the check.
+
+    python3 tools/wrong_definitions.py [CRATE ..]      all crates that have a folder in tools/wrong_definitions, or those named
+
+A proof holds a program to its definitions, and nothing of it holds the definitions to their standards. So each file
+tools/wrong_definitions/CRATE/NAME.edit changes a definition, the code and the tables of proofs together, and every crate
+is to refuse that: by a test, whose expected values come from the standard, or else by the check, whose laws say the
+standard's own spelling.
+
+A file has lines 'file: PATH', the path within the crate, each with pairs of lines 'old: TEXT' and 'new: TEXT' behind it;
+each old text stands in that file exactly once, and \\n is the end of a line in both. The edits are applied to a scratch
+copy, one after the other. What checks of the crates have kept is copied with them; without it the first check of each
+crate takes minutes. Not part of the gate: some 15 seconds for what a test notices, a minute or more for what the check
+does.
+"""
+import re
+import shutil
+import subprocess
+import sys
+import tempfile
+from pathlib import Path
+
+TOP = Path(__file__).resolve().parent.parent
+STORED = TOP / "tools" / "wrong_definitions"
+FAILED_TEST = re.compile(r"^test (\S+) \.\.\. FAILED$", re.MULTILINE)
+PASSED_TESTS = re.compile(r"^test result: ok\. [1-9]\d* passed", re.MULTILINE)
+NOT_PROVED = re.compile(r"^fn (\S+): no proof: (?!it calls)|^(?:\./)?(proofs/\S+?):.*error", re.MULTILINE)
+NOT_READ = re.compile(r"^(?:\./)?(?:src|specs)/\S+: error.*$", re.MULTILINE)
+SECONDS_FOR_A_RUN = 1800
+
+
+class Broken(Exception):
+    """A stored edit that cannot be judged: its text is not there, or what it makes does not compile."""
+
+
+def crates_below(name):
+    """The crates of this repository that a crate stands on, itself among them."""
+    lines = (line.split("#")[0].split(":") for line in (TOP / "crates.txt").read_text().splitlines())
+    stands_on = {line[0].split()[0]: line[1].split() for line in lines if len(line) == 2}
+    found, open_names = set(), [name]
+    while open_names:
+        crate = open_names.pop()
+        if crate in stands_on and crate not in found:
+            found.add(crate)
+            open_names += stands_on[crate]
+    return sorted(found)
+
+
+def scratch_copy(folder, crate):
+    """A copy of what a crate needs, with what its checks have kept. Answers the crate's folder there."""
+    for name in ("crates.txt", "HANDLES"):
+        shutil.copy2(TOP / name, folder / name)
+    for name in crates_below(crate):
+        subprocess.run(["cp", "-a", TOP / "crates" / name, folder / "crates"], check=True)
+    return folder / "crates" / crate
+
+
+def replacements(stored):
+    """What a stored edit replaces: triples of a path, the old text and the new one."""
+    path, old = None, None
+    for line in stored.read_text().splitlines():
+        if line.startswith("file: "):
+            path = line.removeprefix("file: ").strip()
+        elif line.startswith("old: ") and path is not None:
+            old = line.removeprefix("old: ").replace("\\n", "\n")
+        elif line.startswith("new:") and old is not None:
+            yield path, old, line.removeprefix("new:").removeprefix(" ").replace("\\n", "\n")
+            old = None
+        elif line.strip():
+            raise Broken(f"cannot read the line {line!r}")
+
+
+def apply(stored, crate):
+    """Applies a stored edit. Answers the texts that it replaced, by their files."""
+    before = {}
+    try:
+        for path, old, new in replacements(stored):
+            file = crate / path
+            text = file.read_text()
+            before.setdefault(file, text)
+            if text.count(old) != 1:
+                raise Broken(f"{path} has {text.count(old)} times {old!r}")
+            file.write_text(text.replace(old, new))
+        if not before:
+            raise Broken("replaces nothing")
+    except (Broken, OSError) as why:
+        undo(before)
+        raise Broken(why) from why
+    return before
+
+
+def undo(before):
+    for file, text in before.items():
+        file.write_text(text)
+
+
+def output_of(words, crate):
+    ran = subprocess.run(words, cwd=crate, stdin=subprocess.DEVNULL, stdout=subprocess.PIPE, stderr=subprocess.STDOUT,
+                         text=True, errors="replace", timeout=SECONDS_FOR_A_RUN)
+    return ran.returncode, ran.stdout
+
+
+def noticed_by(crate):
+    """What notices the wrong definition that stands in a crate, or None where nothing does."""
+    _, said = output_of(["rt", "try", "--test"], crate)
+    failed = FAILED_TEST.findall(said)
+    if failed:
+        return "the tests: " + ", ".join(name.removeprefix("tests::") for name in failed)
+    if not PASSED_TESTS.search(said):
+        raise Broken("its tests do not run: " + " ".join(said.split())[-300:])
+    status, said = output_of(["rt", "check"], crate)
+    if status == 0:
+        return None
+    unread, refused = NOT_READ.search(said), NOT_PROVED.findall(said)
+    if unread:
+        raise Broken("it does not compile: " + unread[0])
+    if not refused:
+        raise Broken("the check gives no verdict: " + " ".join(said.split())[-300:])
+    return "the check: " + ", ".join(sorted({function or file for function, file in refused})[:3])
+
+
+def judge(crate_name):
+    """Judges each stored edit of a crate. Answers how many were noticed, and how many were not."""
+    noticed, missed = 0, 0
+    with tempfile.TemporaryDirectory() as scratch:
+        folder = Path(scratch)
+        (folder / "crates").mkdir()
+        crate = scratch_copy(folder, crate_name)
+        for stored in sorted((STORED / crate_name).glob("*.edit")):
+            name = f"{crate_name} {stored.stem}"
+            try:
+                before = apply(stored, crate)
+                try:
+                    by = noticed_by(crate)
+                finally:
+                    undo(before)
+            except (Broken, subprocess.TimeoutExpired) as why:
+                missed += 1
+                print(f"{name}: not judged: {why}", flush=True)
+                continue
+            noticed, missed = noticed + (by is not None), missed + (by is None)
+            print(f"{name}: " + (f"noticed by {by}" if by else "NOT NOTICED"), flush=True)
+    return noticed, missed
+
+
+def main():
+    crates = sys.argv[1:] or sorted(folder.name for folder in STORED.iterdir() if folder.is_dir())
+    counts = [judge(crate) for crate in crates]
+    noticed, missed = (sum(column) for column in zip(*counts))
+    print(f"{noticed} noticed, {missed} missed")
+    return 1 if missed or not noticed else 0
+
+
+if __name__ == "__main__":
+    sys.exit(main())
