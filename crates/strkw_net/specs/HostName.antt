@@ -17,7 +17,7 @@ pub record IsLabel (label : List ℕ) : Type 0 where
   pub last : slice_index label (length label - 1) ≢ byte "-"
 
 -- label *("." label), of at most 253 characters: 255 octets, a length octet for each label and one for the root among them
--- (RFC 1034 section 3.1)
+-- (RFC 1034 section 3.1). That no host name is a dotted decimal (RFC 1123 section 2.1) is not asked here.
 pub record IsAsciiHostName (text : List ℕ) : Type 0 where
   pub labels : SeparatedBy (byte ".") IsLabel text
   pub size : length text ≤ 253

@@ -22,7 +22,8 @@ static LETTERS_DIGITS_HYPHEN: [u8; 256] = *b"\
 /// Whether the text is a host name of ASCII characters alone, RFC 1034, section 3.5, as RFC 1123, section 2.1, changed it.
 ///
 /// It has 1 to 253 characters, and is labels with `.` between them. A label is 1 to 63 letters, digits and hyphens, and no
-/// hyphen is its first or last. Labels with `xn--` are labels as others.
+/// hyphen is its first or last. Labels with `xn--` are labels as others, and so are labels of digits: the dotted decimal
+/// `127.0.0.1` is a host name here, though RFC 1123, section 2.1, has it that no host name is of this form.
 pub fn is_valid_hostname_rfc1034(hostname: &str) -> bool
     ensures { IsTrue result ↔ IsAsciiHostName (chars hostname.now) }
 {

@@ -4,3 +4,4 @@ pub mod Times
 pub mod Words
 pub mod Windows
 pub mod Examples
+pub mod Calendar

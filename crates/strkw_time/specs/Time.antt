@@ -85,7 +85,7 @@ pub record IsFullTime (text : List ℕ) : Type 0 where
   pub hour_fits : hour ≤ 23
   pub minute_fits : minute ≤ 59
   pub second_fits : second ≤ 60
-  -- appendix D: a leap second is the last of a day of UTC, 23:59:60Z
+  -- appendix D: a leap second is the last of a day of UTC, 23:59:60Z. Section 5.7 has it only in months that have one, here in any
   pub leap_second : second ≡ 60 → int_rem_euclid (pos (60 * hour + minute) -ℤ offset) (pos 1440) ≡ pos 1439
 
 -- date-time = full-date "T" full-time

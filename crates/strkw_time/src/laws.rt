@@ -1,8 +1,32 @@
 //! Laws over the definitions that the calls of this crate name. Each function has an empty body, and its clause is the law.
-ghost use Rattle.std.specs.Prelude.{codes};
+ghost use Rattle.std.specs.Prelude.{◌≡◌, ◌==◌, ◌%◌, ◌&&◌, ◌||◌, not, true, false, ℕ, codes};
 ghost use Rattle.strkw_text.specs.Bounds.{DerivesAtLeast, DerivesLength};
 ghost use Rattle.strkw_time.specs.Duration.{IsDuration};
-ghost use Rattle.strkw_time.specs.Time.{IsFullDate, IsFullTime, IsDateTime};
+ghost use Rattle.strkw_time.specs.Time.{days_in, is_leap_year, IsFullDate, IsFullTime, IsDateTime};
+
+/// The greatest day of each month, row by row as the table of RFC 3339, section 5.7, has it.
+pub fn days_of_months()
+    ensures january { (year : ℕ) → days_in year 1 ≡ 31 }
+    ensures february_normal { (year : ℕ) → is_leap_year year ≡ false → days_in year 2 ≡ 28 }
+    ensures february_leap_year { (year : ℕ) → is_leap_year year ≡ true → days_in year 2 ≡ 29 }
+    ensures march { (year : ℕ) → days_in year 3 ≡ 31 }
+    ensures april { (year : ℕ) → days_in year 4 ≡ 30 }
+    ensures may { (year : ℕ) → days_in year 5 ≡ 31 }
+    ensures june { (year : ℕ) → days_in year 6 ≡ 30 }
+    ensures july { (year : ℕ) → days_in year 7 ≡ 31 }
+    ensures august { (year : ℕ) → days_in year 8 ≡ 31 }
+    ensures september { (year : ℕ) → days_in year 9 ≡ 30 }
+    ensures october { (year : ℕ) → days_in year 10 ≡ 31 }
+    ensures november { (year : ℕ) → days_in year 11 ≡ 30 }
+    ensures december { (year : ℕ) → days_in year 12 ≡ 31 }
+{}
+
+/// When a year is leap, as the subroutine of RFC 3339, appendix C, returns it:
+/// `(year % 4 == 0 && (year % 100 != 0 || year % 400 == 0))`.
+pub fn leap_years()
+    ensures { (year : ℕ) → is_leap_year year
+        ≡ ((year % 4 == 0) && (not (year % 100 == 0) || (year % 400 == 0))) }
+{}
 
 /// A date has 10 characters.
 pub fn date_length()

@@ -14,7 +14,8 @@ use crate::readers::{after_byte, split_digits};
 ///
 /// Hours are 00 to 23, minutes 00 to 59, seconds 00 to 60, with any fraction of one digit or more; the offset is `Z`, `z`,
 /// or a sign with 00:00 to 23:59 (`-00:00` too). Second 60 is a leap second, and stands only in the last minute of a day of
-/// UTC (`00:29:60+00:30`).
+/// UTC (`00:29:60+00:30`). It may be any day: section 5.7 has leap seconds only at the end of months for which one was
+/// announced, and no list of those is kept here.
 pub fn is_valid_time(time: &str) -> bool
     ensures { IsTrue result ↔ IsFullTime (chars time.now) }
 {
