@@ -2,6 +2,7 @@ pub mod Encoders
 pub mod Passes
 pub mod Base16
 pub mod Codes32
+pub mod ByGroups
 pub mod Groups
 pub mod GroupCodes
 pub mod FirstBlocks

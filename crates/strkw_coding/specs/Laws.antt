@@ -41,7 +41,12 @@ NoneWhereFalse = (c : Codec) (text : List ℕ) (check : Bool) (answer : DecoderA
 abbrev pub beginnings_of_foobar : List (List ℕ)
 beginnings_of_foobar = codes "" ∷ codes "f" ∷ codes "fo" ∷ codes "foo" ∷ codes "foob" ∷ codes "fooba" ∷ codes "foobar" ∷ []
 
--- the test vectors of RFC 4648, section 10 (which has none of its own for base64url)
+-- the input data of section 9: 0x14fb9c03d97e, 0x14fb9c03d9 and 0x14fb9c03
+abbrev pub illustrated_bytes : List (List ℕ)
+illustrated_bytes =
+    (0x14 ∷ 0xFB ∷ 0x9C ∷ 0x03 ∷ 0xD9 ∷ 0x7E ∷ []) ∷ (0x14 ∷ 0xFB ∷ 0x9C ∷ 0x03 ∷ 0xD9 ∷ []) ∷ (0x14 ∷ 0xFB ∷ 0x9C ∷ 0x03 ∷ []) ∷ []
+
+-- the test vectors of RFC 4648, section 10 (which has none of its own for base64url), and the illustrations of section 9
 pub record PublishedVectors : Type 0 where
   pub base64 : map (code Base64) beginnings_of_foobar
       ≡ codes "" ∷ codes "Zg==" ∷ codes "Zm8=" ∷ codes "Zm9v" ∷ codes "Zm9vYg==" ∷ codes "Zm9vYmE=" ∷ codes "Zm9vYmFy" ∷ []
@@ -51,3 +56,4 @@ pub record PublishedVectors : Type 0 where
       ≡ codes "" ∷ codes "CO======" ∷ codes "CPNG====" ∷ codes "CPNMU===" ∷ codes "CPNMUOG=" ∷ codes "CPNMUOJ1" ∷ codes "CPNMUOJ1E8======" ∷ []
   pub base16 : map (code Base16) beginnings_of_foobar
       ≡ codes "" ∷ codes "66" ∷ codes "666F" ∷ codes "666F6F" ∷ codes "666F6F62" ∷ codes "666F6F6261" ∷ codes "666F6F626172" ∷ []
+  pub illustrations : map (code Base64) illustrated_bytes ≡ codes "FPucA9l+" ∷ codes "FPucA9k=" ∷ codes "FPucAw==" ∷ []

@@ -1,4 +1,6 @@
 pub mod Rfc4648
+pub mod Tables
+pub mod Groups
 pub mod Blocks
 pub mod Json
 pub mod Names

@@ -76,7 +76,8 @@ code c bytes = code_by (alphabet c) (letter_bits c) (block_letters c) bytes
 abbrev pub AreBytes : List ℕ → Type 0
 AreBytes bytes = (i : ℕ) → slice_index bytes i < 256
 
--- a text as its encoding sees it: base16 takes letters of either case (the others have no leave to)
+-- a text as its encoding sees it: base16 takes letters of either case (section 8). For the others a letter in
+-- the other case is a character outside the alphabet, which makes a text no encoding (section 3.3)
 abbrev pub folded : Codec → List ℕ → List ℕ
 folded Base64 text = text
 folded Base64Url text = text

@@ -2,10 +2,13 @@
 
 ghost use Rattle.std.specs.Prelude.{◌≡◌, ◌↔◌, IsTrue};
 ghost use Rattle.strkw_coding.specs.Laws.{EncodesOnce, DecodesExactly, NoneWhereFalse, PublishedVectors};
+ghost use Rattle.strkw_coding.specs.Groups.{EncodedByGroups};
+ghost use Rattle.strkw_coding.specs.Tables.{AlphabetsAsPublished};
 ghost use Rattle.strkw_coding.specs.declared.codec.Codec.{Codec};
+ghost use Rattle.strkw_coding.specs.declared.codec.DecodeError.{DecodeError};
 ghost use Rattle.strkw_coding.specs.declared.media_type.BuiltinMediaType.{BuiltinMediaType};
 
-use crate::codec::Codec;
+use crate::codec::{Codec, DecodeError};
 use crate::media_type::BuiltinMediaType;
 
 /// A text encodes at most one list of bytes.
@@ -24,7 +27,19 @@ pub fn none_where_false()
     ensures { NoneWhereFalse }
 {}
 
-/// The test vectors of RFC 4648, section 10, hold of the definition.
+/// The letters of each encoding are those of RFC 4648's tables 1 to 5, value by value, and a block is the group of
+/// bits that its sections 4, 6 and 8 name.
+pub fn alphabets_as_published()
+    ensures { AlphabetsAsPublished }
+{}
+
+/// An encoding is made group by group as sections 4, 6 and 8 of RFC 4648 tell it: of three, five or one bytes at a time,
+/// the last group filled with zero bits and with "=".
+pub fn encoded_by_groups()
+    ensures { EncodedByGroups }
+{}
+
+/// The test vectors of RFC 4648, section 10, and the illustrations of section 9 hold of the definition.
 pub fn published_vectors()
     ensures { PublishedVectors }
 {}
@@ -32,6 +47,11 @@ pub fn published_vectors()
 /// Two encodings are equal by `==` exactly where they are the same encoding.
 pub fn codecs_equal_by_variant()
     ensures { (a b : Codec) → IsTrue (⟦<Codec as PartialEq>⟧.eq a b) ↔ (a ≡ b) }
+{}
+
+/// Two reasons why a text was not decoded are equal by `==` exactly where they are the same reason.
+pub fn decode_errors_equal_by_variant()
+    ensures { (a b : DecodeError) → IsTrue (⟦<DecodeError as PartialEq>⟧.eq a b) ↔ (a ≡ b) }
 {}
 
 /// Two media types are equal by `==` exactly where they are the same media type.

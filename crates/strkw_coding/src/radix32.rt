@@ -55,6 +55,7 @@ struct Group {
 }
 
 /// Whether a text encodes some bytes by base32.
+#[tactic(auto, unfolding(crate::specs::Blocks::is_alphabet, crate::specs::Blocks::is_table, crate::specs::Blocks::value_of))]
 pub(crate) fn is_base32(text: &[u8]) -> bool
     ensures { IsTrue result ↔ IsEncoding Codec.Base32 text.now }
 {
@@ -62,6 +63,7 @@ pub(crate) fn is_base32(text: &[u8]) -> bool
 }
 
 /// Whether a text encodes some bytes by base32hex.
+#[tactic(auto, unfolding(crate::specs::Blocks::is_alphabet, crate::specs::Blocks::is_table, crate::specs::Blocks::value_of))]
 pub(crate) fn is_base32hex(text: &[u8]) -> bool
     ensures { IsTrue result ↔ IsEncoding Codec.Base32Hex text.now }
 {
@@ -69,6 +71,7 @@ pub(crate) fn is_base32hex(text: &[u8]) -> bool
 }
 
 /// The bytes that a text encodes by base32.
+#[tactic(auto, unfolding(crate::specs::Blocks::is_alphabet, crate::specs::Blocks::is_table, crate::specs::Blocks::value_of))]
 pub(crate) fn bytes_of_base32(alloc: Global, text: &[u8]) -> Result<Option<Vec<u8>>, AllocError>
     ensures { IfOk result (Reads (λ v. v.items) Codec.Base32 text.now) }
 {
@@ -76,6 +79,7 @@ pub(crate) fn bytes_of_base32(alloc: Global, text: &[u8]) -> Result<Option<Vec<u
 }
 
 /// The bytes that a text encodes by base32hex.
+#[tactic(auto, unfolding(crate::specs::Blocks::is_alphabet, crate::specs::Blocks::is_table, crate::specs::Blocks::value_of))]
 pub(crate) fn bytes_of_base32hex(alloc: Global, text: &[u8]) -> Result<Option<Vec<u8>>, AllocError>
     ensures { IfOk result (Reads (λ v. v.items) Codec.Base32Hex text.now) }
 {

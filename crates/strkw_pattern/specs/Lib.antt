@@ -1,4 +1,5 @@
 pub mod Whitespace
+pub mod Ecma
 pub mod Literal
 pub mod Search
 pub mod Reading

@@ -1,3 +1,5 @@
+mod sweeps;
+
 use crate::{
     EngineFailure, LiteralMatcher, PatternOptimization, RegexEngine, analyze_pattern,
     contains_ecma_whitespace,
@@ -5,7 +7,7 @@ use crate::{
 use std::alloc::{AllocError, Global};
 use std::test::Fail;
 
-// The kind of an analysis, and its texts, each after a space.
+// The kind of an analysis, and its texts, with a `·`, which no literal holds, between two of them.
 fn shown(alloc: Global, found: &Option<PatternOptimization>) -> Result<String, AllocError> {
     match found {
         None => String::from_str(alloc, "none"),
@@ -13,10 +15,12 @@ fn shown(alloc: Global, found: &Option<PatternOptimization>) -> Result<String, A
         Some(PatternOptimization::Exact(text)) => format!(in alloc; "exact {text}"),
         Some(PatternOptimization::NoWhitespace) => String::from_str(alloc, "no whitespace"),
         Some(PatternOptimization::Alternation(texts)) => {
-            let mut all = String::from_str(alloc, "alternation")?;
+            let mut all = String::from_str(alloc, "alternation ")?;
+            let mut separator = "";
             for text in texts {
-                all.push(' ')?;
+                all.push_str(separator)?;
                 all.push_str(text.as_str())?;
+                separator = "·";
             }
             Ok(all)
         }
@@ -27,7 +31,7 @@ fn shown(alloc: Global, found: &Option<PatternOptimization>) -> Result<String, A
 fn patterns_are_analyzed(rt: HostRuntime) -> Result<(), Fail> {
     let alloc = rt.alloc();
     let rows = [
-        ("^(get|put|post)$", "alternation get post put"),
+        ("^(get|put|post)$", "alternation get·post·put"),
         ("^(single)$", "alternation single"),
         ("^\\/", "prefix /"),
         ("^\\$ref$", "exact $ref"),
@@ -36,7 +40,7 @@ fn patterns_are_analyzed(rt: HostRuntime) -> Result<(), Fail> {
         ("foo", "none"),
         ("^", "none"),
         ("^a+", "none"),
-        ("^(b|a|b)$", "alternation a b b"),
+        ("^(b|a|b)$", "alternation a·b·b"),
         ("^a\\$", "prefix a$"),
         ("^a\\.b$", "exact a.b"),
         ("^$", "none"),
@@ -47,7 +51,7 @@ fn patterns_are_analyzed(rt: HostRuntime) -> Result<(), Fail> {
         ("^\\S*", "none"),
         ("^é", "none"),
         // the Rust crate's own cases
-        ("^(x-foo|x-bar)$", "alternation x-bar x-foo"),
+        ("^(x-foo|x-bar)$", "alternation x-bar·x-foo"),
         ("^/", "prefix /"),
         ("^x-", "prefix x-"),
         ("^foo", "prefix foo"),
@@ -62,8 +66,45 @@ fn patterns_are_analyzed(rt: HostRuntime) -> Result<(), Fail> {
         let found = analyze_pattern(alloc, pattern)?;
         assert_eq!(rt; shown(alloc, &found)?.as_str(), want, "at {pattern}");
     }
+    for pattern in FOR_ENGINES {
+        assert!(rt; analyze_pattern(alloc, pattern)?.is_none(), "at {pattern}");
+    }
     Ok(())
 }
+
+// Patterns of the Rust crate's own cases that are for an engine, or that no engine takes.
+const FOR_ENGINES: [&str; 30] = [
+    "^[a-z&&^b]+$",
+    "^[a-z--b]$",
+    "^[\\w--z]$",
+    "^[\\d--z]$",
+    "^[a~~b]$",
+    "^[[a]]$",
+    "^[\\s]$",
+    "^[^\\s]$",
+    "^[a\\s]$",
+    "^[\\S]{1,5}$",
+    "^.{0,404600}$",
+    "(?<=ab)c",
+    "(?<=a)b",
+    "^(\\-?\\d+(\\.\\d+)?),\\s*(\\-?\\d+(\\.\\d+)?)$",
+    "^(?=\\-?\\d)\\-?\\d+$",
+    "\\/",
+    "\\:",
+    "\\ ",
+    "\\@",
+    "[\\:\\@]",
+    "[a-z&&^b]",
+    "[a-z--b]",
+    "[a~~b]",
+    "[[a]]",
+    "\\p{Letter}",
+    "(",
+    "[",
+    "\\",
+    "\\a",
+    "\\u{110000}",
+];
 
 #[test]
 fn analyses_compare_by_kind_and_texts(rt: HostRuntime) -> Result<(), Fail> {

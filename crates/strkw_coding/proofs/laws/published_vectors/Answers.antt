@@ -4,4 +4,4 @@ use Rattle.strkw_coding.proofs.laws.published_vectors.Goals as goal
 
 pub returns : goal.returns
 unfolding bits number letters
-returns c = record { base64 = refl; base32 = refl; base32hex = refl; base16 = refl }
+returns c = record { base64 = refl; base32 = refl; base32hex = refl; base16 = refl; illustrations = refl }

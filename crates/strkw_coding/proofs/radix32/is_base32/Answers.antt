@@ -1,18 +1,10 @@
 use Rattle.std.proofs.Common.{refl}
 use Rattle.strkw_text.proofs.Equivalences.{carry}
 use Rattle.strkw_coding.specs.Rfc4648.{alphabet}
-use Rattle.strkw_coding.specs.Blocks.{code32, is_alphabet, is_table, value_of}
+use Rattle.strkw_coding.specs.Blocks.{code32}
 use Rattle.strkw_coding.specs.declared.codec.Codec.TheVariants.{Base32}
 use Rattle.strkw_coding.proofs.Decoding.{encoding_by, writes_base32}
 use Rattle.strkw_coding.proofs.radix32.is_base32.Goals as goal
-
-pub invariant_of-is_code-clause-alphabet : goal.invariant_of-is_code-clause-alphabet
-unfolding is_alphabet
-invariant_of-is_code-clause-alphabet c = refl
-
-pub invariant_of-is_code-clause-table : goal.invariant_of-is_code-clause-table
-unfolding is_table value_of
-invariant_of-is_code-clause-table c = refl
 
 pub returns : goal.returns
 returns c = carry c.is_code.ensures (encoding_by Base32 (code32 (alphabet Base32)) c.args.text.now refl writes_base32)
