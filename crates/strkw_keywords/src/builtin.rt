@@ -41,7 +41,7 @@ pub enum BuiltinFormat {
     IriReference,
     /// `json-pointer` of RFC 6901, section 3.
     JsonPointer,
-    /// `relative-json-pointer` of draft-bhutton-relative-json-pointer, section 3.
+    /// `relative-json-pointer` of draft-handrews-relative-json-pointer-02, section 3.
     RelativeJsonPointer,
     /// `time`: `full-time` of RFC 3339, section 5.6.
     Time,

@@ -1,7 +1,7 @@
 -- Host names and their parts between dots.
 use Rattle.std.proofs.Common.{ℕ, ◌≤◌, List, length}
 use Rattle.std.specs.List.{AllByRecursion}
-use Rattle.strkw_text.specs.Bounds.{DerivesAscii}
+use Rattle.strkw_text.proofs.AsciiForms.{DerivesAscii}
 use Rattle.strkw_text.proofs.Separated.{separated_parts, SeparatedBy-weaker, SeparatedBy-at_least}
 use Rattle.strkw_net.specs.HostName.{IsAsciiHostName, IsLabel}
 use Rattle.strkw_net.proofs.HostNameLemmas.{parts, label_without_dot, IsAsciiHostName-ascii}

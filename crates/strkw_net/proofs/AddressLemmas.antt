@@ -12,8 +12,7 @@ use Rattle.std.specs.declared.net.ipv4_addr.Ipv4Addr.{Ipv4Addr}
 use Rattle.std.specs.declared.net.ipv6_addr.Ipv6Addr.{Ipv6Addr}
 use Rattle.std.proofs.lemmas.List.{append-nil, length-map, length-append}
 use Rattle.std.proofs.lemmas.Fmt.{IsAscii-decimal}
-use Rattle.strkw_text.specs.Bounds.{DerivesAscii}
-use Rattle.strkw_text.proofs.AsciiForms.{IsAscii-joined, IsAscii-from_each, Literal-ascii, Then-ascii, Times-ascii, HexDigit-ascii}
+use Rattle.strkw_text.proofs.AsciiForms.{DerivesAscii, IsAscii-joined, IsAscii-from_each, Literal-ascii, Then-ascii, Times-ascii, HexDigit-ascii}
 use Rattle.strkw_text.proofs.Laws.{then, each_push}
 use Rattle.strkw_text.proofs.Classes.{hexdigits_between}
 use Rattle.strkw_text.specs.Abnf.{◌⨾◌, Literal}

@@ -4,10 +4,9 @@ use Rattle.std.specs.List.{AllByRecursion, slice_split}
 use Rattle.std.specs.Str.{IsAscii}
 use Rattle.std.proofs.lemmas.Bool.Decides.{nat_tests}
 use Rattle.std.proofs.lemmas.List.Elements.{recursion_from_All}
-use Rattle.strkw_text.specs.Bounds.{DerivesAscii}
 use Rattle.strkw_text.specs.Delimiters.{Without}
 use Rattle.strkw_text.proofs.Separated.{joined-from_separated, separated_parts}
-use Rattle.strkw_text.proofs.AsciiForms.{IsAscii-joined, IsAscii-from_each}
+use Rattle.strkw_text.proofs.AsciiForms.{DerivesAscii, IsAscii-joined, IsAscii-from_each}
 use Rattle.strkw_net.specs.HostName.{IsAsciiHostName, IsLabel, is_letter_digit_hyphen}
 
 letter_no_dot : (c : ℕ) → is_letter_digit_hyphen c ≡ true → c ≢ 46

@@ -12,8 +12,7 @@ use Rattle.std.proofs.lemmas.Str.{IsAscii-append}
 use Rattle.std.proofs.lemmas.Str.Ascii.{IsAscii-nil, IsAscii-cons}
 use Rattle.std.proofs.lemmas.List.{get_or-map, length-map}
 use Rattle.std.proofs.lemmas.List.Elements.{All-head, All-tail}
-use Rattle.strkw_text.specs.Bounds.{DerivesAscii}
-use Rattle.strkw_text.proofs.AsciiForms.{derives_by_bytes, IsAscii-joined}
+use Rattle.strkw_text.proofs.AsciiForms.{DerivesAscii, derives_by_bytes, IsAscii-joined}
 use Rattle.strkw_pattern.specs.Literal.{Item, plain, escaped, IsItem, AreItems, spelling_of, Literal, prefix, exact, alternation, no_whitespace, IsLiteral, IsWellFormed, spelling}
 use Rattle.strkw_pattern.specs.Analysis.{IsAnalysis}
 use Rattle.strkw_pattern.specs.declared.literal.PatternOptimization.{PatternOptimization}

@@ -1,10 +1,10 @@
 -- Texts read from the front, a part at a time.
 use Rattle.std.proofs.Common.{◌↔◌, ℕ, List, [], inl, inr, sym, subst, ◌∙◌}
 use Rattle.strkw_text.specs.Abnf.{Form, ◌⨾◌, Empty, Optional, Repeat}
-use Rattle.strkw_text.specs.Fronts.{StartsWith, StartsWithNo, IsPrefixFree, OptionThen}
+use Rattle.strkw_text.specs.Fronts.{StartsWith, StartsWithNo, OptionThen}
 use Rattle.strkw_text.proofs.Equivalences.{iff_trans, iff_sym}
 use Rattle.strkw_text.proofs.Laws.{optional_then, repeat_then, then_empty, no_start_then}
-use Rattle.strkw_text.proofs.Runs.{free_then, free_whole, no_start_whole}
+use Rattle.strkw_text.proofs.Runs.{IsPrefixFree, free_then, free_whole, no_start_whole}
 
 -- *A B, where nothing that B derives begins with an A
 module _ (A B : Form) (free : IsPrefixFree A) (stops : (x : List ℕ) → B x → StartsWithNo A x) where

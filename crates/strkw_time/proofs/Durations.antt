@@ -5,13 +5,12 @@ use Rattle.std.specs.Char.{digit_value, is_ascii_digit}
 use Rattle.std.specs.Str.Parse.{AllDigits}
 use Rattle.strkw_text.specs.Abnf.{Form, ◌⨾◌, ◌∣◌, Literal, Empty, Optional, Repeat, Repeat1}
 use Rattle.strkw_text.specs.Characters.{Digit}
-use Rattle.strkw_text.specs.Fronts.{StartsWith, StartsWithNo, RunThen, IsPrefixFree}
-use Rattle.strkw_text.specs.Bounds.{DerivesAscii}
+use Rattle.strkw_text.specs.Fronts.{StartsWith, StartsWithNo, RunThen}
 use Rattle.strkw_text.proofs.Equivalences.{iff_trans, only_first, only_second, neither}
 use Rattle.strkw_text.proofs.Laws.{assoc, optional_then, either_then, no_start_then, starts_then, Repeat-cons}
-use Rattle.strkw_text.proofs.Runs.{OneOf-free, Literal-free, run1-free, free_then, free_whole, no_start_whole, one_stops_nil, run1_found, run1_once}
+use Rattle.strkw_text.proofs.Runs.{IsPrefixFree, OneOf-free, Literal-free, run1-free, free_then, free_whole, no_start_whole, one_stops_nil, run1_found, run1_once}
 use Rattle.strkw_text.proofs.Classes.{digits_all, no_digit_stops}
-use Rattle.strkw_text.proofs.AsciiForms.{Then-ascii, Either-ascii, Optional-ascii, Repeat-ascii, Digit-ascii, Character-ascii}
+use Rattle.strkw_text.proofs.AsciiForms.{DerivesAscii, Then-ascii, Either-ascii, Optional-ascii, Repeat-ascii, Digit-ascii, Character-ascii}
 use Rattle.strkw_time.specs.Readers.{StartsWithNoDigit}
 use Rattle.strkw_time.specs.Readers.{AmountThen, StartsWithNoDigit}
 use Rattle.strkw_time.specs.Duration.{Amount, DurSecond, DurMinute, DurHour, DurTime, DurDay, DurWeek, DurMonth, DurYear, DurDate, IsDuration}

@@ -3,12 +3,12 @@ use Rattle.std.proofs.Common.{◌≡◌, ◌↔◌, ℕ, ◌<◌, Bool, false, e
 use Rattle.std.specs.Char.{is_ascii_hexdigit}
 use Rattle.strkw_text.specs.Abnf.{Form, ◌⨾◌, Literal, Optional, Repeat, OneOf}
 use Rattle.strkw_text.specs.Characters.{HexDigit}
-use Rattle.strkw_text.specs.Fronts.{StartsWith, StartsWithNo, RunThen, IsPrefixFree}
+use Rattle.strkw_text.specs.Fronts.{StartsWith, StartsWithNo, RunThen}
 use Rattle.strkw_text.specs.Delimiters.{Without}
 use Rattle.strkw_text.proofs.Laws.{starts_one}
 use Rattle.strkw_text.proofs.Equivalences.{iff_trans}
 use Rattle.strkw_text.proofs.Optionals.{optional_last_ind, optional_then_at, optional_off}
-use Rattle.strkw_text.proofs.Runs.{OneOf-free, Literal-free, Then-free, either-free, run_then, one_stops, one_stops_nil, then_start, no_start_second, no_start_either, start_left, start_right, literal_start, differ}
+use Rattle.strkw_text.proofs.Runs.{IsPrefixFree, OneOf-free, Literal-free, Then-free, either-free, run_then, one_stops, one_stops_nil, then_start, no_start_second, no_start_either, start_left, start_right, literal_start, differ}
 use Rattle.strkw_text.proofs.Weaker.{OneOf-weaker, Either-weaker}
 use Rattle.strkw_text.proofs.Delimiters.{then_without, one_without, either_without, character_without}
 use Rattle.strkw_uri.specs.Uri.{PctEncoded, Encoded}

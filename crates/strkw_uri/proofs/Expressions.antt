@@ -2,11 +2,11 @@
 use Rattle.std.proofs.Common.{◌≡◌, ◌↔◌, ℕ, Bool, false, List, [], ◌∷◌, ◌++◌, refl, sym, ap, ◌∙◌, append_assoc}
 use Rattle.strkw_text.specs.Abnf.{Form, ◌⨾◌, ◌∣◌, Literal, Repeat}
 use Rattle.strkw_text.specs.Delimiters.{Without}
-use Rattle.strkw_text.specs.Fronts.{StartsWith, StartsWithNo, NotFirst, IsPrefixFree}
+use Rattle.strkw_text.specs.Fronts.{StartsWith, StartsWithNo, NotFirst}
 use Rattle.strkw_text.proofs.Delimiters.{delimiter_then, no_delimiter_then, delimiter_once}
 use Rattle.strkw_text.proofs.Fronts.{whole_step, whole_end}
 use Rattle.strkw_text.proofs.Laws.{then, assoc, not_first_nil}
-use Rattle.strkw_text.proofs.Runs.{Literal-free, Then-free, either-free, then_start, no_start_first, no_start_second, no_start_either, start_left, start_right, literal_start, no_literal_start, differ}
+use Rattle.strkw_text.proofs.Runs.{IsPrefixFree, Literal-free, Then-free, either-free, then_start, no_start_first, no_start_second, no_start_either, start_left, start_right, literal_start, no_literal_start, differ}
 use Rattle.strkw_uri.specs.Template.{is_literal_char, OperatorAndVariables, InExpression, LiteralOrExpression, IsUriTemplate}
 use Rattle.strkw_uri.specs.Uri.{Encoded}
 use Rattle.strkw_uri.proofs.Encodings.{encoded_free, other_stops, nothing_stops}

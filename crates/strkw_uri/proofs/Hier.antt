@@ -1,9 +1,10 @@
 -- The forms of a hierarchical or a relative part, by its first characters.
 use Rattle.std.proofs.Common.{◌≡◌, ◌↔◌, ℕ, Bool, false, List, [], ◌∷◌, ◌++◌, inl, inr, refl, sym, ap, subst, ◌∙◌}
+use Rattle.std.proofs.lemmas.Bool.{cases_eq}
 use Rattle.strkw_text.specs.Abnf.{Form, ◌⨾◌, ◌∣◌, Literal, Empty, Optional, Repeat, Repeat1}
 use Rattle.strkw_text.specs.Fronts.{NotFirst}
 use Rattle.strkw_text.proofs.Equivalences.{iff_trans}
-use Rattle.strkw_text.proofs.Laws.{then, assoc, optional_then, either_then, empty_then, literal_at, literal_not, repeat_then, no_start_then}
+use Rattle.strkw_text.proofs.Laws.{then, assoc, optional_then, either_then, empty_then, literal_at, literal_not, not_first, not_first_nil, repeat_then, no_start_then}
 use Rattle.strkw_text.proofs.Optionals.{repeat_then_off}
 use Rattle.strkw_text.proofs.Runs.{differ}
 use Rattle.strkw_uri.specs.Uri.{Encoded}
@@ -71,7 +72,7 @@ module _ (A B : Form) (n p : ℕ → Bool) (slash : n 47 ≡ false) (slash_in_p 
         ],
       )
 
-  pub hier_two : (text rest after : List ℕ) → text ≡ 47 ∷ rest → rest ≡ 47 ∷ after → (Hier ⨾ B) text ↔ (A ⨾ B) after
+  hier_two : (text rest after : List ℕ) → text ≡ 47 ∷ rest → rest ≡ 47 ∷ after → (Hier ⨾ B) text ↔ (A ⨾ B) after
   hier_two text rest after e f =
       let i = slashes2_at (A ⨾ B) text rest after e f in
       let O = Repeat1 (Encoded p) ⨾ Slashes p in (
@@ -88,7 +89,7 @@ module _ (A B : Form) (n p : ℕ → Bool) (slash : n 47 ≡ false) (slash_in_p 
         λ h. (cases text).1 (inl (i.1 h)),
       )
 
-  pub hier_one : (text rest : List ℕ) → text ≡ 47 ∷ rest → NotFirst 47 rest → (Hier ⨾ B) text ↔ (Repeat (Encoded (or_slash p)) ⨾ B) rest
+  hier_one : (text rest : List ℕ) → text ≡ 47 ∷ rest → NotFirst 47 rest → (Hier ⨾ B) text ↔ (Repeat (Encoded (or_slash p)) ⨾ B) rest
   hier_one text rest e f =
       let O = Repeat1 (Encoded p) ⨾ Slashes p in
       let i = iff_trans (literal_at (Optional O ⨾ B) 47 text rest e) (optional_then O B rest) in
@@ -115,3 +116,20 @@ module _ (A B : Form) (n p : ℕ → Bool) (slash : n 47 ≡ false) (slash_in_p 
         ],
         λ h. (cases text).1 (inr (inr (i.1 h))),
       )
+
+  -- behind one slash, where T is what stands behind two
+  once : (T : Form) (text rest : List ℕ) → text ≡ 47 ∷ rest → NotFirst 47 rest
+      → (Hier ⨾ B) text ↔ ((Literal (47 ∷ []) ⨾ T) ∣ (λ x. NotFirst 47 x × (Repeat (Encoded (or_slash p)) ⨾ B) x)) rest
+  once T text rest e n = let i = hier_one text rest e n in (λ h. inr (n, i.0 h), elim [ inl s ↦ absurd (literal_not T 47 rest n s) | inr q ↦ i.1 q.1 ])
+
+  pub hier_slash : (T : Form) → ((x : List ℕ) → (A ⨾ B) x ↔ T x) → (text rest : List ℕ) → text ≡ 47 ∷ rest
+      → (Hier ⨾ B) text ↔ ((Literal (47 ∷ []) ⨾ T) ∣ (λ x. NotFirst 47 x × (Repeat (Encoded (or_slash p)) ⨾ B) x)) rest
+  hier_slash T same text [] e = once T text [] e (not_first_nil 47 [] refl)
+  hier_slash T same text (c ∷ after) e = elim (cases_eq c 47) [
+    | inl f ↦
+        let at : c ∷ after ≡ 47 ∷ after = ap (λ x. x ∷ after) f in
+        let i = iff_trans (hier_two text (c ∷ after) after e at) (same after) in
+        let j = literal_at T 47 (c ∷ after) after at in
+        (λ h. inl (j.1 (i.0 h)), elim [ inl s ↦ i.1 (j.0 s) | inr q ↦ absurd (q.0 after at) ])
+    | inr other ↦ once T text (c ∷ after) e (not_first c 47 (c ∷ after) after refl other)
+  ]

@@ -18,3 +18,5 @@ pub mod PartBytes
 pub mod Blocks
 pub mod Inclusions
 pub mod Examples
+pub mod AsWritten
+pub mod Ipv6Address

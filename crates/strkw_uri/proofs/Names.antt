@@ -3,11 +3,11 @@ use Rattle.std.proofs.Common.{◌≡◌, ◌↔◌, ℕ, Bool, false, List, [], 
 use Rattle.std.specs.Char.{is_ascii_digit}
 use Rattle.strkw_text.specs.Abnf.{Form, ◌⨾◌, ◌∣◌, Literal, Empty, Optional, Repeat, Times}
 use Rattle.strkw_text.specs.Characters.{Digit}
-use Rattle.strkw_text.specs.Fronts.{StartsWith, StartsWithNo, NotFirst, IsPrefixFree, OptionThen}
+use Rattle.strkw_text.specs.Fronts.{StartsWith, StartsWithNo, NotFirst, OptionThen}
 use Rattle.strkw_text.proofs.Equivalences.{iff_trans}
 use Rattle.strkw_text.proofs.Fronts.{repeat_step, repeat_end, free_by, greedy, greedy_drops, optional_drops, greedy_whole}
 use Rattle.strkw_text.proofs.Laws.{assoc, back_cong, optional_then, literal_at, literal_not, not_first, not_first_nil, no_start_then, times_more, times_none, then_empty}
-use Rattle.strkw_text.proofs.Runs.{OneOf-free, Literal-free, Then-free, either-free, free_then, one_stops_nil, then_start, no_start_first, no_start_second, no_start_either, start_left, start_right, literal_start, no_literal_start, differ}
+use Rattle.strkw_text.proofs.Runs.{IsPrefixFree, OneOf-free, Literal-free, Then-free, either-free, free_then, one_stops_nil, then_start, no_start_first, no_start_second, no_start_either, start_left, start_right, literal_start, no_literal_start, differ}
 use Rattle.strkw_uri.specs.Scan.{InVarspec}
 use Rattle.strkw_uri.specs.Template.{is_varchar, Varchar, FurtherVarchar, MaxLength, ModifierLevel4, Varspec}
 use Rattle.strkw_uri.specs.Uri.{Encoded}

@@ -3,11 +3,11 @@ use Rattle.std.proofs.Common.{◌≡◌, ◌↔◌, ℕ, List, ◌∷◌, ◌++�
 use Rattle.std.specs.Char.{is_ascii_alphabetic}
 use Rattle.strkw_text.specs.Abnf.{Form, ◌⨾◌, Literal, Repeat, OneOf}
 use Rattle.strkw_text.specs.Characters.{Alpha}
-use Rattle.strkw_text.specs.Fronts.{StartsWith, StartsWithNo, RunThen, NotFirst, IsPrefixFree}
+use Rattle.strkw_text.specs.Fronts.{StartsWith, StartsWithNo, RunThen, NotFirst}
 use Rattle.strkw_text.proofs.Equivalences.{iff_trans, iff_sym}
 use Rattle.strkw_text.proofs.Fronts.{free_by}
 use Rattle.strkw_text.proofs.Laws.{assoc, no_start_then, Repeat-cons, Repeat-weaker}
-use Rattle.strkw_text.proofs.Runs.{OneOf-free, Literal-free, Then-free, run-free, free_then, run_then, one_stops, then_start, no_start_first, no_start_second, literal_start}
+use Rattle.strkw_text.proofs.Runs.{IsPrefixFree, OneOf-free, Literal-free, Then-free, run-free, free_then, run_then, one_stops, then_start, no_start_first, no_start_second, literal_start}
 use Rattle.strkw_text.proofs.Weaker.{OneOf-weaker}
 use Rattle.strkw_uri.specs.Characters.{is_scheme_char, is_nc_char, is_pchar}
 use Rattle.strkw_uri.specs.Uri.{Encoded, Scheme, Authority, PathAbempty, QueryAndFragment, RelativeRef}

@@ -4,6 +4,7 @@ use Rattle.std.specs.Str.{byte}
 use Rattle.std.specs.Char.{is_ascii_hexdigit, is_ascii_digit, is_ascii_alphabetic}
 use Rattle.strkw_text.specs.Abnf.{Form, ◌⨾◌, ◌∣◌, Literal, Optional, Repeat}
 use Rattle.strkw_text.specs.Characters.{is_one_of, is_from_to}
+use Rattle.strkw_text.specs.Fronts.{NotFirst}
 use Rattle.strkw_uri.specs.Characters.{is_scheme_char, Alphabet, uri, iri, is_reg_name_char, is_userinfo_char, is_pchar, is_nc_char, is_query_char, is_fragment_char, is_ucschar, is_iprivate}
 use Rattle.strkw_uri.specs.Uri.{Encoded, Userinfo, BracketedAddress, Host, Port, PathAbempty, HierPart, QueryAndFragment}
 use Rattle.strkw_uri.specs.Template.{is_operator, FurtherVarchar, ModifierLevel4}
@@ -91,6 +92,10 @@ module _ (K : Alphabet) where
 
   abbrev pub AuthorityAndTail : Form
   AuthorityAndTail = Optional (Userinfo K ⨾ Literal (codes "@")) ⨾ HostAndTail
+
+  -- behind a slash: another one and an authority, or else from within a path on
+  abbrev pub BehindSlash : Form
+  BehindSlash = Literal (codes "/") ⨾ AuthorityAndTail ∣ (λ text. NotFirst (byte "/") text × InPathAndTail text)
 
   abbrev pub HierPartAndTail : Form
   HierPartAndTail = HierPart K ⨾ QueryAndFragment K

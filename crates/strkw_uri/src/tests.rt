@@ -5,6 +5,10 @@ use crate::{
 };
 use std::test::Fail;
 
+mod original;
+mod places;
+mod sweeps;
+
 #[test]
 fn uri_references(rt: HostRuntime) -> Result<(), Fail> {
     let derived = [
@@ -76,7 +80,12 @@ fn uris(rt: HostRuntime) -> Result<(), Fail> {
 
 #[test]
 fn iris(rt: HostRuntime) -> Result<(), Fail> {
-    for text in ["a:?\u{E000}", "http://é", "http://example.com"] {
+    for text in [
+        "a:?\u{E000}",
+        "a:\u{202E}",
+        "http://é",
+        "http://example.com",
+    ] {
         assert!(rt; is_valid_iri(text), "{text}");
     }
     for text in ["a:\u{E000}", "é:a", "http://[v1.é]"] {
@@ -120,10 +129,6 @@ fn templates(rt: HostRuntime) -> Result<(), Fail> {
         "{a:1*}",
         "{a.}",
         "{é}",
-        "%",
-        "%4",
-        "%4g",
-        "{%4}",
     ];
     for text in refused {
         assert!(rt; !is_valid_uri_template(text), "{text}");
@@ -134,6 +139,13 @@ fn templates(rt: HostRuntime) -> Result<(), Fail> {
 #[test]
 fn pointers(rt: HostRuntime) -> Result<(), Fail> {
     for text in ["", "/", "/f~0o/b~1r", "/foo//bar", "/~01", "/a"] {
+        assert!(rt; is_valid_json_pointer(text), "{text}");
+    }
+    // RFC 6901, section 5
+    let examples = [
+        "/foo", "/foo/0", "/a~1b", "/c%d", "/e^f", "/g|h", "/i\\j", "/k\"l", "/ ", "/m~0n",
+    ];
+    for text in examples {
         assert!(rt; is_valid_json_pointer(text), "{text}");
     }
     for text in ["foo", "/foo/~", "/foo/~2", "/a~"] {
@@ -177,7 +189,7 @@ fn letters_before_an_escape_and_a_wide_character(rt: HostRuntime) -> Result<(), 
 }
 
 #[test]
-fn hostile_references(rt: HostRuntime) -> Result<(), Fail> {
+fn hostile_texts(rt: HostRuntime) -> Result<(), Fail> {
     let texts = [
         "%",
         "%4",
@@ -199,6 +211,9 @@ fn hostile_references(rt: HostRuntime) -> Result<(), Fail> {
     for text in texts {
         assert!(rt; !is_valid_uri_reference(text), "{text}");
         assert!(rt; !is_valid_iri_reference(text), "{text}");
+    }
+    for text in ["%", "%4", "%4g", "{%4}"] {
+        assert!(rt; !is_valid_uri_template(text), "{text}");
     }
     Ok(())
 }
