@@ -1,5 +1,5 @@
 -- From what is compiled and evaluated to the answer.
-use Rattle.std.proofs.Common.{◌≡◌, ◌≢◌, ◌⊎◌, inl, inr, ℕ, List, ◌++◌, Option, Some, None, Result, Ok, Err, OnOk, OnErr, refl, ap, ◌∙◌, subst, codes, append_assoc}
+use Rattle.std.proofs.Common.{◌≡◌, ◌≢◌, ◌↔◌, ◌⊎◌, inl, inr, ℕ, List, Bool, true, false, ◌++◌, Option, Some, None, Result, Ok, Err, OnOk, OnErr, refl, ap, ◌∙◌, subst, codes, append_assoc, if◌then◌else◌, is_ok}
 use Rattle.serde_json.specs.Data.{Members}
 use Rattle.serde_json.specs.Find.{as_str}
 use Rattle.strkw_report.specs.Kinds.{Report}
@@ -10,14 +10,16 @@ use Rattle.strkw_keywords.specs.Meanings.{no_lists}
 use Rattle.strkw_keywords.specs.Errors.{NodeReports}
 use Rattle.strkw_keywords.specs.Remarks.{Remark}
 use Rattle.strkw_keywords.specs.Object.{Settings}
-use Rattle.strkw_keywords.specs.Lengths.{interval, is_empty}
+use Rattle.strkw_keywords.specs.Lengths.{IsEmpty}
+use Rattle.strkw_keywords.proofs.Folding.{interval_is_left}
 use Rattle.strkw_cli.specs.declared.strings.StringKeywords.{StringKeywords}
 use Rattle.strkw_cli.specs.Noted.{FirstRefusal, remarks_on}
 use Rattle.strkw_cli.specs.Compiled.{IsCompiledFrom, keywords_assertions, keywords_interval, keywords_remarks}
 use Rattle.strkw_keywords.specs.Compiled.{out_of_memory}
 use Rattle.strkw_cli.specs.Request.{Request}
-use Rattle.strkw_cli.specs.Printed.{ArePrintable, refused_line, fold_lines, verdict_lines, note_lines}
+use Rattle.strkw_cli.specs.Printed.{ArePrintable, refused_line, TellsFold, verdict_lines, note_lines}
 use Rattle.strkw_cli.specs.Answer.{settings_for, root_site, Answers}
+use Rattle.strkw_cli.proofs.Meaning.{compiled_folds}
 use Rattle.strkw_cli.proofs.Printable.{notes_printable}
 
 -- what a compiled object notes has a text
@@ -25,21 +27,28 @@ pub compiled_printable : {E : Type 0} (outcome : E → List ℕ → Outcome) (s 
     → (node : Option (List ℕ)) (rs : List Remark) → rs ≡ remarks_on node (keywords_remarks k) → ArePrintable rs
 compiled_printable outcome s ms k of node rs is = notes_printable s ms node rs (of.entries, of.are_entries, is ∙ ap (remarks_on node) of.notes)
 
+-- what is told of folding, by what holds exactly where P does
+pub tells_alike : {P Q : Type 0} (asked : Bool) (told : List ℕ) → P ↔ Q → TellsFold asked P told → TellsFold asked Q told
+tells_alike false told same none = none
+tells_alike true told same (inl holds) = inl (same.0 holds.0, holds.1)
+tells_alike true told same (inr fails) = inr ((λ q. fails.0 (same.1 q)), fails.1)
+
 -- the answer by a compiled object
-pub answer_of_compiled : {E : Type 0} (outcome : E → List ℕ → Outcome) (r : Request) (k : StringKeywords E) (errors : List Report) (notes : List Remark)
+pub answer_of_compiled : {E : Type 0} (outcome : E → List ℕ → Outcome) (r : Request) (k : StringKeywords E) (told : List ℕ) (errors : List Report) (notes : List Remark)
     → IsCompiledFrom outcome (settings_for r) r.schema k
+    → TellsFold r.fold (IsEmpty (keywords_interval outcome k)) told
     → NodeReports (keywords_assertions outcome k) no_lists root_site (as_str r.instance) errors
     → notes ≡ remarks_on (as_str r.instance) (keywords_remarks k)
-    → Answers (Some r) (fold_lines r.fold (is_empty (keywords_interval outcome k)) ++ (verdict_lines errors ++ note_lines notes ++ codes "end\n"))
-answer_of_compiled outcome r k errors notes of reports noted =
+    → Answers (Some r) (told ++ (verdict_lines errors ++ note_lines notes ++ codes "end\n"))
+answer_of_compiled outcome r k told errors notes of tells reports noted =
     let node = as_str r.instance in (
       None,
       (of.entries, of.are_entries, of.good),
       (
-        keywords_interval outcome k,
+        told,
         errors,
         notes,
-        (of.entries, of.are_entries, ap interval of.asserts),
+        tells_alike r.fold told (compiled_folds outcome (settings_for r) r.schema k interval_is_left of) tells,
         (of.entries, of.are_entries, subst (λ a. NodeReports a no_lists root_site node errors) of.asserts reports),
         (of.entries, of.are_entries, noted ∙ ap (remarks_on node) of.notes),
         refl,
@@ -51,6 +60,12 @@ pub answer_of_refusal : (r : Request) (e : CompileError) → (refusal_of e ≡ o
     → Answers (Some r) (refused_line (refusal_of e) ++ codes "end\n")
 answer_of_refusal r e (inl none) had = absurd (had (ap (λ r. r.reason) none))
 answer_of_refusal r e (inr first) had = (Some (refusal_of e), first, refl)
+
+-- what is told was appended, where the call succeeded
+pub told_appended : {T E : Type 0} (result : Result T E) (asked : Bool) (P : Type 0) (old new told kept : List ℕ) → asked ≡ true → TellsFold true P told
+    → new ≡ (if is_ok result then old ++ told else kept) → OnOk result ((x : List ℕ) × (new ≡ old ++ x) × TellsFold asked P x)
+told_appended (Ok x) asked P old new told kept asks tells grown = (told, grown, rw asks tells)
+told_appended (Err e) asked P old new told kept asks tells grown = tt
 
 -- what was appended in two steps
 pub appended_twice : {T E : Type 0} (result : Result T E) (old mid new front back : List ℕ) → mid ≡ old ++ front → OnOk result (new ≡ mid ++ back) → OnOk result (new ≡ old ++ (front ++ back))

@@ -1,5 +1,5 @@
 -- A line has one answer, and an input one output.
-use Rattle.std.proofs.Common.{◌≡◌, ℕ, List, [], ◌∷◌, ◌++◌, Option, Some, None, refl, sym, ap, ◌∙◌, subst, codes, option_and_then}
+use Rattle.std.proofs.Common.{◌≡◌, inl, inr, ℕ, List, [], ◌∷◌, ◌++◌, Bool, true, false, Option, Some, None, refl, sym, ap, ◌∙◌, subst, codes, option_and_then}
 use Rattle.serde_json.specs.Data.{Data, Members}
 use Rattle.serde_json.specs.Find.{as_str}
 use Rattle.strkw_report.specs.Kinds.{Report}
@@ -10,10 +10,9 @@ use Rattle.strkw_keywords.specs.Remarks.{Remark}
 use Rattle.strkw_keywords.specs.Object.{Settings, Errors}
 use Rattle.strkw_cli.specs.Noted.{FirstRefusal, Notes}
 use Rattle.strkw_cli.specs.Request.{Request, IsReading, request_in}
-use Rattle.strkw_cli.specs.Printed.{fold_lines, verdict_lines, note_lines}
+use Rattle.strkw_cli.specs.Printed.{TellsFold, verdict_lines, note_lines}
 use Rattle.strkw_cli.specs.Lines.{lines}
-use Rattle.strkw_keywords.specs.Lengths.{is_empty}
-use Rattle.strkw_cli.proofs.Meaning.{HasInterval-unique}
+use Rattle.strkw_keywords.specs.Folding.{FoldsToFalse}
 use Rattle.strkw_cli.specs.Answer.{settings_for, root_site, AnswersBy, Answers, IsAnswer, AreAnswers, IsOutput}
 
 -- what a schema object means is determined
@@ -27,15 +26,23 @@ OneListOfErrors = (s : Settings) (ms : Members) (lists : Lists) (site : Site) (i
 abbrev pub OneListOfNotes : Type 0
 OneListOfNotes = (s : Settings) (ms : Members) (instance : Option (List ℕ)) (a b : List Remark) → Notes s ms instance a → Notes s ms instance b → a ≡ b
 
+-- what is told of folding is determined
+TellsFold-unique : (asked : Bool) (P : Type 0) (a b : List ℕ) → TellsFold asked P a → TellsFold asked P b → a ≡ b
+TellsFold-unique false P a b p q = p ∙ sym q
+TellsFold-unique true P a b (inl p) (inl q) = p.1 ∙ sym q.1
+TellsFold-unique true P a b (inl p) (inr q) = absurd (q.0 p.0)
+TellsFold-unique true P a b (inr p) (inl q) = absurd (p.0 q.0)
+TellsFold-unique true P a b (inr p) (inr q) = p.1 ∙ sym q.1
+
 by_unique : OneListOfErrors → OneListOfNotes → (why : Option Refusal) (r : Request) (a b : List ℕ) → AnswersBy why r a → AnswersBy why r b → a ≡ b
 by_unique errors notes (Some w) r a b p q = p ∙ sym q
-by_unique errors notes None r a b (w, es, ns, has, are, noted, e) (v, fs, ms, has2, are2, noted2, f) =
-    let alone = HasInterval-unique (settings_for r) r.schema w v has has2 in
+by_unique errors notes None r a b (told, es, ns, tells, are, noted, e) (said, fs, ms, tells2, are2, noted2, f) =
+    let alone = TellsFold-unique r.fold (FoldsToFalse (settings_for r) r.schema) told said tells tells2 in
     let same = errors (settings_for r) r.schema no_lists root_site (as_str r.instance) es fs are are2 in
     let alike = notes (settings_for r) r.schema (as_str r.instance) ns ms noted noted2 in
-    e ∙ ap (λ x. fold_lines r.fold (is_empty x) ++ (verdict_lines es ++ note_lines ns ++ codes "end\n")) alone
-    ∙ ap (λ l. fold_lines r.fold (is_empty v) ++ (verdict_lines l ++ note_lines ns ++ codes "end\n")) same
-    ∙ ap (λ l. fold_lines r.fold (is_empty v) ++ (verdict_lines fs ++ note_lines l ++ codes "end\n")) alike ∙ sym f
+    e ∙ ap (λ l. l ++ (verdict_lines es ++ note_lines ns ++ codes "end\n")) alone
+    ∙ ap (λ l. said ++ (verdict_lines l ++ note_lines ns ++ codes "end\n")) same
+    ∙ ap (λ l. said ++ (verdict_lines fs ++ note_lines l ++ codes "end\n")) alike ∙ sym f
 
 Answers-unique : OneRefusal → OneListOfErrors → OneListOfNotes → (r : Option Request) (a b : List ℕ) → Answers r a → Answers r b → a ≡ b
 Answers-unique refusals errors notes None a b p q = p ∙ sym q

@@ -1,49 +1,38 @@
--- Objects that fold to false accept no text, and others by limits alone accept some.
-use Rattle.std.proofs.Common.{◌≡◌, ◌<◌, ◌≤◌, ℕ, ◌+◌, ◌-◌, ◌^◌, List, [], ◌∷◌, ◌++◌, length, get_or, take, true, false, Option, Some, None, IfSome, refl, sym, ap, ap₂, subst, ◌∙◌, arith}
-use Rattle.std.specs.Prelude.{min, max, unwrap_or, nat_lt}
+-- Objects that fold to false: their validators, one after the other, and what may stand for them.
+use Rattle.std.proofs.Common.{◌≡◌, ◌<◌, ◌≤◌, ◌↔◌, ℕ, ◌+◌, ◌-◌, ◌^◌, List, [], length, get_or, take, Option, Some, None, refl, sym, ap, ap₂, subst, ◌∙◌, arith}
+use Rattle.std.specs.Prelude.{min, max, unwrap_or, nat_lt, IsTrue}
 use Rattle.std.specs.Str.{chars}
-use Rattle.std.proofs.lemmas.Bool.Decides.{nat_tests}
 use Rattle.serde_json.specs.Data.{Members}
 use Rattle.strkw_report.specs.declared.error.Site.{Site}
 use Rattle.strkw_pattern.specs.declared.engine.Outcome.{Outcome}
 use Rattle.strkw_keywords.specs.Meanings.{Lists}
 use Rattle.strkw_keywords.specs.Formats.{Window, bounds}
-use Rattle.strkw_keywords.specs.FormatLaws.{IsInside}
-use Rattle.strkw_keywords.specs.Errors.{AllReport}
-use Rattle.strkw_keywords.specs.Object.{Settings, Keyed, AreEntries, Errors, asserted}
-use Rattle.strkw_keywords.specs.Lengths.{interval, ends_below, is_empty, EmptyHasNoLength, OutsideIsAnError, InsideIsNoError, AreLimits, IsTextOfLength, TextsOfEveryLength}
+use Rattle.strkw_keywords.specs.Errors.{Assertion, NodeReports}
+use Rattle.strkw_keywords.specs.Object.{Settings, Errors}
+use Rattle.strkw_keywords.specs.Lengths.{IsEmpty, interval, OutsideIsAnError}
+use Rattle.strkw_keywords.specs.Folding.{FoldsToFalse, RefusesTexts, AcceptAlike, FoldedRefuseTexts}
 use Rattle.strkw_keywords.specs.declared.validator.Validator.{Validator}
 use Rattle.strkw_keywords.specs.Validators.{assertions_of, assertions_in}
-use Rattle.strkw_keywords.proofs.Lengths.{interval-append, ends_in_common, empty_by_ends}
-use Rattle.strkw_cli.specs.Noted.{HasInterval}
-use Rattle.strkw_cli.proofs.Entries.{AreEntries-unique}
+use Rattle.strkw_keywords.proofs.Lengths.{interval_append, ends_in_common, empty_by_numbers}
+use Rattle.strkw_cli.proofs.Entries.{entries_exist}
 use Rattle.strkw_cli.proofs.Many.{in_more}
 
--- ---- what an empty interval says of texts
+-- ---- what folds is refused
 
-pub folded_accept_none : EmptyHasNoLength → OutsideIsAnError → (s : Settings) (ms : Members) (w : Window) (lists : Lists) (site : Site) (text : List ℕ)
-    → HasInterval s ms w → is_empty w ≡ true → Errors s ms lists site (Some text) [] → ⊥
-folded_accept_none empty outside s ms w lists site text (es, are, e) t (fs, too, reports) =
-    let same = AreEntries-unique s ms es fs are too in
-    let none = (empty (interval (asserted s.place fs))).0 (subst (λ x. is_empty x ≡ true) (e ∙ ap (λ l. interval (asserted s.place l)) same) t) in
-    outside (asserted s.place fs) lists site text (none _) reports
+-- a node that is a text has an error, where no length is left
+pub refused_node : OutsideIsAnError → (assertions : List Assertion) (lists : Lists) (site : Site) (instance : Option (List ℕ)) (text : List ℕ)
+    → IsEmpty (interval assertions) → instance ≡ Some text → NodeReports assertions lists site instance [] → ⊥
+refused_node outside assertions lists site instance text empty e reports =
+    outside assertions lists site text (empty (length (chars text))) (subst (λ n. NodeReports assertions lists site n []) e reports)
 
-end_is_above : (least : ℕ) (end : Option ℕ) → ends_below least end ≡ false → IfSome end (λ g. least ≤ g)
-end_is_above least None e = tt
-end_is_above least (Some g) e = grind (arith, nat_tests)
+-- a node that is no text is accepted by every schema object
+other_nodes : (s : Settings) (ms : Members) (lists : Lists) (site : Site) → Errors s ms lists site None []
+other_nodes s ms lists site = let es = entries_exist s ms in (es.0, es.1, refl)
 
-inside_least : (w : Window) → is_empty w ≡ false → IsInside w w.least
-inside_least w e = record { long_enough = omega arith; short_enough = end_is_above w.least w.greatest e }
-
-pub limits_accept_some : InsideIsNoError → TextsOfEveryLength → (s : Settings) (ms : Members) (es : List Keyed) (w : Window) (lists : Lists) (site : Site)
-    → AreEntries s ms es → AreLimits (asserted s.place es) → HasInterval s ms w → is_empty w ≡ false
-    → (n : ℕ) × (text : List ℕ) × IsTextOfLength n text × Errors s ms lists site (Some text) []
-limits_accept_some inside texts s ms es w lists site are limits (fs, too, e) f =
-    let same = AreEntries-unique s ms fs es too are in
-    let left = e ∙ ap (λ l. interval (asserted s.place l)) same in
-    let made = texts w.least in
-    let there = subst (λ x. IsInside x (length (chars made.0))) left (subst (λ n. IsInside w n) (sym made.1.size) (inside_least w f)) in
-    (w.least, made.0, made.1, (es, are, inside (asserted s.place es) lists site made.0 limits there))
+pub folded_replaced : FoldedRefuseTexts → (s t : Settings) (ms others : Members) → FoldsToFalse s ms → RefusesTexts t others → AcceptAlike s ms t others
+folded_replaced law s t ms others folds refuses lists site None = ((λ h. other_nodes t others lists site), (λ h. other_nodes s ms lists site))
+folded_replaced law s t ms others folds refuses lists site (Some text) =
+    ((λ h. absurd (law s ms folds lists site text h)), (λ h. absurd (refuses lists site text h)))
 
 -- ---- the loop over validators
 
@@ -62,7 +51,7 @@ module _ {E : Type 0} (outcome : E → List ℕ → Outcome) where
       → AreEnds least greatest (interval (assertions_in outcome (take i vs))) → (low, high) ≡ bounds (interval (assertions_of outcome v)) → low ≤ top → high ≤ top
       → AreEnds (max least low) (min greatest high) (interval (assertions_in outcome (take (i + 1) vs)))
   ends_more vs i v least greatest low high h e before one l g =
-      let whole = ap interval (in_more outcome vs i v h e) ∙ interval-append (assertions_in outcome (take i vs)) (assertions_of outcome v) in
+      let whole = ap interval (in_more outcome vs i v h e) ∙ interval_append (assertions_in outcome (take i vs)) (assertions_of outcome v) in
       let v_low : low ≡ (interval (assertions_of outcome v)).least = ap (λ (p : ℕ × ℕ). p.0) one in
       let v_high : high ≡ unwrap_or (interval (assertions_of outcome v)).greatest top = ap (λ (p : ℕ × ℕ). p.1) one in
       let fit = ends_in_common (interval (assertions_in outcome (take i vs))).greatest (interval (assertions_of outcome v)).greatest top (subst (λ x. x ≤ top) before.high before.high_fits) (subst (λ x. x ≤ top) v_high g) in
@@ -73,6 +62,6 @@ module _ {E : Type 0} (outcome : E → List ℕ → Outcome) where
         high_fits = omega (arith, before.high_fits, g);
       }
 
-pub empty_at_end : (least greatest : ℕ) (w : Window) → AreEnds least greatest w → nat_lt greatest least ≡ is_empty w
+pub empty_at_end : (least greatest : ℕ) (w : Window) → AreEnds least greatest w → IsTrue (nat_lt greatest least) ↔ IsEmpty w
 empty_at_end least greatest w e =
-    ap₂ nat_lt e.high e.low ∙ empty_by_ends w.least w.greatest top (subst (λ x. x ≤ top) e.low e.low_fits)
+    rw (e.high, e.low) (empty_by_numbers w top (subst (λ x. x ≤ top) e.low e.low_fits))

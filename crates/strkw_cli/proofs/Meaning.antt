@@ -11,9 +11,10 @@ use Rattle.strkw_keywords.specs.Remarks.{Remark}
 use Rattle.strkw_keywords.specs.Object.{Settings, Errors, refusal, asserted, remarked}
 use Rattle.strkw_keywords.specs.Laws.{CompiledIsInUse}
 use Rattle.strkw_cli.specs.declared.strings.StringKeywords.{StringKeywords}
-use Rattle.strkw_keywords.specs.Formats.{Window}
-use Rattle.strkw_keywords.specs.Lengths.{interval}
-use Rattle.strkw_cli.specs.Noted.{FirstRefusal, HasInterval, remarks_on, Notes}
+use Rattle.strkw_keywords.specs.FormatLaws.{IsInside}
+use Rattle.strkw_keywords.specs.Lengths.{IsEmpty, interval}
+use Rattle.strkw_keywords.specs.Folding.{IsInInterval, FoldsToFalse, IntervalIsLeft}
+use Rattle.strkw_cli.specs.Noted.{FirstRefusal, remarks_on, Notes}
 use Rattle.strkw_cli.specs.Compiled.{keywords_assertions, keywords_interval, keywords_remarks, IsCompiledFrom}
 use Rattle.strkw_cli.proofs.Entries.{AreEntries-unique}
 
@@ -24,9 +25,6 @@ FirstRefusal-unique s ms a b (es, are, x) (fs, too, y) = sym x ∙ ap (refusal s
 
 pub Notes-unique : (s : Settings) (ms : Members) (node : Option (List ℕ)) (a b : List Remark) → Notes s ms node a → Notes s ms node b → a ≡ b
 Notes-unique s ms node a b (es, are, x) (fs, too, y) = x ∙ ap (λ l. remarks_on node (remarked s.place l)) (AreEntries-unique s ms es fs are too) ∙ sym y
-
-pub HasInterval-unique : (s : Settings) (ms : Members) (a b : Window) → HasInterval s ms a → HasInterval s ms b → a ≡ b
-HasInterval-unique s ms a b (es, are, x) (fs, too, y) = x ∙ ap (λ l. interval (asserted s.place l)) (AreEntries-unique s ms es fs are too) ∙ sym y
 
 -- ---- the compiled object
 
@@ -43,10 +41,13 @@ module _ {E : Type 0} (outcome : E → List ℕ → Outcome) (s : Settings) (ms 
     (λ h. h.2 ∙ ap (λ l. remarks_on node (remarked s.place l)) (AreEntries-unique s ms h.0 c.entries h.1 c.are_entries) ∙ ap (remarks_on node) (sym c.notes)),
   )
 
-  pub compiled_interval : (w : Window) → IsCompiledFrom outcome s ms k → (w ≡ keywords_interval outcome k) ↔ HasInterval s ms w
-  compiled_interval w c = (
-    (λ e. (c.entries, c.are_entries, e ∙ ap interval c.asserts)),
-    (λ h. h.2 ∙ ap (λ l. interval (asserted s.place l)) (AreEntries-unique s ms h.0 c.entries h.1 c.are_entries) ∙ ap interval (sym c.asserts)),
+  pub compiled_interval : IntervalIsLeft → (n : ℕ) → IsCompiledFrom outcome s ms k → IsInside (keywords_interval outcome k) n ↔ IsInInterval s ms n
+  compiled_interval law n c = subst (λ l. IsInside (interval l) n ↔ IsInInterval s ms n) (sym c.asserts) (law s ms c.entries n c.are_entries)
+
+  pub compiled_folds : IntervalIsLeft → IsCompiledFrom outcome s ms k → IsEmpty (keywords_interval outcome k) ↔ FoldsToFalse s ms
+  compiled_folds law c = (
+    (λ h n i. h n ((compiled_interval law n c).1 i)),
+    (λ h n i. h n ((compiled_interval law n c).0 i)),
   )
 
   pub compiled_in_use : CompiledIsInUse → IsCompiledFrom outcome s ms k → IsInUse (keywords_assertions outcome k) s.lists

@@ -10,11 +10,10 @@ use Rattle.strkw_keywords.specs.declared.options.Options.{Options}
 use Rattle.strkw_keywords.specs.Meanings.{no_lists}
 use Rattle.strkw_keywords.specs.Remarks.{Remark}
 use Rattle.strkw_keywords.specs.Object.{Settings, default_options, Errors}
-use Rattle.strkw_keywords.specs.Formats.{Window}
-use Rattle.strkw_keywords.specs.Lengths.{is_empty}
-use Rattle.strkw_cli.specs.Noted.{FirstRefusal, HasInterval, Notes}
+use Rattle.strkw_keywords.specs.Folding.{FoldsToFalse}
+use Rattle.strkw_cli.specs.Noted.{FirstRefusal, Notes}
 use Rattle.strkw_cli.specs.Request.{Request, IsReading, request_in}
-use Rattle.strkw_cli.specs.Printed.{refused_line, fold_lines, verdict_lines, note_lines}
+use Rattle.strkw_cli.specs.Printed.{refused_line, TellsFold, verdict_lines, note_lines}
 use Rattle.strkw_cli.specs.Lines.{lines}
 
 -- the options of a request: it sets two of them
@@ -47,11 +46,11 @@ root_site = record { evaluation = []; instance = [] }
 -- the answer to a request, by the first refusal of its schema object
 abbrev pub AnswersBy : Option Refusal → Request → List ℕ → Type 0
 AnswersBy (Some why) r answer = answer ≡ refused_line why ++ codes "end\n"
-AnswersBy None r answer = (w : Window) × (errors : List Report) × (notes : List Remark)
-    × HasInterval (settings_for r) r.schema w
+AnswersBy None r answer = (told : List ℕ) × (errors : List Report) × (notes : List Remark)
+    × TellsFold r.fold (FoldsToFalse (settings_for r) r.schema) told
     × Errors (settings_for r) r.schema no_lists root_site (as_str r.instance) errors
     × Notes (settings_for r) r.schema (as_str r.instance) notes
-    × (answer ≡ fold_lines r.fold (is_empty w) ++ (verdict_lines errors ++ note_lines notes ++ codes "end\n"))
+    × (answer ≡ told ++ (verdict_lines errors ++ note_lines notes ++ codes "end\n"))
 
 -- the answer to a request, or to what is none
 abbrev pub Answers : Option Request → List ℕ → Type 0

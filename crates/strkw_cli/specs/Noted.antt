@@ -1,20 +1,13 @@
--- What a schema object says beside the errors of an instance: its first refusal, its interval, and the notes of an instance.
+-- What a schema object says of an instance beside its errors: its first refusal, and the notes.
 use Rattle.std.specs.Prelude.{◌≡◌, ℕ, List, [], Option, Some, None}
 use Rattle.serde_json.specs.Data.{Members}
 use Rattle.strkw_report.specs.Refusals.{Refusal}
 use Rattle.strkw_keywords.specs.Remarks.{Remark}
-use Rattle.strkw_keywords.specs.Object.{Settings, Keyed, AreEntries, refusal, asserted, remarked}
-use Rattle.strkw_keywords.specs.Formats.{Window}
-use Rattle.strkw_keywords.specs.Lengths.{interval}
+use Rattle.strkw_keywords.specs.Object.{Settings, Keyed, AreEntries, refusal, remarked}
 
 -- the first refusal of the entries of a schema object, or that none of them is refused
 abbrev pub FirstRefusal : Settings → Members → Option Refusal → Type 0
 FirstRefusal s ms first = (es : List Keyed) × AreEntries s ms es × (refusal s.place es ≡ first)
-
--- This is the interval of a schema object: the lengths at least `minLength`, at most `maxLength` and inside the window of a
--- format that is checked by a built-in one, each where its entry is there and not overridden.
-abbrev pub HasInterval : Settings → Members → Window → Type 0
-HasInterval s ms w = (es : List Keyed) × AreEntries s ms es × (w ≡ interval (asserted s.place es))
 
 -- remarks are made of texts alone
 abbrev pub remarks_on : Option (List ℕ) → List Remark → List Remark

@@ -1,5 +1,5 @@
 -- The lines of an answer, each ended by a line feed.
-use Rattle.std.specs.Prelude.{◌≡◌, ℕ, List, [], ◌∷◌, ◌++◌, Bool, true, false, codes, map, if◌then◌else◌, nat_lt}
+use Rattle.std.specs.Prelude.{◌≡◌, ◌⊎◌, ℕ, List, [], ◌∷◌, ◌++◌, Bool, true, false, codes, map, if◌then◌else◌, nat_lt}
 use Rattle.std.specs.List.{All, flat_map}
 use Rattle.serde_json.specs.Written.{compact_text, has_float}
 use Rattle.strkw_report.specs.Kinds.{Report, text_of}
@@ -28,11 +28,10 @@ abbrev pub verdict_lines : List Report → List ℕ
 verdict_lines [] = codes "valid\n"
 verdict_lines (r ∷ rs) = flat_map error_line (r ∷ rs)
 
--- whether the object folds to false, where that is asked
-abbrev pub fold_lines : Bool → Bool → List ℕ
-fold_lines false empty = []
-fold_lines true true = codes "fold true\n"
-fold_lines true false = codes "fold false\n"
+-- what is told of folding: nothing where it is not asked, or else whether P holds
+abbrev pub TellsFold : Bool → Type 0 → List ℕ → Type 0
+TellsFold false P told = told ≡ []
+TellsFold true P told = (P × (told ≡ codes "fold true\n")) ⊎ ((P → ⊥) × (told ≡ codes "fold false\n"))
 
 -- a note, its value as compact JSON text (RFC 8259)
 abbrev pub note_line : Remark → List ℕ

@@ -49,8 +49,14 @@ has_only_request_keys (member k d ms) = is_request_key k && has_only_request_key
 -- the parts of a request, each of its kind
 abbrev pub request_of_parts : Option Draft → Option Members → Option Data → Option (Option Bool) → Option (Option Bool) → Option (Option Bool) → Option Request
 request_of_parts draft schema instance validate ignore fold =
-    option_and_then (λ d. option_and_then (λ s. option_and_then (λ i. option_and_then (λ v. option_and_then (λ g. option_map (λ f.
-    record { draft = d; schema = s; instance = i; validate_formats = v; ignore_unknown_formats = unwrap_or g true; fold = unwrap_or f false }) fold) ignore) validate) instance) schema) draft
+    option_and_then (λ d. option_and_then (λ s. option_and_then (λ i. option_and_then (λ v. option_and_then (λ g. option_map (λ f. record {
+      draft = d;
+      schema = s;
+      instance = i;
+      validate_formats = v;
+      ignore_unknown_formats = unwrap_or g true;
+      fold = unwrap_or f false;
+    }) fold) ignore) validate) instance) schema) draft
 
 abbrev pub request_of_members : Members → Option Request
 request_of_members ms = if has_only_request_keys ms then request_of_parts

@@ -7,12 +7,12 @@ ghost use Rattle.strkw_cli.specs.Handed.{settings_of};
 ghost use Rattle.strkw_cli.specs.Borrowed.{request_view};
 ghost use Rattle.strkw_cli.specs.Answer.{IsAnswer, Answers, settings_for, root_site};
 ghost use Rattle.strkw_cli.specs.Compiled.{keywords_interval};
-ghost use Rattle.strkw_cli.specs.Printed.{fold_lines};
-ghost use Rattle.strkw_keywords.specs.Lengths.{is_empty};
+ghost use Rattle.strkw_cli.specs.Printed.{TellsFold};
+ghost use Rattle.strkw_keywords.specs.Lengths.{IsEmpty};
 
 use super::compile::compile_strings;
 use super::no_patterns::NoPatterns;
-use super::printing::{push_bad_request, push_findings, push_fold, push_refusal};
+use super::printing::{push_bad_request, push_findings, push_refusal};
 use super::request::{Request, read_line, request_in};
 use super::strings::StringKeywords;
 use serde_json::Value;
@@ -68,7 +68,7 @@ fn answer_request(alloc: Global, request: &Request<'_>, out: &mut Vec<u8>) -> Re
         Ok(keywords) => {
             let site = root_site(alloc);
             let found = keywords.evaluate(alloc, request.instance, &site, &ctx.checks)?;
-            answer_fold(request.fold, &keywords, out)?;
+            push_fold(request.fold, &keywords, out)?;
             push_findings(alloc, &found.errors, &found.notes, out)
         }
         Err(refusal) => push_refusal(alloc, &refusal, out),
@@ -76,18 +76,22 @@ fn answer_request(alloc: Global, request: &Request<'_>, out: &mut Vec<u8>) -> Re
 }
 
 // Appends whether an object folds to false, where that is asked.
-fn answer_fold<E: RegexEngine>(
+fn push_fold<E: RegexEngine>(
     asked: bool,
     keywords: &StringKeywords<E>,
     out: &mut Vec<u8>,
 ) -> Result<(), AllocError>
-    ensures ok { OnOk result (out.new.items ≡ out.old.items ++ fold_lines asked (is_empty (keywords_interval E.outcome keywords.now))) }
+    ensures ok { OnOk result ((told : List ℕ) × (out.new.items ≡ out.old.items ++ told)
+        × TellsFold asked (IsEmpty (keywords_interval E.outcome keywords.now)) told) }
     ensures err { OnErr result ((more : List ℕ) × (out.new.items ≡ out.old.items ++ more)) }
 {
-    if asked {
-        push_fold(keywords.folds_to_false(), out)
+    if !asked {
+        return Ok(());
+    }
+    if keywords.folds_to_false() {
+        out.extend_from_slice(b"fold true\n")
     } else {
-        Ok(())
+        out.extend_from_slice(b"fold false\n")
     }
 }
 

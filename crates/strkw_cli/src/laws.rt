@@ -6,23 +6,26 @@ ghost use Rattle.strkw_report.specs.Kinds.{Report};
 ghost use Rattle.strkw_report.specs.Refusals.{Refusal, prints_float};
 ghost use Rattle.strkw_report.specs.declared.error.Site.{Site};
 ghost use Rattle.strkw_keywords.specs.Meanings.{Lists};
-ghost use Rattle.strkw_keywords.specs.Formats.{Window};
-ghost use Rattle.strkw_keywords.specs.Lengths.{is_empty, AreLimits, IsTextOfLength};
+ghost use Rattle.strkw_keywords.specs.FormatLaws.{IsInside};
+ghost use Rattle.strkw_keywords.specs.Lengths.{IsEmpty};
+ghost use Rattle.strkw_keywords.specs.Folding.{IsInInterval, FoldsToFalse, RefusesTexts, AcceptAlike};
 ghost use Rattle.strkw_keywords.specs.Errors.{NodeReports, IsInUse};
 ghost use Rattle.strkw_keywords.specs.Remarks.{Remark};
-ghost use Rattle.strkw_keywords.specs.Object.{Settings, Keyed, AreEntries, Errors, asserted};
+ghost use Rattle.strkw_keywords.specs.Object.{Settings, Keyed, AreEntries, Errors};
 ghost use Rattle.strkw_cli.specs.declared.strings.StringKeywords.{StringKeywords};
-ghost use Rattle.strkw_cli.specs.Noted.{FirstRefusal, HasInterval, remarks_on, Notes};
+ghost use Rattle.strkw_cli.specs.Noted.{FirstRefusal, remarks_on, Notes};
 ghost use Rattle.strkw_cli.specs.Printed.{ArePrintable};
 ghost use Rattle.strkw_cli.specs.Answer.{IsAnswer, IsOutput};
 ghost use Rattle.strkw_cli.specs.Compiled.{keywords_assertions, keywords_interval, keywords_remarks, IsCompiledFrom};
 
 use strkw_keywords::laws::{
-    compiled_is_in_use, empty_windows_have_no_length, lengths_inside_are_no_errors,
-    lengths_outside_are_errors, texts_of_every_length,
+    compiled_is_in_use, interval_is_what_demands_leave, lengths_outside_are_errors,
 };
-pub use strkw_keywords::laws::errors_are_determined;
+pub use strkw_keywords::laws::{
+    errors_are_determined, folded_objects_refuse_texts, other_objects_accept_some_text,
+};
 use strkw_pattern::RegexEngine;
+use strkw_report::Node;
 
 /// What a compiled object reports of an instance are the errors that its schema object means, entry by entry.
 pub fn compiled_errors_are_those_of_the_object<E: RegexEngine>()
@@ -31,30 +34,31 @@ pub fn compiled_errors_are_those_of_the_object<E: RegexEngine>()
         → NodeReports (keywords_assertions E.outcome k) lists site instance rs ↔ Errors s ms lists site instance rs }
 {}
 
-/// The interval of a compiled object is that of its schema object.
+/// The interval of a compiled object is that of its schema object: `folds_to_false` is true exactly where the schema
+/// object folds to false.
 pub fn compiled_interval_is_that_of_the_object<E: RegexEngine>()
-    ensures { (s : Settings) (ms : Members) (k : StringKeywords E) (w : Window)
-        → IsCompiledFrom E.outcome s ms k → (w ≡ keywords_interval E.outcome k) ↔ HasInterval s ms w }
-{}
-
-/// A schema object with an empty interval accepts no text: each has an error.
-pub fn folded_objects_accept_no_text()
-    ensures { (s : Settings) (ms : Members) (w : Window) (lists : Lists) (site : Site) (text : List ℕ)
-        → HasInterval s ms w → is_empty w ≡ true → Errors s ms lists site (Some text) [] → ⊥ }
+    ensures lengths { (s : Settings) (ms : Members) (k : StringKeywords E) (n : ℕ)
+        → IsCompiledFrom E.outcome s ms k → IsInside (keywords_interval E.outcome k) n ↔ IsInInterval s ms n }
+    ensures empty { (s : Settings) (ms : Members) (k : StringKeywords E)
+        → IsCompiledFrom E.outcome s ms k → IsEmpty (keywords_interval E.outcome k) ↔ FoldsToFalse s ms }
 {
-    empty_windows_have_no_length();
+    interval_is_what_demands_leave();
+}
+
+/// Every node that is a text, of whatever type, has an error by a compiled object of which `folds_to_false` is true.
+pub fn folded_texts_have_errors<E: RegexEngine, N: Node>()
+    ensures { (k : StringKeywords E) (lists : Lists) (site : Site) (node : N) (text : List ℕ)
+        → IsEmpty (keywords_interval E.outcome k) → N.text node ≡ Some text
+        → NodeReports (keywords_assertions E.outcome k) lists site (N.text node) [] → ⊥ }
+{
     lengths_outside_are_errors();
 }
 
-/// A schema object whose interval is not empty accepts some text, where only its limits of the length can make errors.
-pub fn other_limits_accept_some_text()
-    ensures { (s : Settings) (ms : Members) (es : List Keyed) (w : Window) (lists : Lists) (site : Site)
-        → AreEntries s ms es → AreLimits (asserted s.place es) → HasInterval s ms w → is_empty w ≡ false
-        → (n : ℕ) × (text : List ℕ) × IsTextOfLength n text × Errors s ms lists site (Some text) [] }
+/// A schema object that folds to false may be replaced by any that refuses every text: both accept the same nodes.
+pub fn folded_objects_may_be_replaced()
+    ensures { (s t : Settings) (ms others : Members) → FoldsToFalse s ms → RefusesTexts t others → AcceptAlike s ms t others }
 {
-    empty_windows_have_no_length();
-    lengths_inside_are_no_errors();
-    texts_of_every_length();
+    folded_objects_refuse_texts();
 }
 
 /// What a compiled object notes of an instance are the notes that its schema object means, entry by entry.

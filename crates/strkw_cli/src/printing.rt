@@ -1,11 +1,11 @@
 //! The lines of an answer. Each call appends them, or a beginning of them where a growth is refused.
 
-ghost use Rattle.std.specs.Prelude.{◌≡◌, ◌↔◌, ℕ, List, ◌++◌, ◌≢◌, true, false, IsTrue, OnOk, OnErr, codes, map};
+ghost use Rattle.std.specs.Prelude.{◌≡◌, ◌↔◌, ℕ, List, ◌++◌, ◌≢◌, false, IsTrue, OnOk, OnErr, codes, map};
 ghost use Rattle.std.specs.List.{flat_map};
 ghost use Rattle.serde_json.specs.Written.{has_float};
 ghost use Rattle.strkw_report.specs.Refusals.{refusal_of, reason_of, prints_float, memory};
 ghost use Rattle.strkw_keywords.specs.Remarks.{remark_of};
-ghost use Rattle.strkw_cli.specs.Printed.{printed, line_of, fold_lines, error_line, refused_line, verdict_lines, note_line, note_lines, ArePrintable};
+ghost use Rattle.strkw_cli.specs.Printed.{printed, line_of, error_line, refused_line, verdict_lines, note_line, note_lines, ArePrintable};
 
 use std::alloc::{AllocError, Global};
 use strkw_keywords::Note;
@@ -17,18 +17,6 @@ pub(super) fn push_bad_request(out: &mut Vec<u8>) -> Result<(), AllocError>
     ensures err { OnErr result ((more : List ℕ) × (out.new.items ≡ out.old.items ++ more)) }
 {
     out.extend_from_slice(b"bad request\nend\n")
-}
-
-/// Appends the line that tells whether an object folds to false.
-pub(super) fn push_fold(folds: bool, out: &mut Vec<u8>) -> Result<(), AllocError>
-    ensures ok { OnOk result (out.new.items ≡ out.old.items ++ fold_lines true folds) }
-    ensures err { OnErr result ((more : List ℕ) × (out.new.items ≡ out.old.items ++ more)) }
-{
-    if folds {
-        out.extend_from_slice(b"fold true\n")
-    } else {
-        out.extend_from_slice(b"fold false\n")
-    }
 }
 
 /// Appends the lines of the errors, or `valid`, then those of the notes, and the end.

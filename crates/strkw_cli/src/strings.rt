@@ -4,7 +4,7 @@ ghost use Rattle.std.specs.Prelude.{◌≡◌, ◌↔◌, [], ◌++◌, true, ma
 ghost use Rattle.strkw_report.specs.declared.error.Site.{Site};
 ghost use Rattle.strkw_keywords.specs.Errors.{NodeReports, IsInUse, Appends, all_quiet};
 ghost use Rattle.strkw_keywords.specs.Remarks.{remark_of};
-ghost use Rattle.strkw_keywords.specs.Lengths.{is_empty};
+ghost use Rattle.strkw_keywords.specs.Lengths.{IsEmpty};
 ghost use Rattle.strkw_keywords.specs.Validators.{listed_remark, remark_made};
 ghost use Rattle.strkw_keywords.specs.Verdicts.{IsVerdict};
 ghost use Rattle.strkw_cli.specs.Handed.{lists_of};
@@ -60,11 +60,14 @@ impl<E: RegexEngine> StringKeywords<E> {
         true
     }
 
-    /// Whether no text can be without errors for its length alone: where no number of characters is at least the least
-    /// length, at most the greatest, and inside the window of a checked built-in format. Then every text has an error; the
-    /// converse holds where only the limits of the length are there. It takes no memory.
+    /// Whether no length is left to a text: whether no number of characters is at least `minLength`, at most `maxLength`
+    /// and, where a built-in format is checked, inside its `length_window`. An open end, and a check that the caller
+    /// registered, bound no length. It takes no memory.
+    ///
+    /// Where it is true, every text has an error. Where it is false, some text has none if only lengths can make errors;
+    /// beside a checked format, a pattern or a content check nothing is said.
     pub fn folds_to_false(&self) -> bool
-        ensures { result ≡ is_empty (keywords_interval E.outcome self.now) }
+        ensures { IsTrue result ↔ IsEmpty (keywords_interval E.outcome self.now) }
     {
         let mut least = 0u64;
         let mut greatest = u64::MAX;

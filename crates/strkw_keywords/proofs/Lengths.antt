@@ -1,8 +1,9 @@
 -- On the lengths that keywords leave to a text.
-use Rattle.std.proofs.Common.{◌≡◌, ◌<◌, ◌≤◌, ◌↔◌, ℕ, zero, suc, List, [], ◌∷◌, ◌++◌, length, Bool, true, false, Option, Some, None, IfSome, refl, sym, ap, ap₂, subst, ◌∙◌, inl, inr, arith}
+use Rattle.std.proofs.Common.{◌≡◌, ◌<◌, ◌≤◌, ◌↔◌, ◌⊎◌, ℕ, zero, suc, List, [], ◌∷◌, ◌++◌, length, true, Option, Some, None, IfSome, refl, sym, ap, ap₂, subst, ◌∙◌, inl, inr, arith}
 use Rattle.std.specs.Prelude.{IsTrue, unwrap_or, option_map, nat_lt, max, min, ◌-◌, ◌^◌}
 use Rattle.std.specs.Str.{chars, IsAscii}
-use Rattle.std.proofs.lemmas.Bool.{cases_lt, false≢true}
+use Rattle.std.proofs.Math.Nat.{le-min, max-le, max-zero, zero-max, min-eq_left, min-eq_right}
+use Rattle.std.proofs.lemmas.Bool.{cases_lt}
 use Rattle.std.proofs.lemmas.Bool.Decides.{nat_tests}
 use Rattle.std.proofs.lemmas.Str.{chars-IsAscii, IsUtf8-from_ascii}
 use Rattle.std.proofs.lemmas.Str.Ascii.{IsAscii-nil, IsAscii-cons}
@@ -14,7 +15,7 @@ use Rattle.strkw_keywords.specs.Formats.{IsOfBuiltin, Window, window_of, bounds}
 use Rattle.strkw_keywords.specs.FormatLaws.{IsInside}
 use Rattle.strkw_keywords.specs.Demands.{Demand, is_media_type, is_encoded, encodes_media_type, is_format, at_least, at_most, compares, matches, HasFinding}
 use Rattle.strkw_keywords.specs.Errors.{Assertion, AllReport}
-use Rattle.strkw_keywords.specs.Lengths.{any_length, lesser_end, common, window_left, interval, ends_below, is_empty, CommonIsInBoth, EmptyHasNoLength, OutsideIsAnError, IsLimit, AreLimits, InsideIsNoError, IsTextOfLength, TextsOfEveryLength}
+use Rattle.strkw_keywords.specs.Lengths.{any_length, IsEmpty, lesser_end, common, window_left, interval, IsLimit, AreLimits, IsTextOfLength, CommonIsInBoth, EmptyByItsEnds, OutsideIsAnError}
 use Rattle.strkw_keywords.proofs.Reports.{none_reported}
 
 -- ---- numbers
@@ -22,20 +23,8 @@ use Rattle.strkw_keywords.proofs.Reports.{none_reported}
 max_both : (a b n : ℕ) → max a b ≤ n → (a ≤ n) × (b ≤ n)
 max_both a b n h = (omega (arith, h), omega (arith, h))
 
-both_max : (a b n : ℕ) → a ≤ n → b ≤ n → max a b ≤ n
-both_max a b n h k = omega (arith, h, k)
-
 min_both : (a b n : ℕ) → n ≤ min a b → (n ≤ a) × (n ≤ b)
 min_both a b n h = (omega (arith, h), omega (arith, h))
-
-both_min : (a b n : ℕ) → n ≤ a → n ≤ b → n ≤ min a b
-both_min a b n h k = omega (arith, h, k)
-
-max_zero : (a : ℕ) → max a 0 ≡ a
-max_zero a = omega arith
-
-zero_max : (a : ℕ) → max 0 a ≡ a
-zero_max a = omega arith
 
 max_assoc : (a b c : ℕ) → max a (max b c) ≡ max (max a b) c
 max_assoc a b c = omega arith
@@ -46,20 +35,11 @@ min_assoc a b c = omega arith
 min_same : (a : ℕ) → a ≡ min a a
 min_same a = omega arith
 
-min_left : (a top : ℕ) → a ≤ top → a ≡ min a top
-min_left a top h = omega (arith, h)
+test_of_lt : (a b : ℕ) → a < b → nat_lt a b ≡ true
+test_of_lt a b h = grind (arith, nat_tests)
 
-min_right : (a top : ℕ) → a ≤ top → a ≡ min top a
-min_right a top h = omega (arith, h)
-
-below : (g least : ℕ) → g < least → nat_lt g least ≡ true
-below g least h = grind (arith, nat_tests)
-
-not_below : (g least : ℕ) → least ≤ g → nat_lt g least ≡ false
-not_below g least h = grind (arith, nat_tests)
-
-none_between : (g least n : ℕ) → nat_lt g least ≡ true → least ≤ n → n ≤ g → ⊥
-none_between g least n t low high = grind (arith, nat_tests)
+lt_of_test : (a b : ℕ) → nat_lt a b ≡ true → a < b
+lt_of_test a b h = grind (arith, nat_tests)
 
 -- ---- windows
 
@@ -67,7 +47,7 @@ below_both : (a b : Option ℕ) (n : ℕ) → IfSome (lesser_end a b) (λ g. n �
 below_both None None n = ((λ h. (tt, tt)), (λ h. tt))
 below_both None (Some b) n = ((λ h. (tt, h)), (λ h. h.1))
 below_both (Some a) None n = ((λ h. (h, tt)), (λ h. h.0))
-below_both (Some a) (Some b) n = ((λ h. min_both a b n h), (λ h. both_min a b n h.0 h.1))
+below_both (Some a) (Some b) n = ((λ h. min_both a b n h), (λ h. le-min h.0 h.1))
 
 pub inside_common : CommonIsInBoth
 inside_common v w n =
@@ -76,26 +56,41 @@ inside_common v w n =
           let both = ends.0 h.short_enough in
           let low = max_both v.least w.least n h.long_enough in
           (record { long_enough = low.0; short_enough = both.0 }, record { long_enough = low.1; short_enough = both.1 })),
-      (λ h. record { long_enough = both_max v.least w.least n h.0.long_enough h.1.long_enough; short_enough = ends.1 (h.0.short_enough, h.1.short_enough) }),
+      (λ h. record { long_enough = max-le h.0.long_enough h.1.long_enough; short_enough = ends.1 (h.0.short_enough, h.1.short_enough) }),
     )
 
-empty_ends : (least : ℕ) (end : Option ℕ) → IsTrue (ends_below least end) ↔ ((n : ℕ) → least ≤ n → IfSome end (λ g. n ≤ g) → ⊥)
-empty_ends least None = ((λ t. absurd (false≢true t)), (λ h. absurd (h least (omega arith) tt)))
-empty_ends least (Some g) = (
-  (λ t n low high. none_between g least n t low high),
-  (λ h.
-      elim (cases_lt g least) [
-        | inl lt ↦ below g least lt
-        | inr ge ↦ absurd (h least (omega arith) ge)
-      ]),
+-- the upper end is closed, below the lower one
+abbrev EndsBelow : ℕ → Option ℕ → Type 0
+EndsBelow least end = (g : ℕ) × (end ≡ Some g) × (g < least)
+
+ends_below_or_not : (least : ℕ) (end : Option ℕ) → EndsBelow least end ⊎ IfSome end (λ g. least ≤ g)
+ends_below_or_not least None = inr tt
+ends_below_or_not least (Some g) = elim (cases_lt g least) [
+  | inl lt ↦ inl (g, refl, lt)
+  | inr ge ↦ inr ge
+]
+
+inside_least : (w : Window) → IfSome w.greatest (λ g. w.least ≤ g) → IsInside w w.least
+inside_least w h = record { long_enough = omega arith; short_enough = h }
+
+pub below_is_empty : (w : Window) → EndsBelow w.least w.greatest → IsEmpty w
+below_is_empty w (g, e, lt) n i = let high : n ≤ g = subst (λ o. IfSome o (λ x. n ≤ x)) e i.short_enough in omega (arith, lt, high, i.long_enough)
+
+-- a window is empty, or its least length is inside
+pub empty_or_least : (w : Window) → EndsBelow w.least w.greatest ⊎ IsInside w w.least
+empty_or_least w = elim (ends_below_or_not w.least w.greatest) [
+  | inl below ↦ inl below
+  | inr above ↦ inr (inside_least w above)
+]
+
+pub empty_by_its_ends : EmptyByItsEnds
+empty_by_its_ends w = (
+  (λ h. elim (empty_or_least w) [
+    | inl below ↦ below
+    | inr inside ↦ absurd (h w.least inside)
+  ]),
+  below_is_empty w,
 )
-
-pub empty_has_no_length : EmptyHasNoLength
-empty_has_no_length w =
-    let ends = empty_ends w.least w.greatest in (
-      (λ t n i. ends.0 t n i.long_enough i.short_enough),
-      (λ h. ends.1 (λ n low high. h n (record { long_enough = low; short_enough = high }))),
-    )
 
 -- ---- windows in common
 
@@ -116,30 +111,40 @@ lesser-assoc (Some a) (Some b) None = refl
 lesser-assoc (Some a) (Some b) (Some c) = ap Some (min_assoc a b c)
 
 pub common_any : (w : Window) → common w any_length ≡ w
-common_any w = window_path (common w any_length) w (max_zero w.least) (lesser-open w.greatest)
+common_any w = window_path (common w any_length) w (max-zero w.least) (lesser-open w.greatest)
 
-pub any-common : (w : Window) → common any_length w ≡ w
-any-common w = window_path (common any_length w) w (zero_max w.least) refl
+pub any_common : (w : Window) → common any_length w ≡ w
+any_common w = window_path (common any_length w) w (zero-max w.least) refl
 
 common-assoc : (u v w : Window) → common u (common v w) ≡ common (common u v) w
 common-assoc u v w = window_path (common u (common v w)) (common (common u v) w) (max_assoc u.least v.least w.least) (lesser-assoc u.greatest v.greatest w.greatest)
 
 -- the interval of assertions and of others behind them
-pub interval-append : (front back : List Assertion) → interval (front ++ back) ≡ common (interval front) (interval back)
-interval-append [] back = sym (any-common (interval back))
-interval-append (a ∷ front) back = ap (common (window_left a.demand)) (interval-append front back) ∙ common-assoc (window_left a.demand) (interval front) (interval back)
+pub interval_append : (front back : List Assertion) → interval (front ++ back) ≡ common (interval front) (interval back)
+interval_append [] back = sym (any_common (interval back))
+interval_append (a ∷ front) back = ap (common (window_left a.demand)) (interval_append front back) ∙ common-assoc (window_left a.demand) (interval front) (interval back)
 
 -- ---- both ends as numbers, of which none is above an open end
 
 pub ends_in_common : (a b : Option ℕ) (top : ℕ) → unwrap_or a top ≤ top → unwrap_or b top ≤ top → unwrap_or (lesser_end a b) top ≡ min (unwrap_or a top) (unwrap_or b top)
 ends_in_common None None top l m = min_same top
-ends_in_common None (Some b) top l m = min_right b top m
-ends_in_common (Some a) None top l m = min_left a top l
+ends_in_common None (Some b) top l m = sym (min-eq_right m)
+ends_in_common (Some a) None top l m = sym (min-eq_left l)
 ends_in_common (Some a) (Some b) top l m = refl
 
-pub empty_by_ends : (least : ℕ) (end : Option ℕ) (top : ℕ) → least ≤ top → nat_lt (unwrap_or end top) least ≡ ends_below least end
-empty_by_ends least None top l = not_below top least l
-empty_by_ends least (Some g) top l = refl
+below_by_numbers : (least : ℕ) (end : Option ℕ) (top : ℕ) → least ≤ top → nat_lt (unwrap_or end top) least ≡ true → EndsBelow least end
+below_by_numbers least None top l t = let lt = lt_of_test top least t in absurd (omega (arith, l, lt))
+below_by_numbers least (Some g) top l t = (g, refl, lt_of_test g least t)
+
+numbers_by_below : (least : ℕ) (end : Option ℕ) (top : ℕ) → least ≤ top → EndsBelow least end → nat_lt (unwrap_or end top) least ≡ true
+numbers_by_below least end top l (g, e, lt) = rw e (test_of_lt g least lt)
+
+-- the numbers of the ends tell that nothing is between them, where the lower one is none above the greatest
+pub empty_by_numbers : (w : Window) (top : ℕ) → w.least ≤ top → IsTrue (nat_lt (unwrap_or w.greatest top) w.least) ↔ IsEmpty w
+empty_by_numbers w top l = (
+  (λ t. below_is_empty w (below_by_numbers w.least w.greatest top l t)),
+  (λ h. numbers_by_below w.least w.greatest top l ((empty_by_its_ends w).0 h)),
+)
 
 pub bounds_unwrapped : (o : Option Window) → unwrap_or (option_map bounds o) (0, 2 ^ 64 - 1) ≡ bounds (unwrap_or o any_length)
 bounds_unwrapped None = refl
@@ -151,7 +156,7 @@ bounds_unwrapped (Some w) = refl
 abbrev pub TextsAreInside : Type 0
 TextsAreInside = (f : BuiltinFormat) (text : List ℕ) → IsOfBuiltin f text → IfSome (window_of f) (λ w. IsInside w (length text))
 
-inside_any : (n : ℕ) → IsInside any_length n
+pub inside_any : (n : ℕ) → IsInside any_length n
 inside_any n = record { long_enough = omega arith; short_enough = tt }
 
 inside_unwrapped : (o : Option Window) (n : ℕ) → IfSome o (λ w. IsInside w n) → IsInside (unwrap_or o any_length) n
@@ -195,7 +200,8 @@ meets_limit (at_most n) lists text l i = inl (i.short_enough, refl)
 meets_limit (compares p outcome) lists text l i = absurd l
 meets_limit (matches p outcome) lists text l i = absurd l
 
-pub inside_is_no_error : InsideIsNoError
+pub inside_is_no_error : (assertions : List Assertion) (lists : Lists) (site : Site) (text : List ℕ) → AreLimits assertions
+    → IsInside (interval assertions) (length (chars text)) → AllReport assertions lists site text []
 inside_is_no_error [] lists site text l i = refl
 inside_is_no_error (a ∷ others) lists site text l i =
     let both = (inside_common (window_left a.demand) (interval others) (length (chars text))).0 i in
@@ -217,8 +223,8 @@ unfolding letters
 length-letters zero = refl
 length-letters (suc n) = ap suc (length-letters n)
 
-pub texts_of_every_length : TextsOfEveryLength
-texts_of_every_length n = (
+pub text_of_length : (n : ℕ) → (text : List ℕ) × IsTextOfLength n text
+text_of_length n = (
   letters n,
   record {
     utf8 = IsUtf8-from_ascii (letters n) (letters_are_ascii n);

@@ -8,4 +8,6 @@ pub mod Determined
 pub mod InUse
 pub mod FirstRow
 pub mod BuiltinNames
+pub mod Existence
 pub mod Lengths
+pub mod Folding

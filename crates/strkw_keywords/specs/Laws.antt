@@ -51,12 +51,17 @@ pub record EngineFailuresAreErrors : Type 0 where
   pub failed : IsOneError outcome.Failed regex_engine_failure
   pub gave_up : IsOneError outcome.BacktrackLimit backtrack_limit_exceeded
 
--- a node has one list of errors by some assertions
+-- a node has at most one list of errors by some assertions
 abbrev pub ReportsAreDetermined : Type 0
 ReportsAreDetermined = (assertions : List Assertion) (lists : Lists) (site : Site) (node : Option (List ℕ)) (rs others : List Report)
     → NodeReports assertions lists site node rs → NodeReports assertions lists site node others → rs ≡ others
 
--- and one by a schema object
+-- and it cannot be that it has none
+abbrev pub ReportsAreThere : Type 0
+ReportsAreThere = (assertions : List Assertion) (lists : Lists) (site : Site) (node : Option (List ℕ))
+    → ((rs : List Report) → NodeReports assertions lists site node rs → ⊥) → ⊥
+
+-- a node has at most one by a schema object
 abbrev pub ErrorsAreDetermined : Type 0
 ErrorsAreDetermined = (s : Settings) (ms : Members) (lists : Lists) (site : Site) (node : Option (List ℕ)) (rs others : List Report)
     → Errors s ms lists site node rs → Errors s ms lists site node others → rs ≡ others

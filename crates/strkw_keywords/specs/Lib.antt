@@ -18,3 +18,4 @@ pub mod Settings
 pub mod Compiled
 pub mod Laws
 pub mod Lengths
+pub mod Folding

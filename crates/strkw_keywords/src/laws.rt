@@ -6,8 +6,9 @@ ghost use Rattle.std.specs.Hash as fed;
 ghost use Rattle.strkw_keywords.specs.declared.builtin.BuiltinFormat.{BuiltinFormat};
 ghost use Rattle.strkw_keywords.specs.Formats.{IsOfBuiltin, format_place, formats, window_of, example_of, window_texts_of};
 ghost use Rattle.strkw_keywords.specs.FormatLaws.{IsInside, AreBoth, AreTextsAtEnds, BuiltinFormatOfName};
-ghost use Rattle.strkw_keywords.specs.Lengths.{CommonIsInBoth, EmptyHasNoLength, OutsideIsAnError, InsideIsNoError, TextsOfEveryLength};
-ghost use Rattle.strkw_keywords.specs.Laws.{AssertionsReportInTurn, FusedLengthsReportBoth, OthersHaveNone, EngineFailuresAreErrors, ReportsAreDetermined, ErrorsAreDetermined, CompiledIsInUse, FirstRowCounts};
+ghost use Rattle.strkw_keywords.specs.Lengths.{CommonIsInBoth, EmptyByItsEnds, OutsideIsAnError};
+ghost use Rattle.strkw_keywords.specs.Folding.{IntervalIsLeft, FoldedRefuseTexts, OthersAcceptSomeText};
+ghost use Rattle.strkw_keywords.specs.Laws.{AssertionsReportInTurn, FusedLengthsReportBoth, OthersHaveNone, EngineFailuresAreErrors, ReportsAreDetermined, ReportsAreThere, ErrorsAreDetermined, CompiledIsInUse, FirstRowCounts};
 
 use crate::builtin::BuiltinFormat;
 use std::hash::Hash;
@@ -101,9 +102,9 @@ pub fn common_windows_are_in_both()
     ensures { CommonIsInBoth }
 {}
 
-/// A window is empty exactly where no length is inside it. One whose upper end is open is not.
-pub fn empty_windows_have_no_length()
-    ensures { EmptyHasNoLength }
+/// A window is empty exactly where its upper end is closed, below the lower one: an open end bounds nothing.
+pub fn windows_are_empty_by_their_ends()
+    ensures { EmptyByItsEnds }
 {}
 
 /// A text whose length is outside the interval of some assertions has an error by them.
@@ -113,14 +114,23 @@ pub fn lengths_outside_are_errors()
     texts_are_inside_their_windows();
 }
 
-/// Where only limits are asserted, a text whose length is inside their interval has no errors.
-pub fn lengths_inside_are_no_errors()
-    ensures { InsideIsNoError }
+/// The interval of a schema object, which is said of `minLength`, `maxLength` and `format`, is what the demands of its
+/// entries leave.
+pub fn interval_is_what_demands_leave()
+    ensures { IntervalIsLeft }
 {}
 
-/// There is a text of every length.
-pub fn texts_of_every_length()
-    ensures { TextsOfEveryLength }
+/// Every text has an error by a schema object that folds to false.
+pub fn folded_objects_refuse_texts()
+    ensures { FoldedRefuseTexts }
+{
+    lengths_outside_are_errors();
+}
+
+/// A schema object that does not fold to false accepts some text, where only lengths can make errors: where there is no
+/// checked format, no pattern and no content check.
+pub fn other_objects_accept_some_text()
+    ensures { OthersAcceptSomeText }
 {}
 
 /// The errors of several assertions are those of the first, and then those of the others.
@@ -143,14 +153,19 @@ pub fn engine_failures_are_errors()
     ensures { EngineFailuresAreErrors }
 {}
 
-/// A node has one list of errors by some assertions.
+/// A node has at most one list of errors by some assertions.
 pub fn reports_are_determined()
     ensures { ReportsAreDetermined }
 {
     encodes_once();
 }
 
-/// An instance has one list of errors by a schema object.
+/// It cannot be that a node has no list of errors by some assertions; so with `reports_are_determined` it has exactly one.
+pub fn reports_are_there()
+    ensures { ReportsAreThere }
+{}
+
+/// An instance has at most one list of errors by a schema object.
 pub fn errors_are_determined()
     ensures { ErrorsAreDetermined }
 {

@@ -8,6 +8,7 @@ mod doubles;
 mod encodings;
 mod failures;
 mod formats;
+mod intervals;
 mod lengths;
 mod patterns;
 mod refusals;

@@ -76,13 +76,14 @@ impl<E: RegexEngine> Validator<E> {
             Validator::MinLength(v) => v.interval(),
             Validator::MaxLength(v) => v.interval(),
             Validator::LengthRange(v) => v.interval(),
+            // A check of the caller says nothing of lengths, whatever its name.
+            Validator::CustomFormat(_) => (0, u64::MAX),
             Validator::ContentMediaType(_)
             | Validator::ContentEncoding(_)
             | Validator::ContentMediaTypeAndEncoding(_)
             | Validator::ContentMediaTypeAnnotation(_)
             | Validator::ContentEncodingAnnotation(_)
             | Validator::ContentSchemaAnnotation(_)
-            | Validator::CustomFormat(_)
             | Validator::AnnotationOnlyFormat(_)
             | Validator::PrefixPattern(_)
             | Validator::ExactPattern(_)

@@ -29,15 +29,16 @@ returns-in-Ok-clause-ok c =
     let reports : NodeReports (keywords_assertions literal_outcome c.in-Ok.keywords) no_lists root_site (as_str r.instance) found.errors.items =
     subst (λ s. NodeReports (keywords_assertions literal_outcome c.in-Ok.keywords) s.lists root_site (as_str r.instance) found.errors.items) c.context_of-ctx.ensures
     (rw (← c.root_site-site.ensures) c.in_ok-found-in-Ok.ensures.errors) in
-    let answer = answer_of_compiled literal_outcome r c.in-Ok.keywords found.errors.items (map remark_of found.notes.items) compiled reports c.in_ok-found-in-Ok.ensures.notes in
-    let findings : OnOk c.push_findings.result (c.push_findings.new.out.items ≡ c.answer_fold.new.out.items ++ (verdict_lines found.errors.items ++ note_lines (map remark_of found.notes.items) ++ codes "end\n")) =
+    let told = c.in_ok-push_fold-in-Ok.ensures.ok in
+    let answer = answer_of_compiled literal_outcome r c.in-Ok.keywords told.0 found.errors.items (map remark_of found.notes.items) compiled told.2 reports c.in_ok-found-in-Ok.ensures.notes in
+    let findings : OnOk c.push_findings.result (c.push_findings.new.out.items ≡ c.push_fold.new.out.items ++ (verdict_lines found.errors.items ++ note_lines (map remark_of found.notes.items) ++ codes "end\n")) =
     rw (← c.deref.ensures.value, ← c.deref-in-Ok.ensures.value) c.push_findings.ensures.ok in
     appended_answer c.push_findings.result (Some r) c.args.out.now.items c.push_findings.new.out.items _ answer
-    (appended_twice c.push_findings.result c.args.out.now.items c.answer_fold.new.out.items c.push_findings.new.out.items _ _ c.in_ok-answer_fold-in-Ok.ensures.ok findings)
+    (appended_twice c.push_findings.result c.args.out.now.items c.push_fold.new.out.items c.push_findings.new.out.items _ _ told.1 findings)
 
 pub returns-in-Ok-clause-err : goal.returns-in-Ok-clause-err
 returns-in-Ok-clause-err c =
-    appended_more c.push_findings.result c.args.out.now.items c.answer_fold.new.out.items c.push_findings.new.out.items _ c.in_ok-answer_fold-in-Ok.ensures.ok c.push_findings.ensures.err
+    appended_more c.push_findings.result c.args.out.now.items c.push_fold.new.out.items c.push_findings.new.out.items _ c.in_ok-push_fold-in-Ok.ensures.ok.1 c.push_findings.ensures.err
 
 pub returns-clause-ok : goal.returns-clause-ok
 returns-clause-ok c =

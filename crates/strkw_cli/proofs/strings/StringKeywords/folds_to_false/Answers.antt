@@ -1,4 +1,6 @@
-use Rattle.std.proofs.Common.{◌≡◌, arith, refl, sym}
+use Rattle.std.proofs.Common.{arith, refl}
+use Rattle.std.proofs.lemmas.List.{take_all}
+use Rattle.strkw_cli.specs.Compiled.{keywords_interval}
 use Rattle.strkw_cli.proofs.Folding.{ends_more, empty_at_end}
 use Rattle.strkw_cli.proofs.strings.StringKeywords.folds_to_false.Goals as goal
 
@@ -12,3 +14,8 @@ loop-validator-preserved g c =
     (rw c.deref-validator-items.ensures.value at c.loop-validator-test.true)
     (rw c.deref-validator-items.ensures.value at c.validator-item.is)
     c.loop-validator.invariant c.interval-low.ensures (omega arith) (omega arith))
+
+pub returns : goal.returns
+returns g c =
+    let whole = take_all c.loop-validator.validator-index c.args.self.now.validators.items (rw c.deref-validator-items.ensures.value at c.loop-validator-test.false) in
+    empty_at_end c.loop-validator.least c.loop-validator.greatest (keywords_interval g.E.RegexEngine.outcome c.args.self.now) (rw whole at c.loop-validator.invariant)

@@ -1,0 +1,51 @@
+-- On the errors that assertions report: it cannot be that a node has no list of them.
+use Rattle.std.proofs.Common.{◌≡◌, ℕ, List, [], ◌∷◌, ◌++◌, Option, Some, None, refl, inl, inr, MatchOption, slice_get}
+use Rattle.std.specs.Str.{chars}
+use Rattle.strkw_report.specs.Kinds.{Kind, Report}
+use Rattle.strkw_report.specs.declared.error.Site.{Site}
+use Rattle.strkw_coding.specs.declared.codec.Codec.{Codec}
+use Rattle.strkw_coding.specs.declared.media_type.BuiltinMediaType.{BuiltinMediaType}
+use Rattle.strkw_keywords.specs.declared.keyword.Keyword.{Keyword}
+use Rattle.strkw_keywords.specs.Meanings.{Decoded, no_encoding, no_text, decoded, CodecRow, Lists, Choice, builtin, row}
+use Rattle.strkw_keywords.specs.Demands.{Demand, is_media_type, is_encoded, encodes_media_type, is_format, at_least, at_most, compares, matches, Finding, HasFinding, FoundUnless, IsContentFinding, Decodes, CodecDecodes}
+use Rattle.strkw_keywords.specs.Places.{standing}
+use Rattle.strkw_keywords.specs.Errors.{Assertion, reported, AllReport}
+use Rattle.strkw_keywords.specs.Laws.{ReportsAreThere}
+
+FoundUnless-there : (P : Type 0) (k : Keyword) (kind : Kind) → ((found : Option Finding) → FoundUnless P k kind found → ⊥) → ⊥
+FoundUnless-there P k kind none = none (Some (record { keyword = k; kind = kind })) (inr ((λ p. none None (inl (p, refl))), refl))
+
+content-there : (c : Choice Codec) (m : Choice BuiltinMediaType) (lists : Lists) (d : Decoded) → ((found : Option Finding) → IsContentFinding c m lists d found → ⊥) → ⊥
+content-there c m lists no_encoding none = none _ refl
+content-there c m lists no_text none = none _ refl
+content-there c m lists (decoded t) none = FoundUnless-there _ _ _ none
+
+builtin-there : (c : Codec) (text : List ℕ) → ((d : Decoded) → CodecDecodes c text d → ⊥) → ⊥
+builtin-there c text none = none no_encoding (λ is. none no_text (is.0, is.1, λ utf8. none (decoded is.0) (is.1, utf8)))
+
+row-there : (o : Option CodecRow) (text : List ℕ) → ((d : Decoded) → MatchOption o (d ≡ decoded text) (λ r. d ≡ r.decode (chars text)) → ⊥) → ⊥
+row-there None text none = none (decoded text) refl
+row-there (Some r) text none = none (r.decode (chars text)) refl
+
+decodes-there : (c : Choice Codec) (lists : Lists) (text : List ℕ) → ((d : Decoded) → Decodes c lists text d → ⊥) → ⊥
+decodes-there (builtin c) lists text none = builtin-there c text none
+decodes-there (row at name) lists text none = row-there (slice_get lists.codecs at) text none
+
+finding-there : (d : Demand) (lists : Lists) (text : List ℕ) → ((found : Option Finding) → HasFinding d lists text found → ⊥) → ⊥
+finding-there (is_media_type m) lists text none = FoundUnless-there _ _ _ none
+finding-there (is_encoded c) lists text none = FoundUnless-there _ _ _ none
+finding-there (encodes_media_type c m) lists text none = decodes-there c lists text (λ d is. content-there c m lists d (λ found has. none found (d, is, has)))
+finding-there (is_format f) lists text none = FoundUnless-there _ _ _ none
+finding-there (at_least n) lists text none = FoundUnless-there _ _ _ none
+finding-there (at_most n) lists text none = FoundUnless-there _ _ _ none
+finding-there (compares p outcome) lists text none = none _ refl
+finding-there (matches p outcome) lists text none = none _ refl
+
+text-there : (assertions : List Assertion) (lists : Lists) (site : Site) (text : List ℕ) → ((rs : List Report) → AllReport assertions lists site text rs → ⊥) → ⊥
+text-there [] lists site text none = none [] refl
+text-there (a ∷ others) lists site text none =
+    finding-there a.demand lists text (λ found has. text-there others lists site text (λ rest is. none (reported (standing a.place site) text found ++ rest) (found, rest, has, refl, is)))
+
+pub reports_there : ReportsAreThere
+reports_there assertions lists site None none = none [] refl
+reports_there assertions lists site (Some text) none = text-there assertions lists site text none
