@@ -3,7 +3,8 @@
 ghost use Rattle.std.specs.Prelude.{◌≡◌, ℕ, ◌<◌, ◌≤◌, List, Bool, Option, true, length, IfOk, OnOk, OnErr};
 ghost use Rattle.std.specs.Io.KnownBytes.{ReadConsumes, WriteAppends};
 
-/// A source or a sink has failed. The call that answers it moved no byte.
+/// A source or a sink has failed. Where the device tells its bytes, the call that answers it moved none. A device that
+/// tells none may have moved some: so a `HostSink` whose writer took bytes that it could not flush.
 #[derive(Clone, Copy, Debug, PartialEq, Eq)]
 pub struct DeviceFailed;
 
@@ -16,7 +17,7 @@ pub trait Source {
     ghost has_failed: { Self → Bool };
 
     /// Moves bytes to the front of the buffer and answers their number: for a buffer with room, none only
-    /// at the end. An `Err` moves none.
+    /// at the end. An `Err` moves none of the bytes that are told.
     fn read(&mut self, buffer: &mut [u8]) -> Result<usize, DeviceFailed>
         ensures count { IfOk result (λ count. count ≤ length buffer.new) }
         ensures moved { ReadConsumes (left self.old) (left self.new) result buffer.new }
@@ -37,7 +38,7 @@ pub trait Sink {
     ghost has_failed: { Self → Bool };
 
     /// Takes bytes from the front, at least one where there is one, and answers their number. An `Err`
-    /// takes none.
+    /// takes none, as far as the sink tells its bytes.
     fn write(&mut self, bytes: &[u8]) -> Result<usize, DeviceFailed>
         ensures count { IfOk result (λ count. count ≤ length bytes.now) }
         ensures some { IfOk result (λ count. 0 < length bytes.now → 0 < count) }

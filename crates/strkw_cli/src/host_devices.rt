@@ -2,12 +2,13 @@
 
 ghost use Rattle.std.specs.Prelude.{◌≡◌, ◌<◌, ◌≤◌, None, IfSome, IfOk, OnOk, OnErr, true, false, not, length, take};
 ghost use Rattle.std.specs.Io.KnownBytes.{Appends, ReadConsumes, WriteAppends};
-ghost use Rattle.strkw_cli.specs.HostDevices.{reader_of, writer_of};
+ghost use Rattle.strkw_cli.specs.HostDevices.{reader_of, writer_of, AppendsSome};
 
 use super::devices::{DeviceFailed, Sink, Source};
 use std::io::{Read, Write};
 
-/// A reader of the host. It tells none of its bytes. Any error of the reader is a failure, an interrupted read too.
+/// A reader of the host. It tells none of its bytes. Any error of the reader is a failure, an interrupted read too, and
+/// the reader is not asked again.
 #[derive(Drop)]
 pub struct HostSource<R: Read> {
     reader: R,
@@ -54,8 +55,9 @@ impl<R: Read> Source for HostSource<R> {
     }
 }
 
-/// A writer of the host, flushed after each write. It tells none of its bytes. A failure is an error of the writer, a
-/// write that takes none of some bytes, or a flush that fails.
+/// A writer of the host, flushed after each write. It tells none of its bytes. A failure is an error of the writer, an
+/// interrupted write too, a write that takes none of some bytes, or a flush that fails; neither is tried again. A write
+/// that fails has appended no byte to the writer, or, where the flush failed, those that the writer took before it.
 #[derive(Drop)]
 pub struct HostSink<W: Write> {
     writer: W,
@@ -80,6 +82,7 @@ impl<W: Write> HostSink<W> {
         ensures some { IfSome result (λ count. 0 < length bytes.now → 0 < count) }
         ensures works { self.new.writer_works ≡ self.old.writer_works }
         ensures writer { IfSome result (λ count. Appends (W.contents (writer_of self.old)) (W.contents (writer_of self.new)) (take count bytes.now)) }
+        ensures begun { result ≡ None → AppendsSome (W.contents (writer_of self.old)) (W.contents (writer_of self.new)) bytes.now }
     {
         let count = self.writer.write(bytes).ok()?;
         if count == 0 && !bytes.is_empty() {
@@ -103,6 +106,8 @@ impl<W: Write> Sink for HostSink<W> {
         ensures err { OnErr result (⟦<HostSink<W> as Sink>⟧.has_failed self.new ≡ true) }
         // Where the writer tells its bytes, the ones taken were appended.
         ensures writer { IfOk result (λ count. Appends (W.contents (writer_of self.old)) (W.contents (writer_of self.new)) (take count bytes.now)) }
+        // A failure leaves no byte behind but those of a beginning, which a failed flush may have kept back.
+        ensures begun { OnErr result (AppendsSome (W.contents (writer_of self.old)) (W.contents (writer_of self.new)) bytes.now) }
     {
         let count = self.write_through(bytes);
         match count {

@@ -1,10 +1,11 @@
 //! What no clause says: that the definition is RFC 4648's, that each call can succeed, and what becomes of
 //! a refused growth.
 
+mod refusals;
 mod sweeps;
 
 use super::*;
-use std::alloc::{AllocError, Global};
+use std::alloc::Global;
 use std::test::Fail;
 
 const FOOBAR: [&str; 7] = ["", "f", "fo", "foo", "foob", "fooba", "foobar"];
@@ -272,81 +273,5 @@ fn names(rt: HostRuntime) {
     assert!(rt; BuiltinMediaType::by_name("application/json") == Some(BuiltinMediaType::Json));
     for name in ["application/JSON", "application/xml", "text/x-unknown", ""] {
         assert!(rt; BuiltinMediaType::by_name(name).is_none(), "{name}");
-    }
-}
-
-// Want of memory by its own name, or the answer with ample memory.
-fn is_refused_or(answer: Result<bool, AllocError>, ample: bool) -> bool {
-    match answer {
-        Ok(answer) => answer == ample,
-        Err(AllocError) => true,
-    }
-}
-
-fn is_refused_or_text(answer: Result<Option<String>, DecodeError>, ample: Option<&str>) -> bool {
-    match answer {
-        Ok(Some(text)) => Some(text.as_str()) == ample,
-        Ok(None) => ample.is_none(),
-        Err(error) => error == DecodeError::Memory,
-    }
-}
-
-#[test]
-fn checks_under_refusal(rt: HostRuntime) {
-    let alloc = rt.alloc();
-    assert!(rt; is_refused_or(is_base64(alloc, "Zm9v"), true));
-    assert!(rt; is_refused_or(is_base64(alloc, "Zh=="), false));
-    assert!(rt; is_refused_or(is_base64url(alloc, "PDw_Pz4-"), true));
-    assert!(rt; matches!(is_base32(alloc, "MZXW6YTB"), Ok(true)));
-    assert!(rt; matches!(is_base32hex(alloc, "CPNMUOJ1"), Ok(true)));
-    assert!(rt; matches!(is_base16(alloc, "666F6F"), Ok(true)));
-    for (text, ample) in [("{\"a\":[1,\"x\"]}", true), ("[1,", false)] {
-        assert!(rt; is_refused_or(is_json(alloc, text), ample), "{text}");
-        assert!(rt;
-            is_refused_or(BuiltinMediaType::Json.accepts(alloc, text), ample),
-            "{text}"
-        );
-    }
-}
-
-#[test]
-fn decoders_under_refusal(rt: HostRuntime) {
-    let alloc = rt.alloc();
-    assert!(rt; is_refused_or_text(from_base64(alloc, "Zm9v"), Some("foo")));
-    assert!(rt; is_refused_or_text(from_base64(alloc, "Zh=="), None));
-    assert!(rt; is_refused_or_text(from_base64url(alloc, "PDw_Pz4-"), Some("<<??>>")));
-    assert!(rt; is_refused_or_text(from_base32(alloc, "MZXW6YTBOI======"), Some("foobar")));
-    assert!(rt; is_refused_or_text(from_base32(alloc, "MY=====M"), None));
-    assert!(rt; is_refused_or_text(from_base32hex(alloc, "CPNMUOJ1E8======"), Some("foobar")));
-    assert!(rt; is_refused_or_text(from_base16(alloc, "666F6f"), Some("foo")));
-}
-
-// "foo" by each encoding (RFC 4648, section 10), and a text that is no encoding.
-#[test]
-fn codecs_under_refusal(rt: HostRuntime) {
-    let alloc = rt.alloc();
-    for (codec, text) in [
-        (Codec::Base64, "Zm9v"),
-        (Codec::Base64Url, "Zm9v"),
-        (Codec::Base32, "MZXW6==="),
-        (Codec::Base32Hex, "CPNMU==="),
-        (Codec::Base16, "666F6F"),
-    ] {
-        assert!(rt;
-            is_refused_or(codec.is_encoded(alloc, text), true),
-            "{text}"
-        );
-        assert!(rt;
-            is_refused_or(codec.is_encoded(alloc, "?"), false),
-            "{text}"
-        );
-        assert!(rt;
-            is_refused_or_text(codec.decode(alloc, text), Some("foo")),
-            "{text}"
-        );
-        assert!(rt;
-            is_refused_or_text(codec.decode(alloc, "?"), None),
-            "{text}"
-        );
     }
 }

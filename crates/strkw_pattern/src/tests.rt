@@ -1,3 +1,4 @@
+mod refusals;
 mod sweeps;
 
 use crate::{
@@ -238,43 +239,4 @@ fn white_space_is_that_of_ecma_262(rt: HostRuntime) -> Result<(), Fail> {
     }
     assert!(rt; !contains_ecma_whitespace(""));
     Ok(())
-}
-
-#[test]
-fn analyze_pattern_under_refusal(rt: HostRuntime) {
-    let alloc = rt.alloc();
-    for (pattern, kind) in [
-        ("^(get|put|post)$", "alternation"),
-        ("^\\$ref$", "exact"),
-        (
-            "^a long prefix, longer than what a short text takes",
-            "prefix",
-        ),
-        ("^\\S*$", "no whitespace"),
-        ("^(a|b|c^)$", "none"),
-        ("^a+", "none"),
-    ] {
-        let right = match analyze_pattern(alloc, pattern) {
-            Ok(None) => kind == "none",
-            Ok(Some(PatternOptimization::Prefix(text))) => {
-                kind == "prefix"
-                    && text.as_str() == "a long prefix, longer than what a short text takes"
-            }
-            Ok(Some(PatternOptimization::Exact(text))) => kind == "exact"
-                && text.as_str() == "$ref",
-            Ok(Some(PatternOptimization::Alternation(texts))) => {
-                kind == "alternation" && is_get_post_put(&texts)
-            }
-            Ok(Some(PatternOptimization::NoWhitespace)) => kind == "no whitespace",
-            Err(AllocError) => true,
-        };
-        assert!(rt; right, "at {pattern}");
-    }
-}
-
-fn is_get_post_put(texts: &[String]) -> bool {
-    texts.len() == 3
-        && texts[0].as_str() == "get"
-        && texts[1].as_str() == "post"
-        && texts[2].as_str() == "put"
 }

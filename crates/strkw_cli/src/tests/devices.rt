@@ -5,6 +5,7 @@ ghost use Rattle.std.specs.Prelude.{◌≡◌, ◌<◌, ◌≤◌, Some, [], fal
 use crate::{
     DeviceFailed, HostSink, HostSource, MemorySink, MemorySource, RunFault, Sink, Source, run,
 };
+use std::alloc::{AllocError, Global};
 use std::io;
 use std::io::{ErrorKind, Read, Write};
 use std::test::Fail;
@@ -186,83 +187,159 @@ fn reads_are_of_16_kib_at_least(rt: HostRuntime) {
     assert!(rt; sink.bytes().is_empty());
 }
 
-// A reader that a signal interrupts.
+// A reader of a host that hands out one line a read. One of its reads fails, once: the next one would work.
 #[derive(Drop)]
-struct InterruptedReader;
+struct FailsOnceReader {
+    rest: &'static [u8],
+    reads: usize,
+    fails_at: usize,
+    kind: ErrorKind,
+}
 
-impl Read for InterruptedReader {
-    fn read(&mut self, _buf: &mut [u8]) -> io::Result<usize> {
-        Err(ErrorKind::Interrupted.into())
+impl Read for FailsOnceReader {
+    fn read(&mut self, buf: &mut [u8]) -> io::Result<usize> {
+        let number = self.reads;
+        self.reads = number.wrapping_add(1);
+        if number == self.fails_at {
+            return Err(self.kind.into());
+        }
+        let count = buf.len().min(line_len(self.rest));
+        buf[..count].copy_from_slice(&self.rest[..count]);
+        self.rest = &self.rest[count..];
+        Ok(count)
     }
 }
 
+// How a run over a reader of a host ends, whether the source has failed, and the sink.
+fn run_over_reader(
+    alloc: Global,
+    reader: &mut FailsOnceReader,
+) -> (Result<(), RunFault>, bool, MemorySink) {
+    let mut source = HostSource::new(reader);
+    let mut sink = MemorySink::new(alloc);
+    let ended = run(alloc, &mut source, &mut sink);
+    (ended, source.has_failed(), sink)
+}
+
+// The first error of a reader ends the run, an interrupted read too: it is not asked again. The sixth read finds the
+// end.
 #[test]
-fn an_interrupted_read_is_a_fault(rt: HostRuntime) {
-    let mut source = HostSource::new(InterruptedReader);
-    let mut sink = MemorySink::new(rt.alloc());
-    assert!(rt; !source.has_failed());
-    let ended = run(rt.alloc(), &mut source, &mut sink);
-    assert_eq!(rt; ended, Err(RunFault::Read));
-    assert!(rt; source.has_failed());
-    assert!(rt; sink.bytes().is_empty());
-}
-
-// A writer that a signal interrupts.
-#[derive(Drop)]
-struct InterruptedWriter;
-
-impl Write for InterruptedWriter {
-    fn write(&mut self, _buf: &[u8]) -> io::Result<usize> {
-        Err(ErrorKind::Interrupted.into())
-    }
-
-    fn flush(&mut self) -> io::Result<()> {
-        Ok(())
-    }
-}
-
-#[test]
-fn an_interrupted_write_is_a_fault(rt: HostRuntime) -> Result<(), Fail> {
-    let mut source = MemorySource::new(script().to_vec(rt.alloc())?);
-    let mut sink = HostSink::new(InterruptedWriter);
-    let ended = run(rt.alloc(), &mut source, &mut sink);
-    assert_eq!(rt; ended, Err(RunFault::Write));
-    assert!(rt; sink.has_failed());
-    Ok(())
-}
-
-// A writer that takes so many bytes a write at most, and flushes or not.
-#[derive(Drop)]
-struct Writer {
-    most: usize,
-    flushes: bool,
-}
-
-impl Write for Writer {
-    fn write(&mut self, buf: &[u8]) -> io::Result<usize> {
-        Ok(buf.len().min(self.most))
-    }
-
-    fn flush(&mut self) -> io::Result<()> {
-        if self.flushes {
-            Ok(())
-        } else {
-            Err(ErrorKind::Other.into())
+fn a_read_of_a_host_fails_once(rt: HostRuntime) {
+    for kind in [ErrorKind::Interrupted, ErrorKind::Other] {
+        for fails_at in 0..8usize {
+            let mut reader = FailsOnceReader {
+                rest: script(),
+                reads: 0,
+                fails_at,
+                kind,
+            };
+            let (ended, has_failed, sink) = run_over_reader(rt.alloc(), &mut reader);
+            assert_eq!(rt; has_failed, fails_at <= 5);
+            assert_eq!(rt; reader.reads, fails_at.min(5) + 1);
+            if has_failed {
+                assert_eq!(rt; ended, Err(RunFault::Read));
+                let end = ends()[fails_at.min(4)];
+                assert!(rt; Some(sink.bytes()) == answers().get(..end), "{fails_at}");
+            } else {
+                assert_eq!(rt; ended, Ok(()));
+                assert!(rt; sink.bytes() == answers());
+            }
         }
     }
 }
 
-// A write that takes nothing is a failure, and so is one that can't be flushed.
-#[test]
-fn writes_to_a_host(rt: HostRuntime) {
-    for (most, flushes, wanted) in [
-        (3usize, true, Ok(1usize)),
-        (0, true, Err(DeviceFailed)),
-        (3, false, Err(DeviceFailed)),
-    ] {
-        let mut sink = HostSink::new(Writer { most, flushes });
-        assert!(rt; !sink.has_failed());
-        assert_eq!(rt; sink.write(b"x"), wanted);
-        assert_eq!(rt; sink.has_failed(), wanted.is_err());
+// What goes wrong with a writer.
+#[derive(Clone, Copy)]
+enum Trouble {
+    Write(ErrorKind),
+    TakesNothing,
+    Flush(ErrorKind),
+}
+
+// A writer of a host that takes seven bytes a write. One of its writes or flushes goes wrong, once.
+#[derive(Drop)]
+struct FailsOnceWriter {
+    taken: Vec<u8>,
+    writes: usize,
+    flushes: usize,
+    fails_at: usize,
+    trouble: Trouble,
+}
+
+impl Write for FailsOnceWriter {
+    fn write(&mut self, buf: &[u8]) -> io::Result<usize> {
+        let number = self.writes;
+        self.writes = number.wrapping_add(1);
+        match self.trouble {
+            Trouble::Write(kind) if number == self.fails_at => return Err(kind.into()),
+            Trouble::TakesNothing if number == self.fails_at => return Ok(0),
+            _ => {}
+        }
+        let count = buf.len().min(7);
+        match self.taken.extend_from_slice(&buf[..count]) {
+            Ok(()) => Ok(count),
+            Err(_) => Err(ErrorKind::OutOfMemory.into()),
+        }
     }
+
+    fn flush(&mut self) -> io::Result<()> {
+        let number = self.flushes;
+        self.flushes = number.wrapping_add(1);
+        match self.trouble {
+            Trouble::Flush(kind) if number == self.fails_at => Err(kind.into()),
+            _ => Ok(()),
+        }
+    }
+}
+
+// How a run over a writer of a host ends, and whether the sink has failed.
+fn run_over_writer(
+    alloc: Global,
+    writer: &mut FailsOnceWriter,
+) -> Result<(Result<(), RunFault>, bool), AllocError> {
+    let mut source = MemorySource::new(script().to_vec(alloc)?);
+    let mut sink = HostSink::new(writer);
+    let ended = run(alloc, &mut source, &mut sink);
+    Ok((ended, sink.has_failed()))
+}
+
+// The writes of seven bytes: 40 for the answers to the ended lines, and 5 for the last.
+const WRITES: usize = 45;
+
+// The first write or flush that goes wrong ends the run, an interrupted one too: neither is tried again. Each write is
+// flushed. What a write took whose flush failed stays taken.
+#[test]
+fn a_write_of_a_host_fails_once(rt: HostRuntime) -> Result<(), Fail> {
+    for trouble in [
+        Trouble::Write(ErrorKind::Interrupted),
+        Trouble::Write(ErrorKind::Other),
+        Trouble::TakesNothing,
+        Trouble::Flush(ErrorKind::Interrupted),
+        Trouble::Flush(ErrorKind::Other),
+    ] {
+        for fails_at in 0..WRITES + 2 {
+            let mut writer = FailsOnceWriter {
+                taken: Vec::new(rt.alloc()),
+                writes: 0,
+                flushes: 0,
+                fails_at,
+                trouble,
+            };
+            let (ended, has_failed) = run_over_writer(rt.alloc(), &mut writer)?;
+            let taken = writer.taken.as_slice();
+            assert_eq!(rt; has_failed, fails_at < WRITES);
+            assert_eq!(rt; writer.writes, WRITES.min(fails_at + 1));
+            if has_failed {
+                assert_eq!(rt; ended, Err(RunFault::Write));
+                assert!(rt; answers().starts_with(taken), "{fails_at}");
+                let is_flush = matches!(trouble, Trouble::Flush(_));
+                assert_eq!(rt; writer.flushes, fails_at + if is_flush { 1 } else { 0 });
+            } else {
+                assert_eq!(rt; ended, Ok(()));
+                assert!(rt; taken == answers());
+                assert_eq!(rt; writer.flushes, WRITES);
+            }
+        }
+    }
+    Ok(())
 }

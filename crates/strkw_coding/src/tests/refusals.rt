@@ -1,0 +1,101 @@
+//! Each call that allocates, by name. With ample memory a row has to pass. `tools/refusals.py` runs it with each growth
+//! refused in turn too: then it ends with the error of the call that was refused, by that error's own name.
+
+use super::decode_by_name;
+use crate::*;
+use std::alloc::{AllocError, Global};
+use std::test::Fail;
+
+// What a text encodes.
+#[derive(Clone, Copy)]
+enum Encoded {
+    Text(&'static str),
+    // Bytes that are not UTF-8.
+    NoText,
+    // It is no encoding.
+    Nothing,
+}
+
+// An encoding, a text, and what it encodes: the vectors of RFC 4648, section 10, the byte FF, and texts with spare bits
+// that are not zero, with padding inside, with a letter of no encoding.
+const TEXTS: [(Codec, &str, Encoded); 20] = [
+    (Codec::Base64, "Zm9vYmFy", Encoded::Text("foobar")),
+    (Codec::Base64, "", Encoded::Text("")),
+    (Codec::Base64, "/w==", Encoded::NoText),
+    (Codec::Base64, "Zh==", Encoded::Nothing),
+    (Codec::Base64, "?", Encoded::Nothing),
+    (Codec::Base64Url, "PDw_Pz4-", Encoded::Text("<<??>>")),
+    (Codec::Base64Url, "_w==", Encoded::NoText),
+    (Codec::Base64Url, "/w==", Encoded::Nothing),
+    (Codec::Base32, "MZXW6YTBOI======", Encoded::Text("foobar")),
+    (Codec::Base32, "74======", Encoded::NoText),
+    (Codec::Base32, "MZ======", Encoded::Nothing),
+    (Codec::Base32, "MY=====M", Encoded::Nothing),
+    (
+        Codec::Base32Hex,
+        "CPNMUOJ1E8======",
+        Encoded::Text("foobar"),
+    ),
+    (Codec::Base32Hex, "VS======", Encoded::NoText),
+    (Codec::Base32Hex, "?", Encoded::Nothing),
+    (Codec::Base16, "666F6f", Encoded::Text("foo")),
+    (Codec::Base16, "FF", Encoded::NoText),
+    (Codec::Base16, "6", Encoded::Nothing),
+    (Codec::Base16, "\u{FB00}", Encoded::Nothing),
+    (Codec::Base16, "", Encoded::Text("")),
+];
+
+fn check_by_name(codec: Codec, alloc: Global, text: &str) -> Result<bool, AllocError> {
+    match codec {
+        Codec::Base64 => is_base64(alloc, text),
+        Codec::Base64Url => is_base64url(alloc, text),
+        Codec::Base32 => is_base32(alloc, text),
+        Codec::Base32Hex => is_base32hex(alloc, text),
+        Codec::Base16 => is_base16(alloc, text),
+    }
+}
+
+#[test]
+fn checks_under_refusal(rt: HostRuntime) -> Result<(), Fail> {
+    let alloc = rt.alloc();
+    for (codec, text, encoded) in TEXTS {
+        let want = !matches!(encoded, Encoded::Nothing);
+        assert_eq!(rt; check_by_name(codec, alloc, text)?, want, "{text}");
+        assert_eq!(rt; codec.is_encoded(alloc, text)?, want, "{text}");
+    }
+    for (text, want) in [("{\"a\":[1,\"x\"]}", true), ("[1,", false), ("", false)] {
+        assert_eq!(rt; is_json(alloc, text)?, want, "{text}");
+        assert_eq!(rt;
+            BuiltinMediaType::Json.accepts(alloc, text)?,
+            want,
+            "{text}"
+        );
+    }
+    Ok(())
+}
+
+// Whether a decoder answers what the text encodes; out of memory is an error here.
+fn answers(
+    found: Result<Option<String>, DecodeError>,
+    encoded: Encoded,
+) -> Result<bool, DecodeError> {
+    match (found, encoded) {
+        (Err(DecodeError::Memory), _) => Err(DecodeError::Memory),
+        (Ok(Some(text)), Encoded::Text(want)) => Ok(text.as_str() == want),
+        (Err(DecodeError::NotUtf8), Encoded::NoText) | (Ok(None), Encoded::Nothing) => Ok(true),
+        _ => Ok(false),
+    }
+}
+
+#[test]
+fn decoders_under_refusal(rt: HostRuntime) -> Result<(), Fail> {
+    let alloc = rt.alloc();
+    for (codec, text, encoded) in TEXTS {
+        assert!(rt;
+            answers(decode_by_name(codec, alloc, text), encoded)?,
+            "{text}"
+        );
+        assert!(rt; answers(codec.decode(alloc, text), encoded)?, "{text}");
+    }
+    Ok(())
+}
