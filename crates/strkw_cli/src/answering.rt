@@ -11,14 +11,13 @@ ghost use Rattle.strkw_cli.specs.Printed.{TellsFold};
 ghost use Rattle.strkw_keywords.specs.Lengths.{IsEmpty};
 
 use super::compile::compile_strings;
-use super::no_patterns::NoPatterns;
 use super::printing::{push_bad_request, push_findings, push_refusal};
 use super::request::{Request, read_line, request_in};
 use super::strings::StringKeywords;
 use serde_json::Value;
 use std::alloc::{AllocError, Global};
 use strkw_keywords::{Checks, ContentCodec, Context, Format, MediaTypeCheck, Options};
-use strkw_pattern::{EngineBuilder, RegexEngine};
+use strkw_pattern::{EngineBuilder, NoPatterns, RegexEngine};
 use strkw_report::{Location, Site};
 
 /// Appends the answer to a line. Where a growth is refused, the vector is as it was.

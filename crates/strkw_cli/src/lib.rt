@@ -6,11 +6,11 @@
 mod answering;
 mod compile;
 mod devices;
+mod fault_text;
 mod faults;
 mod host_devices;
 pub mod laws;
 mod memory_devices;
-mod no_patterns;
 mod printing;
 mod request;
 mod running;
@@ -18,6 +18,7 @@ mod strings;
 #[cfg(test)]
 mod tests;
 
+pub use answering::answer;
 pub use compile::compile_strings;
 pub use devices::{DeviceFailed, Sink, Source};
 pub use faults::RunFault;

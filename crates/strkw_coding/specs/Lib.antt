@@ -5,3 +5,4 @@ pub mod Blocks
 pub mod Json
 pub mod Names
 pub mod Laws
+pub mod DecodeTexts

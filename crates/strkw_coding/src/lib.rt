@@ -4,6 +4,7 @@
 #![tactic(auto)]
 
 mod codec;
+mod display;
 mod encodings;
 pub mod laws;
 mod media_type;

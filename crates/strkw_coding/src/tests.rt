@@ -241,6 +241,12 @@ fn bytes_that_are_not_utf8(rt: HostRuntime) -> Result<(), Fail> {
     assert!(rt; is_base32(alloc, "74======")?);
     assert!(rt; matches!(from_base32hex(alloc, "VS======"), Err(DecodeError::NotUtf8)));
     assert!(rt; matches!(from_base16(alloc, "FF"), Err(DecodeError::NotUtf8)));
+    for (error, want) in [
+        (DecodeError::NotUtf8, "the encoded bytes are not UTF-8"),
+        (DecodeError::Memory, "out of memory"),
+    ] {
+        assert_eq!(rt; error.to_string(alloc)?.as_str(), want);
+    }
     Ok(())
 }
 

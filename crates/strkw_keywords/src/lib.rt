@@ -7,6 +7,8 @@ mod builtin;
 mod checks;
 mod compile;
 pub mod content;
+mod defaults;
+mod fault_text;
 mod findings;
 pub mod format;
 mod keyword;

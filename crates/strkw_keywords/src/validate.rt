@@ -18,7 +18,7 @@ use strkw_coding::laws::encodes_once;
 use strkw_report::{EvaluationResult, Node, Site, ValidationError};
 
 /// Why a node was not found valid.
-#[derive(Drop)]
+#[derive(Debug, Drop)]
 pub enum Fault {
     /// The first of its errors.
     Invalid(ValidationError),

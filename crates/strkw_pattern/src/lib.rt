@@ -7,6 +7,7 @@ mod engine;
 pub mod laws;
 mod literal;
 mod matcher;
+mod no_patterns;
 #[cfg(test)]
 mod tests;
 mod whitespace;
@@ -14,4 +15,5 @@ mod whitespace;
 pub use engine::{BuildRefusal, EngineBuilder, EngineFailure, Outcome, RegexEngine};
 pub use literal::{PatternOptimization, analyze_pattern};
 pub use matcher::LiteralMatcher;
+pub use no_patterns::NoPatterns;
 pub use whitespace::contains_ecma_whitespace;

@@ -2,8 +2,8 @@ mod refusals;
 mod sweeps;
 
 use crate::{
-    EngineFailure, LiteralMatcher, PatternOptimization, RegexEngine, analyze_pattern,
-    contains_ecma_whitespace,
+    BuildRefusal, EngineBuilder, EngineFailure, LiteralMatcher, NoPatterns, PatternOptimization,
+    RegexEngine, analyze_pattern, contains_ecma_whitespace,
 };
 use std::alloc::{AllocError, Global};
 use std::test::Fail;
@@ -175,6 +175,19 @@ fn literal_patterns_are_matched(rt: HostRuntime) -> Result<(), Fail> {
         );
     }
     Ok(())
+}
+
+#[test]
+fn no_pattern_is_taken(rt: HostRuntime) {
+    for pattern in ["a+", "^foo", "", "("] {
+        assert!(rt;
+            matches!(
+                NoPatterns.build(rt.alloc(), pattern),
+                Err(BuildRefusal::Pattern)
+            ),
+            "{pattern} is taken"
+        );
+    }
 }
 
 #[test]

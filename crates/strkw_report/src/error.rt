@@ -10,7 +10,7 @@ use std::alloc::{AllocError, Global};
 use std::marker::Model;
 
 /// What a text failed at.
-#[derive(Drop)]
+#[derive(Debug, Drop)]
 pub enum ErrorKind {
     /// It has fewer characters than `minLength` asks for.
     MinLength { limit: u64 },
@@ -34,7 +34,7 @@ pub enum ErrorKind {
 
 /// An error that one keyword of a schema object reports on an instance. Contracts see it as a record of what it
 /// says, with no memory or capacity.
-#[derive(Drop)]
+#[derive(Debug, Drop)]
 pub struct ValidationError {
     /// What the instance failed at.
     pub kind: ErrorKind,
@@ -134,7 +134,7 @@ fn limited(alloc: Global, x: &str, relation: &str, limit: u64) -> Result<String,
     format!(in alloc; "{x}{relation}{limit} {noun}")
 }
 
-fn characters(n: u64) -> &'static str
+pub(crate) fn characters(n: u64) -> &'static str
     ensures { result.now ≡ characters n }
 {
     if n == 1 { "character" } else { "characters" }

@@ -3,6 +3,7 @@
 //! Contracts see a place as its JSON Pointer and an error as one record of what it says; all texts are UTF-8.
 #![tactic(auto)]
 
+mod display;
 mod draft;
 mod error;
 mod evaluation;
@@ -10,9 +11,11 @@ mod fraction;
 pub mod laws;
 mod location;
 mod node;
+mod quoted;
 mod refusal;
 #[cfg(test)]
 mod tests;
+mod text_node;
 
 pub use draft::Draft;
 pub use error::{ErrorKind, Site, ValidationError, error_at};

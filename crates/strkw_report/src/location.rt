@@ -6,7 +6,7 @@ use std::marker::Model;
 
 /// A place in a JSON document, as a JSON Pointer (RFC 6901): the empty text is the whole document, and each
 /// segment stands after a `/`. Contracts see its UTF-8 bytes.
-#[derive(Drop)]
+#[derive(Debug, Drop)]
 pub struct Location {
     text: String,
 }

@@ -9,7 +9,7 @@ use serde_json::Value;
 use std::alloc::{AllocError, Global};
 
 /// Why a schema object is refused.
-#[derive(Drop)]
+#[derive(Debug, Drop)]
 pub enum CompileErrorKind {
     /// A value that is to be a string is another one.
     NotString { value: Value },
@@ -26,7 +26,7 @@ pub enum CompileErrorKind {
 }
 
 /// The refusal of a schema object.
-#[derive(Drop)]
+#[derive(Debug, Drop)]
 pub struct CompileError {
     /// Why it is refused.
     pub kind: CompileErrorKind,

@@ -226,6 +226,46 @@ const REFUSALS: [(Why, &str); 13] = [
     (Why::Memory, "out of memory"),
 ];
 
+// `Display` writes what `text` gives.
+#[test]
+fn texts_are_displayed(rt: HostRuntime) -> Result<(), Fail> {
+    let alloc = rt.alloc();
+    for (fault, text, want) in ERRORS {
+        let error = error_of(alloc, fault, text)?;
+        assert_eq!(rt; error.to_string(alloc)?.as_str(), want);
+    }
+    for (why, want) in REFUSALS {
+        let refusal = refusal_of(alloc, why)?;
+        assert_eq!(rt; refusal.to_string(alloc)?.as_str(), want);
+    }
+    Ok(())
+}
+
+// Texts with each character that JSON escapes, and with some that it does not.
+const ESCAPED: [&str; 7] = [
+    "\u{0}\u{1}\u{2}\u{3}\u{4}\u{5}\u{6}\u{7}",
+    "\u{8}\u{9}\u{A}\u{B}\u{C}\u{D}\u{E}\u{F}",
+    "\u{10}\u{11}\u{12}\u{13}\u{14}\u{15}\u{16}\u{17}",
+    "\u{18}\u{19}\u{1A}\u{1B}\u{1C}\u{1D}\u{1E}\u{1F}",
+    "a\"b\\c/d",
+    " !#[]~\u{7F}\u{80}\u{2028}é\u{10FFFF}",
+    "",
+];
+
+#[test]
+fn patterns_are_displayed_as_json(rt: HostRuntime) -> Result<(), Fail> {
+    let alloc = rt.alloc();
+    for pattern in ESCAPED {
+        let refusal = refusal_of(alloc, Why::Regex(pattern)).map_err(|_| "out of memory")?;
+        assert_eq!(rt;
+            refusal.to_string(alloc)?.as_str(),
+            refusal.text(alloc)?.as_str(),
+            "{pattern:?}"
+        );
+    }
+    Ok(())
+}
+
 #[test]
 fn texts_of_refusals_under_refusal(rt: HostRuntime) -> Result<(), Fail> {
     for (why, want) in REFUSALS {
@@ -281,6 +321,7 @@ fn pointers_of_places_under_refusal(rt: HostRuntime) -> Result<(), Fail> {
         }
         let copy: Result<Location, AllocError> = place.clone();
         assert_eq!(rt; place.as_str(), want);
+        assert_eq!(rt; place.to_string(rt.alloc())?.as_str(), want);
         assert_eq!(rt; copy?.as_str(), want);
     }
     Ok(())
@@ -364,6 +405,17 @@ fn nodes_of_values(rt: HostRuntime) -> Result<(), Fail> {
     }
     assert_eq!(rt; char_count("héllo"), 5);
     Ok(())
+}
+
+#[test]
+fn nodes_of_plain_texts(rt: HostRuntime) {
+    for (text, length) in [("", 0), ("abc", 3), ("héllo", 5), ("\u{10FFFF}\"", 2)] {
+        assert_eq!(rt;
+            text_and_length(&text),
+            (Some(text), Some(length)),
+            "{text:?}"
+        );
+    }
 }
 
 // A JSON text, and whether it holds a number that is kept neither as a `u64` nor as an `i64`.

@@ -2,10 +2,10 @@
 
 use super::doubles::Always;
 use super::{compiled, root_context};
-use crate::no_patterns::NoPatterns;
 use crate::{MemorySink, MemorySource, Sink, Source, run};
 use std::test::Fail;
 use strkw_keywords::{Checks, Context, NamedFormat, Options};
+use strkw_pattern::NoPatterns;
 use strkw_report::{Draft, Location};
 
 // A draft, a schema object, and whether it folds to false.

@@ -1,9 +1,9 @@
 //! Rows of `evaluate` and of `takes_no_memory`.
 
 use super::{answer_lines, compiled, root_context};
-use crate::no_patterns::NoPatterns;
 use std::test::Fail;
 use strkw_keywords::Options;
+use strkw_pattern::NoPatterns;
 use strkw_report::Draft;
 
 const CONTENT: &str =

@@ -3,10 +3,10 @@
 ghost use Rattle.std.specs.Prelude.{ℕ, option_map};
 
 use super::{answer_lines, compiled, push_answers, push_line, root_context, root_site};
-use crate::no_patterns::NoPatterns;
 use serde_json::Value;
 use std::test::Fail;
 use strkw_keywords::Options;
+use strkw_pattern::NoPatterns;
 use strkw_report::{CompileErrorKind, Draft, ErrorKind, Location, Node, Site, char_count};
 
 // What is checked of a text that is decoded first.

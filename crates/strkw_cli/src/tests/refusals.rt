@@ -5,13 +5,12 @@
 use super::devices::{answers, ends, script};
 use super::doubles::EvenLength;
 use super::{push_error, push_errors, push_notes, root_site};
-use crate::no_patterns::NoPatterns;
 use crate::{MemorySink, MemorySource, RunFault, Sink, StringKeywords, compile_strings, run};
 use serde_json::Value;
 use std::alloc::{AllocError, Global};
 use std::test::Fail;
 use strkw_keywords::{Checks, Context, Fault, NamedFormat, Options};
-use strkw_pattern::LiteralMatcher;
+use strkw_pattern::{LiteralMatcher, NoPatterns};
 use strkw_report::{
     CompileError, CompileErrorKind, Draft, ErrorKind, Location, Site, ValidationError, error_at,
 };

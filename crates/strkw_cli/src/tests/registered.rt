@@ -3,12 +3,11 @@
 use super::doubles::{Always, EvenLength, NoMemory, Odd};
 use super::{answer_lines, compiled, root_context};
 use crate::StringKeywords;
-use crate::no_patterns::NoPatterns;
 use serde_json::Value;
 use std::alloc::{AllocError, Global};
 use std::test::Fail;
 use strkw_keywords::{Checks, Context, NamedCodec, NamedFormat, Options};
-use strkw_pattern::RegexEngine;
+use strkw_pattern::{NoPatterns, RegexEngine};
 use strkw_report::{Draft, Location};
 
 // A schema object of draft 7 at the root, with these checks.

@@ -1,13 +1,15 @@
-//! The builder of a run.
+//! The builder for a caller who has no engine.
 
 ghost use Rattle.std.specs.Prelude.{false};
 
+use crate::engine::{BuildRefusal, EngineBuilder};
+use crate::matcher::LiteralMatcher;
 use std::alloc::Global;
-use strkw_pattern::{BuildRefusal, EngineBuilder, LiteralMatcher};
 
-/// A builder that takes no pattern, so that it builds no engine of its type.
-#[derive(Drop)]
-pub(super) struct NoPatterns;
+/// A builder that takes no pattern, for a caller who has no engine: a pattern that is not literal is refused, and the
+/// literal ones need no builder. It takes no memory.
+#[derive(Clone, Copy, Debug)]
+pub struct NoPatterns;
 
 impl EngineBuilder for NoPatterns {
     ghost use Rattle.strkw_pattern.specs.declared.engine.Outcome.{Outcome};

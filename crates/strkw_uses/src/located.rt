@@ -1,0 +1,34 @@
+//! Collects the errors of a text that stands inside a document, by a schema object that stands inside another.
+
+use anyhow::Result;
+use serde_json::{Map, Value};
+use std::alloc::Global;
+use strkw_cli::compile_strings;
+use strkw_keywords::{Context, Options};
+use strkw_pattern::NoPatterns;
+use strkw_report::{Draft, Location, Site, ValidationError};
+
+/// The errors of the text at `/born` of a document, by the object at `/$defs/date` of a schema of draft 2020-12 whose
+/// address is known. The way of evaluation came to that object by a `$ref`.
+pub fn errors_at_born(
+    alloc: Global,
+    object: &Map<String, Value>,
+    text: &str,
+) -> Result<Vec<ValidationError>> {
+    let root = Location::root(alloc);
+    let mut options = Options::default();
+    options.validate_formats = Some(true);
+    let mut ctx = Context::new(alloc, Draft::Draft202012, &NoPatterns);
+    ctx.location = root.join("$defs")?.join("date")?;
+    ctx.absolute = Some(String::from_str(alloc, "https://example.com/person.json")?);
+    ctx.options = options;
+    let keywords = compile_strings(alloc, &ctx, object)?;
+
+    let site = Site {
+        evaluation: root.join("properties")?.join("born")?.join("$ref")?,
+        instance: root.join("born")?,
+    };
+    let mut errors = Vec::new(alloc);
+    keywords.collect_errors(alloc, &text, &site, &ctx.checks, &mut errors)?;
+    Ok(errors)
+}

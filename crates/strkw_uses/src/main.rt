@@ -1,0 +1,131 @@
+//! Callers of the string keywords, one to a file, and what each answers.
+#![tactic(auto)]
+
+mod answered;
+mod engine;
+mod errors;
+mod lent_again;
+mod located;
+mod recognised;
+mod registered;
+
+use anyhow::{Context as _, Result};
+use engine::Masks;
+use registered::{ArticleNumber, AsciiText, EightBit};
+use serde_json::Value;
+use std::alloc::Global;
+use strkw_cli::compile_strings;
+use strkw_keywords::{Checks, Context, NamedCodec, NamedFormat, NamedMediaType};
+use strkw_pattern::NoPatterns;
+use strkw_report::Draft;
+
+fn main(rt: HostRuntime) -> Result<()> {
+    let alloc = rt.alloc();
+    errors::print_errors(
+        &rt,
+        alloc,
+        r#"{"format":"date","minLength":12}"#,
+        "2023-02-29",
+    )?;
+    for (schema, text) in [(r#"{"minLength":-1}"#, ""), (r#"{"minLength":2}"#, "a")] {
+        if let Err(error) = errors::require_valid(alloc, schema, text) {
+            println!(rt; "{error}")?;
+        }
+    }
+    print_located(&rt, alloc)?;
+    println!(rt; "a birthday: {}", recognised::is_birthday("2024-02-29"))?;
+    for (name, text) in [("uuid", "x"), ("time", "12:00:00Z"), ("email", "a@b")] {
+        println!(rt;
+            "{name}: {:?}",
+            recognised::is_of(Draft::Draft202012, name, text)
+        )?;
+    }
+    print_matches(&rt, alloc)?;
+    print_registered(&rt, alloc)?;
+    print_answers(&rt, alloc)
+}
+
+fn print_located(rt: &impl Print, alloc: Global) -> Result<()> {
+    let schema = Value::from_str(alloc, r#"{"format":"date"}"#)?;
+    let object = schema.as_object().context("the schema is no object")?;
+    for error in located::errors_at_born(alloc, object, "soon")? {
+        let place = error.absolute.unwrap_or(String::new(alloc));
+        let (way, instance) = (error.evaluation_path, error.instance_path);
+        println!(rt; "{place} by {way} on {instance}")?;
+    }
+    Ok(())
+}
+
+// The answer to one line, and to two.
+fn print_answers(rt: &impl Print, alloc: Global) -> Result<()> {
+    let line = br#"{"draft":7,"schema":{"format":"ipv4"},"instance":"1.2.3"}"#;
+    print!(rt; "{}", String::from_utf8(answered::answer_to(alloc, line)?)?)?;
+    let input = b"{}\n{\"draft\":4,\"schema\":{},\"instance\":1}\n";
+    print!(rt;
+        "{}",
+        String::from_utf8(answered::answers_to(alloc, input)?)?
+    )?;
+    Ok(())
+}
+
+// A mask of ten characters, on a text that has as many, and on one that has not.
+fn print_matches(rt: &impl Print, alloc: Global) -> Result<()> {
+    let schema = Value::from_str(alloc, r#"{"pattern":"____-__-__"}"#)?;
+    let object = schema.as_object().context("the schema is no object")?;
+    let ctx = Context::new(alloc, Draft::Draft7, &Masks);
+    let keywords = compile_strings(alloc, &ctx, object)?;
+    for text in ["2024-02-29", "2024"] {
+        let valid = keywords.is_valid(alloc, &text, &ctx.checks)?;
+        println!(rt; "mask on {text}: {valid}")?;
+    }
+    Ok(())
+}
+
+fn print_registered(rt: &impl Print, alloc: Global) -> Result<()> {
+    let formats = vec![in alloc;
+        NamedFormat {
+            name: String::from_str(alloc, "article")?,
+            check: Box::new(alloc, ArticleNumber)?,
+        },
+    ]?;
+    let media_types = vec![in alloc;
+        NamedMediaType {
+            name: String::from_str(alloc, "text/plain;charset=us-ascii")?,
+            check: Box::new(alloc, AsciiText)?,
+        },
+    ]?;
+    let codecs = vec![in alloc;
+        NamedCodec {
+            name: String::from_str(alloc, "8bit")?,
+            codec: Box::new(alloc, EightBit)?,
+        },
+    ]?;
+    let checks = Checks {
+        formats: &formats,
+        media_types: &media_types,
+        codecs: &codecs,
+    };
+    for schema in [
+        r#"{"format":"article"}"#,
+        r#"{"contentMediaType":"text/plain;charset=us-ascii","contentEncoding":"8bit"}"#,
+    ] {
+        print_verdicts(rt, alloc, schema, &checks)?;
+    }
+    Ok(())
+}
+
+// Compiles with the caller's checks, and asks with them, and without them.
+fn print_verdicts(rt: &impl Print, alloc: Global, schema: &str, checks: &Checks) -> Result<()> {
+    let value = Value::from_str(alloc, schema)?;
+    let object = value.as_object().context("the schema is no object")?;
+    let mut ctx = Context::new(alloc, Draft::Draft7, &NoPatterns);
+    ctx.checks = lent_again::same_rows(checks);
+    let keywords = compile_strings(alloc, &ctx, object)?;
+    for text in ["12345678", "éééééééé"] {
+        let valid = lent_again::is_valid(alloc, &keywords, text, checks)?;
+        println!(rt; "{schema} on {text}: {valid:?}")?;
+    }
+    let without = lent_again::is_valid(alloc, &keywords, "", &Checks::none())?;
+    println!(rt; "with no checks: {without:?}")?;
+    Ok(())
+}

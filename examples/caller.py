@@ -1,0 +1,55 @@
+"""Calls the library from Python: every row of a table, a file of requests against its stored answers, and, where the
+package jsonschema is installed, a schema by its FormatChecker.
+
+caller.py FORMATS REQUESTS ANSWERS; status 1 where something is not as it is stored.
+"""
+import sys
+from pathlib import Path
+
+import strkw
+
+
+def check(holds, what):
+    if not holds:
+        sys.exit(f"caller.py: {what}")
+
+
+def check_rows(path):
+    rows = [row.split("\t", 2) for row in Path(path).read_text().split("\n") if row]
+    for name, want, text in rows:
+        ask = strkw.is_encoded if name in strkw.ENCODINGS else strkw.is_format
+        check(ask(name, text) == (want == "yes"), f"{name}: {text}")
+    check(not strkw.is_format("iri", b"a:\xc3\x28"), "bytes that are not UTF-8")
+    check(not strkw.is_format("iri-reference", "\ud800"), "a lone surrogate")
+    return rows
+
+
+def check_answers(requests, answers):
+    check(strkw.answer(Path(requests).read_bytes()) == Path(answers).read_bytes(), "the answers are not the stored ones")
+    check(strkw.answer(b"") == b"", "no request has an answer")
+
+
+def check_schemas(rows):
+    """Each row of a format as a schema of draft 7; answers how many there were, or None without jsonschema."""
+    try:
+        from jsonschema import Draft7Validator
+    except ImportError:
+        return None
+    formats = [row for row in rows if row[0] in strkw.FORMATS]
+    for name, want, text in formats:
+        validator = Draft7Validator({"format": name}, format_checker=strkw.checker())
+        check(validator.is_valid(text) == (want == "yes"), f"jsonschema, {name}: {text}")
+        check(validator.is_valid(5), f"jsonschema, {name}: a number")
+    return len(formats)
+
+
+def main():
+    rows = check_rows(sys.argv[1])
+    check_answers(sys.argv[2], sys.argv[3])
+    schemas = check_schemas(rows)
+    told = "jsonschema is not installed" if schemas is None else f"{schemas} by jsonschema"
+    print(f"caller.py: {len(rows)} rows, {told}")
+
+
+if __name__ == "__main__":
+    main()
