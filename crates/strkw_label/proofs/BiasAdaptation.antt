@@ -1,36 +1,48 @@
--- Bias adaptation, turn by turn.
-use Rattle.std.proofs.Common.{◌≡◌, ℕ, zero, suc, ◌+◌, ◌*◌, ◌/◌, ◌<◌, ◌≤◌, Bool, true, false, nat_lt, cond, sym, ap, ◌∙◌, arith}
-use Rattle.std.proofs.lemmas.Bool.{cond-true, cond-false}
+-- The loop of bias adaptation (RFC 3492 section 6.1): what is left of the delta, and how far k has come, settle the bias.
+use Rattle.std.proofs.Common.{◌≡◌, ℕ, zero, suc, ◌+◌, ◌*◌, ◌/◌, ◌<◌, ◌≤◌, Bool, true, false, nat_lt, cond, refl, sym, ap, ◌∙◌, inl, inr, arith}
+use Rattle.std.proofs.lemmas.Bool.{cases_lt, cond-true, cond-false}
 use Rattle.std.proofs.lemmas.Bool.Decides.{nat_tests}
 use Rattle.strkw_label.specs.Punycode.{scale, adapt}
 
--- the turns that are left give the bias
-pub record Scales (delta k bias : ℕ) : Type 0 where
-  pub turns : ℕ
-  pub enough : delta ≤ turns
-  pub gives : scale turns delta k ≡ bias
+-- the greatest delta that is not divided further: 35 * 26 / 2
+abbrev limit : ℕ
+limit = 455
 
-turn : (turns delta k bias : ℕ) → delta ≤ turns → scale turns delta k ≡ bias → 455 < delta → Scales (delta / 35) (k + 36) bias
+-- one more division, where there is a turn for it
+divide : (turns left k : ℕ) → limit < left → scale (suc turns) left k ≡ scale turns (left / 35) (k + 36)
 unfolding scale
-turn zero delta k bias le e more = absurd (omega arith)
-turn (suc turns) delta k bias le e more =
-    let test : nat_lt 455 delta ≡ true = grind (arith, nat_tests) in
-    record { turns = turns; enough = omega arith; gives = sym (cond-true _ _ _ test) ∙ e }
+divide turns left k above = let test : nat_lt limit left ≡ true = grind (arith, nat_tests) in cond-true _ _ _ test
 
-last : (turns delta k bias : ℕ) → scale turns delta k ≡ bias → delta ≤ 455 → k + 36 * delta / (delta + 38) ≡ bias
+-- no further division, whatever turns there are
+finish : (turns left k : ℕ) → left ≤ limit → scale turns left k ≡ k + 36 * left / (left + 38)
 unfolding scale
-last zero delta k bias e done = e
-last (suc turns) delta k bias e done =
-    let test : nat_lt 455 delta ≡ false = grind (arith, nat_tests) in
-    sym (cond-false _ _ _ test) ∙ e
+finish zero left k within = refl
+finish (suc turns) left k within = let test : nat_lt limit left ≡ false = grind (arith, nat_tests) in cond-false _ _ _ test
 
-pub Scales-start : (delta count : ℕ) (first : Bool) (damped : ℕ) → damped ≡ cond first (delta / 700) (delta / 2) → Scales (damped + damped / count) 0 (adapt delta count first)
+-- more turns than are left of the delta change nothing
+spare_turns : (turns left k : ℕ) → left ≤ turns → scale turns left k ≡ scale left left k
+spare_turns turns left k enough = both turns left left k enough (omega arith)
+  where
+    both : (m n left k : ℕ) → left ≤ m → left ≤ n → scale m left k ≡ scale n left k
+    both zero n left k lm ln = finish zero left k (omega arith) ∙ sym (finish n left k (omega arith))
+    both (suc m) zero left k lm ln = finish (suc m) left k (omega arith) ∙ sym (finish zero left k (omega arith))
+    both (suc m) (suc n) left k lm ln =
+        elim (cases_lt limit left) [
+          | inl above ↦ divide m left k above ∙ both m n (left / 35) (k + 36) (omega arith) (omega arith) ∙ sym (divide n left k above)
+          | inr within ↦ finish (suc m) left k within ∙ sym (finish (suc n) left k within)
+        ]
+
+-- the bias that comes of what is left of the delta at k
+abbrev pub bias_from : ℕ → ℕ → ℕ
+bias_from left k = scale left left k
+
+pub adaptation_begins : (delta count : ℕ) (first : Bool) (damped : ℕ) → damped ≡ cond first (delta / 700) (delta / 2) → bias_from (damped + damped / count) 0 ≡ adapt delta count first
 unfolding adapt
-Scales-start delta count first damped e =
-    record { turns = damped + damped / count; enough = omega arith; gives = ap (λ d. scale (d + d / count) (d + d / count) 0) e }
+adaptation_begins delta count first damped e = ap (λ d. scale (d + d / count) (d + d / count) 0) e
 
-pub Scales-more : {delta k bias : ℕ} → Scales delta k bias → 455 < delta → Scales (delta / 35) (k + 36) bias
-Scales-more s more = turn s.turns _ _ _ s.enough s.gives more
+pub above_limit : (left k : ℕ) → limit < left → bias_from (left / 35) (k + 36) ≡ bias_from left k
+above_limit zero k above = absurd (omega arith)
+above_limit (suc left) k above = sym (divide left (suc left) k above ∙ spare_turns left (suc left / 35) (k + 36) (omega arith))
 
-pub Scales-done : {delta k bias : ℕ} → Scales delta k bias → delta ≤ 455 → k + 36 * delta / (delta + 38) ≡ bias
-Scales-done s done = last s.turns _ _ _ s.gives done
+pub within_limit : (left k : ℕ) → left ≤ limit → k + 36 * left / (left + 38) ≡ bias_from left k
+within_limit left k within = sym (finish left left k within)

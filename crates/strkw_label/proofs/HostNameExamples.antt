@@ -8,7 +8,7 @@ use Rattle.std.proofs.lemmas.List.Sums.{AllPass-from_list_all}
 use Rattle.strkw_text.proofs.Separated.{separated-from_joined}
 use Rattle.strkw_net.specs.HostName.{is_letter_digit_hyphen}
 use Rattle.strkw_label.specs.HostName.{IsHostName, IsHostNameLabel}
-use Rattle.strkw_label.proofs.XnLabels.{begins_as_xn_label}
+use Rattle.strkw_label.proofs.XnLabels.{prefix_and_payload, hyphen_of_prefix}
 
 no_hyphen : (c : ℕ) → is_ascii_alphanumeric c ≡ true → c ≡ 45 → ⊥
 no_hyphen c is e = grind (arith, nat_tests)
@@ -29,7 +29,7 @@ plain_label label letters some few third =
       };
       xn = record {
         reserved = λ e _. absurd (third e);
-        encodes = λ p e. absurd (third (begins_as_xn_label label p e).third);
+        encodes = λ p e. absurd (third (hyphen_of_prefix label 2 (omega arith) refl (prefix_and_payload label p e).0));
       };
     }
 

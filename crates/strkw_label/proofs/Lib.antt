@@ -8,6 +8,7 @@ pub mod Insertions
 pub mod LabelRules
 pub mod LastHyphen
 pub mod Payloads
+pub mod OneText
 pub mod PlaceAll
 pub mod PointsAndPlaces
 pub mod ReadDelta

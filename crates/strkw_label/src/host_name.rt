@@ -49,10 +49,8 @@ fn keeps_xn_rules(label: &[u8]) -> bool
     if label.len() < 4 || label[2] != b'-' || label[3] != b'-' {
         return true;
     }
-    if label[0].to_ascii_lowercase() != b'x' || label[1].to_ascii_lowercase() != b'n' {
-        return false;
-    }
-    encodes_admitted(&label[4..])
+    let (prefix, payload) = label.split_at(4);
+    prefix.eq_ignore_ascii_case(b"xn--") && encodes_admitted(payload)
 }
 
 /// Whether the payload of an XN-label encodes a text that the label rules admit.

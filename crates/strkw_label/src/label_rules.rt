@@ -10,13 +10,15 @@ use crate::characters::{
 use unicode::properties::GeneralCategory;
 
 /// Whether the characters may stand as a label. Nine conditions (RFC 5891 section 4.2.3.2, RFC 5892
-/// appendices A.2 to A.9): no mark is first; U+200C and U+200D stand after a virama, U+00B7 between two `l`,
-/// U+0375 before a Greek character, U+05F3 and U+05F4 after a Hebrew one; no character is one that
-/// RFC 5892 section 2.6 disallows; each is ASCII, a joiner, an exception of that section, kana, Han, or
-/// of category Lu, Ll, Lt, Lm, Lo, Mn, Mc or Nd; U+30FB stands only in a label with kana or Han; and
-/// no label has both Arabic-Indic digits and extended ones.
+/// appendices A.1 to A.9): no mark is first; U+200C and U+200D stand after a virama, U+00B7 between
+/// two `l`, U+0375 before a Greek character, U+05F3 and U+05F4 after a Hebrew one; no character is
+/// one that RFC 5892 section 2.6 disallows; each is ASCII, a joiner, an exception of that section,
+/// kana, Han, or of category Lu, Ll, Lt, Lm, Lo, Mn, Mc or Nd; U+30FB stands only in a label with
+/// kana or Han; and no label has both Arabic-Indic digits and extended ones.
 ///
-/// The label is any list of characters. Its length, hyphens, direction and normal form are not judged.
+/// Greek, Hebrew, kana and Han are the blocks Greek and Coptic, Hebrew, Hiragana and Katakana, and
+/// CJK Unified Ideographs, where RFC 5892 speaks of scripts; the viramas are a fixed list of 50. The
+/// label is any list of characters. Its length, hyphens, direction and normal form are not judged.
 pub fn validate_unicode_label(label: &[char]) -> bool
     ensures { IsTrue result ↔ spec.IsAdmittedLabel label.now }
 {
@@ -72,8 +74,8 @@ fn stands_well(label: &[char], place: usize) -> bool
     is_admitted_character(label[place])
 }
 
-/// Zero width non-joiner and joiner: only after a virama (RFC 5892 appendix A.2, and of A.1 the first
-/// case alone).
+/// Zero width non-joiner and joiner: only after a virama (RFC 5892 appendix A.2, and the first case
+/// of A.1).
 fn joiner_stands(label: &[char], place: usize) -> bool
     requires { place < length label.now }
     ensures { IsTrue result ↔ spec.JoinerStands label.now place }

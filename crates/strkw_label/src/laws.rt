@@ -10,9 +10,9 @@ pub fn digits_are_unique()
     ensures only { (bias delta : ℕ) (digits : List ℕ) → AreDigitsOf bias delta digits → digits ≡ digits_of bias delta }
 {}
 
-/// Payloads that decode to one text differ at most in the letter case of their encoded parts.
-pub fn payloads_of_one_text()
-    ensures { (text p q : List ℕ) → SameUpToCase p (punycode text) → SameUpToCase q (punycode text) → SameUpToCase p q }
+/// A payload is, up to the letter case of its encoded part, the encoding of one text at most, at any length.
+pub fn one_text_of_a_payload()
+    ensures { (payload s t : List ℕ) → SameUpToCase payload (punycode s) → SameUpToCase payload (punycode t) → s ≡ t }
 {}
 
 /// The samples (B), (D), (L) and (S) of RFC 3492 section 7.1 are encoded as they stand there.

@@ -1,20 +1,27 @@
-use Rattle.std.proofs.Common.{◌≡◌, ◌∙◌, get_or, drop, sym, subst, arith, rules}
+use Rattle.std.proofs.Common.{◌≡◌, ◌∙◌, map, drop, codes, sym, ap, subst}
 use Rattle.std.specs.Char.{to_ascii_lowercase}
-use Rattle.std.proofs.lemmas.List.{take_rest}
-use Rattle.strkw_label.specs.HostName.{IsXnLabel, EncodesAdmitted}
-use Rattle.strkw_label.proofs.XnLabels.{begins_as_xn_label, IsXnLabel-from_begin}
+use Rattle.std.proofs.lemmas.Bool.{false≢true}
+use Rattle.strkw_label.specs.HostName.{EncodesAdmitted}
+use Rattle.strkw_label.proofs.XnLabels.{HasPrefix, IsXnLabel-from_prefix, prefix_and_payload}
 use Rattle.strkw_label.proofs.host_name.keeps_xn_rules.Goals as goal
 
-pub returns : goal.returns
-returns c =
+pub returns-then-eq_ignore_ascii_case : goal.returns-then-eq_ignore_ascii_case
+returns-then-eq_ignore_ascii_case c =
     let label = c.args.label.now in
-    let x : to_ascii_lowercase (get_or label 0 0) ≡ 120 = search rules in
-    let n : to_ascii_lowercase (get_or label 1 0) ≡ 110 = search rules in
-    let whole : IsXnLabel label (drop 4 label) = IsXnLabel-from_begin label (omega arith) x n c.if-label-ne45.false c.if-label-ne45-2.false in
-    let rest = take_rest label 4 in (
+    let rest = c.split_at.ensures.back in
+    let prefix : HasPrefix label = subst (λ l. map to_ascii_lowercase l ≡ codes "xn--") c.split_at.ensures.front (c.eq_ignore_ascii_case.ensures.test.0 c.if-eq_ignore_ascii_case.true) in
+    let whole = IsXnLabel-from_prefix label prefix in (
       λ e. record {
         reserved = λ _ _. (drop 4 label, whole);
-        encodes = λ p h. subst EncodesAdmitted (rest ∙ sym (begins_as_xn_label label p h).rest) (c.encodes_admitted.ensures.0 e);
+        encodes = λ payload h. subst EncodesAdmitted (rest ∙ (prefix_and_payload label payload h).1) (c.encodes_admitted.ensures.0 e);
       },
       λ s. c.encodes_admitted.ensures.1 (subst EncodesAdmitted (sym rest) (s.encodes (drop 4 label) whole)),
     )
+
+pub returns-else-eq_ignore_ascii_case : goal.returns-else-eq_ignore_ascii_case
+returns-else-eq_ignore_ascii_case c = (
+  λ e. absurd (false≢true (sym c.if-eq_ignore_ascii_case.false ∙ e)),
+  λ s.
+      let front = (prefix_and_payload c.args.label.now _ (s.reserved c.if-label-ne45.false c.if-label-ne45-2.false).1).0 in
+      c.eq_ignore_ascii_case.ensures.test.1 (ap (map to_ascii_lowercase) c.split_at.ensures.front ∙ front),
+)
