@@ -1,0 +1,123 @@
+-- The laws of a pattern's text.
+use Rattle.std.proofs.Common.{◌≡◌, ◌↔◌, ◌⊎◌, inl, inr, ℕ, Bool, true, false, List, Option, Some, None, IsTrue, refl, sym, ap, subst, ◌∙◌, true≢false, length, leb, if◌then◌else◌, option_map}
+use Rattle.std.specs.Prelude.{is_some}
+use Rattle.std.proofs.lemmas.Bool.{leb-true, le-leb}
+use Rattle.strkw_pattern.specs.Matcher.{outcome_of}
+use Rattle.strkw_pattern.specs.declared.engine.Outcome.{Outcome}
+use Rattle.strkw_pattern.specs.declared.engine.Outcome.TheVariants.{Match, NoMatch}
+use Rattle.strkw_ecma.specs.Syntax.{Disjunction, only, either, Alternative, nothing, more, Term, at_start, at_end, at_boundary, at_no_boundary, once, quantified, zero_or_more, one_or_more, zero_or_one, Atom, plain, escaped, control_escape, set_escape, dot, group, max_length}
+use Rattle.strkw_ecma.specs.Reading.{read, read_pattern}
+use Rattle.strkw_ecma.specs.Meaning.{Found}
+use Rattle.strkw_ecma.specs.Tree.{Pattern}
+use Rattle.strkw_ecma.specs.Marks.{is_clean}
+use Rattle.strkw_ecma.specs.Patterns.{pattern, alternative_pattern, term_pattern, atom_pattern}
+use Rattle.strkw_ecma.specs.Outcomes.{outcome_of_read, search_outcome}
+use Rattle.strkw_ecma.specs.Laws.{IsPattern, IsExact}
+use Rattle.strkw_ecma.proofs.Readings.{complete}
+use Rattle.strkw_ecma.proofs.Spelled.{IsSpelled, sound}
+use Rattle.strkw_ecma.proofs.Formed.{IsFormed, read_formed}
+use Rattle.strkw_ecma.proofs.Answers.{search_is_exact}
+use Rattle.strkw_ecma.proofs.Steps.{and_true}
+
+mutual
+  pub clean : (d : Disjunction) → is_clean (pattern d) ≡ true
+  clean (only a) = clean_alternative a
+  clean (either d a) = and_true _ _ (clean d) (clean_alternative a)
+
+  clean_alternative : (a : Alternative) → is_clean (alternative_pattern a) ≡ true
+  clean_alternative nothing = refl
+  clean_alternative (more a t) = and_true _ _ (clean_alternative a) (clean_term t)
+
+  clean_term : (t : Term) → is_clean (term_pattern t) ≡ true
+  clean_term at_start = refl
+  clean_term at_end = refl
+  clean_term (once a) = clean_atom a
+  clean_term at_boundary = refl
+  clean_term at_no_boundary = refl
+  clean_term (quantified a zero_or_more g) = clean_atom a
+  clean_term (quantified a one_or_more g) = clean_atom a
+  clean_term (quantified a zero_or_one g) = clean_atom a
+
+  clean_atom : (a : Atom) → is_clean (atom_pattern a) ≡ true
+  clean_atom (plain c) = refl
+  clean_atom (escaped c) = refl
+  clean_atom (control_escape c) = refl
+  clean_atom (set_escape c) = refl
+  clean_atom dot = refl
+  clean_atom (group d) = clean d
+
+derived_of : (source : List ℕ) (b : Bool) (o : Option Disjunction) → leb (length source) max_length ≡ b → IsSpelled o source → IsFormed o
+    → IsTrue (is_some (if b then o else None)) → (d : Disjunction) × IsPattern source d
+derived_of source false o e s f h = absurd (true≢false (sym h))
+derived_of source true None e s f h = absurd (true≢false (sym h))
+derived_of source true (Some d) e s f h = (d, record { formed = f; spelled = s; short = leb-true (length source) max_length e })
+
+-- a pattern is read as its tree
+read_is : (source : List ℕ) (d : Disjunction) → IsPattern source d → read_pattern source ≡ Some d
+read_is source d p =
+    ap (λ (b : Bool). if b then read source else None) (le-leb (length source) max_length p.short)
+    ∙ ap read (sym p.spelled) ∙ complete d p.formed
+
+tree_or : Disjunction → Option Disjunction → Disjunction
+tree_or e None = e
+tree_or e (Some d) = d
+
+same_tree : (d e : Disjunction) → Some d ≡ Some e → d ≡ e
+unfolding tree_or
+same_tree d e h = ap (tree_or d) h
+
+is_match : Outcome → Bool
+is_match Match = true
+is_match o = false
+
+match_of : (b : Bool) → (outcome_of b ≡ Match) ↔ IsTrue b
+unfolding is_match
+match_of true = (λ _. refl, λ _. refl)
+match_of false = (λ h. absurd (true≢false (sym (ap is_match h))), λ h. absurd (true≢false (sym h)))
+
+both : {A B C : Type 0} → A ↔ B → B ↔ C → A ↔ C
+both e f = (λ a. f.0 (e.0 a), λ c. e.1 (f.1 c))
+
+by_answer : (b : Bool) → (outcome_of b ≡ Match) ⊎ (outcome_of b ≡ NoMatch)
+by_answer true = inl refl
+by_answer false = inr refl
+
+decided_of : (o : Option Disjunction) (text : List ℕ) → (outcome_of_read o text ≡ Match) ⊎ (outcome_of_read o text ≡ NoMatch)
+decided_of None text = inr refl
+decided_of (Some d) text = by_answer _
+
+pub exact : (source : List ℕ) → IsExact source
+exact source = record {
+  derived = derived_of source _ (read source) refl (sound source) (read_formed source);
+  taken = λ d p. ap is_some (read_is source d p);
+  one_tree = λ d e p q. same_tree d e (sym (read_is source d p) ∙ read_is source e q);
+  decided = decided_of (read_pattern source);
+  meant = λ d p text.
+      subst (λ (o : Option Disjunction). (outcome_of_read o text ≡ Match) ↔ Found (pattern d) text) (sym (read_is source d p))
+      (both (match_of _) (search_is_exact (pattern d) text (clean d)));
+}
+
+pattern_or : Pattern → Option Pattern → Pattern
+pattern_or q None = q
+pattern_or q (Some p) = p
+
+same_pattern : (p q : Pattern) → Some p ≡ Some q → p ≡ q
+unfolding pattern_or
+same_pattern p q h = ap (pattern_or p) h
+
+-- the pattern that the code has read
+pub clean_of : (p : Pattern) (o : Option Disjunction) → Some p ≡ option_map pattern o → is_clean p ≡ true
+clean_of p None e = absurd (true≢false (ap is_some e))
+clean_of p (Some d) e = ap is_clean (same_pattern p (pattern d) e) ∙ clean d
+
+pub outcome_of_it : (p : Pattern) (o : Option Disjunction) → Some p ≡ option_map pattern o → search_outcome p ≡ outcome_of_read o
+outcome_of_it p None e = absurd (true≢false (ap is_some e))
+outcome_of_it p (Some d) e = ap search_outcome (same_pattern p (pattern d) e)
+
+pub some_of : (p : Pattern) (o : Option Disjunction) → Some p ≡ option_map pattern o → is_some o ≡ true
+some_of p None e = absurd (true≢false (ap is_some e))
+some_of p (Some d) e = refl
+
+pub none_of : (o : Option Disjunction) → None ≡ option_map pattern o → is_some o ≡ false
+none_of None e = refl
+none_of (Some d) e = absurd (true≢false (ap is_some (sym e)))

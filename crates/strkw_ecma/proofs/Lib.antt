@@ -1,0 +1,9 @@
+pub mod Steps
+pub mod Search
+pub mod Shapes
+pub mod Readings
+pub mod Answers
+pub mod Spelled
+pub mod Formed
+pub mod Exact
+pub mod Parts

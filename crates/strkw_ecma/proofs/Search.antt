@@ -1,0 +1,104 @@
+-- The search of a whole text, place by place.
+use Rattle.std.proofs.Common.{◌≡◌, ◌⊎◌, ◌↔◌, ℕ, suc, ◌+◌, ◌-◌, ◌<◌, ◌≤◌, ◌==◌, Bool, true, false, List, Option, Some, None, length, get_or, slice_get, IsTrue, refl, sym, ap, subst, ◌∙◌, inl, inr, ⊎_elim, true≢false, arith}
+use Rattle.std.proofs.lemmas.Bool.Decides.{nat_tests}
+use Rattle.std.proofs.lemmas.Option.{slice_get_past, slice_get_read}
+use Rattle.strkw_ecma.specs.Tree.{Pattern, empty, class, look, cat, alt, star, plus}
+use Rattle.strkw_ecma.specs.Meaning.{before, Matches, Found}
+use Rattle.strkw_ecma.specs.Marks.{leaves, step, Rest, Later, is_clean}
+use Rattle.strkw_ecma.proofs.Steps.{and_left, and_right, same_meaning, left, stepped, goes_on, goes_back, none_after_end}
+
+module _ (text : List ℕ) (p : Pattern) (k : ℕ) where
+  -- a match that is under way or begins later ends here, or is under way or begins later at the next place
+  pub later_step : Later text p k → (left text k p true ≡ true) ⊎ Later text (stepped text k p true) (k + 1)
+  later_step (inl (j, r)) = ⊎_elim (λ here. inl here.0) (λ rest. inr (inl (j, rest))) (goes_on text k p true j (inl r))
+  later_step (inr (i, j, above, within, m)) = ⊎_elim at_once afterwards (at_or_above k i above)
+    where
+      at_or_above : (k i : ℕ) → k ≤ i → (k ≡ i) ⊎ (k + 1 ≤ i)
+      at_or_above k i h = grind arith
+
+      at_once : k ≡ i → (left text k p true ≡ true) ⊎ Later text (stepped text k p true) (k + 1)
+      at_once e =
+          ⊎_elim (λ here. inl here.0) (λ rest. inr (inl (j, rest)))
+          (goes_on text k p true j (inr (refl, subst (λ (z : ℕ). Matches text p z j) (sym e) m)))
+
+      afterwards : k + 1 ≤ i → (left text k p true ≡ true) ⊎ Later text (stepped text k p true) (k + 1)
+      afterwards h = inr (inr (i, j, h, within, subst (λ (R : ℕ → ℕ → Type 0). R i j) (sym (same_meaning text _ _ p true)) m))
+
+  pub later_back : k ≤ length text → Later text (stepped text k p true) (k + 1) → Later text p k
+  later_back h (inl (j, r)) = ⊎_elim (λ r. inl (j, r)) (λ found. inr (k, j, omega arith, h, found.1)) (goes_back text k p true j (inr r))
+  later_back h (inr (i, j, above, within, m)) = inr (i, j, omega arith, within, subst (λ (R : ℕ → ℕ → Type 0). R i j) (same_meaning text _ _ p true) m)
+
+  pub here_back : k ≤ length text → left text k p true ≡ true → Later text p k
+  here_back within h = ⊎_elim (λ r. inl (k, r)) (λ found. inr (k, k, omega arith, within, found.1)) (goes_back text k p true k (inl (h, refl)))
+
+-- a pattern without marks has no match under way
+pub none_under_way : (text : List ℕ) (p : Pattern) (k j : ℕ) → is_clean p ≡ true → Rest text p k j → ⊥
+none_under_way text empty k j h r = r
+none_under_way text (class true n rs) k j h r = true≢false (sym h)
+none_under_way text (class false n rs) k j h r = true≢false (sym r.0)
+none_under_way text (look l) k j h r = r
+none_under_way text (cat p q) k j h (inl (l, r, m)) = none_under_way text p k l (and_left _ _ h) r
+none_under_way text (cat p q) k j h (inr r) = none_under_way text q k j (and_right _ _ h) r
+none_under_way text (alt p q) k j h (inl r) = none_under_way text p k j (and_left _ _ h) r
+none_under_way text (alt p q) k j h (inr r) = none_under_way text q k j (and_right _ _ h) r
+none_under_way text (star p) k j h r = none_under_way text p k r.0 h r.1
+none_under_way text (plus p) k j h r = none_under_way text p k r.0 h r.1
+
+pub at_first : (text : List ℕ) (p : Pattern) → is_clean p ≡ true → Later text p 0 ↔ Found p text
+at_first text p h = (first, λ f. inr (f.0, f.1, omega arith, f.2, f.3))
+  where
+    first : Later text p 0 → Found p text
+    first (inl (j, r)) = absurd (none_under_way text p 0 j h r)
+    first (inr (i, j, above, within, m)) = (i, j, within, m)
+
+-- no match begins beyond the end
+pub at_last : (text : List ℕ) (p : Pattern) (k : ℕ) → length text ≡ k → Later text p k ↔ (left text k p true ≡ true)
+at_last text p k e = (λ w. ⊎_elim (λ h. h) (λ w. absurd (beyond w)) (later_step text p k w), here_back text p k (omega arith))
+  where
+    none_here : slice_get text k ≡ None
+    none_here = slice_get_past text k (omega arith)
+
+    beyond : Later text (stepped text k p true) (k + 1) → ⊥
+    beyond (inl (j, r)) = none_after_end text k none_here p true (k + 1) j r
+    beyond (inr (i, j, above, within, m)) = absurd (omega arith)
+
+-- over a place at which nothing is found
+pub passes : (text : List ℕ) (p : Pattern) (k : ℕ) → k ≤ length text → left text k p true ≡ false
+    → Later text (stepped text k p true) (k + 1) ↔ Later text p k
+passes text p k h none =
+    (later_back text p k h, λ w. ⊎_elim (λ here. absurd (true≢false (sym here ∙ none))) (λ w. w) (later_step text p k w))
+
+before_next : (text : List ℕ) (k : ℕ) → before text (suc k) ≡ slice_get text k
+before_next text k =
+    let e : suc k - 1 ≡ k = omega arith in
+    let some : (suc k == 0) ≡ false = grind (arith, nat_tests) in
+    rw (some, e) refl
+
+-- a turn of the search: the character c stands at place k, and `next` is the place behind it
+module _ (text : List ℕ) (p : Pattern) (k next : ℕ) (last : Option ℕ) (c : ℕ) (within : k < length text) (is : c ≡ get_or text k c)
+    (after : last ≡ before text k) (follows : next ≡ suc k) (answer : Bool) (left_is : answer ≡ leaves last (Some c) p true) where
+  here : slice_get text k ≡ Some c
+  here = slice_get_read text _ k c refl within is
+
+  answer_is : answer ≡ left text k p true
+  answer_is = left_is ∙ rw (after, here) refl
+
+  pub is_behind : Some c ≡ before text next
+  is_behind = sym here ∙ sym (before_next text k) ∙ ap (before text) (sym follows)
+
+  pub found_here : answer ≡ true → Later text p k
+  found_here said = here_back text p k (omega arith) (sym answer_is ∙ said)
+
+  pub not_yet : answer ≡ false → (q : Pattern) → q ≡ step last (Some c) p true → Later text q next ↔ Later text p k
+  not_yet said q e =
+      let stepped_is : q ≡ stepped text k p true = e ∙ rw (after, here) refl in
+      let next_is : next ≡ k + 1 = omega arith in
+      rw (stepped_is, next_is) (passes text p k (omega arith) (sym answer_is ∙ said))
+
+-- the end of the search
+pub at_end : (text : List ℕ) (p : Pattern) (k : ℕ) (last : Option ℕ) → k ≡ length text → last ≡ before text k → (answer : Bool)
+    → answer ≡ leaves last None p true → (F : Type 0) → Later text p k ↔ F → IsTrue answer ↔ F
+at_end text p k last e after answer is F found =
+    let none : slice_get text k ≡ None = slice_get_past text k (omega arith) in
+    let same : answer ≡ left text k p true = is ∙ rw (after, none) refl in
+    (λ h. found.0 ((at_last text p k (sym e)).1 (sym same ∙ h)), λ f. same ∙ (at_last text p k (sym e)).0 (found.1 f))

@@ -1,0 +1,24 @@
+-- The equations of `pattern_of`, one for each variant.
+use Rattle.std.proofs.Common.{◌≡◌, ℕ, Bool, Vec, Box, Global, sym, ap, ◌∙◌}
+use Rattle.strkw_ecma.specs.Tree.{Pattern, class, cat, alt, star, plus}
+use Rattle.strkw_ecma.specs.Shape.{pattern_of, node_pattern}
+use Rattle.strkw_ecma.specs.declared.tree.Tree.{Tree, Tree-F, fold-roll-Tree}
+use Rattle.strkw_ecma.specs.declared.tree.Tree.TheVariants.{Class, Then, Or, Star, Plus, rolls-Class, rolls-Then, rolls-Or, rolls-Star, rolls-Plus}
+
+pub pattern-Class : (marked negated : Bool) (ranges : Vec (ℕ × ℕ) Global) → pattern_of (Class marked negated ranges) ≡ class marked negated ranges.items
+pattern-Class marked negated ranges =
+    ap pattern_of (sym (rolls-Class marked negated ranges)) ∙ fold-roll-Tree Pattern node_pattern (Tree-F.Class marked negated ranges)
+
+pub pattern-Then : (first second : Box Tree Global) → pattern_of (Then first second) ≡ cat (pattern_of first.value) (pattern_of second.value)
+pattern-Then first second = ap pattern_of (sym (rolls-Then first second)) ∙ fold-roll-Tree Pattern node_pattern (Tree-F.Then first second)
+
+pub pattern-Or : (one other : Box Tree Global) → pattern_of (Or one other) ≡ alt (pattern_of one.value) (pattern_of other.value)
+pattern-Or one other = ap pattern_of (sym (rolls-Or one other)) ∙ fold-roll-Tree Pattern node_pattern (Tree-F.Or one other)
+
+pub pattern-Star : (body : Box Tree Global) → pattern_of (Star body) ≡ star (pattern_of body.value)
+pattern-Star body = ap pattern_of (sym (rolls-Star body)) ∙ fold-roll-Tree Pattern node_pattern (Tree-F.Star body)
+
+pub pattern-Plus : (body : Box Tree Global) → pattern_of (Plus body) ≡ plus (pattern_of body.value)
+pattern-Plus body = ap pattern_of (sym (rolls-Plus body)) ∙ fold-roll-Tree Pattern node_pattern (Tree-F.Plus body)
+
+pub ruleset shapes = (pattern-Class, pattern-Then, pattern-Or, pattern-Star, pattern-Plus)

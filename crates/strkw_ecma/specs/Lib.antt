@@ -1,0 +1,12 @@
+pub mod Tree
+pub mod Sets
+pub mod Meaning
+pub mod Marks
+pub mod Shape
+pub mod Syntax
+pub mod Reading
+pub mod Patterns
+pub mod Search
+pub mod Outcomes
+pub mod Laws
+pub mod Parts

@@ -1,0 +1,34 @@
+-- Sets of characters of ECMA-262 2024, as ranges.
+use Rattle.std.specs.Prelude.{ℕ, Bool, List, [], ◌∷◌, codes, if◌then◌else◌, ◌==◌}
+use Rattle.std.specs.Str.{byte}
+use Rattle.strkw_text.specs.Characters.{is_one_of}
+
+-- LineTerminator (section 12.3)
+abbrev pub line_ends : List (ℕ × ℕ)
+line_ends = (0xA, 0xA) ∷ (0xD, 0xD) ∷ (0x2028, 0x2029) ∷ []
+
+abbrev pub digits : List (ℕ × ℕ)
+digits = (0x30, 0x39) ∷ []
+
+-- WordCharacters (section 22.2.2.3.2), without the flag i
+abbrev pub word_characters : List (ℕ × ℕ)
+word_characters = (0x30, 0x39) ∷ (0x41, 0x5A) ∷ (0x5F, 0x5F) ∷ (0x61, 0x7A) ∷ []
+
+-- WhiteSpace (section 12.2) and LineTerminator
+abbrev pub white_space : List (ℕ × ℕ)
+white_space =
+    (0x9, 0xD) ∷ (0x20, 0x20) ∷ (0xA0, 0xA0) ∷ (0x1680, 0x1680) ∷ (0x2000, 0x200A) ∷ (0x2028, 0x2029) ∷ (0x202F, 0x202F)
+    ∷ (0x205F, 0x205F) ∷ (0x3000, 0x3000) ∷ (0xFEFF, 0xFEFF) ∷ []
+
+-- CharacterClassEscape (section 22.2.1): the set of a letter, and whether the letter stands for all but it
+abbrev pub set_of : ℕ → List (ℕ × ℕ)
+set_of c = if is_one_of (codes "dD") c then digits else if is_one_of (codes "sS") c then white_space else word_characters
+
+abbrev pub is_negative : ℕ → Bool
+is_negative c = is_one_of (codes "DSW") c
+
+-- ControlEscape (section 22.2.1, table 65): the character of a letter
+abbrev pub control_char : ℕ → ℕ
+control_char c =
+    if c == byte "t" then 0x9 else if c == byte "n" then 0xA else if c == byte "v" then 0xB
+    else if c == byte "f" then 0xC else 0xD

@@ -1,0 +1,14 @@
+//! Patterns of ECMA-262 in Unicode mode: an engine for a part of their syntax, whose answer is their meaning. A caller
+//! hands `EcmaPatterns` in where the keyword `pattern` needs more than literal patterns. Each search is one pass over the
+//! text.
+#![tactic(auto)]
+
+mod engine;
+pub mod laws;
+mod marks;
+mod reader;
+#[cfg(test)]
+mod tests;
+mod tree;
+
+pub use engine::{EcmaMatcher, EcmaPatterns};

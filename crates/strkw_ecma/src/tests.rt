@@ -1,0 +1,399 @@
+//! The answers to the rows are those of `RegExp(pattern, "u")` of Node 20.20.2.
+
+use crate::{EcmaMatcher, EcmaPatterns};
+use std::alloc::{AllocError, Global};
+use std::test::Fail;
+use strkw_pattern::{BuildRefusal, EngineBuilder, EngineFailure, RegexEngine};
+
+// A match through the bounds of the traits alone.
+fn ask<B: EngineBuilder>(
+    alloc: Global,
+    builder: &B,
+    pattern: &str,
+    text: &str,
+) -> Result<Result<bool, EngineFailure>, BuildRefusal> {
+    let engine = builder.build(alloc, pattern)?;
+    Ok(engine.is_match(alloc, text))
+}
+
+// Pattern, text, and whether the pattern is found. The first rows are the examples of ECMA-262 2024 (section 22.2.2).
+const SEARCHES_1: [(&str, &str, bool); 28] = [
+    ("a|ab", "abc", true),
+    ("((a)|(ab))((c)|(bc))", "abc", true),
+    ("(z)((a*))*", "zaacbbbcac", true),
+    ("(a*)*", "b", true),
+    ("(a*)b*", "baaabaac", true),
+    ("^(a*)*$", "aab", false),
+    ("", "", true),
+    ("", "a", true),
+    ("|", "", true),
+    ("a|", "b", true),
+    ("^(a|)$", "", true),
+    ("^(a|)$", "b", false),
+    ("^(|a)$", "a", true),
+    ("^(a|b|c)$", "b", true),
+    ("^(a|b|c)$", "d", false),
+    ("^a|b$", "xb", true),
+    ("^a|b$", "ax", true),
+    ("^a|b$", "xax", false),
+    ("^(a|ab)$", "ab", true),
+    ("^(a|ab)(c|bcd)$", "abcd", true),
+    ("^(ab|a)bc$", "abc", true),
+    ("^(a*|b)c$", "bc", true),
+    ("^", "x", true),
+    ("$", "x", true),
+    ("^$", "", true),
+    ("^$", "\n", false),
+    ("^$", "a", false),
+    ("a$", "a\n", false),
+];
+
+const SEARCHES_2: [(&str, &str, bool); 28] = [
+    ("^a", "\na", false),
+    ("a$b", "ab", false),
+    ("a^b", "ab", false),
+    ("^^a$$", "a", true),
+    ("(^a)", "ba", false),
+    ("(a$)", "ab", false),
+    ("b(^a|c)", "ba", false),
+    ("b(^a|c)", "bc", true),
+    ("(^)*a", "ba", true),
+    ("x($|y)z", "xyz", true),
+    ("a$|b", "ab", true),
+    ("^a*$", "", true),
+    ("^a*$", "aaaa", true),
+    ("^a*$", "aaab", false),
+    ("^a*b", "aaab", true),
+    ("a*", "b", true),
+    ("^(ab)*$", "abab", true),
+    ("^(ab)*$", "aba", false),
+    ("^(a*)*$", "aaa", true),
+    ("^(a|a)*b", "aaab", true),
+    ("^((a*)b)*c$", "aababc", true),
+    ("^a*a$", "aaa", true),
+    ("^a*aa$", "a", false),
+    ("^(a|b)*abb$", "ababb", true),
+    ("^(a|b)*abb$", "ababa", false),
+    ("^.*=.*$", "a=b", true),
+    ("^.*=.*$", "ab", false),
+    ("^(a*b|c)*$", "aabcb", true),
+];
+
+const SEARCHES_3: [(&str, &str, bool); 28] = [
+    ("^()*$", "a", false),
+    ("^()*$", "", true),
+    ("(a*)*$", "ab", true),
+    ("^(a(b(c)))$", "abc", true),
+    ("^((a)(b))*$", "abab", true),
+    ("()", "x", true),
+    ("^(())$", "", true),
+    ("^(a)(b)$", "ab", true),
+    ("^(a)(b)$", "ba", false),
+    ("^.$", "a", true),
+    ("^.$", "\n", false),
+    ("^.$", "\r", false),
+    ("^.$", "\u{2028}", false),
+    ("^.$", "\u{2029}", false),
+    ("^.$", "\u{85}", true),
+    ("^.$", "\u{B}", true),
+    ("^.$", "\u{C}", true),
+    ("^.$", "\u{0}", true),
+    ("^.$", "\t", true),
+    ("^.$", "\u{E}", true),
+    ("^.$", "\u{2027}", true),
+    ("^.$", "\u{202A}", true),
+    ("^.$", "\u{10FFFF}", true),
+    ("^.$", "\u{1F600}", true),
+    ("^..$", "\u{1F600}", false),
+    ("^.$", "e\u{301}", false),
+    ("^.$", "", false),
+    ("\\.", "a", false),
+];
+
+const SEARCHES_4: [(&str, &str, bool); 28] = [
+    ("\\.", ".", true),
+    ("a", "xay", true),
+    ("a", "xby", false),
+    ("a", "A", false),
+    ("\u{E9}", "caf\u{E9}", true),
+    ("^\u{E9}$", "e\u{301}", false),
+    ("^\u{1F600}$", "\u{1F600}", true),
+    ("^\u{1F600}*$", "\u{1F600}\u{1F600}", true),
+    ("-", "a-b", true),
+    (
+        "^a-b,c:d=e!f#g&h~i@j%k\"l'm<n>o`p;q_r/s t$",
+        "a-b,c:d=e!f#g&h~i@j%k\"l'm<n>o`p;q_r/s t",
+        true,
+    ),
+    ("^a\nb$", "a\nb", true),
+    ("\u{0}", "a\u{0}", true),
+    ("^\\^\\$\\\\$", "^$\\", true),
+    ("^\\*\\+\\?$", "*+?", true),
+    ("^\\(\\)\\[\\]$", "()[]", true),
+    ("^\\{\\}\\|\\/$", "{}|/", true),
+    ("^/$", "/", true),
+    ("^\\/$", "/", true),
+    ("\\^a", "^a", true),
+    ("\\^a", "a", false),
+    ("a\\$", "a$b", true),
+    ("^\\.*$", "...", true),
+    ("^\\.*$", "..a", false),
+    ("^\\(a|b\\)$", "b)", true),
+    ("^\\(a|b\\)$", "(b", false),
+    ("^a+$", "", false),
+    ("^a+$", "aaa", true),
+    ("^a+$", "aab", false),
+];
+
+const SEARCHES_5: [(&str, &str, bool); 28] = [
+    ("a+", "b", false),
+    ("^(a+)+$", "aaaa", true),
+    ("^(a+)+$", "aaab", false),
+    ("^(a|b+)+c$", "abbac", true),
+    ("^(a*)+$", "", true),
+    ("^(a*)+b$", "aab", true),
+    ("^(a+)*$", "", true),
+    ("^(ab)+$", "ababab", true),
+    ("^(ab)+$", "aba", false),
+    ("^(^a)+$", "a", true),
+    ("^(a|^)+b$", "b", true),
+    ("^(x+x+)+y$", "xxxy", true),
+    ("^(x+x+)+y$", "xy", false),
+    ("^(()|a)+b$", "aab", true),
+    ("(a+)(b+)", "ab", true),
+    ("^a?$", "", true),
+    ("^a?$", "a", true),
+    ("^a?$", "aa", false),
+    ("^(ab)?c$", "abc", true),
+    ("^(ab)?c$", "ac", false),
+    ("^a?a$", "a", true),
+    ("^(a?)+$", "aaa", true),
+    ("^-?\\d+$", "-12", true),
+    ("^(a?b)?$", "ab", true),
+    ("^(a?)?$", "b", false),
+    ("^a*?$", "aa", true),
+    ("^a+?$", "", false),
+    ("^a??b$", "ab", true),
+];
+
+const SEARCHES_6: [(&str, &str, bool); 28] = [
+    ("^a??b$", "aab", false),
+    ("a*?b", "aab", true),
+    ("^(a+?)+$", "aaa", true),
+    ("^a+?a$", "a", false),
+    ("a.*?c", "abcdc", true),
+    ("^(a*?)*?$", "aab", false),
+    ("^\\d$", "0", true),
+    ("^\\d$", "9", true),
+    ("^\\d$", "/", false),
+    ("^\\d$", ":", false),
+    ("^\\d$", "\u{663}", false),
+    ("^\\D$", "0", false),
+    ("^\\D$", "a", true),
+    ("^\\D$", "\n", true),
+    ("^\\D$", "\u{1F600}", true),
+    ("\\D", "", false),
+    ("^\\w+$", "azAZ09_", true),
+    ("^\\w$", "-", false),
+    ("^\\w$", "\u{E9}", false),
+    ("^\\w$", "\u{17F}", false),
+    ("^\\w$", "\u{212A}", false),
+    ("^\\w$", "@", false),
+    ("^\\w$", "[", false),
+    ("^\\w$", "`", false),
+    ("^\\w$", "{", false),
+    ("^\\W$", "\u{E9}", true),
+    ("^\\W$", "_", false),
+    ("^\\W+$", "@[`{ /:", true),
+];
+
+const SEARCHES_7: [(&str, &str, bool); 28] = [
+    ("^\\s$", " ", true),
+    ("^\\s$", "\u{85}", false),
+    ("^\\s$", "\u{180E}", false),
+    ("^\\s$", "\u{FEFF}", true),
+    ("^\\s$", "\u{A0}", true),
+    ("^\\s$", "\u{1680}", true),
+    ("^\\s$", "\u{2000}", true),
+    ("^\\s$", "\u{200A}", true),
+    ("^\\s$", "\u{200B}", false),
+    ("^\\s$", "\u{2028}", true),
+    ("^\\s$", "\u{2029}", true),
+    ("^\\s$", "\u{202F}", true),
+    ("^\\s$", "\u{205F}", true),
+    ("^\\s$", "\u{3000}", true),
+    ("^\\s$", "\u{8}", false),
+    ("^\\s$", "\t", true),
+    ("^\\s$", "\r", true),
+    ("^\\s$", "\u{E}", false),
+    ("^\\s$", "\u{1FFF}", false),
+    ("^\\s$", "\u{202A}", false),
+    ("^\\s$", "\u{FF00}", false),
+    ("^\\S$", "\u{85}", true),
+    ("^\\S$", "\u{FEFF}", false),
+    ("^\\S+$", "ab cd", false),
+    ("^\\S*$", "hello", true),
+    ("^\\f\\n\\r\\t\\v$", "\u{C}\n\r\t\u{B}", true),
+    ("^\\n$", "n", false),
+    ("^\\t$", " ", false),
+];
+
+const SEARCHES_8: [(&str, &str, bool); 28] = [
+    ("a\\nb", "a\nb", true),
+    ("^\\r$", "\n", false),
+    ("^\\v$", "\u{C}", false),
+    ("\\bfoo\\b", "a foo b", true),
+    ("\\bfoo\\b", "afoo b", false),
+    ("\\bfoo\\b", "foo_", false),
+    ("\\bfoo\\b", "foo", true),
+    ("\\b", "", false),
+    ("\\B", "", true),
+    ("\\b", "a", true),
+    ("\\B", "a", false),
+    ("^\\B", "a", false),
+    ("a\\Bb", "ab", true),
+    ("a\\bb", "ab", false),
+    ("\\b\u{E9}", "\u{E9}", false),
+    ("\\B\u{E9}", "\u{E9}", true),
+    ("^(\\b|a)*b$", "aab", true),
+    ("(\\bb)+", "a b", true),
+    ("^(true|false)$", "true", true),
+    ("^(true|false)$", "truefalse", false),
+    ("^http(s|):\\/\\/", "https://a", true),
+    ("^#/definitions/.*$", "#/definitions/a", true),
+    ("^#/definitions/.*$", "/definitions/a", false),
+    ("^x-", "x-a", true),
+    ("^x-", "a-x-", false),
+    ("\\.(png|jpg)$", "a.jpg", true),
+    ("\\.(png|jpg)$", "a.jpg\n", false),
+    ("^refs/(heads|tags)/", "refs/tags/v1", true),
+];
+
+// No patterns of ECMA-262 in Unicode mode.
+const NO_PATTERNS_1: [&str; 28] = [
+    "*", "a**", "|*", "(*a)", "^*", "$*", "+", "?", "a+*", "a*+", "a???", "a?+", "a*??", "^+",
+    "$?", "\\b*", "\\B+", "(?)", "(+a)", "|?", "\\c", "\\x", "\\u", "\\e", "\\z", "\\h", "(", ")",
+];
+
+const NO_PATTERNS_2: [&str; 27] = [
+    "(a", "a)", "(a))", "((a)", "\\", "a\\", "\\a", "\\-", "\\ ", "\\_", "\\\"", "\\\u{E9}",
+    "\\}a\\", "[", "a[", "{", "a{", "}", "a}", "]", "a]", "(?", "(?a)", "{2,1}", "a{", "[z-a]",
+    "a{2,1}",
+];
+
+// Patterns of ECMA-262 that are not taken here.
+const NOT_TAKEN_1: [&str; 22] = [
+    "a{2}", "a{2,}", "a{2,3}", "[a]", "[^a]", "[]", "[a-z]", "[\\d]", "\\0", "\\cA", "\\x41",
+    "\\u0041", "\\u{41}", "\\p{Lu}", "\\P{Lu}", "(?:a)", "(?<n>a)", "(?=a)", "(?!a)", "(?<=a)",
+    "(?<!a)", "(a)\\1",
+];
+
+#[test]
+fn patterns_are_found(rt: HostRuntime) -> Result<(), Fail> {
+    let alloc = rt.alloc();
+    for rows in [
+        &SEARCHES_1[..],
+        &SEARCHES_2[..],
+        &SEARCHES_3[..],
+        &SEARCHES_4[..],
+        &SEARCHES_5[..],
+        &SEARCHES_6[..],
+        &SEARCHES_7[..],
+        &SEARCHES_8[..],
+    ] {
+        for (pattern, text, want) in rows {
+            assert_eq!(rt;
+                ask(alloc, &EcmaPatterns, pattern, text),
+                Ok(Ok(*want)),
+                "{pattern} on {text:?}"
+            );
+        }
+    }
+    Ok(())
+}
+
+fn is_refused(alloc: Global, pattern: &str) -> bool {
+    matches!(
+        EcmaPatterns.build(alloc, pattern),
+        Err(BuildRefusal::Pattern)
+    )
+}
+
+#[test]
+fn other_texts_are_not_taken(rt: HostRuntime) {
+    let alloc = rt.alloc();
+    for rows in [&NO_PATTERNS_1[..], &NO_PATTERNS_2[..], &NOT_TAKEN_1[..]] {
+        for pattern in rows {
+            assert!(rt; is_refused(alloc, pattern), "{pattern}");
+        }
+    }
+}
+
+// Groups in one another.
+fn nested(alloc: Global, depth: usize) -> Result<String, AllocError> {
+    format!(in alloc;
+        "{}a{}",
+        "(".repeat(alloc, depth)?,
+        ")+".repeat(alloc, depth)?
+    )
+}
+
+#[test]
+fn limits_are_exact(rt: HostRuntime) -> Result<(), Fail> {
+    let alloc = rt.alloc();
+    let deepest = nested(alloc, 250)?;
+    assert_eq!(rt;
+        ask(alloc, &EcmaPatterns, deepest.as_str(), "a"),
+        Ok(Ok(true))
+    );
+    assert!(rt; is_refused(alloc, nested(alloc, 251)?.as_str()));
+    let many = "x".repeat(alloc, 1000)?;
+    assert_eq!(rt;
+        ask(alloc, &EcmaPatterns, "^(x+x+)+y", many.as_str()),
+        Ok(Ok(false))
+    );
+    let beside = "(a)".repeat(alloc, 300)?;
+    assert_eq!(rt;
+        ask(alloc, &EcmaPatterns, beside.as_str(), "a"),
+        Ok(Ok(false))
+    );
+    let longest = "é".repeat(alloc, 2000)?;
+    assert_eq!(rt;
+        ask(alloc, &EcmaPatterns, longest.as_str(), longest.as_str()),
+        Ok(Ok(true))
+    );
+    assert!(rt; is_refused(alloc, "é".repeat(alloc, 2001)?.as_str()));
+    assert!(rt; is_refused(alloc, "(".repeat(alloc, 3000)?.as_str()));
+    Ok(())
+}
+
+fn is_match_or_memory(alloc: Global, engine: &EcmaMatcher, text: &str, ample: bool) -> bool {
+    match engine.is_match(alloc, text) {
+        Ok(found) => found == ample,
+        Err(failure) => failure == EngineFailure::Memory,
+    }
+}
+
+#[test]
+fn patterns_under_refusal(rt: HostRuntime) {
+    let alloc = rt.alloc();
+    for (pattern, text, ample) in [
+        ("^(a|b)*\\.c$", "ab.c", true),
+        ("^((a+?)b|.)*$", "aab\n", false),
+        ("^\\S\\d?\\b\\t", "a1\t", true),
+        ("", "", true),
+    ] {
+        let right = match EcmaPatterns.build(alloc, pattern) {
+            Ok(engine) => is_match_or_memory(alloc, &engine, text, ample),
+            Err(refusal) => refusal == BuildRefusal::Memory,
+        };
+        assert!(rt; right, "at {pattern}");
+    }
+    for pattern in ["(a+|b?", "a**", "\\w\\s{2}"] {
+        let right = match EcmaPatterns.build(alloc, pattern) {
+            Ok(_) => false,
+            Err(_) => true,
+        };
+        assert!(rt; right, "at {pattern}");
+    }
+}
