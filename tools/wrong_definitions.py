@@ -34,24 +34,25 @@ class Broken(Exception):
     """A stored edit that cannot be judged: its text is not there, or what it makes does not compile."""
 
 
-def crates_below(name):
-    """The crates of this repository that a crate stands on, itself among them."""
-    lines = (line.split("#")[0].split(":") for line in (TOP / "crates.txt").read_text().splitlines())
-    stands_on = {line[0].split()[0]: line[1].split() for line in lines if len(line) == 2}
-    found, open_names = set(), [name]
+def lines_below(name):
+    """The lines of crates.txt of a crate and of those that it stands on, by their names."""
+    lines = [line.split("#")[0].strip() for line in (TOP / "crates.txt").read_text().splitlines()]
+    by_name = {line.split(":")[0].split()[0]: line for line in lines if line}
+    found, open_names = {}, [name]
     while open_names:
         crate = open_names.pop()
-        if crate in stands_on and crate not in found:
-            found.add(crate)
-            open_names += stands_on[crate]
-    return sorted(found)
+        if crate in by_name and crate not in found:
+            found[crate] = by_name[crate]
+            open_names += by_name[crate].split(":")[1].split()
+    return found
 
 
 def scratch_copy(folder, crate):
     """A copy of what a crate needs, with what its checks have kept. Answers the crate's folder there."""
-    for name in ("crates.txt", "HANDLES"):
-        shutil.copy2(TOP / name, folder / name)
-    for name in crates_below(crate):
+    lines = lines_below(crate)
+    shutil.copy2(TOP / "HANDLES", folder)
+    (folder / "crates.txt").write_text("".join(f"{line}\n" for line in lines.values()))
+    for name in lines:
         subprocess.run(["cp", "-a", TOP / "crates" / name, folder / "crates"], check=True)
     return folder / "crates" / crate
 

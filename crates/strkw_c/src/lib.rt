@@ -1,5 +1,5 @@
 //! The checks and the answers for callers that are not Rattle: C, and what calls C. A text is a pointer and a count of
-//! bytes, and bytes that are not UTF-8 are no text. The header `include/strkw.h` declares each export.
+//! bytes, and bytes that are not UTF-8 are no text. The header `bindings/strkw.h` declares each export.
 #![tactic(auto)]
 
 mod answers;
