@@ -4,6 +4,7 @@
 
 mod characters;
 mod coding;
+mod forms;
 mod label;
 mod plain_parts;
 mod time_net;
@@ -17,10 +18,11 @@ fn main(rt: HostRuntime) -> io::Result<()> {
         match topic.as_str() {
             "characters" => characters::measure(rt)?,
             "coding" => coding::measure(rt)?,
+            "forms" => forms::measure(rt)?,
             "label" => label::measure(rt)?,
             "time_net" => time_net::measure(rt)?,
             "uri" => uri::measure(rt)?,
-            _ => println!(rt; "topics: characters, coding, label, time_net, uri")?,
+            _ => println!(rt; "topics: characters, coding, forms, label, time_net, uri")?,
         }
     }
     Ok(())

@@ -24,7 +24,7 @@ HasFirstBlock abc b = (p : List ℕ) × (q : List ℕ) × FirstBlock abc (code32
 no_bytes : AreBytes []
 no_bytes i = omega arith
 
-five_bytes : (a b c d e : ℕ) → a < 256 → b < 256 → c < 256 → d < 256 → e < 256 → AreBytes (a ∷ b ∷ c ∷ d ∷ e ∷ [])
+pub five_bytes : (a b c d e : ℕ) → a < 256 → b < 256 → c < 256 → d < 256 → e < 256 → AreBytes (a ∷ b ∷ c ∷ d ∷ e ∷ [])
 five_bytes a b c d e fa fb fc fd fe zero = fa
 five_bytes a b c d e fa fb fc fd fe (suc zero) = fb
 five_bytes a b c d e fa fb fc fd fe (suc (suc zero)) = fc

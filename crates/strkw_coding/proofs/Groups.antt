@@ -3,7 +3,7 @@ use Rattle.std.proofs.Common.{◌≡◌, ℕ, ◌+◌, ◌-◌, ◌*◌, ◌/◌
 use Rattle.std.specs.Prelude.{position}
 use Rattle.std.proofs.lemmas.Bool.{and_parts, eqb-true, ltb-true, not-true}
 use Rattle.strkw_coding.specs.Rfc4648.{AreBytes}
-use Rattle.strkw_coding.specs.Blocks.{code32, passes_below, value_of, is_letter_at, is_alphabet, is_table, group_len}
+use Rattle.strkw_coding.specs.Blocks.{code32, passes_below, value_of, is_letter_at, is_alphabet, is_table, group_len, block_bytes}
 use Rattle.strkw_coding.proofs.Passes.{passes_below-at}
 use Rattle.strkw_coding.proofs.Codes32.{code32-1, code32-2, code32-3, code32-4, code32-5}
 
@@ -20,7 +20,7 @@ unfolding value_of
 letter_value abc d alpha lt = eqb-true _ _ (and_parts _ _ (letter_at abc d alpha lt)).0
 
 -- a letter is no padding
-letter_not_padding : (abc : List ℕ) (d : ℕ) → is_alphabet abc ≡ true → d < 32 → (slice_index abc d == 61) ≡ false
+pub letter_not_padding : (abc : List ℕ) (d : ℕ) → is_alphabet abc ≡ true → d < 32 → (slice_index abc d == 61) ≡ false
 letter_not_padding abc d alpha lt = not-true _ (and_parts _ _ (letter_at abc d alpha lt)).1
 
 -- padding counts as 0
@@ -29,16 +29,10 @@ unfolding is_alphabet value_of
 padding_value abc alpha =
     eqb-true _ _ (and_parts (passes_below (is_letter_at abc) 32) (unwrap_or (position (λ x. x == 61) abc) 0 == 0) alpha).1
 
--- the five bytes of eight values
-abbrev pub group_bytes : ℕ → ℕ → ℕ → ℕ → ℕ → ℕ → ℕ → ℕ → List ℕ
-group_bytes v0 v1 v2 v3 v4 v5 v6 v7 =
-    (v0 * 8 + v1 / 4) ∷ (v1 % 4 * 64 + v2 * 2 + v3 / 16) ∷ (v3 % 16 * 16 + v4 / 2) ∷ (v4 % 2 * 128 + v5 * 4 + v6 / 8) ∷ (v6 % 8 * 32 + v7) ∷ []
-
 -- the group of a block
 pub record IsGroup (abc block p : List ℕ) : Type 0 where
   pub len : group_len block ≡ length p
-  pub bytes : group_bytes (value_of abc (slice_index block 0)) (value_of abc (slice_index block 1)) (value_of abc (slice_index block 2)) (value_of abc (slice_index block 3))
-      (value_of abc (slice_index block 4)) (value_of abc (slice_index block 5)) (value_of abc (slice_index block 6)) (value_of abc (slice_index block 7)) ≡ p ++ replicate (5 - length p) 0
+  pub bytes : block_bytes abc block ≡ p ++ replicate (5 - length p) 0
 
 same_five : {a b c d e v w x y z : ℕ} → a ≡ v → b ≡ w → c ≡ x → d ≡ y → e ≡ z → a ∷ b ∷ c ∷ d ∷ e ∷ [] ≡ v ∷ w ∷ x ∷ y ∷ z ∷ []
 same_five p q r s t = rw (p, q, r, s, t) refl

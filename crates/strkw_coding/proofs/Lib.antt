@@ -1,11 +1,13 @@
 pub mod Encoders
 pub mod Passes
+pub mod Passing
 pub mod Base16
 pub mod Codes32
 pub mod ByGroups
 pub mod Groups
 pub mod GroupCodes
 pub mod FirstBlocks
+pub mod FullBlocks
 pub mod Once32
 pub mod Decoding
 pub mod EncodesOnce

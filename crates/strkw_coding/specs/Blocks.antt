@@ -1,6 +1,6 @@
 -- What the private contracts of the code for base32 and base32hex speak of: blocks of eight
 -- characters, which stand for one to five bytes. None of it stands in a public contract.
-use Rattle.std.specs.Prelude.{◌≡◌, ℕ, zero, suc, ◌<◌, ◌≤◌, Bool, true, if◌then◌else◌, List, [], ◌++◌, length, drop, slice_index, ◌&&◌, ◌==◌, nat_lt, unwrap_or, position, not, take}
+use Rattle.std.specs.Prelude.{◌≡◌, ℕ, zero, suc, ◌+◌, ◌*◌, ◌/◌, ◌%◌, ◌<◌, ◌≤◌, Bool, true, if◌then◌else◌, List, [], ◌∷◌, ◌++◌, length, drop, slice_index, ◌&&◌, ◌==◌, nat_lt, unwrap_or, position, not, take}
 use Rattle.std.specs.Str.{byte}
 use Rattle.strkw_coding.specs.Rfc4648.{code_by, AreBytes}
 
@@ -46,6 +46,21 @@ group_len block =
     else if slice_index block 5 == byte "=" then 3
     else if slice_index block 7 == byte "=" then 4
     else 5
+
+-- the five bytes of eight values
+abbrev pub group_bytes : ℕ → ℕ → ℕ → ℕ → ℕ → ℕ → ℕ → ℕ → List ℕ
+group_bytes v0 v1 v2 v3 v4 v5 v6 v7 =
+    (v0 * 8 + v1 / 4) ∷ (v1 % 4 * 64 + v2 * 2 + v3 / 16) ∷ (v3 % 16 * 16 + v4 / 2) ∷ (v4 % 2 * 128 + v5 * 4 + v6 / 8) ∷ (v6 % 8 * 32 + v7) ∷ []
+
+-- those of the characters of a block, each read as a letter
+abbrev pub block_bytes : List ℕ → List ℕ → List ℕ
+block_bytes abc block =
+    group_bytes (value_of abc (slice_index block 0)) (value_of abc (slice_index block 1)) (value_of abc (slice_index block 2)) (value_of abc (slice_index block 3))
+    (value_of abc (slice_index block 4)) (value_of abc (slice_index block 5)) (value_of abc (slice_index block 6)) (value_of abc (slice_index block 7))
+
+-- the character is a letter
+abbrev pub is_letter : List ℕ → ℕ → Bool
+is_letter abc c = nat_lt (value_of abc c) 32 && slice_index abc (value_of abc c) == c
 
 -- the block is the code of the first len of five bytes
 pub record IsBlockOf (abc block bytes : List ℕ) (len : ℕ) : Type 0 where

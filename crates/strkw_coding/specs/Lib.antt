@@ -3,6 +3,7 @@ pub mod Tables
 pub mod Groups
 pub mod Blocks
 pub mod Json
+pub mod Passing
 pub mod Names
 pub mod Laws
 pub mod DecodeTexts

@@ -75,7 +75,7 @@ impl Codec {
     /// Whether a text encodes some bytes: letters of the encoding alone, the spare bits of the last one
     /// zero, and `=` to a whole block. The empty text is the encoding of no bytes.
     ///
-    /// `Err` is for want of memory. The encodings of fewer than six bits a letter are always answered.
+    /// `Err` is out of memory. The encodings of fewer than six bits a letter are always answered.
     pub fn is_encoded(self, alloc: Global, text: &str) -> Result<bool, AllocError>
         ensures encoded { IfOk result (λ b. IsTrue b ↔ IsEncoding self text.now) }
         ensures answers { letter_bits self < 6 → IsOk result }

@@ -6,14 +6,14 @@ ghost use Rattle.strkw_coding.specs.Rfc4648.{IsEncoding, IsTextOf, EncodesNoText
 use crate::codec::{Codec, DecodeError};
 use std::alloc::{AllocError, Global};
 
-/// Whether a text encodes some bytes by base64 (RFC 4648, section 4); `Err` is for want of memory.
+/// Whether a text encodes some bytes by base64 (RFC 4648, section 4); `Err` is out of memory.
 pub fn is_base64(alloc: Global, text: &str) -> Result<bool, AllocError>
     ensures encoded { IfOk result (λ b. IsTrue b ↔ IsEncoding Codec.Base64 text.now) }
 {
     Codec::Base64.is_encoded(alloc, text)
 }
 
-/// Whether a text encodes some bytes by base64url (RFC 4648, section 5); `Err` is for want of memory.
+/// Whether a text encodes some bytes by base64url (RFC 4648, section 5); `Err` is out of memory.
 pub fn is_base64url(alloc: Global, text: &str) -> Result<bool, AllocError>
     ensures encoded { IfOk result (λ b. IsTrue b ↔ IsEncoding Codec.Base64Url text.now) }
 {

@@ -1,9 +1,10 @@
 //! The media type that is known without the caller's help.
 
 ghost use Rattle.std.specs.Prelude.{◌≡◌, ◌↔◌, IfOk, IsTrue};
-ghost use Rattle.strkw_coding.specs.Json.{IsJson, IsOfMediaType};
+ghost use Rattle.strkw_coding.specs.Json.{IsOfMediaType};
 ghost use Rattle.strkw_coding.specs.Names.{media_type_name};
 
+use crate::json_check::is_json;
 use std::alloc::{AllocError, Global};
 
 /// A media type that is known without the caller's help.
@@ -33,29 +34,12 @@ impl BuiltinMediaType {
         }
     }
 
-    /// Whether a text is of the media type. `Err` is for want of memory.
+    /// Whether a text is of the media type. `Err` is out of memory.
     pub fn accepts(self, alloc: Global, text: &str) -> Result<bool, AllocError>
         ensures { IfOk result (λ b. IsTrue b ↔ IsOfMediaType self text.now) }
     {
         match self {
             BuiltinMediaType::Json => is_json(alloc, text),
-        }
-    }
-}
-
-/// Whether a text is JSON, as `serde_json` reads it (arrays and objects nested 127 deep at most).
-/// `Err` is for want of memory.
-pub fn is_json(alloc: Global, text: &str) -> Result<bool, AllocError>
-    ensures { IfOk result (λ b. IsTrue b ↔ IsJson text.now) }
-{
-    match serde_json::Value::from_str(alloc, text) {
-        Ok(_) => Ok(true),
-        Err(error) => {
-            if error.is_memory() {
-                Err(AllocError)
-            } else {
-                Ok(false)
-            }
         }
     }
 }

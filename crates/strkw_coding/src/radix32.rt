@@ -1,8 +1,9 @@
 //! base32 and base32hex: five bits a letter, blocks of eight letters. Written once, over the alphabet.
 
 ghost use Rattle.std.specs.Prelude.{◌≡◌, ◌↔◌, ◌<◌, ◌≤◌, ◌-◌, ◌++◌, ℕ, List, length, take, drop, replicate, slice_index, if◌then◌else◌, IsTrue, IfOk, IfSome, IsSomeAnd, MatchOption};
+ghost use Rattle.std.specs.List.{list_all};
 ghost use Rattle.std.specs.Str.{byte};
-ghost use Rattle.strkw_coding.specs.Blocks.{BeginsWithBlock, IsBlockOf, IsCode32, code32, group_len, is_alphabet, is_table, value_of};
+ghost use Rattle.strkw_coding.specs.Blocks.{BeginsWithBlock, IsBlockOf, IsCode32, block_bytes, code32, group_len, is_alphabet, is_letter, is_table, value_of};
 ghost use Rattle.strkw_coding.specs.Rfc4648.{AreBytes, IsEncoding, Reads};
 
 use crate::codec::Codec;
@@ -91,7 +92,7 @@ impl Alphabet {
     fn is_code(&self, text: &[u8]) -> bool
         ensures { IsTrue result ↔ IsCode32 self.now.letters text.now }
     {
-        let mut rest = text;
+        let mut rest = self.after_full_blocks(text);
         while !rest.is_empty() {
             let Some((_, after)) = self.first_block(rest) else {
                 return false;
@@ -99,6 +100,41 @@ impl Alphabet {
             rest = after;
         }
         true
+    }
+
+    // What follows the blocks of letters alone at the front, each the code of five bytes.
+    fn after_full_blocks<'a>(&self, text: &'a [u8]) -> &'a [u8]
+        ensures { IsCode32 self.now.letters text.now ↔ IsCode32 self.now.letters result.now }
+    {
+        let mut rest = text;
+        while rest.len() >= 8 {
+            let (block, after) = rest.split_at(8);
+            if !self.are_letters(block) {
+                break;
+            }
+            rest = after;
+        }
+        rest
+    }
+
+    // Whether each character is a letter. It reads all of them, with no branch between.
+    #[inline(always)]
+    fn are_letters(&self, characters: &[u8]) -> bool
+        ensures { result ≡ list_all (is_letter self.now.letters) characters.now }
+    {
+        let mut letters = true;
+        for character in characters {
+            letters &= self.is_letter(*character);
+        }
+        letters
+    }
+
+    #[inline(always)]
+    fn is_letter(&self, character: u8) -> bool
+        ensures { result ≡ is_letter self.now.letters character }
+    {
+        let place = self.value_of(character);
+        place < 32 && self.letters[place] == character
     }
 
     // The bytes that a text encodes by these letters.
@@ -139,8 +175,8 @@ impl Alphabet {
     }
 
     // What a block stands for: one to five bytes whose code it is. Whatever the characters are, they are
-    // read as letters; that they were, with the padding in place and the spare bits zero, is seen by encoding
-    // what was read.
+    // read as letters. Where they all were, the block is a code; else whether the padding is in place and the
+    // spare bits are zero is seen by encoding what was read.
     fn decode_block(&self, block: &[u8]) -> Option<Group>
         requires block { length block.now ≡ 8 }
         ensures found { IfSome result (λ g. IsBlockOf self.now.letters block.now g.bytes g.len) }
@@ -148,6 +184,9 @@ impl Alphabet {
             → IsSomeAnd result (λ g. take g.len g.bytes ≡ p) }
     {
         let group = self.group_of(block);
+        if self.are_letters(block) {
+            return Some(group);
+        }
         let bytes = group.bytes;
         let len = group.len;
         if !is_zero(&bytes[len..]) {
@@ -164,6 +203,8 @@ impl Alphabet {
     // What a block stands for, if it is a code.
     fn group_of(&self, block: &[u8]) -> Group
         requires block { length block.now ≡ 8 }
+        ensures value { result.bytes ≡ block_bytes self.now.letters block.now }
+        ensures len { result.len ≡ group_len block.now }
         ensures some { 0 < result.len }
         ensures few { result.len ≤ 5 }
         ensures five { length result.bytes ≡ 5 }
@@ -212,6 +253,7 @@ impl Alphabet {
     }
 
     // The place of a letter, or 0 for a character that is none.
+    #[inline(always)]
     fn value_of(&self, character: u8) -> usize
         ensures value { result ≡ value_of self.now.letters character }
         ensures below { result < 32 }

@@ -1,3 +1,4 @@
+mod Solid
 pub mod Items
 pub mod Runs
 pub mod Alternatives

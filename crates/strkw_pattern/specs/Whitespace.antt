@@ -1,6 +1,6 @@
 -- White space of ECMA-262: the characters of `\s`, which are those of WhiteSpace (section 12.2) and of LineTerminator
 -- (section 12.3). U+0085 and U+180E are none.
-use Rattle.std.specs.Prelude.{ℕ, Bool, ◌==◌, ◌||◌}
+use Rattle.std.specs.Prelude.{ℕ, Bool, nat_lt, ◌==◌, ◌||◌, ◌&&◌}
 use Rattle.strkw_text.specs.Characters.{is_from_to}
 
 abbrev pub is_ecma_whitespace : ℕ → Bool
@@ -8,3 +8,7 @@ is_ecma_whitespace c =
     is_from_to 0x9 0xD c || c == 0x20 || c == 0xA0 || c == 0x1680
     || is_from_to 0x2000 0x200A c || c == 0x2028 || c == 0x2029 || c == 0x202F
     || c == 0x205F || c == 0x3000 || c == 0xFEFF
+
+-- an ASCII character past the space, none of which is white space; for private clauses
+abbrev pub is_solid : ℕ → Bool
+is_solid c = nat_lt 0x20 c && nat_lt c 0x80

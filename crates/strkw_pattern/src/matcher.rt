@@ -29,6 +29,7 @@ impl RegexEngine for LiteralMatcher {
 
     ghost outcome = { literal_outcome };
 
+    #[inline]
     fn is_match(&self, _alloc: Global, text: &str) -> Result<bool, EngineFailure>
         ensures answer { IsAnswer (literal_outcome self.now (chars text.now)) result }
         ensures always { IsOk result }
@@ -42,10 +43,11 @@ impl RegexEngine for LiteralMatcher {
     }
 }
 
+#[inline]
 fn begins_with(text: &str, literal: &str) -> bool
     ensures { result ≡ starts_with nat_eq text.now literal.now }
 {
-    text.starts_with(literal)
+    text.as_bytes().starts_with(literal.as_bytes())
 }
 
 fn is_among(alternatives: &[String], text: &str) -> bool

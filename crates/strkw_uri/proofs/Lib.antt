@@ -13,6 +13,7 @@ pub mod RelativePointers
 pub mod Names
 pub mod Variables
 pub mod Expressions
+pub mod TemplateRuns
 pub mod AsciiRuns
 pub mod PartBytes
 pub mod Blocks

@@ -75,7 +75,7 @@ fn long_run(bytes: &[u8], part: Part) -> usize
 fn ascii_run(bytes: &[u8], part: Part) -> usize
     ensures { IsRun (goes_on (is_part_char Rfc3986 part) bytes.now) 0 (length bytes.now) result }
 {
-    if bytes.len() < LONG {
+    if bytes.len() < LONG || bytes[0] >= 128 {
         plain::run(bytes, part, 0, bytes.len())
     } else {
         long_run(bytes, part)

@@ -6,6 +6,7 @@ ghost use Rattle.strkw_text.specs.Fronts.{StartsWith, StartsWithNo};
 ghost use Rattle.strkw_uri.specs.Scan.{InVarspec};
 ghost use Rattle.strkw_uri.specs.Template.{is_literal_char, is_varchar, Varchar, FurtherVarchar, MaxLength, ModifierLevel4, Varspec, VariableList, OperatorAndVariables, InExpression, LiteralOrExpression, IsUriTemplate};
 
+use crate::part::{Part, Syntax, after_ascii};
 use crate::scan::{
     Class, after_one, after_optional, after_two_hexdigits, first_char, is_end, split_at, strip,
 };
@@ -169,7 +170,8 @@ pub fn is_valid_uri_template(text: &str) -> bool
 {
     let mut rest = text;
     while let Some(after) = after_literal_or_expression(rest) {
-        rest = after;
+        // Literals are mostly characters of a query, whose runs are read by blocks.
+        rest = after_ascii(after, Syntax::Rfc3986, Part::QueryChar);
     }
     is_end(rest)
 }

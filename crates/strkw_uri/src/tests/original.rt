@@ -1,10 +1,7 @@
 //! The test cases of the Rust crate jsonschema 0.60.2 (MIT licence) for these grammars, the negative ones of
 //! uritemplate-test that it takes among them.
-use crate::{
-    is_valid_json_pointer, is_valid_relative_json_pointer, is_valid_uri, is_valid_uri_template,
-};
 
-const TEMPLATES: [&str; 48] = [
+pub(super) const TEMPLATES: [&str; 48] = [
     "",
     "http://example.com/",
     "no-template-here",
@@ -55,7 +52,7 @@ const TEMPLATES: [&str; 48] = [
     "a'b",
 ];
 
-const NO_TEMPLATES: [&str; 31] = [
+pub(super) const NO_TEMPLATES: [&str; 31] = [
     "{",
     "}",
     "{}",
@@ -89,7 +86,7 @@ const NO_TEMPLATES: [&str; 31] = [
     "hello<angle",
 ];
 
-const NO_TEMPLATES_EITHER: [&str; 30] = [
+pub(super) const NO_TEMPLATES_EITHER: [&str; 30] = [
     "hello\\back",
     "hello^caret",
     "hello`backtick",
@@ -123,20 +120,7 @@ const NO_TEMPLATES_EITHER: [&str; 30] = [
     "/resolution{?x, y}",
 ];
 
-#[test]
-fn templates_of_the_original(rt: HostRuntime) {
-    for text in TEMPLATES {
-        assert!(rt; is_valid_uri_template(text), "{text:?}");
-    }
-    for text in NO_TEMPLATES {
-        assert!(rt; !is_valid_uri_template(text), "{text:?}");
-    }
-    for text in NO_TEMPLATES_EITHER {
-        assert!(rt; !is_valid_uri_template(text), "{text:?}");
-    }
-}
-
-const POINTERS: [&str; 8] = [
+pub(super) const POINTERS: [&str; 8] = [
     "",
     "/",
     "/foo",
@@ -147,26 +131,17 @@ const POINTERS: [&str; 8] = [
     "/foo//bar",
 ];
 
-const NO_POINTERS: [&str; 4] = ["foo", "/foo/~", "/foo/~2", "/foo\x7E"];
+pub(super) const NO_POINTERS: [&str; 4] = ["foo", "/foo/~", "/foo/~2", "/foo\x7E"];
 
-const RELATIVE_POINTERS: [&str; 8] = ["0", "1", "10", "0#", "1#", "0/", "1/foo", "10/foo/bar"];
+pub(super) const RELATIVE_POINTERS: [&str; 8] = [
+    "0",
+    "1",
+    "10",
+    "0#",
+    "1#",
+    "0/",
+    "1/foo",
+    "10/foo/bar",
+];
 
-const NO_RELATIVE_POINTERS: [&str; 8] = ["", "-1", "01", "1.5", "a", "1a", "1#/", "1/~"];
-
-#[test]
-fn pointers_of_the_original(rt: HostRuntime) {
-    for text in POINTERS {
-        assert!(rt; is_valid_json_pointer(text), "{text:?}");
-    }
-    for text in NO_POINTERS {
-        assert!(rt; !is_valid_json_pointer(text), "{text:?}");
-    }
-    for text in RELATIVE_POINTERS {
-        assert!(rt; is_valid_relative_json_pointer(text), "{text:?}");
-    }
-    for text in NO_RELATIVE_POINTERS {
-        assert!(rt; !is_valid_relative_json_pointer(text), "{text:?}");
-    }
-    assert!(rt; is_valid_uri("https://phillip.com"));
-    assert!(rt; !is_valid_uri("redis"));
-}
+pub(super) const NO_RELATIVE_POINTERS: [&str; 8] = ["", "-1", "01", "1.5", "a", "1a", "1#/", "1/~"];

@@ -18,7 +18,7 @@ pub(super) enum Grammar {
 }
 
 impl Grammar {
-    fn derives(self, text: &str) -> bool {
+    pub(super) fn derives(self, text: &str) -> bool {
         match self {
             Grammar::Uri => is_valid_uri(text),
             Grammar::UriReference => is_valid_uri_reference(text),

@@ -46,26 +46,6 @@ const NARROW_PLACES_OF_URIS: [Place; 18] = [
     ("a:#%9", "", Rule::Hexdig, ""),
 ];
 
-#[test]
-fn ascii_in_uris(rt: HostRuntime) -> Result<(), Fail> {
-    let mut text = String::new(rt.alloc());
-    for place in PLACES_OF_URIS {
-        for letters in LETTERS {
-            let uri = holds_ascii(&mut text, Grammar::Uri, place, letters)?;
-            assert!(rt; uri, "uri {text:?}");
-            let iri = holds_ascii(&mut text, Grammar::Iri, place, letters)?;
-            assert!(rt; iri, "iri {text:?}");
-        }
-    }
-    for place in NARROW_PLACES_OF_URIS {
-        let uri = holds_ascii(&mut text, Grammar::Uri, place, "")?;
-        assert!(rt; uri, "uri {text:?}");
-        let iri = holds_ascii(&mut text, Grammar::Iri, place, "")?;
-        assert!(rt; iri, "iri {text:?}");
-    }
-    Ok(())
-}
-
 const PLACES_OF_REFERENCES: [Place; 12] = [
     ("//b", "c@d", Rule::Userinfo, "/?#"),
     ("//b", "c", Rule::RegName, "@/?#"),
@@ -101,96 +81,6 @@ const NARROW_PLACES_OF_REFERENCES: [Place; 8] = [
         "",
     ),
 ];
-
-#[test]
-fn ascii_in_references(rt: HostRuntime) -> Result<(), Fail> {
-    let mut text = String::new(rt.alloc());
-    for place in PLACES_OF_REFERENCES {
-        for letters in LETTERS {
-            let uri = holds_ascii(&mut text, Grammar::UriReference, place, letters)?;
-            assert!(rt; uri, "uri reference {text:?}");
-            let iri = holds_ascii(&mut text, Grammar::IriReference, place, letters)?;
-            assert!(rt; iri, "iri reference {text:?}");
-        }
-    }
-    for place in NARROW_PLACES_OF_REFERENCES {
-        let uri = holds_ascii(&mut text, Grammar::UriReference, place, "")?;
-        assert!(rt; uri, "uri reference {text:?}");
-        let iri = holds_ascii(&mut text, Grammar::IriReference, place, "")?;
-        assert!(rt; iri, "iri reference {text:?}");
-    }
-    Ok(())
-}
-
-// What stands before the character and after it, and whether it is in the query, where `iprivate` stands.
-const PARTS_OF_IRIS: [(&str, &str, bool); 8] = [
-    ("a://b", "c@d", false),
-    ("a://b", "c", false),
-    ("a://b/c", "d", false),
-    ("a:/b", "c", false),
-    ("a:b", "c", false),
-    ("a:", "b", false),
-    ("a:?b", "c", true),
-    ("a:#b", "c", false),
-];
-
-const PARTS_OF_REFERENCES: [(&str, &str, bool); 8] = [
-    ("//b", "c@d", false),
-    ("//b", "c", false),
-    ("//b/c", "d", false),
-    ("/b", "c", false),
-    ("b", "c", false),
-    ("", "b/c:d", false),
-    ("?b", "c", true),
-    ("#b", "c", false),
-];
-
-// Where no character past ASCII stands.
-const ASCII_PARTS: [(&str, &str); 6] = [
-    ("", "a:b"),
-    ("a", "b:c"),
-    ("a://b:8", "0"),
-    ("a://[v1.b", "c]"),
-    ("a://[v", "1.b]"),
-    ("a://[v1", "2.b]"),
-];
-
-#[test]
-fn ranges_in_iris(rt: HostRuntime) -> Result<(), Fail> {
-    let mut text = String::new(rt.alloc());
-    for (before, after, query) in PARTS_OF_IRIS {
-        let place = (before, after);
-        for letters in LETTERS {
-            let wide = [true, query, false];
-            let iri = holds_past_ascii(&mut text, Grammar::Iri, place, letters, wide)?;
-            assert!(rt; iri, "iri {text:?}");
-            let uri = holds_past_ascii(&mut text, Grammar::Uri, place, letters, [false; 3])?;
-            assert!(rt; uri, "uri {text:?}");
-        }
-    }
-    for place in ASCII_PARTS {
-        let iri = holds_past_ascii(&mut text, Grammar::Iri, place, "", [false; 3])?;
-        assert!(rt; iri, "iri {text:?}");
-    }
-    Ok(())
-}
-
-#[test]
-fn ranges_in_references(rt: HostRuntime) -> Result<(), Fail> {
-    let mut text = String::new(rt.alloc());
-    for (before, after, query) in PARTS_OF_REFERENCES {
-        let place = (before, after);
-        for letters in LETTERS {
-            let wide = [true, query, false];
-            let iri = holds_past_ascii(&mut text, Grammar::IriReference, place, letters, wide)?;
-            assert!(rt; iri, "iri reference {text:?}");
-            let none = [false; 3];
-            let uri = holds_past_ascii(&mut text, Grammar::UriReference, place, letters, none)?;
-            assert!(rt; uri, "uri reference {text:?}");
-        }
-    }
-    Ok(())
-}
 
 const PLACES_OF_TEMPLATES: [Place; 27] = [
     // beside the literals of RFC 6570 this crate's apostrophe
@@ -228,89 +118,173 @@ const PLACES_OF_TEMPLATES: [Place; 27] = [
     ("{a.%f", "}", Rule::Hexdig, ""),
 ];
 
-#[test]
-fn places_of_templates(rt: HostRuntime) -> Result<(), Fail> {
-    let mut text = String::new(rt.alloc());
-    for place in PLACES_OF_TEMPLATES {
-        let ascii = holds_ascii(&mut text, Grammar::UriTemplate, place, "")?;
-        assert!(rt; ascii, "{text:?}");
-    }
-    // Every character past ASCII is a literal here, and none stands in an expression.
-    for (before, after, derived) in [
-        ("b", "{c}", true),
-        ("{", "}", false),
-        ("{", "a}", false),
-        ("{a", "}", false),
-        ("{a:", "}", false),
-    ] {
-        let place = (before, after);
-        let wide = holds_past_ascii(&mut text, Grammar::UriTemplate, place, "", [derived; 3])?;
-        assert!(rt; wide, "{text:?}");
-    }
-    Ok(())
-}
-
-const PLACES_OF_POINTERS: [(Grammar, Place); 25] = [
+const PLACES_OF_POINTERS: [Place; 7] = [
     // json-pointer = *( "/" reference-token ), reference-token = *( unescaped / escaped )
-    (Grammar::JsonPointer, ("", "", Rule::None, "/")),
-    (Grammar::JsonPointer, ("", "a", Rule::None, "/")),
-    (Grammar::JsonPointer, ("/", "", Rule::Unescaped, "/")),
-    (Grammar::JsonPointer, ("/", "b", Rule::Unescaped, "/")),
-    (Grammar::JsonPointer, ("/a", "b/c", Rule::Unescaped, "/")),
+    ("", "", Rule::None, "/"),
+    ("", "a", Rule::None, "/"),
+    ("/", "", Rule::Unescaped, "/"),
+    ("/", "b", Rule::Unescaped, "/"),
+    ("/a", "b/c", Rule::Unescaped, "/"),
     // escaped = "~" ( "0" / "1" )
-    (Grammar::JsonPointer, ("/~", "", Rule::None, "01")),
-    (Grammar::JsonPointer, ("/a~", "b/c", Rule::None, "01")),
+    ("/~", "", Rule::None, "01"),
+    ("/a~", "b/c", Rule::None, "01"),
+];
+
+const PLACES_OF_RELATIVE_POINTERS: [Place; 18] = [
     // non-negative-integer = %x30 / %x31-39 *( %x30-39 )
-    (Grammar::RelativeJsonPointer, ("", "", Rule::Digit, "")),
-    (Grammar::RelativeJsonPointer, ("", "#", Rule::Digit, "")),
-    (Grammar::RelativeJsonPointer, ("", "/a", Rule::Digit, "")),
-    (
-        Grammar::RelativeJsonPointer,
-        ("", "0", Rule::NonzeroDigit, ""),
-    ),
-    (Grammar::RelativeJsonPointer, ("1", "0", Rule::Digit, "/")),
-    (Grammar::RelativeJsonPointer, ("1", "/", Rule::Digit, "/")),
+    ("", "", Rule::Digit, ""),
+    ("", "#", Rule::Digit, ""),
+    ("", "/a", Rule::Digit, ""),
+    ("", "0", Rule::NonzeroDigit, ""),
+    ("1", "0", Rule::Digit, "/"),
+    ("1", "/", Rule::Digit, "/"),
     // relative-json-pointer = non-negative-integer ( "#" / json-pointer )
-    (Grammar::RelativeJsonPointer, ("0", "", Rule::None, "#/")),
-    (Grammar::RelativeJsonPointer, ("1", "", Rule::Digit, "#/")),
-    (Grammar::RelativeJsonPointer, ("20", "", Rule::Digit, "#/")),
-    (Grammar::RelativeJsonPointer, ("0", "a", Rule::None, "/")),
-    (Grammar::RelativeJsonPointer, ("0", "1", Rule::None, "/")),
-    (Grammar::RelativeJsonPointer, ("0#", "", Rule::None, "")),
-    (Grammar::RelativeJsonPointer, ("1#", "", Rule::None, "")),
+    ("0", "", Rule::None, "#/"),
+    ("1", "", Rule::Digit, "#/"),
+    ("20", "", Rule::Digit, "#/"),
+    ("0", "a", Rule::None, "/"),
+    ("0", "1", Rule::None, "/"),
+    ("0#", "", Rule::None, ""),
+    ("1#", "", Rule::None, ""),
+    ("0/", "", Rule::Unescaped, "/"),
+    ("10/a", "b", Rule::Unescaped, "/"),
+    ("0/~", "", Rule::None, "01"),
+    ("1/~", "", Rule::None, "01"),
+    ("12/a~", "b", Rule::None, "01"),
+];
+
+// The grammars of which a table is, the table, and the letters that stand on both sides.
+const SWEEPS: [(&[Grammar], &[Place], &[&str]); 7] = [
+    (&[Grammar::Uri, Grammar::Iri], &PLACES_OF_URIS, &LETTERS),
+    (&[Grammar::Uri, Grammar::Iri], &NARROW_PLACES_OF_URIS, &[""]),
     (
-        Grammar::RelativeJsonPointer,
-        ("0/", "", Rule::Unescaped, "/"),
+        &[Grammar::UriReference, Grammar::IriReference],
+        &PLACES_OF_REFERENCES,
+        &LETTERS,
     ),
     (
-        Grammar::RelativeJsonPointer,
-        ("10/a", "b", Rule::Unescaped, "/"),
+        &[Grammar::UriReference, Grammar::IriReference],
+        &NARROW_PLACES_OF_REFERENCES,
+        &[""],
     ),
-    (Grammar::RelativeJsonPointer, ("0/~", "", Rule::None, "01")),
-    (Grammar::RelativeJsonPointer, ("1/~", "", Rule::None, "01")),
+    (&[Grammar::UriTemplate], &PLACES_OF_TEMPLATES, &[""]),
+    (&[Grammar::JsonPointer], &PLACES_OF_POINTERS, &[""]),
     (
-        Grammar::RelativeJsonPointer,
-        ("12/a~", "b", Rule::None, "01"),
+        &[Grammar::RelativeJsonPointer],
+        &PLACES_OF_RELATIVE_POINTERS,
+        &[""],
     ),
 ];
 
 #[test]
-fn places_of_pointers(rt: HostRuntime) -> Result<(), Fail> {
+fn ascii_at_each_place(rt: HostRuntime) -> Result<(), Fail> {
     let mut text = String::new(rt.alloc());
-    for (grammar, place) in PLACES_OF_POINTERS {
-        let ascii = holds_ascii(&mut text, grammar, place, "")?;
-        assert!(rt; ascii, "{text:?}");
+    for (grammars, places, sides) in SWEEPS {
+        for grammar in grammars {
+            for place in places {
+                for letters in sides {
+                    let holds = holds_ascii(&mut text, *grammar, *place, letters)?;
+                    assert!(rt; holds, "{text:?}");
+                }
+            }
+        }
     }
-    for (grammar, before, after, derived) in [
-        (Grammar::JsonPointer, "/a", "b", true),
-        (Grammar::JsonPointer, "/~", "", false),
-        (Grammar::JsonPointer, "", "", false),
-        (Grammar::RelativeJsonPointer, "0/", "", true),
-        (Grammar::RelativeJsonPointer, "1", "", false),
-        (Grammar::RelativeJsonPointer, "", "/a", false),
-    ] {
-        let wide = holds_past_ascii(&mut text, grammar, (before, after), "", [derived; 3])?;
-        assert!(rt; wide, "{text:?}");
+    Ok(())
+}
+
+// What stands before a character and after it.
+type Sides = (&'static str, &'static str);
+
+const PARTS_OF_IRIS: [Sides; 7] = [
+    ("a://b", "c@d"),
+    ("a://b", "c"),
+    ("a://b/c", "d"),
+    ("a:/b", "c"),
+    ("a:b", "c"),
+    ("a:", "b"),
+    ("a:#b", "c"),
+];
+
+const QUERY_OF_IRIS: [Sides; 1] = [("a:?b", "c")];
+
+const PARTS_OF_REFERENCES: [Sides; 7] = [
+    ("//b", "c@d"),
+    ("//b", "c"),
+    ("//b/c", "d"),
+    ("/b", "c"),
+    ("b", "c"),
+    ("", "b/c:d"),
+    ("#b", "c"),
+];
+
+const QUERY_OF_REFERENCES: [Sides; 1] = [("?b", "c")];
+
+// Where no character past ASCII stands.
+const ASCII_PARTS: [Sides; 6] = [
+    ("", "a:b"),
+    ("a", "b:c"),
+    ("a://b:8", "0"),
+    ("a://[v1.b", "c]"),
+    ("a://[v", "1.b]"),
+    ("a://[v1", "2.b]"),
+];
+
+const EXPRESSIONS: [Sides; 4] = [("{", "}"), ("{", "a}"), ("{a", "}"), ("{a:", "}")];
+
+// Whether ucschar, iprivate and the others past ASCII are derived.
+const NONE: [bool; 3] = [false; 3];
+
+const UCSCHAR: [bool; 3] = [true, false, false];
+
+const UCSCHAR_AND_IPRIVATE: [bool; 3] = [true, true, false];
+
+const ALL: [bool; 3] = [true; 3];
+
+// A grammar, places, the letters that stand on both sides, and what is derived of the ranges.
+const RANGES: [(Grammar, &[Sides], &[&str], [bool; 3]); 15] = [
+    (Grammar::Iri, &PARTS_OF_IRIS, &LETTERS, UCSCHAR),
+    (Grammar::Iri, &QUERY_OF_IRIS, &LETTERS, UCSCHAR_AND_IPRIVATE),
+    (Grammar::Iri, &ASCII_PARTS, &[""], NONE),
+    (Grammar::Uri, &PARTS_OF_IRIS, &LETTERS, NONE),
+    (Grammar::Uri, &QUERY_OF_IRIS, &LETTERS, NONE),
+    (
+        Grammar::IriReference,
+        &PARTS_OF_REFERENCES,
+        &LETTERS,
+        UCSCHAR,
+    ),
+    (
+        Grammar::IriReference,
+        &QUERY_OF_REFERENCES,
+        &LETTERS,
+        UCSCHAR_AND_IPRIVATE,
+    ),
+    (Grammar::UriReference, &PARTS_OF_REFERENCES, &LETTERS, NONE),
+    (Grammar::UriReference, &QUERY_OF_REFERENCES, &LETTERS, NONE),
+    // Every character past ASCII is a literal here, and none stands in an expression.
+    (Grammar::UriTemplate, &[("b", "{c}")], &[""], ALL),
+    (Grammar::UriTemplate, &EXPRESSIONS, &[""], NONE),
+    (Grammar::JsonPointer, &[("/a", "b")], &[""], ALL),
+    (Grammar::JsonPointer, &[("/~", ""), ("", "")], &[""], NONE),
+    (Grammar::RelativeJsonPointer, &[("0/", "")], &[""], ALL),
+    (
+        Grammar::RelativeJsonPointer,
+        &[("1", ""), ("", "/a")],
+        &[""],
+        NONE,
+    ),
+];
+
+#[test]
+fn ranges_past_ascii(rt: HostRuntime) -> Result<(), Fail> {
+    let mut text = String::new(rt.alloc());
+    for (grammar, places, sides, derived) in RANGES {
+        for place in places {
+            for letters in sides {
+                let holds = holds_past_ascii(&mut text, grammar, *place, letters, derived)?;
+                assert!(rt; holds, "{text:?}");
+            }
+        }
     }
     Ok(())
 }
