@@ -1,16 +1,16 @@
 -- The laws of a pattern's text.
-use Rattle.std.proofs.Common.{◌≡◌, ◌↔◌, ◌⊎◌, inl, inr, ℕ, Bool, true, false, List, Option, Some, None, IsTrue, refl, sym, ap, subst, ◌∙◌, true≢false, length, leb, if◌then◌else◌, option_map}
+use Rattle.std.proofs.Common.{◌≡◌, ◌↔◌, ◌⊎◌, inl, inr, ℕ, zero, suc, Bool, true, false, List, Option, Some, None, IsTrue, refl, sym, ap, subst, ◌∙◌, true≢false, length, leb, if◌then◌else◌, option_map}
 use Rattle.std.specs.Prelude.{is_some}
 use Rattle.std.proofs.lemmas.Bool.{leb-true, le-leb}
 use Rattle.strkw_pattern.specs.Matcher.{outcome_of}
 use Rattle.strkw_pattern.specs.declared.engine.Outcome.{Outcome}
 use Rattle.strkw_pattern.specs.declared.engine.Outcome.TheVariants.{Match, NoMatch}
-use Rattle.strkw_ecma.specs.Syntax.{Disjunction, only, either, Alternative, nothing, more, Term, at_start, at_end, at_boundary, at_no_boundary, once, quantified, zero_or_more, one_or_more, zero_or_one, Atom, plain, escaped, control_escape, set_escape, dot, group, max_length}
+use Rattle.strkw_ecma.specs.Syntax.{Disjunction, only, either, Alternative, nothing, more, Term, at_start, at_end, at_boundary, at_no_boundary, once, quantified, Atom, plain, escaped, control_escape, set_escape, dot, bracketed, group, max_length}
 use Rattle.strkw_ecma.specs.Reading.{read, read_pattern}
 use Rattle.strkw_ecma.specs.Meaning.{Found}
-use Rattle.strkw_ecma.specs.Tree.{Pattern}
+use Rattle.strkw_ecma.specs.Tree.{Pattern, empty, alt}
 use Rattle.strkw_ecma.specs.Marks.{is_clean}
-use Rattle.strkw_ecma.specs.Patterns.{pattern, alternative_pattern, term_pattern, atom_pattern}
+use Rattle.strkw_ecma.specs.Patterns.{pattern, alternative_pattern, term_pattern, atom_pattern, Times, any_times, some_times, once_at_most, exact_times, least_times, range_times, times, repeated, quantified_pattern}
 use Rattle.strkw_ecma.specs.Outcomes.{outcome_of_read, search_outcome}
 use Rattle.strkw_ecma.specs.Laws.{IsPattern, IsExact}
 use Rattle.strkw_ecma.proofs.Readings.{complete}
@@ -18,6 +18,18 @@ use Rattle.strkw_ecma.proofs.Spelled.{IsSpelled, sound}
 use Rattle.strkw_ecma.proofs.Formed.{IsFormed, read_formed}
 use Rattle.strkw_ecma.proofs.Answers.{search_is_exact}
 use Rattle.strkw_ecma.proofs.Steps.{and_true}
+
+clean_repeated : (n : ℕ) (p : Pattern) → is_clean p ≡ true → is_clean (repeated n p) ≡ true
+clean_repeated zero p h = refl
+clean_repeated (suc n) p h = and_true _ _ h (clean_repeated n p h)
+
+clean_times : (t : Times) (p : Pattern) → is_clean p ≡ true → is_clean (quantified_pattern t p) ≡ true
+clean_times any_times p h = h
+clean_times some_times p h = h
+clean_times once_at_most p h = h
+clean_times (exact_times n) p h = clean_repeated n p h
+clean_times (least_times n) p h = and_true _ _ (clean_repeated n p h) h
+clean_times (range_times n m) p h = and_true _ _ (clean_repeated n p h) (clean_repeated _ (alt empty p) h)
 
 mutual
   pub clean : (d : Disjunction) → is_clean (pattern d) ≡ true
@@ -34,9 +46,7 @@ mutual
   clean_term (once a) = clean_atom a
   clean_term at_boundary = refl
   clean_term at_no_boundary = refl
-  clean_term (quantified a zero_or_more g) = clean_atom a
-  clean_term (quantified a one_or_more g) = clean_atom a
-  clean_term (quantified a zero_or_one g) = clean_atom a
+  clean_term (quantified a q g) = clean_times (times q) (atom_pattern a) (clean_atom a)
 
   clean_atom : (a : Atom) → is_clean (atom_pattern a) ≡ true
   clean_atom (plain c) = refl
@@ -44,7 +54,8 @@ mutual
   clean_atom (control_escape c) = refl
   clean_atom (set_escape c) = refl
   clean_atom dot = refl
-  clean_atom (group d) = clean d
+  clean_atom (bracketed n r e) = refl
+  clean_atom (group g d) = clean d
 
 derived_of : (source : List ℕ) (b : Bool) (o : Option Disjunction) → leb (length source) max_length ≡ b → IsSpelled o source → IsFormed o
     → IsTrue (is_some (if b then o else None)) → (d : Disjunction) × IsPattern source d

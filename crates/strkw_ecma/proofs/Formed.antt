@@ -1,9 +1,17 @@
 -- What is read is well formed: each character stands where it may.
-use Rattle.std.proofs.Common.{◌≡◌, ℕ, Bool, true, false, List, [], ◌∷◌, Option, Some, None, refl, length, ◌<◌, nat_lt}
-use Rattle.std.specs.Prelude.{option_and_then}
-use Rattle.std.proofs.lemmas.Bool.{ltb-true}
-use Rattle.strkw_ecma.specs.Syntax.{Disjunction, Alternative, Token, bar, asterisk, plus, question, caret, dollar, opening, closing, point, backslash, character, other, token, Quantifier, zero_or_more, one_or_more, Escape, itself, control, set, boundary, no_boundary, unknown, escape, IsWellFormed, IsAlternative, IsAtom, max_nesting}
-use Rattle.strkw_ecma.specs.Reading.{Level, Last, none, atom, counted, State, ended, joined, closed, with_quantifier, questioned, opened, on_token, on_escape, next, at_close, read_from, initial, read}
+use Rattle.std.proofs.Common.{◌≡◌, ◌==◌, ℕ, Bool, true, false, List, [], ◌∷◌, Option, Some, None, refl, length, ◌<◌, ◌≤◌, ◌*◌, ◌++◌, nat_lt, nat_le, arith}
+use Rattle.std.specs.Prelude.{option_and_then, option_map, is_some}
+use Rattle.std.proofs.lemmas.Bool.{ltb-true, leb-true}
+use Rattle.std.specs.Str.{byte}
+use Rattle.strkw_ecma.specs.Escapes.{Escape, itself, control, set, boundary, no_boundary, unknown, escape}
+use Rattle.strkw_ecma.specs.Classes.{ClassToken, closing_bracket, class_backslash, dash, class_character, class_token, class_escape, ClassAtom, class_plain, hyphen, class_escaped, class_control, class_set, backspace, Ranges, no_ranges, item, range, IsClassAtom, is_hyphen, is_caret, MayFollow, AreRanges}
+use Rattle.strkw_ecma.specs.Syntax.{Disjunction, Alternative, Token, bar, asterisk, plus, question, caret, dollar, opening as opening_token, closing, point, backslash, bracket, brace, character, other, token, Quantifier, zero_or_more, one_or_more, exactly, at_least, from_to, Group, capturing, plain_group, max_nesting}
+use Rattle.strkw_ecma.specs.WellFormed.{IsQuantifier, IsWellFormed, IsAlternative, IsAtom}
+use Rattle.strkw_ecma.specs.Numbers.{number, number_of, are_digits, max_count, IsNumber, CountToken, digit, comma, closing_brace, no_count, count_token}
+use Rattle.strkw_ecma.specs.Size.{size, max_size}
+use Rattle.strkw_ecma.specs.Patterns.{atom_pattern, times, copies}
+use Rattle.strkw_ecma.proofs.Digits.{digits_push, is_digit_of}
+use Rattle.strkw_ecma.specs.Reading.{Open, Level, Last, none, atom, counted, Pending, fresh, one, dashed, Class, Mode, between, escaping, opening, extending, class_opened, Count, low, high, counting, when, with_count, longer, range_read, on_low, on_high, on_count, in_class, class_escaping, is_between, State, with_mode, new_level, ended, joined, closed, with_quantifier, questioned, opened, on_token, on_group, on_extension, on_escape, took, took_dash, ranged, class_read, within, on_class_token, on_class_escape, on_class, next_in, next, at_close, read_from, initial, read}
 
 -- of a level within n groups
 abbrev IsEarlier : ℕ → Option Disjunction → Type 0
@@ -13,17 +21,39 @@ IsEarlier n (Some d) = IsWellFormed n d
 abbrev IsLast : ℕ → Last → Type 0
 IsLast n none = Unit {0}
 IsLast n (atom a) = IsAtom n a
-IsLast n (counted a q) = IsAtom n a
+IsLast n (counted a q) = IsAtom n a × IsQuantifier q (size (atom_pattern a))
 
 abbrev IsLevel : ℕ → Level → Type 0
 IsLevel n l = IsEarlier n l.earlier × IsAlternative n l.current
 
-abbrev AreLevels : List Level → Type 0
+abbrev AreLevels : List Open → Type 0
 AreLevels [] = Unit {0}
-AreLevels (l ∷ ls) = (IsLevel (length ls) l × (length ls < max_nesting)) × AreLevels ls
+AreLevels (o ∷ ls) = ((IsEarlier (length ls) o.earlier × IsAlternative (length ls) o.current) × (length ls < max_nesting)) × AreLevels ls
+
+-- what is pending may stand there; where nothing is, each atom with A may come
+abbrev IsPending : (ClassAtom → Type 0) → Bool → Ranges → Pending → Type 0
+IsPending A n r fresh = (y : ClassAtom) → A y → MayFollow n r y
+IsPending A n r (one x) = IsClassAtom x × MayFollow n r x
+IsPending A n r (dashed x) = IsClassAtom x × MayFollow n r x
+
+abbrev Any : ClassAtom → Type 0
+Any y = Unit {0}
+
+abbrev NoCaret : ClassAtom → Type 0
+NoCaret y = is_caret y ≡ false
+
+abbrev IsCount : Count → Type 0
+IsCount (low ds) = (are_digits ds ≡ true) × (number ds ≤ max_count)
+IsCount (high ds es) = IsNumber ds × (are_digits es ≡ true) × (number es ≤ max_count)
+
+abbrev IsMode : Mode → Type 0
+IsMode (in_class k) = AreRanges k.negated k.ranges × IsPending Any k.negated k.ranges k.pending
+IsMode (class_escaping k) = AreRanges k.negated k.ranges × IsPending NoCaret k.negated k.ranges k.pending
+IsMode (counting n) = IsCount n
+IsMode m = Unit {0}
 
 abbrev IsState : State → Type 0
-IsState s = AreLevels s.outer × IsLevel (length s.outer) s.level × IsLast (length s.outer) s.last
+IsState s = AreLevels s.outer × IsLevel (length s.outer) s.level × IsLast (length s.outer) s.last × IsMode s.mode
 
 abbrev Makes : Option State → Type 0
 Makes None = Unit {0}
@@ -38,68 +68,216 @@ level_formed : (n : ℕ) (e : Option Disjunction) (a : Alternative) → IsEarlie
 level_formed n None a h k = k
 level_formed n (Some d) a h k = (h, k)
 
-quantifier_formed : (outer : List Level) (l : Level) (x : Last) (q : Quantifier) → AreLevels outer → IsLevel (length outer) l
-    → IsLast (length outer) x → Makes (with_quantifier outer l x q)
-quantifier_formed outer l none q f g h = tt
-quantifier_formed outer l (atom a) q f g h = (f, g, h)
-quantifier_formed outer l (counted a p) q f g h = tt
+quantifier_formed : (outer : List Open) (l : Level) (x : Last) (q : Quantifier) → ((s : ℕ) → IsQuantifier q s) → AreLevels outer
+    → IsLevel (length outer) l → IsLast (length outer) x → Makes (with_quantifier outer l x q)
+quantifier_formed outer l none q w f g h = tt
+quantifier_formed outer l (atom a) q w f g h = (f, g, (h, w (size (atom_pattern a))), tt)
+quantifier_formed outer l (counted a p) q w f g h = tt
 
-question_formed : (outer : List Level) (l : Level) (x : Last) → AreLevels outer → IsLevel (length outer) l
+question_formed : (outer : List Open) (l : Level) (x : Last) → AreLevels outer → IsLevel (length outer) l
     → IsLast (length outer) x → Makes (questioned outer l x)
 question_formed outer l none f g h = tt
-question_formed outer l (atom a) f g h = (f, g, h)
-question_formed outer l (counted a q) f g h = (f, (g.0, (g.1, h)), tt)
+question_formed outer l (atom a) f g h = (f, g, (h, tt), tt)
+question_formed outer l (counted a q) f g h = (f, (g.0, (g.1, h)), tt, tt)
 
-close_formed : (outer : List Level) (d : Disjunction) → AreLevels outer → IsWellFormed (length outer) d → Makes (closed outer d)
+close_formed : (outer : List Open) (d : Disjunction) → AreLevels outer → IsWellFormed (length outer) d → Makes (closed outer d)
 close_formed [] d f h = tt
-close_formed (o ∷ outer) d f h = (f.1, f.0.0, (f.0.1, h))
+close_formed (o ∷ outer) d f h = (f.1, f.0.0, (f.0.1, h), tt)
 
-open_formed : (outer : List Level) (l : Level) (x : Last) (b : Bool) → nat_lt (length outer) max_nesting ≡ b
-    → AreLevels outer → IsLevel (length outer) l → IsLast (length outer) x → Makes (opened outer l x b)
-open_formed outer l x false e f g h = tt
-open_formed outer l x true e f g h =
-    let inner : IsLevel (length outer) (record { earlier = l.earlier; current = ended l.current x }) =
-    (g.0, ended_formed (length outer) l.current x g.1 h) in
-    (((inner, ltb-true (length outer) max_nesting e), f), (tt, tt), tt)
+open_formed : (outer : List Open) (l : Level) (x : Last) (k : Group) (b : Bool) → nat_lt (length outer) max_nesting ≡ b
+    → AreLevels outer → IsLevel (length outer) l → IsLast (length outer) x → Makes (opened outer l x k b)
+open_formed outer l x k false e f g h = tt
+open_formed outer l x k true e f g h =
+    ((((g.0, ended_formed (length outer) l.current x g.1 h), ltb-true (length outer) max_nesting e), f), (tt, tt), tt, tt)
 
-token_formed : (outer : List Level) (l : Level) (x : Last) (c : ℕ) (k : Token) → token c ≡ k
+token_formed : (outer : List Open) (l : Level) (x : Last) (c : ℕ) (k : Token) → token c ≡ k
     → AreLevels outer → IsLevel (length outer) l → IsLast (length outer) x → Makes (on_token outer l x c k)
-token_formed outer l x c bar e f g h = (f, (level_formed (length outer) l.earlier (ended l.current x) g.0 (ended_formed (length outer) l.current x g.1 h), tt), tt)
-token_formed outer l x c asterisk e f g h = quantifier_formed outer l x zero_or_more f g h
-token_formed outer l x c plus e f g h = quantifier_formed outer l x one_or_more f g h
+token_formed outer l x c bar e f g h = (f, (level_formed (length outer) l.earlier (ended l.current x) g.0 (ended_formed (length outer) l.current x g.1 h), tt), tt, tt)
+token_formed outer l x c asterisk e f g h = quantifier_formed outer l x zero_or_more (λ s. tt) f g h
+token_formed outer l x c plus e f g h = quantifier_formed outer l x one_or_more (λ s. tt) f g h
 token_formed outer l x c question e f g h = question_formed outer l x f g h
-token_formed outer l x c caret e f g h = (f, (g.0, (ended_formed (length outer) l.current x g.1 h, tt)), tt)
-token_formed outer l x c dollar e f g h = (f, (g.0, (ended_formed (length outer) l.current x g.1 h, tt)), tt)
-token_formed outer l x c opening e f g h = open_formed outer l x _ refl f g h
+token_formed outer l x c caret e f g h = (f, (g.0, (ended_formed (length outer) l.current x g.1 h, tt)), tt, tt)
+token_formed outer l x c dollar e f g h = (f, (g.0, (ended_formed (length outer) l.current x g.1 h, tt)), tt, tt)
+token_formed outer l x c opening_token e f g h = (f, g, h, tt)
 token_formed outer l x c closing e f g h =
     close_formed outer _ f (level_formed (length outer) l.earlier (ended l.current x) g.0 (ended_formed (length outer) l.current x g.1 h))
-token_formed outer l x c point e f g h = (f, (g.0, ended_formed (length outer) l.current x g.1 h), tt)
-token_formed outer l x c backslash e f g h = (f, g, h)
-token_formed outer l x c character e f g h = (f, (g.0, ended_formed (length outer) l.current x g.1 h), e)
+token_formed outer l x c point e f g h = (f, (g.0, ended_formed (length outer) l.current x g.1 h), tt, tt)
+token_formed outer l x c backslash e f g h = (f, g, h, tt)
+token_formed outer l x c bracket e f g h = (f, g, h, tt)
+token_formed outer l x c brace e f g h = (f, g, h, (refl, omega arith))
+token_formed outer l x c character e f g h = (f, (g.0, ended_formed (length outer) l.current x g.1 h), e, tt)
 token_formed outer l x c other e f g h = tt
 
-escape_formed : (outer : List Level) (l : Level) (x : Last) (c : ℕ) (k : Escape) → escape c ≡ k
+escape_formed : (outer : List Open) (l : Level) (x : Last) (c : ℕ) (k : Escape) → escape c ≡ k
     → AreLevels outer → IsLevel (length outer) l → IsLast (length outer) x → Makes (on_escape outer l x c k)
-escape_formed outer l x c itself e f g h = (f, (g.0, ended_formed (length outer) l.current x g.1 h), e)
-escape_formed outer l x c control e f g h = (f, (g.0, ended_formed (length outer) l.current x g.1 h), e)
-escape_formed outer l x c set e f g h = (f, (g.0, ended_formed (length outer) l.current x g.1 h), e)
-escape_formed outer l x c boundary e f g h = (f, (g.0, (ended_formed (length outer) l.current x g.1 h, tt)), tt)
-escape_formed outer l x c no_boundary e f g h = (f, (g.0, (ended_formed (length outer) l.current x g.1 h, tt)), tt)
+escape_formed outer l x c itself e f g h = (f, (g.0, ended_formed (length outer) l.current x g.1 h), e, tt)
+escape_formed outer l x c control e f g h = (f, (g.0, ended_formed (length outer) l.current x g.1 h), e, tt)
+escape_formed outer l x c set e f g h = (f, (g.0, ended_formed (length outer) l.current x g.1 h), e, tt)
+escape_formed outer l x c boundary e f g h = (f, (g.0, (ended_formed (length outer) l.current x g.1 h, tt)), tt, tt)
+escape_formed outer l x c no_boundary e f g h = (f, (g.0, (ended_formed (length outer) l.current x g.1 h, tt)), tt, tt)
 escape_formed outer l x c unknown e f g h = tt
 
-next_formed : (outer : List Level) (l : Level) (x : Last) (e : Bool) (c : ℕ) → AreLevels outer → IsLevel (length outer) l
-    → IsLast (length outer) x
-    → Makes (next (record { outer = outer; level = l; last = x; escaping = e }) c)
-next_formed outer l x true c f g h = escape_formed outer l x c _ refl f g h
-next_formed outer l x false c f g h = token_formed outer l x c _ refl f g h
+first_formed : (outer : List Open) (l : Level) (x : Last) (c : ℕ) (b : Bool) → nat_lt (length outer) max_nesting ≡ b
+    → AreLevels outer → IsLevel (length outer) l → IsLast (length outer) x
+    → Makes (option_and_then (λ t. on_token t.outer t.level t.last c (token c)) (opened outer l x capturing b))
+first_formed outer l x c false e f g h = tt
+first_formed outer l x c true e f g h =
+    let o : Open = record { group = capturing; earlier = l.earlier; current = ended l.current x } in
+    let inner : AreLevels (o ∷ outer) = (((g.0, ended_formed (length outer) l.current x g.1 h), ltb-true (length outer) max_nesting e), f) in
+    token_formed (o ∷ outer) new_level none c (token c) refl inner (tt, tt) tt
+
+group_formed : (outer : List Open) (l : Level) (x : Last) (c : ℕ) (b : Bool) → AreLevels outer → IsLevel (length outer) l
+    → IsLast (length outer) x → Makes (on_group outer l x c b)
+group_formed outer l x c false f g h = first_formed outer l x c _ refl f g h
+group_formed outer l x c true f g h = (f, g, h, tt)
+
+extension_formed : (outer : List Open) (l : Level) (x : Last) (b : Bool) → AreLevels outer → IsLevel (length outer) l
+    → IsLast (length outer) x → Makes (on_extension outer l x b)
+extension_formed outer l x false f g h = tt
+extension_formed outer l x true f g h = open_formed outer l x plain_group _ refl f g h
+
+-- counts
+when_formed : (b : Bool) (o : Option State) → (b ≡ true → Makes o) → Makes (when b o)
+when_formed false o h = tt
+when_formed true o h = h refl
+
+module _ (outer : List Open) (l : Level) (f : AreLevels outer) (g : IsLevel (length outer) l) where
+  count_formed : (x : Last) (q : Quantifier) → IsLast (length outer) x → ((s : ℕ) → copies (times q) * s ≤ max_size → IsQuantifier q s)
+      → Makes (with_count outer l x q)
+  count_formed none q h w = tt
+  count_formed (atom a) q h w =
+      when_formed (nat_le (copies (times q) * size (atom_pattern a)) max_size) (with_quantifier outer l (atom a) q) (λ e. (f, g, (h, w (size (atom_pattern a)) (leb-true (copies (times q) * size (atom_pattern a)) max_size e)), tt))
+  count_formed (counted a p) q h w = tt
+
+  longer_formed : (x : Last) (m : List ℕ → Mode) (ds : List ℕ) (c : ℕ) (b : Bool) → nat_le (number (ds ++ c ∷ [])) max_count ≡ b
+      → IsLast (length outer) x → (number (ds ++ c ∷ []) ≤ max_count → IsMode (m (ds ++ c ∷ [])))
+      → Makes (option_map (λ (es : List ℕ). with_mode outer l x (m es)) (longer ds c b))
+  longer_formed x m ds c false e h w = tt
+  longer_formed x m ds c true e h w = (f, g, h, w (leb-true (number (ds ++ c ∷ [])) max_count e))
+
+  low_formed : (x : Last) (ds : List ℕ) (c : ℕ) (k : CountToken) → count_token c ≡ k → IsLast (length outer) x → IsCount (low ds)
+      → Makes (on_low outer l x ds c k)
+  low_formed x ds c digit e h w =
+      longer_formed x (λ es. counting (low es)) ds c (nat_le (number (ds ++ c ∷ [])) max_count) refl h (λ small. (digits_push ds c w.0 (is_digit_of c e), small))
+  low_formed x ds c comma e h w =
+      when_formed (is_some (number_of ds)) (Some (with_mode outer l x (counting (high ds [])))) (λ some. (f, g, h, ((w.0, some, w.1), refl, omega arith)))
+  low_formed x ds c closing_brace e h w =
+      when_formed (is_some (number_of ds)) (with_count outer l x (exactly ds)) (λ some. count_formed x (exactly ds) h (λ s small. ((w.0, some, w.1), small)))
+  low_formed x ds c no_count e h w = tt
+
+  range_formed : (x : Last) (ds es : List ℕ) → IsLast (length outer) x → IsCount (high ds es) → Makes (range_read outer l x ds es)
+  range_formed x ds [] h w = count_formed x (at_least ds) h (λ s small. (w.0, small))
+  range_formed x ds (e ∷ es) h w =
+      when_formed (nat_le (number ds) (number (e ∷ es))) (with_count outer l x (from_to ds (e ∷ es))) (λ ordered. count_formed x (from_to ds (e ∷ es)) h
+      (λ s small. (w.0, (w.1, refl, w.2), leb-true (number ds) (number (e ∷ es)) ordered, small)))
+
+  high_formed : (x : Last) (ds es : List ℕ) (c : ℕ) (k : CountToken) → count_token c ≡ k → IsLast (length outer) x → IsCount (high ds es)
+      → Makes (on_high outer l x ds es c k)
+  high_formed x ds es c digit e h w =
+      longer_formed x (λ fs. counting (high ds fs)) es c (nat_le (number (es ++ c ∷ [])) max_count) refl h (λ small. (w.0, digits_push es c w.1 (is_digit_of c e), small))
+  high_formed x ds es c comma e h w = tt
+  high_formed x ds es c closing_brace e h w = range_formed x ds es h w
+  high_formed x ds es c no_count e h w = tt
+
+  counting_formed : (x : Last) (n : Count) (c : ℕ) → IsLast (length outer) x → IsCount n → Makes (on_count outer l x n c)
+  counting_formed x (low ds) c h w = low_formed x ds c (count_token c) refl h w
+  counting_formed x (high ds es) c h w = high_formed x ds es c (count_token c) refl h w
+
+-- classes
+abbrev MakesClass : Option Class → Type 0
+MakesClass None = Unit {0}
+MakesClass (Some k) = IsMode (in_class k)
+
+-- the atom suits what is pending
+abbrev Suits : (ClassAtom → Type 0) → Pending → ClassAtom → Type 0
+Suits A fresh y = A y
+Suits A (one w) y = is_hyphen y ≡ false
+Suits A (dashed w) y = Unit {0}
+
+suits : (A : ClassAtom → Type 0) (p : Pending) (y : ClassAtom) → A y → is_hyphen y ≡ false → Suits A p y
+suits A fresh y h w = h
+suits A (one z) y h w = w
+suits A (dashed z) y h w = tt
+
+ranged_formed : (n : Bool) (r : Ranges) (w y : ClassAtom) (o : Option (ℕ × ℕ)) → range (item w) (item y) ≡ o
+    → AreRanges n r → IsClassAtom w × MayFollow n r w → IsClassAtom y → MakesClass (ranged n r w y o)
+ranged_formed n r w y None e f g h = tt
+ranged_formed n r w y (Some s) e f g h = ((f, g, h, rw e refl), λ z a. tt)
+
+took_formed : (A : ClassAtom → Type 0) (n : Bool) (r : Ranges) (p : Pending) (y : ClassAtom) → AreRanges n r → IsPending A n r p
+    → IsClassAtom y → Suits A p y → MakesClass (took n r p y)
+took_formed A n r fresh y f g h w = (f, (h, g y w))
+took_formed A n r (one z) y f g h w = ((f, g.0, g.1), (h, w))
+took_formed A n r (dashed z) y f g h w = ranged_formed n r z y _ refl f g h
+
+dash_formed : (A : ClassAtom → Type 0) (n : Bool) (r : Ranges) (p : Pending) → AreRanges n r → IsPending A n r p → A hyphen
+    → MakesClass (took_dash n r p)
+dash_formed A n r fresh f g a = took_formed A n r fresh hyphen f g tt a
+dash_formed A n r (one z) f g a = (f, g)
+dash_formed A n r (dashed z) f g a = took_formed A n r (dashed z) hyphen f g tt tt
+
+read_class_formed : (A : ClassAtom → Type 0) (m : ℕ) (n : Bool) (r : Ranges) (p : Pending) → AreRanges n r → IsPending A n r p
+    → IsAtom m (class_read n r p)
+read_class_formed A m n r fresh f g = (f, tt)
+read_class_formed A m n r (one z) f g = ((f, g.0, g.1), tt)
+read_class_formed A m n r (dashed z) f g = ((f, g.0, g.1), tt)
+
+-- behind a backslash no caret comes
+escapes_pending : (A : ClassAtom → Type 0) (n : Bool) (r : Ranges) (p : Pending) → ((y : ClassAtom) → NoCaret y → A y)
+    → IsPending A n r p → IsPending NoCaret n r p
+escapes_pending A n r fresh a g = λ y w. g y (a y w)
+escapes_pending A n r (one z) a g = g
+escapes_pending A n r (dashed z) a g = g
+
+module _ (outer : List Open) (l : Level) (x : Last) (f : AreLevels outer) (g : IsLevel (length outer) l) (h : IsLast (length outer) x) where
+  within_formed : (o : Option Class) → MakesClass o → Makes (within outer l x o)
+  within_formed None k = tt
+  within_formed (Some c) k = (f, g, h, k)
+
+  class_token_formed : (A : ClassAtom → Type 0) (n : Bool) (r : Ranges) (p : Pending) (c : ℕ) (k : ClassToken) → class_token c ≡ k
+      → AreRanges n r → IsPending A n r p → ((y : ClassAtom) → NoCaret y → A y) → A (class_plain c)
+      → Makes (on_class_token outer l x n r p c k)
+  class_token_formed A n r p c closing_bracket e u v a w =
+      (f, (g.0, ended_formed (length outer) l.current x g.1 h), read_class_formed A (length outer) n r p u v, tt)
+  class_token_formed A n r p c class_backslash e u v a w = (f, g, h, (u, escapes_pending A n r p a v))
+  class_token_formed A n r p c dash e u v a w = within_formed _ (dash_formed A n r p u v (a hyphen refl))
+  class_token_formed A n r p c class_character e u v a w =
+      within_formed _ (took_formed A n r p (class_plain c) u v e (suits A p (class_plain c) w refl))
+
+  class_escape_formed : (n : Bool) (r : Ranges) (p : Pending) (c : ℕ) (k : Escape) → class_escape c ≡ k
+      → AreRanges n r → IsPending NoCaret n r p → Makes (on_class_escape outer l x n r p c k)
+  class_escape_formed n r p c itself e u v =
+      within_formed _ (took_formed NoCaret n r p (class_escaped c) u v e (suits NoCaret p (class_escaped c) refl refl))
+  class_escape_formed n r p c control e u v =
+      within_formed _ (took_formed NoCaret n r p (class_control c) u v e (suits NoCaret p (class_control c) refl refl))
+  class_escape_formed n r p c set e u v =
+      within_formed _ (took_formed NoCaret n r p (class_set c) u v e (suits NoCaret p (class_set c) refl refl))
+  class_escape_formed n r p c boundary e u v =
+      within_formed _ (took_formed NoCaret n r p backspace u v tt (suits NoCaret p backspace refl refl))
+  class_escape_formed n r p c no_boundary e u v = tt
+  class_escape_formed n r p c unknown e u v = tt
+
+  bracket_formed : (c : ℕ) (b : Bool) → (c == byte "^") ≡ b → Makes (on_class outer l x c b)
+  bracket_formed c false e = class_token_formed NoCaret false no_ranges fresh c (class_token c) refl tt (λ y w. w) (λ y w. w) e
+  bracket_formed c true e = (f, g, h, (tt, λ y w. tt))
+
+  next_formed : (m : Mode) (c : ℕ) → IsMode m → Makes (next_in outer l x m c)
+  next_formed between c k = token_formed outer l x c _ refl f g h
+  next_formed escaping c k = escape_formed outer l x c _ refl f g h
+  next_formed opening c k = group_formed outer l x c _ f g h
+  next_formed extending c k = extension_formed outer l x _ f g h
+  next_formed (counting n) c k = counting_formed outer l f g x n c h k
+  next_formed class_opened c k = bracket_formed c _ refl
+  next_formed (in_class s) c k = class_token_formed Any s.negated s.ranges s.pending c (class_token c) refl k.0 k.1 (λ y w. tt) tt
+  next_formed (class_escaping s) c k = class_escape_formed s.negated s.ranges s.pending c (class_escape c) refl k.0 k.1
 
 abbrev pub IsFormed : Option Disjunction → Type 0
 IsFormed None = Unit {0}
 IsFormed (Some d) = IsWellFormed 0 d
 
-close_all : (outer : List Level) (l : Level) (x : Last) (e : Bool) → IsLevel (length outer) l → IsLast (length outer) x → IsFormed (at_close outer l x e)
-close_all [] l x false g h = level_formed 0 l.earlier (ended l.current x) g.0 (ended_formed 0 l.current x g.1 h)
-close_all [] l x true g h = tt
+close_all : (outer : List Open) (l : Level) (x : Last) (e : Bool) → IsLevel (length outer) l → IsLast (length outer) x → IsFormed (at_close outer l x e)
+close_all [] l x true g h = level_formed 0 l.earlier (ended l.current x) g.0 (ended_formed 0 l.current x g.1 h)
+close_all [] l x false g h = tt
 close_all (o ∷ outer) l x e g h = tt
 
 one_more : (cs : List ℕ) → ((t : State) → IsState t → IsFormed (read_from t cs)) → (o : Option State) → Makes o
@@ -108,8 +286,8 @@ one_more cs ih None h = tt
 one_more cs ih (Some t) h = ih t h
 
 rest_formed : (cs : List ℕ) (s : State) → IsState s → IsFormed (read_from s cs)
-rest_formed [] s h = close_all s.outer s.level s.last s.escaping h.1 h.2
-rest_formed (c ∷ cs) s h = one_more cs (rest_formed cs) (next s c) (next_formed s.outer s.level s.last s.escaping c h.0 h.1 h.2)
+rest_formed [] s h = close_all s.outer s.level s.last (is_between s.mode) h.1 h.2
+rest_formed (c ∷ cs) s h = one_more cs (rest_formed cs) (next s c) (next_formed s.outer s.level s.last h.0 h.1 h.2 s.mode c h.3)
 
 pub read_formed : (text : List ℕ) → IsFormed (read text)
-read_formed text = rest_formed text initial (tt, (tt, tt), tt)
+read_formed text = rest_formed text initial (tt, (tt, tt), tt, tt)

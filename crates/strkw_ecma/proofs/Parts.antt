@@ -1,29 +1,60 @@
 -- What the reader of the code holds is, pattern by pattern, what the reader of the definitions holds.
-use Rattle.std.proofs.Common.{◌≡◌, ℕ, ◌+◌, ◌<◌, ◌≤◌, Bool, true, false, List, [], ◌∷◌, map, length, drop, get_or, Option, Some, None, if◌then◌else◌, option_map, nat_lt, nat_le, refl, sym, ap, ◌∙◌}
+use Rattle.std.proofs.Common.{◌≡◌, ℕ, ◌+◌, ◌<◌, ◌≤◌, ◌*◌, ◌-◌, ◌==◌, ◌++◌, Bool, true, false, List, [], ◌∷◌, map, length, drop, get_or, Option, Some, None, if◌then◌else◌, option_map, nat_lt, nat_le, refl, sym, ap, ◌∙◌}
 use Rattle.std.specs.Prelude.{option_and_then}
 use Rattle.std.proofs.lemmas.List.{length-map, at_drop_more, at_drop_all}
 use Rattle.std.proofs.lemmas.Bool.{le-leb, lt-leb}
 use Rattle.strkw_ecma.specs.Tree.{Pattern, empty, cat}
-use Rattle.strkw_ecma.specs.Syntax.{Disjunction, Alternative, Term, at_start, at_end, at_boundary, at_no_boundary, Quantifier, zero_or_more, one_or_more, Atom, plain, escaped, control_escape, set_escape, dot, Token, bar, asterisk, plus, question, caret, dollar, opening, closing, point, backslash, character, other, token, Escape, itself, control, set, boundary, no_boundary, unknown, escape, max_nesting, max_length}
-use Rattle.strkw_ecma.specs.Patterns.{pattern, alternative_pattern, term_pattern, atom_pattern, quantified_pattern}
+use Rattle.std.specs.Str.{byte}
+use Rattle.strkw_ecma.specs.Escapes.{Escape, itself, control, set, boundary, no_boundary, unknown, escape}
+use Rattle.strkw_ecma.specs.Classes.{ClassToken, closing_bracket, class_backslash, dash, class_character, class_token, class_escape, ClassAtom, class_plain, hyphen, class_escaped, class_control, class_set, backspace, Ranges, no_ranges, item, range, range_list, ranges_of}
+use Rattle.strkw_ecma.specs.Syntax.{Disjunction, Alternative, Term, at_start, at_end, at_boundary, at_no_boundary, Quantifier, exactly, at_least, from_to, zero_or_more, one_or_more, Group, capturing, plain_group, Atom, plain, escaped, control_escape, set_escape, dot, Token, bar, asterisk, plus, question, caret, dollar, opening as opening_token, closing, point, backslash, bracket, brace, character, other, token, max_nesting, max_length}
+use Rattle.strkw_ecma.specs.Patterns.{pattern, alternative_pattern, term_pattern, atom_pattern, times, copies, quantified_pattern}
+use Rattle.strkw_ecma.specs.Numbers.{number, number_of, max_count, CountToken, digit, comma, closing_brace, no_count, count_token}
+use Rattle.strkw_ecma.specs.Size.{size, max_size}
+use Rattle.strkw_ecma.proofs.Digits.{number_push}
 use Rattle.strkw_ecma.specs.Reading as reading
 use Rattle.strkw_ecma.specs.Parts as parts
-use Rattle.strkw_ecma.specs.Reading.{Level, State, with_atom, with_term, with_quantifier, questioned, opened, closed, on_token, on_escape, next, read_from, initial, read, read_pattern}
-use Rattle.strkw_ecma.specs.Parts.{Side, Parts, ended, joined, level_ended, level_so_far, new_level, after_atom, after_term, after_bar, after_opening, after_closing, after_quantifier, after_question, after_escape, after_token, after_char, at_close, pattern_from, no_parts}
+use Rattle.strkw_ecma.specs.Reading.{Open, Level, State, with_count, when, longer, range_read, on_low, on_high, on_count, Mode, between, with_mode, opened_within, on_group, on_extension, on_class, on_class_token, on_class_escape, within, next_in, is_between, with_atom, with_term, with_quantifier, questioned, opened, closed, on_token, on_escape, next, read_from, initial, read, read_pattern}
+use Rattle.strkw_ecma.specs.Parts.{Side, Parts, after_count, after_low, after_high, after_high_brace, after_counting, small, value, ended, joined, level_ended, level_so_far, new_level, after_atom, after_term, after_bar, after_opening, after_closing, after_quantifier, after_question, after_escape, after_token, after_group, after_extension, after_class_token, after_class_escape, after_bracket, after_in, after_char, at_close, pattern_from, no_parts}
 
 abbrev side : Level → Side
 side l = record { earlier = option_map pattern l.earlier; current = alternative_pattern l.current }
 
+abbrev around : Open → Side
+around o = record { earlier = option_map pattern o.earlier; current = alternative_pattern o.current }
+
 abbrev last_image : reading.Last → parts.Last
 last_image reading.none = parts.none
 last_image (reading.atom a) = parts.atom (atom_pattern a)
-last_image (reading.counted a q) = parts.counted (quantified_pattern q (atom_pattern a))
+last_image (reading.counted a q) = parts.counted (quantified_pattern (times q) (atom_pattern a))
+
+abbrev pending_image : reading.Pending → parts.Pending
+pending_image reading.fresh = parts.fresh
+pending_image (reading.one x) = parts.one (item x)
+pending_image (reading.dashed x) = parts.dashed (item x)
+
+abbrev class_image : reading.Class → parts.Class
+class_image k = record { negated = k.negated; ranges = ranges_of k.ranges; pending = pending_image k.pending }
+
+abbrev count_image : reading.Count → parts.Count
+count_image (reading.low ds) = parts.low (number_of ds)
+count_image (reading.high ds es) = parts.high (number ds) (number_of es)
+
+abbrev mode_image : Mode → parts.Mode
+mode_image reading.between = parts.between
+mode_image reading.escaping = parts.escaping
+mode_image reading.opening = parts.opening
+mode_image reading.extending = parts.extending
+mode_image (reading.counting n) = parts.counting (count_image n)
+mode_image reading.class_opened = parts.class_opened
+mode_image (reading.in_class k) = parts.in_class (class_image k)
+mode_image (reading.class_escaping k) = parts.class_escaping (class_image k)
 
 abbrev image : State → Parts
-image s = record { outer = map side s.outer; level = side s.level; last = last_image s.last; escaping = s.escaping }
+image s = record { outer = map around s.outer; level = side s.level; last = last_image s.last; mode = mode_image s.mode }
 
-abbrev state : List Level → Level → reading.Last → Bool → State
-state outer l x e = record { outer = outer; level = l; last = x; escaping = e }
+abbrev state : List Open → Level → reading.Last → State
+state outer l x = record { outer = outer; level = l; last = x; mode = between }
 
 ended_image : (a : Alternative) (x : reading.Last) → alternative_pattern (reading.ended a x) ≡ ended (alternative_pattern a) (last_image x)
 ended_image a reading.none = refl
@@ -37,41 +68,49 @@ joined_image (Some d) a = refl
 level_image : (l : Level) (x : reading.Last) → pattern (reading.level_ended l x) ≡ level_ended (side l) (last_image x)
 level_image l x = joined_image l.earlier (reading.ended l.current x) ∙ ap (joined (option_map pattern l.earlier)) (ended_image l.current x)
 
-module _ (outer : List Level) (l : Level) (x : reading.Last) (e : Bool) where
-  atom_image : (a : Atom) → image (with_atom outer l x a) ≡ after_atom (image (state outer l x e)) (atom_pattern a)
+module _ (outer : List Open) (l : Level) (x : reading.Last) where
+  atom_image : (a : Atom) → image (with_atom outer l x a) ≡ after_atom (image (state outer l x)) (atom_pattern a)
   atom_image a =
       ap (λ (p : Pattern). record {
-        outer = map side outer;
+        outer = map around outer;
         level = record { earlier = option_map pattern l.earlier; current = p };
         last = parts.atom (atom_pattern a);
-        escaping = false;
+        mode = parts.between;
       }) (ended_image l.current x)
 
-  term_image : (t : Term) → image (with_term outer l x t) ≡ after_term (image (state outer l x e)) (term_pattern t)
+  term_image : (t : Term) → image (with_term outer l x t) ≡ after_term (image (state outer l x)) (term_pattern t)
   term_image t =
       ap (λ (p : Pattern). record {
-        outer = map side outer;
+        outer = map around outer;
         level = record { earlier = option_map pattern l.earlier; current = cat p (term_pattern t) };
         last = parts.none;
-        escaping = false;
+        mode = parts.between;
       }) (ended_image l.current x)
 
-  bar_image : (c : ℕ) → option_map image (on_token outer l x c bar) ≡ Some (after_bar (image (state outer l x e)))
+  bar_image : (c : ℕ) → option_map image (on_token outer l x c bar) ≡ Some (after_bar (image (state outer l x)))
   bar_image c =
-      ap (λ (p : Pattern). Some (record { outer = map side outer; level = record { earlier = Some p; current = empty }; last = parts.none; escaping = false }))
+      ap (λ (p : Pattern). Some (record { outer = map around outer; level = record { earlier = Some p; current = empty }; last = parts.none; mode = parts.between }))
       (level_image l x)
 
-  opened_image : (b : Bool) → option_map image (opened outer l x b) ≡ after_opening (image (state outer l x e)) b
-  opened_image false = refl
-  opened_image true =
+  opened_image : (g : Group) (b : Bool) → option_map image (opened outer l x g b) ≡ after_opening (image (state outer l x)) b
+  opened_image g false = refl
+  opened_image g true =
       ap (λ (p : Pattern). Some (record {
-        outer = record { earlier = option_map pattern l.earlier; current = p } ∷ map side outer;
+        outer = record { earlier = option_map pattern l.earlier; current = p } ∷ map around outer;
         level = new_level;
         last = parts.none;
-        escaping = false;
+        mode = parts.between;
       })) (ended_image l.current x)
 
-  escape_image : (c : ℕ) (k : Escape) → option_map image (on_escape outer l x c k) ≡ after_escape (image (state outer l x e)) c k
+  within_opened : (g : Group) → option_map image (opened_within outer l x g) ≡ parts.opened_within (image (state outer l x))
+  within_opened g =
+      opened_image g _ ∙ ap (λ (n : ℕ). after_opening (image (state outer l x)) (nat_lt n max_nesting)) (sym (length-map outer around))
+
+  within_image : (o : Option reading.Class) → option_map image (within outer l x o) ≡ parts.within (image (state outer l x)) (option_map class_image o)
+  within_image None = refl
+  within_image (Some k) = refl
+
+  escape_image : (c : ℕ) (k : Escape) → option_map image (on_escape outer l x c k) ≡ after_escape (image (state outer l x)) c k
   escape_image c itself = ap Some (atom_image (escaped c))
   escape_image c control = ap Some (atom_image (control_escape c))
   escape_image c set = ap Some (atom_image (set_escape c))
@@ -79,49 +118,216 @@ module _ (outer : List Level) (l : Level) (x : reading.Last) (e : Bool) where
   escape_image c no_boundary = ap Some (term_image at_no_boundary)
   escape_image c unknown = refl
 
-quantifier_image : (outer : List Level) (l : Level) (x : reading.Last) (e : Bool) (q : Quantifier)
-    → option_map image (with_quantifier outer l x q) ≡ after_quantifier (image (state outer l x e)) (last_image x) q
-quantifier_image outer l reading.none e q = refl
-quantifier_image outer l (reading.atom a) e q = refl
-quantifier_image outer l (reading.counted a p) e q = refl
+quantifier_image : (outer : List Open) (l : Level) (x : reading.Last) (q : Quantifier)
+    → option_map image (with_quantifier outer l x q) ≡ after_quantifier (image (state outer l x)) (last_image x) (times q)
+quantifier_image outer l reading.none q = refl
+quantifier_image outer l (reading.atom a) q = refl
+quantifier_image outer l (reading.counted a p) q = refl
 
-question_image : (outer : List Level) (l : Level) (x : reading.Last) (e : Bool)
-    → option_map image (questioned outer l x) ≡ after_question (image (state outer l x e)) (last_image x)
-question_image outer l reading.none e = refl
-question_image outer l (reading.atom a) e = refl
-question_image outer l (reading.counted a q) e = refl
+question_image : (outer : List Open) (l : Level) (x : reading.Last)
+    → option_map image (questioned outer l x) ≡ after_question (image (state outer l x)) (last_image x)
+question_image outer l reading.none = refl
+question_image outer l (reading.atom a) = refl
+question_image outer l (reading.counted a q) = refl
 
-closed_image : (outer : List Level) (d : Disjunction) → option_map image (closed outer d) ≡ after_closing (map side outer) (pattern d)
+closed_image : (outer : List Open) (d : Disjunction) → option_map image (closed outer d) ≡ after_closing (map around outer) (pattern d)
 closed_image [] d = refl
 closed_image (o ∷ outer) d = refl
 
-token_image : (outer : List Level) (l : Level) (x : reading.Last) (c : ℕ) (k : Token)
-    → option_map image (on_token outer l x c k) ≡ after_token (image (state outer l x false)) c k
-token_image outer l x c bar = bar_image outer l x false c
-token_image outer l x c asterisk = quantifier_image outer l x false zero_or_more
-token_image outer l x c plus = quantifier_image outer l x false one_or_more
-token_image outer l x c question = question_image outer l x false
-token_image outer l x c caret = ap Some (term_image outer l x false at_start)
-token_image outer l x c dollar = ap Some (term_image outer l x false at_end)
-token_image outer l x c opening =
-    opened_image outer l x false _
-    ∙ ap (λ (n : ℕ). after_opening (image (state outer l x false)) (nat_lt n max_nesting)) (sym (length-map outer side))
-token_image outer l x c closing = closed_image outer _ ∙ ap (after_closing (map side outer)) (level_image l x)
-token_image outer l x c point = ap Some (atom_image outer l x false dot)
+token_image : (outer : List Open) (l : Level) (x : reading.Last) (c : ℕ) (k : Token)
+    → option_map image (on_token outer l x c k) ≡ after_token (image (state outer l x)) c k
+token_image outer l x c bar = bar_image outer l x c
+token_image outer l x c asterisk = quantifier_image outer l x zero_or_more
+token_image outer l x c plus = quantifier_image outer l x one_or_more
+token_image outer l x c question = question_image outer l x
+token_image outer l x c caret = ap Some (term_image outer l x at_start)
+token_image outer l x c dollar = ap Some (term_image outer l x at_end)
+token_image outer l x c opening_token = refl
+token_image outer l x c closing = closed_image outer _ ∙ ap (after_closing (map around outer)) (level_image l x)
+token_image outer l x c point = ap Some (atom_image outer l x dot)
 token_image outer l x c backslash = refl
-token_image outer l x c character = ap Some (atom_image outer l x false (plain c))
+token_image outer l x c bracket = refl
+token_image outer l x c brace = refl
+token_image outer l x c character = ap Some (atom_image outer l x (plain c))
 token_image outer l x c other = refl
 
-next_image : (outer : List Level) (l : Level) (x : reading.Last) (e : Bool) (c : ℕ)
-    → option_map image (next (state outer l x e) c) ≡ after_char (image (state outer l x e)) c
-next_image outer l x true c = escape_image outer l x true c (escape c)
-next_image outer l x false c = token_image outer l x c (token c)
+first_image : (outer : List Open) (l : Level) (x : reading.Last) (c : ℕ) (b : Bool)
+    → option_map image (option_and_then (λ t. on_token t.outer t.level t.last c (token c)) (opened outer l x capturing b))
+    ≡ option_and_then (λ t. after_token t c (token c)) (after_opening (image (state outer l x)) b)
+first_image outer l x c false = refl
+first_image outer l x c true =
+    let o : Open = record { group = capturing; earlier = l.earlier; current = reading.ended l.current x } in
+    token_image (o ∷ outer) reading.new_level reading.none c (token c)
+    ∙ ap (λ (p : Pattern). after_token (record {
+      outer = record { earlier = option_map pattern l.earlier; current = p } ∷ map around outer;
+      level = new_level;
+      last = parts.none;
+      mode = parts.between;
+    }) c (token c)) (ended_image l.current x)
 
-close_image : (outer : List Level) (l : Level) (x : reading.Last) (e : Bool)
-    → option_map pattern (reading.at_close outer l x e) ≡ at_close (map side outer) (side l) (last_image x) e
-close_image [] l x false = ap Some (level_image l x)
-close_image [] l x true = refl
-close_image (o ∷ outer) l x e = refl
+group_image : (outer : List Open) (l : Level) (x : reading.Last) (c : ℕ) (b : Bool)
+    → option_map image (on_group outer l x c b) ≡ after_group (image (state outer l x)) c b
+group_image outer l x c false =
+    first_image outer l x c _
+    ∙ ap (λ (n : ℕ). option_and_then (λ t. after_token t c (token c)) (after_opening (image (state outer l x)) (nat_lt n max_nesting)))
+    (sym (length-map outer around))
+group_image outer l x c true = refl
+
+extension_image : (outer : List Open) (l : Level) (x : reading.Last) (b : Bool)
+    → option_map image (on_extension outer l x b) ≡ after_extension (image (state outer l x)) b
+extension_image outer l x false = refl
+extension_image outer l x true = within_opened outer l x plain_group
+
+when_image : (b : Bool) (o : Option State) → option_map image (when b o) ≡ parts.when b (option_map image o)
+when_image false o = refl
+when_image true o = refl
+
+counted_image : (outer : List Open) (l : Level) (x : reading.Last) (q : Quantifier)
+    → option_map image (with_count outer l x q) ≡ after_count (image (state outer l x)) (last_image x) (times q)
+counted_image outer l reading.none q = refl
+counted_image outer l (reading.atom a) q =
+    when_image _ (with_quantifier outer l (reading.atom a) q)
+    ∙ ap (parts.when (nat_le (copies (times q) * size (atom_pattern a)) max_size)) (quantifier_image outer l (reading.atom a) q)
+counted_image outer l (reading.counted a p) q = refl
+
+number_is : (ds : List ℕ) → number ds ≡ value (number_of ds)
+number_is [] = refl
+number_is (d ∷ ds) = refl
+
+pushed_is : (ds : List ℕ) (c : ℕ) → number_of (ds ++ c ∷ []) ≡ Some (number (ds ++ c ∷ []))
+pushed_is [] c = refl
+pushed_is (d ∷ ds) c = refl
+
+module _ (outer : List Open) (l : Level) (x : reading.Last) where
+  -- one more digit, where m and n are the modes of digits and of their number
+  longer_image : (m : List ℕ → Mode) (n : ℕ → parts.Mode) → ((ds : List ℕ) (k : ℕ) → number_of ds ≡ Some k → mode_image (m ds) ≡ n k)
+      → (ds : List ℕ) (c : ℕ)
+      → option_map image (option_map (λ (es : List ℕ). with_mode outer l x (m es)) (reading.with_digit ds c))
+      ≡ option_map (λ (k : ℕ). parts.with_mode (image (state outer l x)) (n k)) (parts.with_digit (number_of ds) c)
+  longer_image m n same ds c =
+      by_test _ ∙ ap (λ (k : ℕ). option_map (λ (k : ℕ). parts.with_mode (image (state outer l x)) (n k)) (small k (nat_le k max_count)))
+      (number_push 0 ds c ∙ ap (λ (k : ℕ). k * 10 + (c - byte "0")) (number_is ds))
+    where
+      by_test : (b : Bool)
+          → option_map image (option_map (λ (es : List ℕ). with_mode outer l x (m es)) (longer ds c b))
+          ≡ option_map (λ (k : ℕ). parts.with_mode (image (state outer l x)) (n k)) (small (number (ds ++ c ∷ [])) b)
+      by_test false = refl
+      by_test true =
+          ap (λ (z : parts.Mode). Some (parts.with_mode (image (state outer l x)) z)) (same (ds ++ c ∷ []) _ (pushed_is ds c))
+
+  low_image : (ds : List ℕ) (c : ℕ) (k : CountToken)
+      → option_map image (on_low outer l x ds c k) ≡ after_low (image (state outer l x)) (number_of ds) c k
+  low_image ds c digit = longer_image (λ es. reading.counting (reading.low es)) (λ n. parts.counting (parts.low (Some n)))
+      (λ es n e. ap (λ (o : Option ℕ). parts.counting (parts.low o)) e) ds c
+  low_image [] c comma = refl
+  low_image (d ∷ ds) c comma = refl
+  low_image [] c closing_brace = refl
+  low_image (d ∷ ds) c closing_brace = counted_image outer l x (exactly (d ∷ ds))
+  low_image ds c no_count = refl
+
+  range_image : (ds es : List ℕ)
+      → option_map image (range_read outer l x ds es) ≡ after_high_brace (image (state outer l x)) (number ds) (number_of es)
+  range_image ds [] = counted_image outer l x (at_least ds)
+  range_image ds (e ∷ es) =
+      when_image (nat_le (number ds) (number (e ∷ es))) (with_count outer l x (from_to ds (e ∷ es))) ∙ ap (parts.when (nat_le (number ds) (number (e ∷ es)))) (counted_image outer l x (from_to ds (e ∷ es)))
+
+  high_image : (ds es : List ℕ) (c : ℕ) (k : CountToken)
+      → option_map image (on_high outer l x ds es c k) ≡ after_high (image (state outer l x)) (number ds) (number_of es) c k
+  high_image ds es c digit = longer_image (λ fs. reading.counting (reading.high ds fs)) (λ n. parts.counting (parts.high (number ds) (Some n)))
+      (λ fs n e. ap (λ (o : Option ℕ). parts.counting (parts.high (number ds) o)) e) es c
+  high_image ds es c comma = refl
+  high_image ds es c closing_brace = range_image ds es
+  high_image ds es c no_count = refl
+
+  counting_image : (n : reading.Count) (c : ℕ)
+      → option_map image (on_count outer l x n c) ≡ after_counting (image (state outer l x)) (count_image n) c
+  counting_image (reading.low ds) c = low_image ds c (count_token c)
+  counting_image (reading.high ds es) c = high_image ds es c (count_token c)
+
+ranged_image : (n : Bool) (r : Ranges) (w y : ClassAtom) (o : Option (ℕ × ℕ)) → o ≡ range (item w) (item y)
+    → option_map class_image (reading.ranged n r w y o) ≡ parts.ranged n (ranges_of r) o
+ranged_image n r w y None e = refl
+ranged_image n r w y (Some s) e =
+    ap (λ (o : Option (ℕ × ℕ)). Some (record { negated = n; ranges = ranges_of r ++ range_list o; pending = parts.fresh })) (sym e)
+
+took_image : (n : Bool) (r : Ranges) (p : reading.Pending) (y : ClassAtom)
+    → option_map class_image (reading.took n r p y) ≡ parts.took n (ranges_of r) (pending_image p) (item y)
+took_image n r reading.fresh y = refl
+took_image n r (reading.one w) y = refl
+took_image n r (reading.dashed w) y = ranged_image n r w y _ refl
+
+dash_image : (n : Bool) (r : Ranges) (p : reading.Pending)
+    → option_map class_image (reading.took_dash n r p) ≡ parts.took_dash n (ranges_of r) (pending_image p)
+dash_image n r reading.fresh = refl
+dash_image n r (reading.one w) = refl
+dash_image n r (reading.dashed w) = took_image n r (reading.dashed w) hyphen
+
+read_class_image : (n : Bool) (r : Ranges) (p : reading.Pending)
+    → atom_pattern (reading.class_read n r p) ≡ parts.class_read n (ranges_of r) (pending_image p)
+read_class_image n r reading.fresh = refl
+read_class_image n r (reading.one w) = refl
+read_class_image n r (reading.dashed w) = refl
+
+module _ (outer : List Open) (l : Level) (x : reading.Last) where
+  taken_image : (k : reading.Class) (y : ClassAtom)
+      → option_map image (within outer l x (reading.took k.negated k.ranges k.pending y))
+      ≡ parts.within (image (state outer l x)) (parts.took k.negated (ranges_of k.ranges) (pending_image k.pending) (item y))
+  taken_image k y =
+      within_image outer l x _ ∙ ap (parts.within (image (state outer l x))) (took_image k.negated k.ranges k.pending y)
+
+  class_token_image : (k : reading.Class) (c : ℕ) (t : ClassToken)
+      → option_map image (on_class_token outer l x k.negated k.ranges k.pending c t)
+      ≡ after_class_token (image (state outer l x)) (class_image k) c t
+  class_token_image k c closing_bracket =
+      ap Some (atom_image outer l x (reading.class_read k.negated k.ranges k.pending))
+      ∙ ap (λ (p : Pattern). Some (after_atom (image (state outer l x)) p)) (read_class_image k.negated k.ranges k.pending)
+  class_token_image k c class_backslash = refl
+  class_token_image k c dash =
+      within_image outer l x _ ∙ ap (parts.within (image (state outer l x))) (dash_image k.negated k.ranges k.pending)
+  class_token_image k c class_character = taken_image k (class_plain c)
+
+  class_escape_image : (k : reading.Class) (c : ℕ) (t : Escape)
+      → option_map image (on_class_escape outer l x k.negated k.ranges k.pending c t)
+      ≡ after_class_escape (image (state outer l x)) (class_image k) c t
+  class_escape_image k c itself = taken_image k (class_escaped c)
+  class_escape_image k c control = taken_image k (class_control c)
+  class_escape_image k c set = taken_image k (class_set c)
+  class_escape_image k c boundary = taken_image k backspace
+  class_escape_image k c no_boundary = refl
+  class_escape_image k c unknown = refl
+
+  abbrev first_class : reading.Class
+  first_class = record { negated = false; ranges = no_ranges; pending = reading.fresh }
+
+  bracket_image : (c : ℕ) (b : Bool) → option_map image (on_class outer l x c b) ≡ after_bracket (image (state outer l x)) c b
+  bracket_image c false = class_token_image first_class c (class_token c)
+  bracket_image c true = refl
+
+  next_image : (m : Mode) (c : ℕ) → option_map image (next_in outer l x m c) ≡ after_in (image (state outer l x)) (mode_image m) c
+  next_image reading.between c = token_image outer l x c (token c)
+  next_image reading.escaping c = escape_image outer l x c (escape c)
+  next_image reading.opening c = group_image outer l x c (c == byte "?")
+  next_image reading.extending c = extension_image outer l x (c == byte ":")
+  next_image (reading.counting n) c = counting_image outer l x n c
+  next_image reading.class_opened c = bracket_image c (c == byte "^")
+  next_image (reading.in_class k) c = class_token_image k c (class_token c)
+  next_image (reading.class_escaping k) c = class_escape_image k c (class_escape c)
+
+close_image : (outer : List Open) (l : Level) (x : reading.Last) (b : Bool)
+    → option_map pattern (reading.at_close outer l x b) ≡ at_close (map around outer) (side l) (last_image x) b
+close_image [] l x true = ap Some (level_image l x)
+close_image [] l x false = refl
+close_image (o ∷ outer) l x b = refl
+
+same_between : (m : Mode) → is_between m ≡ parts.is_between (mode_image m)
+same_between reading.between = refl
+same_between reading.escaping = refl
+same_between reading.opening = refl
+same_between reading.extending = refl
+same_between (reading.counting n) = refl
+same_between reading.class_opened = refl
+same_between (reading.in_class k) = refl
+same_between (reading.class_escaping k) = refl
 
 one_more : (cs : List ℕ) → ((t : State) → option_map pattern (read_from t cs) ≡ pattern_from (image t) cs) → (o : Option State)
     → option_map pattern (option_and_then (λ t. read_from t cs) o) ≡ option_and_then (λ t. pattern_from t cs) (option_map image o)
@@ -129,10 +335,12 @@ one_more cs ih None = refl
 one_more cs ih (Some t) = ih t
 
 from_image : (cs : List ℕ) (s : State) → option_map pattern (read_from s cs) ≡ pattern_from (image s) cs
-from_image [] s = close_image s.outer s.level s.last s.escaping
+from_image [] s =
+    close_image s.outer s.level s.last (is_between s.mode)
+    ∙ ap (at_close (map around s.outer) (side s.level) (last_image s.last)) (same_between s.mode)
 from_image (c ∷ cs) s =
     one_more cs (from_image cs) (next s c)
-    ∙ ap (option_and_then (λ t. pattern_from t cs)) (next_image s.outer s.level s.last s.escaping c)
+    ∙ ap (option_and_then (λ t. pattern_from t cs)) (next_image s.outer s.level s.last s.mode c)
 
 none_within : (b : Bool) (o : Option Disjunction) → option_map pattern o ≡ None → None ≡ option_map pattern (if b then o else None)
 none_within true o e = sym e
@@ -164,7 +372,7 @@ pub too_long : (text : List ℕ) → max_length < length text → None ≡ optio
 too_long text h = ap (λ (b : Bool). option_map pattern (if b then read text else None)) (sym (lt-leb (length text) max_length h))
 
 pub whole : (s : Parts) (text : List ℕ) (k : ℕ) → length text ≤ k → length text ≤ max_length → IsOnWay s text k
-    → at_close s.outer s.level s.last s.escaping ≡ option_map pattern (read_pattern text)
+    → at_close s.outer s.level s.last (parts.is_between s.mode) ≡ option_map pattern (read_pattern text)
 whole s text k h short w =
     sym (at_drop_all (pattern_from s) text k h) ∙ w ∙ sym (from_image text initial)
     ∙ ap (λ (b : Bool). option_map pattern (if b then read text else None)) (sym (le-leb (length text) max_length short))

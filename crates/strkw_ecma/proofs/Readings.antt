@@ -1,40 +1,173 @@
 -- The reading of patterns: each tree of the syntax is read from its spelling, and what is read is spelled so.
-use Rattle.std.proofs.Common.{◌≡◌, ℕ, false, List, [], ◌∷◌, ◌++◌, Option, Some, None, refl, sym, ap, ◌∙◌, append_assoc, length, ◌<◌}
-use Rattle.std.specs.Prelude.{option_and_then}
+use Rattle.std.proofs.Common.{◌≡◌, ℕ, false, List, [], ◌∷◌, ◌++◌, Option, Some, None, refl, sym, ap, subst, ◌∙◌, append_assoc, length, ◌<◌, Bool, true, true≢false}
+use Rattle.std.specs.Prelude.{option_and_then, ◌==◌, ◌*◌, ◌≤◌, is_some}
 use Rattle.std.proofs.lemmas.List.{append-nil}
-use Rattle.std.proofs.lemmas.Bool.{lt-ltb}
+use Rattle.std.proofs.lemmas.Bool.{lt-ltb, le-leb}
 use Rattle.std.specs.Str.{byte}
-use Rattle.strkw_ecma.specs.Syntax.{Disjunction, only, either, Alternative, nothing, more, Term, at_start, at_end, at_boundary, at_no_boundary, once, quantified, Quantifier, zero_or_more, one_or_more, zero_or_one, greedy, lazy, Atom, plain, escaped, control_escape, set_escape, dot, group, character, token, Escape, itself, control, set, escape, quantifier_spelling, spelling, alternative_spelling, term_spelling, atom_spelling, IsWellFormed, IsAlternative, IsTerm, IsAtom, max_nesting}
-use Rattle.strkw_ecma.specs.Reading.{Level, Last, none, atom, counted, State, ended, joined, with_atom, opened, on_token, on_escape, next, read_from, read}
+use Rattle.strkw_ecma.proofs.Letters.{same_char}
+use Rattle.strkw_ecma.specs.Escapes.{Escape, itself, control, set, escape}
+use Rattle.strkw_ecma.specs.Syntax.{Disjunction, only, either, Alternative, nothing, more, Term, at_start, at_end, at_boundary, at_no_boundary, once, quantified, Quantifier, zero_or_more, one_or_more, zero_or_one, exactly, at_least, from_to, greedy, lazy, Atom, plain, escaped, control_escape, set_escape, dot, bracketed, group, Group, capturing, plain_group, Token, character, token, quantifier_spelling, group_spelling, greed_spelling, spelling, alternative_spelling, term_spelling, atom_spelling, max_nesting}
+use Rattle.strkw_ecma.specs.WellFormed.{IsQuantifier, IsWellFormed, IsAlternative, IsTerm, IsAtom}
+use Rattle.strkw_ecma.specs.Numbers.{number, number_of, IsNumber}
+use Rattle.strkw_ecma.specs.Size.{size, max_size}
+use Rattle.strkw_ecma.specs.Patterns.{atom_pattern, times, copies}
+use Rattle.strkw_ecma.proofs.Digits.{reads_digits}
+use Rattle.strkw_ecma.specs.Reading.{Open, Level, Last, none, atom, counted, State, between, opening, low, high, counting, with_mode, with_quantifier, with_count, range_read, on_low, on_high, when, ended, joined, with_atom, opened, on_token, on_group, on_escape, next, at_close, read_from, read}
+use Rattle.strkw_ecma.proofs.ClassReadings.{reads_class}
 
-abbrev state : List Level → Option Disjunction → Alternative → Last → State
-state outer e a x = record { outer = outer; level = record { earlier = e; current = a }; last = x; escaping = false }
+abbrev state : List Open → Option Disjunction → Alternative → Last → State
+state outer e a x = record { outer = outer; level = record { earlier = e; current = a }; last = x; mode = between }
 
 -- a character that begins an atom, and the atom
-plain_next : (outer : List Level) (e : Option Disjunction) (a : Alternative) (x : Last) (c : ℕ) → token c ≡ character
+plain_next : (outer : List Open) (e : Option Disjunction) (a : Alternative) (x : Last) (c : ℕ) → token c ≡ character
     → next (state outer e a x) c ≡ Some (with_atom outer (record { earlier = e; current = a }) x (plain c))
 plain_next outer e a x c h = ap (on_token outer (record { earlier = e; current = a }) x c) h
 
-escape_next : (outer : List Level) (l : Level) (x : Last) (c : ℕ) (k : Escape) → escape c ≡ k
+escape_next : (outer : List Open) (l : Level) (x : Last) (c : ℕ) (k : Escape) → escape c ≡ k
     → on_escape outer l x c (escape c) ≡ on_escape outer l x c k
 escape_next outer l x c k h = ap (on_escape outer l x c) h
-
-opens : (outer : List Level) (e : Option Disjunction) (a : Alternative) (x : Last) → length outer < max_nesting
-    → next (state outer e a x) (byte "(") ≡ Some (state (record { earlier = e; current = ended a x } ∷ outer) None nothing none)
-opens outer e a x h = ap (opened outer (record { earlier = e; current = a }) x) (lt-ltb (length outer) max_nesting h)
 
 regroup : (a b c cs : List ℕ) → ((a ++ b) ++ c) ++ cs ≡ a ++ (b ++ (c ++ cs))
 regroup a b c cs = append_assoc (a ++ b) c cs ∙ append_assoc a b (c ++ cs)
 
-reads_quantifier : (outer : List Level) (e : Option Disjunction) (a : Alternative) (p : Atom) (q : Quantifier) (cs : List ℕ)
+-- a count that is whole
+counts : (outer : List Open) (l : Level) (p : Atom) (q : Quantifier) (cs : List ℕ) → copies (times q) * size (atom_pattern p) ≤ max_size
+    → option_and_then (λ t. read_from t cs) (with_count outer l (atom p) q)
+    ≡ option_and_then (λ t. read_from t cs) (with_quantifier outer l (atom p) q)
+counts outer l p q cs h =
+    ap (λ (b : Bool). option_and_then (λ t. read_from t cs) (when b (with_quantifier outer l (atom p) q))) (le-leb _ max_size h)
+
+reads_first : (outer : List Open) (l : Level) (p : Atom) (ds : List ℕ) → IsNumber ds → (cs : List ℕ)
+    → read_from (with_mode outer l (atom p) (counting (low []))) (ds ++ cs) ≡ read_from (with_mode outer l (atom p) (counting (low ds))) cs
+reads_first outer l p ds h cs =
+    reads_digits outer l (atom p) (λ es. counting (low es)) (λ es c e. ap (on_low outer l (atom p) es c) e) [] ds h.0 h.2 cs
+
+reads_second : (outer : List Open) (l : Level) (p : Atom) (ds es : List ℕ) → IsNumber es → (cs : List ℕ)
+    → read_from (with_mode outer l (atom p) (counting (high ds []))) (es ++ cs) ≡ read_from (with_mode outer l (atom p) (counting (high ds es))) cs
+reads_second outer l p ds es h cs =
+    reads_digits outer l (atom p) (λ fs. counting (high ds fs)) (λ fs c e. ap (on_high outer l (atom p) ds fs c) e) [] es h.0 h.2 cs
+
+reads_comma : (outer : List Open) (l : Level) (p : Atom) (ds : List ℕ) → IsNumber ds → (cs : List ℕ)
+    → read_from (with_mode outer l (atom p) (counting (low ds))) (byte "," ∷ cs)
+    ≡ read_from (with_mode outer l (atom p) (counting (high ds []))) cs
+reads_comma outer l p ds h cs =
+    ap (λ (b : Bool). option_and_then (λ t. read_from t cs) (when b (Some (with_mode outer l (atom p) (counting (high ds [])))))) h.1
+
+reads_exact : (outer : List Open) (l : Level) (p : Atom) (ds : List ℕ) → IsNumber ds → (cs : List ℕ)
+    → read_from (with_mode outer l (atom p) (counting (low ds))) (byte "}" ∷ cs)
+    ≡ option_and_then (λ t. read_from t cs) (with_count outer l (atom p) (exactly ds))
+reads_exact outer l p ds h cs =
+    ap (λ (b : Bool). option_and_then (λ t. read_from t cs) (when b (with_count outer l (atom p) (exactly ds)))) h.1
+
+reads_range : (outer : List Open) (l : Level) (p : Atom) (ds es : List ℕ) → is_some (number_of es) ≡ true → number ds ≤ number es → (cs : List ℕ)
+    → option_and_then (λ t. read_from t cs) (range_read outer l (atom p) ds es)
+    ≡ option_and_then (λ t. read_from t cs) (with_count outer l (atom p) (from_to ds es))
+reads_range outer l p ds [] h w cs = absurd (true≢false (sym h))
+reads_range outer l p ds (e ∷ es) h w cs =
+    ap (λ (b : Bool). option_and_then (λ t. read_from t cs) (when b (with_count outer l (atom p) (from_to ds (e ∷ es)))))
+    (le-leb (number ds) (number (e ∷ es)) w)
+
+reads_quantifier : (outer : List Open) (e : Option Disjunction) (a : Alternative) (p : Atom) (q : Quantifier)
+    → IsQuantifier q (size (atom_pattern p)) → (cs : List ℕ)
     → read_from (state outer e a (atom p)) (quantifier_spelling q ++ cs) ≡ read_from (state outer e a (counted p q)) cs
-reads_quantifier outer e a p zero_or_more cs = refl
-reads_quantifier outer e a p one_or_more cs = refl
-reads_quantifier outer e a p zero_or_one cs = refl
+reads_quantifier outer e a p zero_or_more h cs = refl
+reads_quantifier outer e a p one_or_more h cs = refl
+reads_quantifier outer e a p zero_or_one h cs = refl
+reads_quantifier outer e a p (exactly ds) h cs =
+    let l : Level = record { earlier = e; current = a } in
+    let opened = read_from (with_mode outer l (atom p) (counting (low []))) in
+    ap opened (append_assoc ds (byte "}" ∷ []) cs) ∙ reads_first outer l p ds h.0 (byte "}" ∷ cs)
+    ∙ reads_exact outer l p ds h.0 cs ∙ counts outer l p (exactly ds) cs h.1
+reads_quantifier outer e a p (at_least ds) h cs =
+    let l : Level = record { earlier = e; current = a } in
+    let opened = read_from (with_mode outer l (atom p) (counting (low []))) in
+    ap opened (append_assoc ds (byte "," ∷ byte "}" ∷ []) cs) ∙ reads_first outer l p ds h.0 (byte "," ∷ byte "}" ∷ cs)
+    ∙ reads_comma outer l p ds h.0 (byte "}" ∷ cs) ∙ counts outer l p (at_least ds) cs h.1
+reads_quantifier outer e a p (from_to ds es) h cs =
+    let l : Level = record { earlier = e; current = a } in
+    let opened = read_from (with_mode outer l (atom p) (counting (low []))) in
+    let back = read_from (with_mode outer l (atom p) (counting (high ds []))) in
+    ap opened (append_assoc ds (byte "," ∷ (es ++ byte "}" ∷ [])) cs) ∙ reads_first outer l p ds h.0 (byte "," ∷ ((es ++ byte "}" ∷ []) ++ cs))
+    ∙ reads_comma outer l p ds h.0 ((es ++ byte "}" ∷ []) ++ cs) ∙ ap back (append_assoc es (byte "}" ∷ []) cs)
+    ∙ reads_second outer l p ds es h.1 (byte "}" ∷ cs) ∙ reads_range outer l p ds es h.1.1 h.2 cs
+    ∙ counts outer l p (from_to ds es) cs h.3
+
+-- no alternative begins with a question mark, so that behind `(` one is none of its
+abbrev IsNoQuestion : List ℕ → Type 0
+IsNoQuestion [] = Unit {0}
+IsNoQuestion (c ∷ cs) = (c == byte "?") ≡ false
+
+is_character : Token → Bool
+is_character character = true
+is_character t = false
+
+no_question : (c : ℕ) (b : Bool) → (c == byte "?") ≡ b → token c ≡ character → b ≡ false
+unfolding is_character
+no_question c false e h = refl
+no_question c true e h =
+    absurd (true≢false (sym (ap is_character h) ∙ ap (λ (z : ℕ). is_character (token z)) (sym (same_char c (byte "?") e))))
+
+mutual
+  begins_disjunction : (d : Disjunction) (n : ℕ) → IsWellFormed n d → (cs : List ℕ) → IsNoQuestion cs → IsNoQuestion (spelling d ++ cs)
+  begins_disjunction (only a) n h cs w = begins_alternative a n h cs w
+  begins_disjunction (either d a) n h cs w =
+      subst IsNoQuestion (sym (append_assoc (spelling d) (byte "|" ∷ alternative_spelling a) cs))
+      (begins_disjunction d n h.0 (byte "|" ∷ (alternative_spelling a ++ cs)) refl)
+
+  begins_alternative : (a : Alternative) (n : ℕ) → IsAlternative n a → (cs : List ℕ) → IsNoQuestion cs
+      → IsNoQuestion (alternative_spelling a ++ cs)
+  begins_alternative nothing n h cs w = w
+  begins_alternative (more a t) n h cs w =
+      subst IsNoQuestion (sym (append_assoc (alternative_spelling a) (term_spelling t) cs))
+      (begins_alternative a n h.0 (term_spelling t ++ cs) (begins_term t n h.1 cs))
+
+  begins_term : (t : Term) (n : ℕ) → IsTerm n t → (cs : List ℕ) → IsNoQuestion (term_spelling t ++ cs)
+  begins_term at_start n h cs = refl
+  begins_term at_end n h cs = refl
+  begins_term at_boundary n h cs = refl
+  begins_term at_no_boundary n h cs = refl
+  begins_term (once p) n h cs = begins_atom p n h cs
+  begins_term (quantified p q g) n h cs =
+      subst IsNoQuestion (sym (regroup (atom_spelling p) (quantifier_spelling q) (greed_spelling g) cs)) (begins_atom p n h.0 _)
+
+  begins_atom : (p : Atom) (n : ℕ) → IsAtom n p → (cs : List ℕ) → IsNoQuestion (atom_spelling p ++ cs)
+  begins_atom (plain c) n h cs = no_question c (c == byte "?") refl h
+  begins_atom (escaped c) n h cs = refl
+  begins_atom (control_escape c) n h cs = refl
+  begins_atom (set_escape c) n h cs = refl
+  begins_atom dot n h cs = refl
+  begins_atom (bracketed false r e) n h cs = refl
+  begins_atom (bracketed true r e) n h cs = refl
+  begins_atom (group capturing d) n h cs = refl
+  begins_atom (group plain_group d) n h cs = refl
+
+not_closed : (outer : List Open) (l : Level) (x : Last) → at_close outer l x false ≡ None
+not_closed [] l x = refl
+not_closed (o ∷ outer) l x = refl
+
+abbrev inside : List Open → Option Disjunction → Alternative → Last → Group → State
+inside outer e a x g = state (record { group = g; earlier = e; current = ended a x } ∷ outer) None nothing none
+
+-- behind `(`
+enters : (outer : List Open) (e : Option Disjunction) (a : Alternative) (x : Last) (cs : List ℕ) → length outer < max_nesting → IsNoQuestion cs
+    → read_from (with_mode outer (record { earlier = e; current = a }) x opening) cs ≡ read_from (inside outer e a x capturing) cs
+enters outer e a x [] h w = not_closed outer (record { earlier = e; current = a }) x
+enters outer e a x (c ∷ cs) h w =
+    let l : Level = record { earlier = e; current = a } in
+    ap (λ (b : Bool). option_and_then (λ t. read_from t cs) (on_group outer l x c b)) w
+    ∙ ap (λ (b : Bool). option_and_then (λ t. read_from t cs) (option_and_then (λ t. on_token t.outer t.level t.last c (token c)) (opened outer l x capturing b)))
+    (lt-ltb (length outer) max_nesting h)
+
+opens : (outer : List Open) (e : Option Disjunction) (a : Alternative) (x : Last) (g : Group) (cs : List ℕ) → length outer < max_nesting
+    → IsNoQuestion cs → read_from (state outer e a x) (group_spelling g ++ cs) ≡ read_from (inside outer e a x g) cs
+opens outer e a x capturing cs h w = enters outer e a x cs h w
+opens outer e a x plain_group cs h w =
+    ap (λ (b : Bool). option_and_then (λ t. read_from t cs) (opened outer (record { earlier = e; current = a }) x plain_group b))
+    (lt-ltb (length outer) max_nesting h)
 
 mutual
   -- behind the spelling of a disjunction the reader stands where the disjunction has been read
-  reads_disjunction : (d : Disjunction) (outer : List Level) → IsWellFormed (length outer) d → (cs : List ℕ)
+  reads_disjunction : (d : Disjunction) (outer : List Open) → IsWellFormed (length outer) d → (cs : List ℕ)
       → ((e : Option Disjunction) × (a : Alternative) × (x : Last) × (joined e (ended a x) ≡ d)
       × (read_from (state outer None nothing none) (spelling d ++ cs) ≡ read_from (state outer e a x) cs))
   reads_disjunction (only a) outer h cs =
@@ -50,7 +183,7 @@ mutual
             ∙ front.4 ∙ ap (λ z. read_from (state outer (Some z) nothing none) (alternative_spelling a ++ cs)) front.3 ∙ back.3,
       )
 
-  reads_alternative : (a : Alternative) (outer : List Level) → IsAlternative (length outer) a → (e : Option Disjunction) (cs : List ℕ)
+  reads_alternative : (a : Alternative) (outer : List Open) → IsAlternative (length outer) a → (e : Option Disjunction) (cs : List ℕ)
       → ((b : Alternative) × (x : Last) × (ended b x ≡ a)
       × (read_from (state outer e nothing none) (alternative_spelling a ++ cs) ≡ read_from (state outer e b x) cs))
   reads_alternative nothing outer h e cs = (nothing, none, refl, refl)
@@ -63,7 +196,7 @@ mutual
         ap (read_from (state outer e nothing none)) (append_assoc (alternative_spelling a) (term_spelling t) cs) ∙ front.3 ∙ back.3,
       )
 
-  reads_term : (t : Term) (outer : List Level) → IsTerm (length outer) t → (e : Option Disjunction) (a : Alternative) (x : Last) (cs : List ℕ)
+  reads_term : (t : Term) (outer : List Open) → IsTerm (length outer) t → (e : Option Disjunction) (a : Alternative) (x : Last) (cs : List ℕ)
       → ((b : Alternative) × (y : Last) × (ended b y ≡ more (ended a x) t)
       × (read_from (state outer e a x) (term_spelling t ++ cs) ≡ read_from (state outer e b y) cs))
   reads_term at_start outer h e a x cs = (more (ended a x) at_start, none, refl, refl)
@@ -76,18 +209,18 @@ mutual
     counted p q,
     refl,
     ap (read_from (state outer e a x)) (regroup (atom_spelling p) (quantifier_spelling q) [] cs)
-        ∙ reads_atom p outer h e a x (quantifier_spelling q ++ cs) ∙ reads_quantifier outer e (ended a x) p q cs,
+        ∙ reads_atom p outer h.0 e a x (quantifier_spelling q ++ cs) ∙ reads_quantifier outer e (ended a x) p q h.1 cs,
   )
   reads_term (quantified p q lazy) outer h e a x cs = (
     more (ended a x) (quantified p q lazy),
     none,
     refl,
     ap (read_from (state outer e a x)) (regroup (atom_spelling p) (quantifier_spelling q) (byte "?" ∷ []) cs)
-        ∙ reads_atom p outer h e a x (quantifier_spelling q ++ byte "?" ∷ cs)
-        ∙ reads_quantifier outer e (ended a x) p q (byte "?" ∷ cs),
+        ∙ reads_atom p outer h.0 e a x (quantifier_spelling q ++ byte "?" ∷ cs)
+        ∙ reads_quantifier outer e (ended a x) p q h.1 (byte "?" ∷ cs),
   )
 
-  reads_atom : (p : Atom) (outer : List Level) → IsAtom (length outer) p → (e : Option Disjunction) (a : Alternative) (x : Last) (cs : List ℕ)
+  reads_atom : (p : Atom) (outer : List Open) → IsAtom (length outer) p → (e : Option Disjunction) (a : Alternative) (x : Last) (cs : List ℕ)
       → read_from (state outer e a x) (atom_spelling p ++ cs) ≡ read_from (state outer e (ended a x) (atom p)) cs
   reads_atom (plain c) outer h e a x cs = ap (option_and_then (λ t. read_from t cs)) (plain_next outer e a x c h)
   reads_atom (escaped c) outer h e a x cs =
@@ -97,12 +230,13 @@ mutual
   reads_atom (set_escape c) outer h e a x cs =
       ap (option_and_then (λ t. read_from t cs)) (escape_next outer (record { earlier = e; current = a }) x c set h)
   reads_atom dot outer h e a x cs = refl
-  reads_atom (group d) outer h e a x cs =
-      let inner = reads_disjunction d (record { earlier = e; current = ended a x } ∷ outer) h.1 (byte ")" ∷ cs) in
-      ap (option_and_then (λ t. read_from t (spelling d ++ byte ")" ∷ [] ++ cs))) (opens outer e a x h.0)
-      ∙ ap (λ z. read_from (state (record { earlier = e; current = ended a x } ∷ outer) None nothing none) z)
-      (append_assoc (spelling d) (byte ")" ∷ []) cs)
-      ∙ inner.4 ∙ ap (λ z. read_from (state outer e (ended a x) (atom (group z))) cs) inner.3
+  reads_atom (bracketed n r w) outer h e a x cs = reads_class outer (record { earlier = e; current = a }) x n r w h.0 h.1 cs
+  reads_atom (group g d) outer h e a x cs =
+      let o : Open = record { group = g; earlier = e; current = ended a x } in
+      let inner = reads_disjunction d (o ∷ outer) h.1 (byte ")" ∷ cs) in
+      ap (read_from (state outer e a x)) (regroup (group_spelling g) (spelling d) (byte ")" ∷ []) cs)
+      ∙ opens outer e a x g (spelling d ++ byte ")" ∷ cs) h.0 (begins_disjunction d (length (o ∷ outer)) h.1 (byte ")" ∷ cs) refl)
+      ∙ inner.4 ∙ ap (λ z. read_from (state outer e (ended a x) (atom (group g z))) cs) inner.3
 
 -- each pattern is read as its tree: so no two trees are spelled alike
 pub complete : (d : Disjunction) → IsWellFormed 0 d → read (spelling d) ≡ Some d

@@ -1,177 +1,74 @@
 -- What is read is spelled so.
-use Rattle.std.proofs.Common.{◌≡◌, ℕ, Bool, true, false, List, [], ◌∷◌, ◌++◌, Option, Some, None, if◌then◌else◌, ◌==◌, codes, refl, sym, ap, subst, ◌∙◌, append_assoc, arith}
-use Rattle.std.specs.Prelude.{option_and_then}
+use Rattle.std.proofs.Common.{◌≡◌, ℕ, Bool, true, false, List, [], ◌∷◌, ◌++◌, Option, Some, None, ◌==◌, refl, sym, ap, subst, ◌∙◌, append_assoc}
+use Rattle.std.specs.Prelude.{option_and_then, option_map, is_some, nat_le, ◌*◌}
 use Rattle.std.proofs.lemmas.List.{append-nil}
-use Rattle.std.proofs.lemmas.Bool.Decides.{nat_tests}
 use Rattle.std.specs.Str.{byte}
-use Rattle.strkw_text.specs.Characters.{is_one_of}
-use Rattle.strkw_ecma.specs.Syntax.{Disjunction, Alternative, more, Term, at_start, at_end, at_boundary, at_no_boundary, quantified, Quantifier, zero_or_more, one_or_more, zero_or_one, lazy, Atom, plain, escaped, control_escape, set_escape, dot, group, Token, bar, asterisk, plus, question, caret, dollar, opening, closing, point, backslash, character, other, token, Escape, itself, control, set, boundary, no_boundary, unknown, escape, quantifier_spelling, spelling, alternative_spelling, term_spelling, atom_spelling}
-use Rattle.strkw_ecma.specs.Reading.{Level, Last, none, atom, counted, State, ended, joined, level_ended, with_atom, with_term, closed, with_quantifier, questioned, opened, on_token, on_escape, next, at_close, read_from, initial, read}
+use Rattle.strkw_ecma.specs.Escapes.{Escape, itself, control, set, boundary, no_boundary, unknown, escape}
+use Rattle.strkw_ecma.specs.Classes.{class_token, class_escape, no_ranges}
+use Rattle.strkw_ecma.specs.Syntax.{Disjunction, Term, at_start, at_end, at_boundary, at_no_boundary, quantified, Quantifier, zero_or_more, one_or_more, zero_or_one, exactly, at_least, from_to, lazy, Group, capturing, plain_group, plain, escaped, control_escape, set_escape, dot, group, Token, bar, asterisk, plus, question, caret, dollar, opening as opening_token, closing, point, backslash, bracket, brace, character, other, token, quantifier_spelling, group_spelling, spelling, term_spelling, atom_spelling}
+use Rattle.strkw_ecma.specs.Reading.{Open, Level, Last, none, atom, counted, fresh, Mode, between, escaping, opening, extending, class_opened, Count, low, high, counting, when, with_count, longer, on_low, on_high, on_count, range_read, in_class, class_escaping, is_between, State, ended, level_ended, new_level, with_term, with_mode, closed, with_quantifier, questioned, opened, opened_within, on_token, on_group, on_extension, on_escape, on_class, next, next_in, at_close, read_from, initial, read}
+use Rattle.strkw_ecma.specs.Numbers.{number, number_of, max_count, CountToken, digit, comma, closing_brace, no_count, count_token}
+use Rattle.strkw_ecma.specs.Size.{size, max_size}
+use Rattle.strkw_ecma.specs.Patterns.{atom_pattern, times, copies}
+use Rattle.strkw_ecma.proofs.Letters.{char_of_count, char_of_count_token, same_char, char_of, char_of_token, char_of_letter, char_of_escape, char_of_class_token, char_of_class_escape}
+use Rattle.strkw_ecma.proofs.ClassSpelled.{level_spelling, last_spelling, outer_spelling, spelled, HasRead, joined_spelling, more_spelling, before, whole, atom_read, class_token_read, class_escape_read}
 
--- the character of a token, where it has one
-abbrev char_of : Token → ℕ → ℕ
-char_of bar c = byte "|"
-char_of asterisk c = byte "*"
-char_of plus c = byte "+"
-char_of question c = byte "?"
-char_of caret c = byte "^"
-char_of dollar c = byte "$"
-char_of opening c = byte "("
-char_of closing c = byte ")"
-char_of point c = byte "."
-char_of backslash c = byte "\\"
-char_of character c = c
-char_of other c = c
-
-by_test : (b : Bool) (P : Token → Type 0) (t u : Token) → (b ≡ true → P t) → P u → P (if b then t else u)
-by_test true P t u f g = f refl
-by_test false P t u f g = g
-
-same_char : (c d : ℕ) → (c == d) ≡ true → d ≡ c
-same_char c d h = grind (arith, nat_tests)
-
-char_of_token : (c : ℕ) → char_of (token c) c ≡ c
-char_of_token c =
-    let P = λ (t : Token). char_of t c ≡ c in
-    by_test (c == byte "|") P _ _ (same_char c _) (by_test (c == byte "*") P _ _ (same_char c _)
-    (by_test (c == byte "+") P _ _ (same_char c _) (by_test (c == byte "?") P _ _ (same_char c _)
-    (by_test (c == byte "^") P _ _ (same_char c _) (by_test (c == byte "$") P _ _ (same_char c _)
-    (by_test (c == byte "(") P _ _ (same_char c _) (by_test (c == byte ")") P _ _ (same_char c _)
-    (by_test (c == byte ".") P _ _ (same_char c _) (by_test (c == byte "\\") P _ _ (same_char c _)
-    (by_test (is_one_of (codes "[]{}") c) P _ _ (λ _. refl) refl))))))))))
-
-abbrev char_of_letter : Escape → ℕ → ℕ
-char_of_letter boundary c = byte "b"
-char_of_letter no_boundary c = byte "B"
-char_of_letter itself c = c
-char_of_letter control c = c
-char_of_letter set c = c
-char_of_letter unknown c = c
-
-by_letter : (b : Bool) (P : Escape → Type 0) (t u : Escape) → (b ≡ true → P t) → P u → P (if b then t else u)
-by_letter true P t u f g = f refl
-by_letter false P t u f g = g
-
-char_of_escape : (c : ℕ) → char_of_letter (escape c) c ≡ c
-char_of_escape c =
-    let P = λ (t : Escape). char_of_letter t c ≡ c in
-    by_letter (c == byte "b") P _ _ (same_char c _) (by_letter (c == byte "B") P _ _ (same_char c _)
-    (by_letter (is_one_of (codes "^$\\.*+?()[]{}|/") c) P _ _ (λ _. refl) (by_letter (is_one_of (codes "fnrtv") c) P _ _ (λ _. refl)
-    (by_letter (is_one_of (codes "dDsSwW") c) P _ _ (λ _. refl) refl))))
-
-abbrev level_spelling : Option Disjunction → Alternative → List ℕ
-level_spelling None a = alternative_spelling a
-level_spelling (Some d) a = spelling d ++ byte "|" ∷ alternative_spelling a
-
-abbrev last_spelling : Last → List ℕ
-last_spelling none = []
-last_spelling (atom x) = atom_spelling x
-last_spelling (counted x q) = atom_spelling x ++ quantifier_spelling q
-
-abbrev outer_spelling : List Level → List ℕ
-outer_spelling [] = []
-outer_spelling (l ∷ ls) = (outer_spelling ls ++ level_spelling l.earlier l.current) ++ byte "(" ∷ []
-
-abbrev escape_spelling : Bool → List ℕ
-escape_spelling false = []
-escape_spelling true = byte "\\" ∷ []
-
--- what a state has read
-abbrev spelled : State → List ℕ
-spelled s = ((outer_spelling s.outer ++ level_spelling s.level.earlier s.level.current) ++ last_spelling s.last) ++ escape_spelling s.escaping
-
-ended_spelling : (a : Alternative) (x : Last) → alternative_spelling (ended a x) ≡ alternative_spelling a ++ last_spelling x
-ended_spelling a none = sym (append-nil _)
-ended_spelling a (atom x) = refl
-ended_spelling a (counted x q) = ap (λ z. alternative_spelling a ++ z) (append-nil _)
-
-level_ended_spelling : (e : Option Disjunction) (a : Alternative) (x : Last)
-    → level_spelling e (ended a x) ≡ level_spelling e a ++ last_spelling x
-level_ended_spelling None a x = ended_spelling a x
-level_ended_spelling (Some d) a x =
-    ap (λ z. spelling d ++ byte "|" ∷ z) (ended_spelling a x) ∙ sym (append_assoc (spelling d) (byte "|" ∷ alternative_spelling a) (last_spelling x))
-
-joined_spelling : (e : Option Disjunction) (a : Alternative) → spelling (joined e a) ≡ level_spelling e a
-joined_spelling None a = refl
-joined_spelling (Some d) a = refl
-
-more_spelling : (e : Option Disjunction) (a : Alternative) (t : Term) → level_spelling e (more a t) ≡ level_spelling e a ++ term_spelling t
-more_spelling None a t = refl
-more_spelling (Some d) a t = sym (append_assoc (spelling d) (byte "|" ∷ alternative_spelling a) (term_spelling t))
-
--- the state that was made has read the text
-abbrev HasRead : Option State → List ℕ → Type 0
-HasRead None text = Unit {0}
-HasRead (Some t) text = spelled t ≡ text
-
-module _ (outer : List Level) (l : Level) where
-  abbrev before : Last → List ℕ
-  before x = (outer_spelling outer ++ level_spelling l.earlier l.current) ++ last_spelling x
-
+module _ (outer : List Open) (l : Level) where
   abbrev level_text : List ℕ
   level_text = outer_spelling outer ++ level_spelling l.earlier l.current
 
-  whole : (x : Last) → outer_spelling outer ++ level_spelling l.earlier (ended l.current x) ≡ before x
-  whole x =
-      ap (λ z. outer_spelling outer ++ z) (level_ended_spelling l.earlier l.current x)
-      ∙ sym (append_assoc (outer_spelling outer) (level_spelling l.earlier l.current) (last_spelling x))
-
-  atom_read : (x : Last) (a : Atom) → spelled (with_atom outer l x a) ≡ before x ++ atom_spelling a
-  atom_read x a = append-nil _ ∙ ap (λ z. z ++ atom_spelling a) (whole x)
-
-  term_read : (x : Last) (t : Term) → spelled (with_term outer l x t) ≡ before x ++ term_spelling t
+  term_read : (x : Last) (t : Term) → spelled (with_term outer l x t) ≡ before outer l x ++ term_spelling t
   term_read x t =
       append-nil _ ∙ append-nil _ ∙ ap (λ z. outer_spelling outer ++ z) (more_spelling l.earlier (ended l.current x) t)
       ∙ sym (append_assoc (outer_spelling outer) (level_spelling l.earlier (ended l.current x)) (term_spelling t))
-      ∙ ap (λ z. z ++ term_spelling t) (whole x)
+      ∙ ap (λ z. z ++ term_spelling t) (whole outer l x)
 
   -- behind what stands before the last term
-  before_last : (x : Last) (y : List ℕ) → before x ++ y ≡ level_text ++ (last_spelling x ++ y)
+  before_last : (x : Last) (y : List ℕ) → before outer l x ++ y ≡ level_text ++ (last_spelling x ++ y)
   before_last x y = append_assoc level_text (last_spelling x) y
 
   term_alone : (t : Term) → spelled (with_term outer l none t) ≡ level_text ++ term_spelling t
   term_alone t = term_read none t ∙ ap (λ z. z ++ term_spelling t) (append-nil level_text)
 
-  level_whole : (x : Last) → outer_spelling outer ++ spelling (level_ended l x) ≡ before x
-  level_whole x = ap (λ z. outer_spelling outer ++ z) (joined_spelling l.earlier (ended l.current x)) ∙ whole x
+  level_whole : (x : Last) → outer_spelling outer ++ spelling (level_ended l x) ≡ before outer l x
+  level_whole x = ap (λ z. outer_spelling outer ++ z) (joined_spelling l.earlier (ended l.current x)) ∙ whole outer l x
 
-  quantifier_read : (x : Last) (q : Quantifier) → HasRead (with_quantifier outer l x q) (before x ++ quantifier_spelling q)
+  quantifier_read : (x : Last) (q : Quantifier) → HasRead (with_quantifier outer l x q) (before outer l x ++ quantifier_spelling q)
   quantifier_read none q = tt
   quantifier_read (atom a) q = append-nil _ ∙ sym (append_assoc level_text (atom_spelling a) (quantifier_spelling q))
   quantifier_read (counted a p) q = tt
 
-  question_read : (x : Last) → HasRead (questioned outer l x) (before x ++ byte "?" ∷ [])
+  question_read : (x : Last) → HasRead (questioned outer l x) (before outer l x ++ byte "?" ∷ [])
   question_read none = tt
   question_read (atom a) = quantifier_read (atom a) zero_or_one
   question_read (counted a q) =
       term_alone (quantified a q lazy) ∙ sym (append_assoc level_text (atom_spelling a ++ quantifier_spelling q) (byte "?" ∷ []))
 
-  bar_read : (x : Last) → HasRead (on_token outer l x (byte "|") bar) (before x ++ byte "|" ∷ [])
+  bar_read : (x : Last) → HasRead (on_token outer l x (byte "|") bar) (before outer l x ++ byte "|" ∷ [])
   bar_read x =
       append-nil _ ∙ append-nil _ ∙ sym (append_assoc (outer_spelling outer) (spelling (level_ended l x)) (byte "|" ∷ []))
       ∙ ap (λ z. z ++ byte "|" ∷ []) (level_whole x)
 
-  open_read : (x : Last) (b : Bool) → HasRead (opened outer l x b) (before x ++ byte "(" ∷ [])
-  open_read x false = tt
-  open_read x true = append-nil _ ∙ append-nil _ ∙ append-nil _ ∙ ap (λ z. z ++ byte "(" ∷ []) (whole x)
+  open_read : (x : Last) (g : Group) (b : Bool) → HasRead (opened outer l x g b) (before outer l x ++ group_spelling g)
+  open_read x g false = tt
+  open_read x g true = append-nil _ ∙ append-nil _ ∙ append-nil _ ∙ ap (λ z. z ++ group_spelling g) (whole outer l x)
 
-close_read : (outer : List Level) (l : Level) (x : Last) → HasRead (closed outer (level_ended l x)) (before outer l x ++ byte ")" ∷ [])
+close_read : (outer : List Open) (l : Level) (x : Last) → HasRead (closed outer (level_ended l x)) (before outer l x ++ byte ")" ∷ [])
 close_read [] l x = tt
 close_read (o ∷ outer) l x =
     let front = outer_spelling outer ++ level_spelling o.earlier o.current in
-    atom_read outer o none (group (level_ended l x)) ∙ regroup front (spelling (level_ended l x)) (before outer o none) (before_none outer o)
+    let around : Level = record { earlier = o.earlier; current = o.current } in
+    atom_read outer around none (group o.group (level_ended l x))
+    ∙ regroup front (group_spelling o.group) (spelling (level_ended l x)) (before outer around none) (append-nil _)
     ∙ ap (λ z. z ++ byte ")" ∷ []) (level_whole (o ∷ outer) l x)
   where
-    before_none : (outer : List Level) (o : Level) → before outer o none ≡ outer_spelling outer ++ level_spelling o.earlier o.current
-    before_none outer o = append-nil _
+    regroup : (front kind inner b : List ℕ) → b ≡ front → b ++ ((kind ++ inner) ++ byte ")" ∷ []) ≡ ((front ++ kind) ++ inner) ++ byte ")" ∷ []
+    regroup front kind inner b e =
+        ap (λ z. z ++ ((kind ++ inner) ++ byte ")" ∷ [])) e
+        ∙ sym (append_assoc front (kind ++ inner) (byte ")" ∷ []))
+        ∙ ap (λ z. z ++ byte ")" ∷ []) (sym (append_assoc front kind inner))
 
-    regroup : (front inner b : List ℕ) → b ≡ front → b ++ (byte "(" ∷ (inner ++ byte ")" ∷ [])) ≡ ((front ++ byte "(" ∷ []) ++ inner) ++ byte ")" ∷ []
-    regroup front inner b e =
-        ap (λ z. z ++ (byte "(" ∷ (inner ++ byte ")" ∷ []))) e
-        ∙ sym (append_assoc front (byte "(" ∷ []) (inner ++ byte ")" ∷ []))
-        ∙ sym (append_assoc (front ++ byte "(" ∷ []) inner (byte ")" ∷ []))
-
-token_read : (outer : List Level) (l : Level) (x : Last) (c : ℕ) (k : Token) → char_of k c ≡ c
+token_read : (outer : List Open) (l : Level) (x : Last) (c : ℕ) (k : Token) → char_of k c ≡ c
     → HasRead (on_token outer l x c k) (before outer l x ++ c ∷ [])
 token_read outer l x c bar e = subst (λ z. HasRead (on_token outer l x c bar) (before outer l x ++ z ∷ [])) e (bar_read outer l x)
 token_read outer l x c asterisk e =
@@ -181,17 +78,16 @@ token_read outer l x c plus e =
 token_read outer l x c question e = subst (λ z. HasRead (questioned outer l x) (before outer l x ++ z ∷ [])) e (question_read outer l x)
 token_read outer l x c caret e = subst (λ z. HasRead (on_token outer l x c caret) (before outer l x ++ z ∷ [])) e (term_read outer l x at_start)
 token_read outer l x c dollar e = subst (λ z. HasRead (on_token outer l x c dollar) (before outer l x ++ z ∷ [])) e (term_read outer l x at_end)
-token_read outer l x c opening e = subst (λ z. HasRead (on_token outer l x c opening) (before outer l x ++ z ∷ [])) e (open_read outer l x _)
+token_read outer l x c opening_token e = ap (λ z. before outer l x ++ z ∷ []) e
 token_read outer l x c closing e = subst (λ z. HasRead (closed outer (level_ended l x)) (before outer l x ++ z ∷ [])) e (close_read outer l x)
 token_read outer l x c point e = subst (λ z. HasRead (on_token outer l x c point) (before outer l x ++ z ∷ [])) e (atom_read outer l x dot)
-token_read outer l x c backslash e = subst (λ z. HasRead (on_token outer l x c backslash) (before outer l x ++ z ∷ [])) e (unread outer l x)
-  where
-    unread : (outer : List Level) (l : Level) (x : Last) → HasRead (on_token outer l x (byte "\\") backslash) (before outer l x ++ byte "\\" ∷ [])
-    unread outer l x = refl
+token_read outer l x c backslash e = ap (λ z. before outer l x ++ z ∷ []) e
+token_read outer l x c bracket e = ap (λ z. before outer l x ++ z ∷ []) e
+token_read outer l x c brace e = ap (λ z. before outer l x ++ z ∷ []) e
 token_read outer l x c character e = atom_read outer l x (plain c)
 token_read outer l x c other e = tt
 
-escape_read : (outer : List Level) (l : Level) (x : Last) (c : ℕ) (k : Escape) → char_of_letter k c ≡ c
+escape_read : (outer : List Open) (l : Level) (x : Last) (c : ℕ) (k : Escape) → char_of_letter k c ≡ c
     → HasRead (on_escape outer l x c k) ((before outer l x ++ byte "\\" ∷ []) ++ c ∷ [])
 escape_read outer l x c itself e = atom_read outer l x (escaped c) ∙ sym (append_assoc (before outer l x) (byte "\\" ∷ []) (c ∷ []))
 escape_read outer l x c control e =
@@ -205,23 +101,127 @@ escape_read outer l x c no_boundary e =
     ∙ ap (λ z. (before outer l x ++ byte "\\" ∷ []) ++ z ∷ []) e
 escape_read outer l x c unknown e = tt
 
-next_read : (outer : List Level) (l : Level) (x : Last) (e : Bool) (c : ℕ)
-    → HasRead (next (record { outer = outer; level = l; last = x; escaping = e }) c)
-    (spelled (record { outer = outer; level = l; last = x; escaping = e }) ++ c ∷ [])
-next_read outer l x true c = escape_read outer l x c (escape c) (char_of_escape c)
-next_read outer l x false c =
+-- behind `(`: the group is open, and the character is read within it
+first_read : (outer : List Open) (l : Level) (x : Last) (c : ℕ) (b : Bool)
+    → HasRead (option_and_then (λ t. on_token t.outer t.level t.last c (token c)) (opened outer l x capturing b))
+    ((before outer l x ++ byte "(" ∷ []) ++ c ∷ [])
+first_read outer l x c false = tt
+first_read outer l x c true =
+    let o : Open = record { group = capturing; earlier = l.earlier; current = ended l.current x } in
+    subst (λ z. HasRead (on_token (o ∷ outer) new_level none c (token c)) (z ++ c ∷ []))
+    (append-nil _ ∙ append-nil _ ∙ ap (λ z. z ++ byte "(" ∷ []) (whole outer l x)) (token_read (o ∷ outer) new_level none c (token c) (char_of_token c))
+
+group_read : (outer : List Open) (l : Level) (x : Last) (c : ℕ) (b : Bool) → (c == byte "?") ≡ b
+    → HasRead (on_group outer l x c b) ((before outer l x ++ byte "(" ∷ []) ++ c ∷ [])
+group_read outer l x c false e = first_read outer l x c _
+group_read outer l x c true e =
+    ap (λ z. before outer l x ++ byte "(" ∷ z ∷ []) (same_char c (byte "?") e) ∙ sym (append_assoc (before outer l x) (byte "(" ∷ []) (c ∷ []))
+
+extension_read : (outer : List Open) (l : Level) (x : Last) (c : ℕ) (b : Bool) → (c == byte ":") ≡ b
+    → HasRead (on_extension outer l x b) ((before outer l x ++ byte "(" ∷ byte "?" ∷ []) ++ c ∷ [])
+extension_read outer l x c false e = tt
+extension_read outer l x c true e =
+    subst (HasRead (opened_within outer l x plain_group))
+    (ap (λ z. before outer l x ++ byte "(" ∷ byte "?" ∷ z ∷ []) (same_char c (byte ":") e)
+    ∙ sym (append_assoc (before outer l x) (byte "(" ∷ byte "?" ∷ []) (c ∷ []))) (open_read outer l x plain_group _)
+
+bracket_read : (outer : List Open) (l : Level) (x : Last) (c : ℕ) (b : Bool) → (c == byte "^") ≡ b
+    → HasRead (on_class outer l x c b) ((before outer l x ++ byte "[" ∷ []) ++ c ∷ [])
+bracket_read outer l x c false e = class_token_read outer l x false no_ranges fresh c (class_token c) (char_of_class_token c)
+bracket_read outer l x c true e =
+    ap (λ z. before outer l x ++ byte "[" ∷ z ∷ []) (same_char c (byte "^") e) ∙ sym (append_assoc (before outer l x) (byte "[" ∷ []) (c ∷ []))
+
+-- counts
+when_read : (b : Bool) (o : Option State) (text : List ℕ) → HasRead o text → HasRead (when b o) text
+when_read false o text h = tt
+when_read true o text h = h
+
+module _ (outer : List Open) (l : Level) where
+  count_read : (x : Last) (q : Quantifier) → HasRead (with_count outer l x q) (before outer l x ++ quantifier_spelling q)
+  count_read none q = tt
+  count_read (atom a) q =
+      when_read (nat_le (copies (times q) * size (atom_pattern a)) max_size) (with_quantifier outer l (atom a) q)
+      (before outer l (atom a) ++ quantifier_spelling q) (quantifier_read outer l (atom a) q)
+  count_read (counted a p) q = tt
+
+  longer_read : (x : Last) (m : List ℕ → Mode) (text : List ℕ) (ds : List ℕ) (c : ℕ) (b : Bool)
+      → spelled (with_mode outer l x (m (ds ++ c ∷ []))) ≡ text
+      → HasRead (option_map (λ (es : List ℕ). with_mode outer l x (m es)) (longer ds c b)) text
+  longer_read x m text ds c false h = tt
+  longer_read x m text ds c true h = h
+
+  low_read : (x : Last) (ds : List ℕ) (c : ℕ) (k : CountToken) → char_of_count k c ≡ c
+      → HasRead (on_low outer l x ds c k) ((before outer l x ++ byte "{" ∷ ds) ++ c ∷ [])
+  low_read x ds c digit e =
+      longer_read x (λ es. counting (low es)) ((before outer l x ++ byte "{" ∷ ds) ++ c ∷ []) ds c (nat_le (number (ds ++ c ∷ [])) max_count) (sym (append_assoc (before outer l x) (byte "{" ∷ ds) (c ∷ [])))
+  low_read x ds c comma e =
+      when_read (is_some (number_of ds)) (Some (with_mode outer l x (counting (high ds [])))) ((before outer l x ++ byte "{" ∷ ds) ++ c ∷ [])
+      (sym (append_assoc (before outer l x) (byte "{" ∷ ds) (byte "," ∷ []))
+      ∙ ap (λ z. (before outer l x ++ byte "{" ∷ ds) ++ z ∷ []) e)
+  low_read x ds c closing_brace e =
+      when_read (is_some (number_of ds)) (with_count outer l x (exactly ds)) ((before outer l x ++ byte "{" ∷ ds) ++ c ∷ []) (subst (HasRead (with_count outer l x (exactly ds)))
+      (sym (append_assoc (before outer l x) (byte "{" ∷ ds) (byte "}" ∷ [])) ∙ ap (λ z. (before outer l x ++ byte "{" ∷ ds) ++ z ∷ []) e)
+      (count_read x (exactly ds)))
+  low_read x ds c no_count e = tt
+
+  -- behind both numbers, and a character after them
+  regroup : (a ds es cs : List ℕ) → a ++ (byte "{" ∷ (ds ++ byte "," ∷ (es ++ cs))) ≡ (a ++ (byte "{" ∷ (ds ++ byte "," ∷ es))) ++ cs
+  regroup a ds es cs =
+      ap (λ z. a ++ byte "{" ∷ z) (sym (append_assoc ds (byte "," ∷ es) cs)) ∙ sym (append_assoc a (byte "{" ∷ (ds ++ byte "," ∷ es)) cs)
+
+  range_count_read : (x : Last) (ds es : List ℕ)
+      → HasRead (range_read outer l x ds es) ((before outer l x ++ (byte "{" ∷ (ds ++ byte "," ∷ es))) ++ byte "}" ∷ [])
+  range_count_read x ds [] =
+      subst (HasRead (with_count outer l x (at_least ds))) (regroup (before outer l x) ds [] (byte "}" ∷ [])) (count_read x (at_least ds))
+  range_count_read x ds (e ∷ es) =
+      when_read (nat_le (number ds) (number (e ∷ es))) (with_count outer l x (from_to ds (e ∷ es)))
+      ((before outer l x ++ (byte "{" ∷ (ds ++ byte "," ∷ (e ∷ es)))) ++ byte "}" ∷ []) (subst (HasRead (with_count outer l x (from_to ds (e ∷ es)))) (regroup (before outer l x) ds (e ∷ es) (byte "}" ∷ []))
+      (count_read x (from_to ds (e ∷ es))))
+
+  high_read : (x : Last) (ds es : List ℕ) (c : ℕ) (k : CountToken) → char_of_count k c ≡ c
+      → HasRead (on_high outer l x ds es c k) ((before outer l x ++ (byte "{" ∷ (ds ++ byte "," ∷ es))) ++ c ∷ [])
+  high_read x ds es c digit e =
+      longer_read x (λ fs. counting (high ds fs)) ((before outer l x ++ (byte "{" ∷ (ds ++ byte "," ∷ es))) ++ c ∷ []) es c
+      (nat_le (number (es ++ c ∷ [])) max_count) (regroup (before outer l x) ds es (c ∷ []))
+  high_read x ds es c comma e = tt
+  high_read x ds es c closing_brace e =
+      subst (λ z. HasRead (range_read outer l x ds es) ((before outer l x ++ (byte "{" ∷ (ds ++ byte "," ∷ es))) ++ z ∷ [])) e
+      (range_count_read x ds es)
+  high_read x ds es c no_count e = tt
+
+  counting_read : (x : Last) (n : Count) (c : ℕ) → HasRead (on_count outer l x n c) (spelled (with_mode outer l x (counting n)) ++ c ∷ [])
+  counting_read x (low ds) c = low_read x ds c (count_token c) (char_of_count_token c)
+  counting_read x (high ds es) c = high_read x ds es c (count_token c) (char_of_count_token c)
+
+next_read : (outer : List Open) (l : Level) (x : Last) (m : Mode) (c : ℕ)
+    → HasRead (next_in outer l x m c) (spelled (with_mode outer l x m) ++ c ∷ [])
+next_read outer l x between c =
     subst (λ z. HasRead (on_token outer l x c (token c)) (z ++ c ∷ [])) (sym (append-nil _)) (token_read outer l x c (token c) (char_of_token c))
+next_read outer l x escaping c = escape_read outer l x c (escape c) (char_of_escape c)
+next_read outer l x opening c = group_read outer l x c _ refl
+next_read outer l x extending c = extension_read outer l x c _ refl
+next_read outer l x (counting n) c = counting_read outer l x n c
+next_read outer l x class_opened c = bracket_read outer l x c _ refl
+next_read outer l x (in_class k) c =
+    class_token_read outer l x k.negated k.ranges k.pending c (class_token c) (char_of_class_token c)
+next_read outer l x (class_escaping k) c =
+    class_escape_read outer l x k.negated k.ranges k.pending c (class_escape c) (char_of_class_escape c)
 
 -- the tree that was made is spelled so
 abbrev pub IsSpelled : Option Disjunction → List ℕ → Type 0
 IsSpelled None text = Unit {0}
 IsSpelled (Some d) text = spelling d ≡ text
 
-at_close_read : (outer : List Level) (l : Level) (x : Last) (e : Bool)
-    → IsSpelled (at_close outer l x e) (spelled (record { outer = outer; level = l; last = x; escaping = e }) ++ [])
-at_close_read [] l x false = level_whole [] l x ∙ sym (append-nil _) ∙ sym (append-nil _)
-at_close_read [] l x true = tt
-at_close_read (o ∷ outer) l x e = tt
+at_close_read : (outer : List Open) (l : Level) (x : Last) (m : Mode) → IsSpelled (at_close outer l x (is_between m)) (spelled (with_mode outer l x m) ++ [])
+at_close_read [] l x between = level_whole [] l x ∙ sym (append-nil _) ∙ sym (append-nil _)
+at_close_read [] l x escaping = tt
+at_close_read [] l x opening = tt
+at_close_read [] l x extending = tt
+at_close_read [] l x (counting n) = tt
+at_close_read [] l x class_opened = tt
+at_close_read [] l x (in_class k) = tt
+at_close_read [] l x (class_escaping k) = tt
+at_close_read (o ∷ outer) l x m = tt
 
 one_more : (s : State) (c : ℕ) (cs : List ℕ) → ((t : State) → IsSpelled (read_from t cs) (spelled t ++ cs))
     → (o : Option State) → HasRead o (spelled s ++ c ∷ []) → IsSpelled (option_and_then (λ t. read_from t cs) o) (spelled s ++ c ∷ cs)
@@ -230,8 +230,8 @@ one_more s c cs ih (Some t) h =
     subst (IsSpelled (read_from t cs)) (ap (λ z. z ++ cs) h ∙ append_assoc (spelled s) (c ∷ []) cs) (ih t)
 
 rest_read : (cs : List ℕ) (s : State) → IsSpelled (read_from s cs) (spelled s ++ cs)
-rest_read [] s = at_close_read s.outer s.level s.last s.escaping
-rest_read (c ∷ cs) s = one_more s c cs (rest_read cs) (next s c) (next_read s.outer s.level s.last s.escaping c)
+rest_read [] s = at_close_read s.outer s.level s.last s.mode
+rest_read (c ∷ cs) s = one_more s c cs (rest_read cs) (next s c) (next_read s.outer s.level s.last s.mode c)
 
 -- what is read is spelled as the text
 pub sound : (text : List ℕ) → IsSpelled (read text) text

@@ -1,7 +1,8 @@
 -- The grammar and the meaning of a pattern's text, with no reader and no marks in them.
 use Rattle.std.specs.Prelude.{◌≡◌, ◌↔◌, ◌⊎◌, ℕ, ◌≤◌, IsTrue, List, length}
 use Rattle.strkw_pattern.specs.declared.engine.Outcome.TheVariants.{Match, NoMatch}
-use Rattle.strkw_ecma.specs.Syntax.{Disjunction, spelling, IsWellFormed, max_length}
+use Rattle.strkw_ecma.specs.Syntax.{Disjunction, spelling, max_length}
+use Rattle.strkw_ecma.specs.WellFormed.{IsWellFormed}
 use Rattle.strkw_ecma.specs.Meaning.{Found}
 use Rattle.strkw_ecma.specs.Patterns.{pattern}
 use Rattle.strkw_ecma.specs.Outcomes.{takes_pattern, pattern_outcome}

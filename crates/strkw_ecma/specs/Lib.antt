@@ -3,10 +3,16 @@ pub mod Sets
 pub mod Meaning
 pub mod Marks
 pub mod Shape
+pub mod Numbers
+pub mod Size
+pub mod Escapes
+pub mod Classes
 pub mod Syntax
 pub mod Reading
 pub mod Patterns
+pub mod WellFormed
 pub mod Search
 pub mod Outcomes
 pub mod Laws
 pub mod Parts
+pub mod Table

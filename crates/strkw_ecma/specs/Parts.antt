@@ -1,21 +1,39 @@
 -- What the reader of the code holds: of all that has been read, the patterns that it stands for.
-use Rattle.std.specs.Prelude.{ℕ, nat_lt, Bool, true, false, List, [], ◌∷◌, map, reverse, length, Option, Some, None, if◌then◌else◌, option_map}
+use Rattle.std.specs.Prelude.{ℕ, ◌+◌, ◌*◌, ◌-◌, nat_le, nat_lt, ◌==◌, Bool, true, false, List, [], ◌∷◌, ◌++◌, map, reverse, length, Option, Some, None, option_map}
 use Rattle.std.specs.Prelude.{option_and_then}
+use Rattle.std.specs.Str.{byte}
 use Rattle.strkw_ecma.specs.Tree.{Pattern, empty, class, look, cat, alt, start, end, boundary, no_boundary}
-use Rattle.strkw_ecma.specs.Syntax.{Quantifier, zero_or_more, one_or_more, zero_or_one, Token, bar, asterisk, plus, question, caret, dollar, opening, closing, point, backslash, character, other, token, Escape, itself, control, set, boundary as boundary_letter, no_boundary as no_boundary_letter, unknown, escape, max_nesting}
-use Rattle.strkw_ecma.specs.Patterns.{one_char, quantified_pattern}
+use Rattle.strkw_ecma.specs.Escapes.{Escape, itself, control, set, boundary as boundary_letter, no_boundary as no_boundary_letter, unknown, escape}
+use Rattle.strkw_ecma.specs.Classes.{ClassToken, closing_bracket, class_backslash, dash, class_character, class_token, class_escape, Item, char, set_item, item_ranges, range}
+use Rattle.strkw_ecma.specs.Syntax.{Token, bar, asterisk, plus, question, caret, dollar, opening as opening_token, closing, point, backslash, bracket, brace, character, other, token, max_nesting}
+use Rattle.strkw_ecma.specs.Patterns.{one_char, Times, any_times, some_times, once_at_most, exact_times, least_times, range_times, quantified_pattern, copies}
+use Rattle.strkw_ecma.specs.Numbers.{max_count, CountToken, digit, comma, closing_brace, no_count, count_token}
+use Rattle.strkw_ecma.specs.Size.{size, max_size}
 use Rattle.strkw_ecma.specs.Sets.{line_ends, set_of, is_negative, control_char}
 use Rattle.strkw_ecma.specs.Shape.{pattern_of}
 use Rattle.strkw_ecma.specs.declared.reader.Level.{Level}
 use Rattle.strkw_ecma.specs.declared.reader.Reader.{Reader}
 use Rattle.strkw_ecma.specs.declared.reader.Last.{Last as CodeLast}
 use Rattle.strkw_ecma.specs.declared.reader.Last.TheVariants as last
-use Rattle.strkw_ecma.specs.declared.reader.Quantifier.{Quantifier as CodeQuantifier}
-use Rattle.strkw_ecma.specs.declared.reader.Quantifier.TheVariants as quantifier
-use Rattle.strkw_ecma.specs.declared.reader.Escape.{Escape as CodeEscape}
-use Rattle.strkw_ecma.specs.declared.reader.Escape.TheVariants as escaped
-use Rattle.strkw_ecma.specs.declared.reader.Token.{Token as CodeToken}
-use Rattle.strkw_ecma.specs.declared.reader.Token.TheVariants as code
+use Rattle.strkw_ecma.specs.declared.reader.Mode.{Mode as CodeMode}
+use Rattle.strkw_ecma.specs.declared.reader.Mode.TheVariants as mode
+use Rattle.strkw_ecma.specs.declared.classes.ClassReader.{ClassReader}
+use Rattle.strkw_ecma.specs.declared.classes.Item.{Item as CodeItem}
+use Rattle.strkw_ecma.specs.declared.classes.Item.TheVariants as code_item
+use Rattle.strkw_ecma.specs.declared.classes.Pending.{Pending as CodePending}
+use Rattle.strkw_ecma.specs.declared.classes.Pending.TheVariants as pending
+use Rattle.strkw_ecma.specs.declared.counts.Count.{Count as CodeCount}
+use Rattle.strkw_ecma.specs.declared.counts.Count.TheVariants as code_count
+use Rattle.strkw_ecma.specs.declared.tokens.CountToken.{CountToken as CodeCountToken}
+use Rattle.strkw_ecma.specs.declared.tokens.CountToken.TheVariants as count_code
+use Rattle.strkw_ecma.specs.declared.counts.Quantifier.{Quantifier as CodeQuantifier}
+use Rattle.strkw_ecma.specs.declared.counts.Quantifier.TheVariants as quantifier
+use Rattle.strkw_ecma.specs.declared.tokens.Escape.{Escape as CodeEscape}
+use Rattle.strkw_ecma.specs.declared.tokens.Escape.TheVariants as escaped
+use Rattle.strkw_ecma.specs.declared.tokens.Token.{Token as CodeToken}
+use Rattle.strkw_ecma.specs.declared.tokens.Token.TheVariants as code
+use Rattle.strkw_ecma.specs.declared.tokens.ClassToken.{ClassToken as CodeClassToken}
+use Rattle.strkw_ecma.specs.declared.tokens.ClassToken.TheVariants as class_code
 
 -- the alternatives before the one that is read, and the terms of that one
 pub record Side : Type 0 where
@@ -28,12 +46,38 @@ pub data Last : Type 0 where
   atom : Pattern → Last
   counted : Pattern → Last
 
+-- of a class: what may still belong to a range
+pub data Pending : Type 0 where
+  fresh : Pending
+  one : Item → Pending
+  dashed : Item → Pending
+
+pub record Class : Type 0 where
+  pub negated : Bool
+  pub ranges : List (ℕ × ℕ)
+  pub pending : Pending
+
+-- the numbers of a count, where they have digits: the first, or both
+pub data Count : Type 0 where
+  low : Option ℕ → Count
+  high : ℕ → Option ℕ → Count
+
+pub data Mode : Type 0 where
+  between escaping opening extending class_opened : Mode
+  counting : Count → Mode
+  in_class : Class → Mode
+  class_escaping : Class → Mode
+
+abbrev pub is_between : Mode → Bool
+is_between between = true
+is_between m = false
+
 pub record Parts : Type 0 where
   -- the groups that are open, the innermost first
   pub outer : List Side
   pub level : Side
   pub last : Last
-  pub escaping : Bool
+  pub mode : Mode
 
 -- of what the code holds
 abbrev pub side_of : Level → Side
@@ -44,8 +88,34 @@ last_of last.None = none
 last_of (last.Atom t) = atom (pattern_of t)
 last_of (last.Counted t) = counted (pattern_of t)
 
+abbrev pub item_of : CodeItem → Item
+item_of (code_item.Char c) = char c
+item_of (code_item.Set c) = set_item c
+
+abbrev pub pending_of : CodePending → Pending
+pending_of pending.Fresh = fresh
+pending_of (pending.One i) = one (item_of i)
+pending_of (pending.Dashed i) = dashed (item_of i)
+
+abbrev pub class_of : ClassReader → Class
+class_of k = record { negated = k.negated; ranges = k.ranges.items; pending = pending_of k.pending }
+
+abbrev pub count_of : CodeCount → Count
+count_of (code_count.Low o) = low o
+count_of (code_count.High n o) = high n o
+
+abbrev pub mode_of : CodeMode → Mode
+mode_of mode.Between = between
+mode_of mode.Escaping = escaping
+mode_of mode.Opening = opening
+mode_of mode.Extending = extending
+mode_of (mode.Counting n) = counting (count_of n)
+mode_of mode.ClassOpened = class_opened
+mode_of (mode.Class k) = in_class (class_of k)
+mode_of (mode.ClassEscaping k) = class_escaping (class_of k)
+
 abbrev pub parts_of : Reader → Parts
-parts_of r = record { outer = reverse (map side_of r.outer.items); level = side_of r.level; last = last_of r.last; escaping = r.escaping }
+parts_of r = record { outer = reverse (map side_of r.outer.items); level = side_of r.level; last = last_of r.last; mode = mode_of r.mode }
 
 abbrev pub token_of : CodeToken → Token
 token_of code.Bar = bar
@@ -54,12 +124,20 @@ token_of code.Plus = plus
 token_of code.Question = question
 token_of code.Caret = caret
 token_of code.Dollar = dollar
-token_of code.Opening = opening
+token_of code.Opening = opening_token
 token_of code.Closing = closing
 token_of code.Point = point
 token_of code.Backslash = backslash
+token_of code.Bracket = bracket
+token_of code.Brace = brace
 token_of code.Character = character
 token_of code.Other = other
+
+abbrev pub class_token_of : CodeClassToken → ClassToken
+class_token_of class_code.Closing = closing_bracket
+class_token_of class_code.Backslash = class_backslash
+class_token_of class_code.Dash = dash
+class_token_of class_code.Character = class_character
 
 abbrev pub escape_of : CodeEscape → Escape
 escape_of escaped.Itself = itself
@@ -69,10 +147,19 @@ escape_of escaped.Boundary = boundary_letter
 escape_of escaped.NoBoundary = no_boundary_letter
 escape_of escaped.Unknown = unknown
 
-abbrev pub quantifier_of : CodeQuantifier → Quantifier
-quantifier_of quantifier.ZeroOrMore = zero_or_more
-quantifier_of quantifier.OneOrMore = one_or_more
-quantifier_of quantifier.ZeroOrOne = zero_or_one
+abbrev pub quantifier_of : CodeQuantifier → Times
+quantifier_of quantifier.ZeroOrMore = any_times
+quantifier_of quantifier.OneOrMore = some_times
+quantifier_of quantifier.ZeroOrOne = once_at_most
+quantifier_of (quantifier.Exactly n) = exact_times n
+quantifier_of (quantifier.AtLeast n) = least_times n
+quantifier_of (quantifier.FromTo n m) = range_times n m
+
+abbrev pub count_token_of : CodeCountToken → CountToken
+count_token_of count_code.Digit = digit
+count_token_of count_code.Comma = comma
+count_token_of count_code.Closing = closing_brace
+count_token_of count_code.Other = no_count
 
 -- the parts after what was read next
 abbrev pub ended : Pattern → Last → Pattern
@@ -94,14 +181,14 @@ abbrev pub new_level : Side
 new_level = record { earlier = None; current = empty }
 
 abbrev pub after_atom : Parts → Pattern → Parts
-after_atom s p = record { outer = s.outer; level = level_so_far s.level s.last; last = atom p; escaping = false }
+after_atom s p = record { outer = s.outer; level = level_so_far s.level s.last; last = atom p; mode = between }
 
 abbrev pub after_term : Parts → Pattern → Parts
 after_term s p = record {
   outer = s.outer;
   level = record { earlier = s.level.earlier; current = cat (ended s.level.current s.last) p };
   last = none;
-  escaping = false;
+  mode = between;
 }
 
 abbrev pub after_bar : Parts → Parts
@@ -109,29 +196,35 @@ after_bar s = record {
   outer = s.outer;
   level = record { earlier = Some (level_ended s.level s.last); current = empty };
   last = none;
-  escaping = false;
+  mode = between;
 }
 
 abbrev pub after_opening : Parts → Bool → Option Parts
 after_opening s false = None
-after_opening s true = Some (record { outer = level_so_far s.level s.last ∷ s.outer; level = new_level; last = none; escaping = false })
+after_opening s true = Some (record { outer = level_so_far s.level s.last ∷ s.outer; level = new_level; last = none; mode = between })
+
+abbrev pub opened_within : Parts → Option Parts
+opened_within s = after_opening s (nat_lt (length s.outer) max_nesting)
+
+abbrev pub with_mode : Parts → Mode → Parts
+with_mode s m = record { outer = s.outer; level = s.level; last = s.last; mode = m }
 
 abbrev pub after_closing : List Side → Pattern → Option Parts
 after_closing [] p = None
-after_closing (l ∷ outer) p = Some (record { outer = outer; level = l; last = atom p; escaping = false })
+after_closing (l ∷ outer) p = Some (record { outer = outer; level = l; last = atom p; mode = between })
 
-abbrev pub after_quantifier : Parts → Last → Quantifier → Option Parts
+abbrev pub after_quantifier : Parts → Last → Times → Option Parts
 after_quantifier s none q = None
 after_quantifier s (atom p) q =
-    Some (record { outer = s.outer; level = s.level; last = counted (quantified_pattern q p); escaping = false })
+    Some (record { outer = s.outer; level = s.level; last = counted (quantified_pattern q p); mode = between })
 after_quantifier s (counted p) q = None
 
 abbrev pub after_question : Parts → Last → Option Parts
 after_question s none = None
 after_question s (atom p) =
-    Some (record { outer = s.outer; level = s.level; last = counted (quantified_pattern zero_or_one p); escaping = false })
+    Some (record { outer = s.outer; level = s.level; last = counted (quantified_pattern once_at_most p); mode = between })
 after_question s (counted p) =
-    Some (record { outer = s.outer; level = record { earlier = s.level.earlier; current = cat s.level.current p }; last = none; escaping = false })
+    Some (record { outer = s.outer; level = record { earlier = s.level.earlier; current = cat s.level.current p }; last = none; mode = between })
 
 abbrev pub after_escape : Parts → ℕ → Escape → Option Parts
 after_escape s c itself = Some (after_atom s (one_char c))
@@ -143,30 +236,142 @@ after_escape s c unknown = None
 
 abbrev pub after_token : Parts → ℕ → Token → Option Parts
 after_token s c bar = Some (after_bar s)
-after_token s c asterisk = after_quantifier s s.last zero_or_more
-after_token s c plus = after_quantifier s s.last one_or_more
+after_token s c asterisk = after_quantifier s s.last any_times
+after_token s c plus = after_quantifier s s.last some_times
 after_token s c question = after_question s s.last
 after_token s c caret = Some (after_term s (look start))
 after_token s c dollar = Some (after_term s (look end))
-after_token s c opening = after_opening s (nat_lt (length s.outer) max_nesting)
+after_token s c opening_token = Some (with_mode s opening)
 after_token s c closing = after_closing s.outer (level_ended s.level s.last)
 after_token s c point = Some (after_atom s (class false true line_ends))
-after_token s c backslash = Some (record { outer = s.outer; level = s.level; last = s.last; escaping = true })
+after_token s c backslash = Some (with_mode s escaping)
+after_token s c bracket = Some (with_mode s class_opened)
+after_token s c brace = Some (with_mode s (counting (low None)))
 after_token s c character = Some (after_atom s (one_char c))
 after_token s c other = None
 
+abbrev pub after_group : Parts → ℕ → Bool → Option Parts
+after_group s c false = option_and_then (λ t. after_token t c (token c)) (opened_within s)
+after_group s c true = Some (with_mode s extending)
+
+abbrev pub after_extension : Parts → Bool → Option Parts
+after_extension s false = None
+after_extension s true = opened_within s
+
+-- a class after an item, and after a `-`
+abbrev pub ranged : Bool → List (ℕ × ℕ) → Option (ℕ × ℕ) → Option Class
+ranged n rs None = None
+ranged n rs (Some r) = Some (record { negated = n; ranges = rs ++ r ∷ []; pending = fresh })
+
+abbrev pub took : Bool → List (ℕ × ℕ) → Pending → Item → Option Class
+took n rs fresh j = Some (record { negated = n; ranges = rs; pending = one j })
+took n rs (one i) j = Some (record { negated = n; ranges = rs ++ item_ranges i; pending = one j })
+took n rs (dashed i) j = ranged n rs (range i j)
+
+abbrev pub took_dash : Bool → List (ℕ × ℕ) → Pending → Option Class
+took_dash n rs fresh = took n rs fresh (char (byte "-"))
+took_dash n rs (one i) = Some (record { negated = n; ranges = rs; pending = dashed i })
+took_dash n rs (dashed i) = took n rs (dashed i) (char (byte "-"))
+
+abbrev pub class_read : Bool → List (ℕ × ℕ) → Pending → Pattern
+class_read n rs fresh = class false n rs
+class_read n rs (one i) = class false n (rs ++ item_ranges i)
+class_read n rs (dashed i) = class false n ((rs ++ item_ranges i) ++ item_ranges (char (byte "-")))
+
+abbrev pub within : Parts → Option Class → Option Parts
+within s o = option_map (λ (k : Class). with_mode s (in_class k)) o
+
+abbrev pub after_class_token : Parts → Class → ℕ → ClassToken → Option Parts
+after_class_token s k c closing_bracket = Some (after_atom s (class_read k.negated k.ranges k.pending))
+after_class_token s k c class_backslash = Some (with_mode s (class_escaping k))
+after_class_token s k c dash = within s (took_dash k.negated k.ranges k.pending)
+after_class_token s k c class_character = within s (took k.negated k.ranges k.pending (char c))
+
+abbrev pub after_class_escape : Parts → Class → ℕ → Escape → Option Parts
+after_class_escape s k c itself = within s (took k.negated k.ranges k.pending (char c))
+after_class_escape s k c control = within s (took k.negated k.ranges k.pending (char (control_char c)))
+after_class_escape s k c set = within s (took k.negated k.ranges k.pending (set_item c))
+after_class_escape s k c boundary_letter = within s (took k.negated k.ranges k.pending (char 8))
+after_class_escape s k c no_boundary_letter = None
+after_class_escape s k c unknown = None
+
+abbrev pub new_class : Bool → Class
+new_class n = record { negated = n; ranges = []; pending = fresh }
+
+abbrev pub after_bracket : Parts → ℕ → Bool → Option Parts
+after_bracket s c false = after_class_token s (new_class false) c (class_token c)
+after_bracket s c true = Some (with_mode s (in_class (new_class true)))
+
+abbrev pub when : Bool → Option Parts → Option Parts
+when false o = None
+when true o = o
+
+abbrev pub after_count : Parts → Last → Times → Option Parts
+after_count s none t = None
+after_count s (atom p) t = when (nat_le (copies t * size p) max_size) (after_quantifier s (atom p) t)
+after_count s (counted p) t = None
+
+abbrev pub value : Option ℕ → ℕ
+value None = 0
+value (Some n) = n
+
+abbrev pub small : ℕ → Bool → Option ℕ
+small n false = None
+small n true = Some n
+
+abbrev pub with_digit : Option ℕ → ℕ → Option ℕ
+with_digit o c = let n = value o * 10 + (c - byte "0") in small n (nat_le n max_count)
+
+abbrev pub after_low_comma : Parts → Option ℕ → Option Parts
+after_low_comma s None = None
+after_low_comma s (Some n) = Some (with_mode s (counting (high n None)))
+
+abbrev pub after_low_brace : Parts → Option ℕ → Option Parts
+after_low_brace s None = None
+after_low_brace s (Some n) = after_count s s.last (exact_times n)
+
+abbrev pub after_low : Parts → Option ℕ → ℕ → CountToken → Option Parts
+after_low s o c digit = option_map (λ (n : ℕ). with_mode s (counting (low (Some n)))) (with_digit o c)
+after_low s o c comma = after_low_comma s o
+after_low s o c closing_brace = after_low_brace s o
+after_low s o c no_count = None
+
+abbrev pub after_high_brace : Parts → ℕ → Option ℕ → Option Parts
+after_high_brace s n None = after_count s s.last (least_times n)
+after_high_brace s n (Some m) = when (nat_le n m) (after_count s s.last (range_times n m))
+
+abbrev pub after_high : Parts → ℕ → Option ℕ → ℕ → CountToken → Option Parts
+after_high s n o c digit = option_map (λ (m : ℕ). with_mode s (counting (high n (Some m)))) (with_digit o c)
+after_high s n o c comma = None
+after_high s n o c closing_brace = after_high_brace s n o
+after_high s n o c no_count = None
+
+abbrev pub after_counting : Parts → Count → ℕ → Option Parts
+after_counting s (low o) c = after_low s o c (count_token c)
+after_counting s (high n o) c = after_high s n o c (count_token c)
+
+abbrev pub after_in : Parts → Mode → ℕ → Option Parts
+after_in s between c = after_token s c (token c)
+after_in s escaping c = after_escape s c (escape c)
+after_in s opening c = after_group s c (c == byte "?")
+after_in s extending c = after_extension s (c == byte ":")
+after_in s (counting n) c = after_counting s n c
+after_in s class_opened c = after_bracket s c (c == byte "^")
+after_in s (in_class k) c = after_class_token s k c (class_token c)
+after_in s (class_escaping k) c = after_class_escape s k c (class_escape c)
+
 abbrev pub after_char : Parts → ℕ → Option Parts
-after_char s c = if s.escaping then after_escape s c (escape c) else after_token s c (token c)
+after_char s c = after_in (with_mode s between) s.mode c
 
 abbrev pub at_close : List Side → Side → Last → Bool → Option Pattern
-at_close [] l x false = Some (level_ended l x)
-at_close [] l x true = None
-at_close (o ∷ outer) l x e = None
+at_close [] l x true = Some (level_ended l x)
+at_close [] l x false = None
+at_close (o ∷ outer) l x b = None
 
 -- the pattern of all that is read, where what follows the parts is the rest of the text
 abbrev pub pattern_from : Parts → List ℕ → Option Pattern
-pattern_from s [] = at_close s.outer s.level s.last s.escaping
+pattern_from s [] = at_close s.outer s.level s.last (is_between s.mode)
 pattern_from s (c ∷ cs) = option_and_then (λ t. pattern_from t cs) (after_char s c)
 
 abbrev pub no_parts : Parts
-no_parts = record { outer = []; level = new_level; last = none; escaping = false }
+no_parts = record { outer = []; level = new_level; last = none; mode = between }

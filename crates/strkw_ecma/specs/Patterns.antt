@@ -1,17 +1,51 @@
 -- The pattern that a tree of the syntax stands for. Whether a quantifier is lazy matters for which match is found first, and
 -- not for whether one is.
-use Rattle.std.specs.Prelude.{ℕ, true, false, [], ◌∷◌}
+use Rattle.std.specs.Prelude.{ℕ, zero, suc, ◌+◌, ◌-◌, true, false, [], ◌∷◌}
+use Rattle.strkw_ecma.specs.Numbers.{number}
 use Rattle.strkw_ecma.specs.Tree.{Pattern, empty, class, look, cat, alt, star, plus, start, end, boundary, no_boundary}
 use Rattle.strkw_ecma.specs.Sets.{line_ends, set_of, is_negative, control_char}
-use Rattle.strkw_ecma.specs.Syntax.{Disjunction, only, either, Alternative, nothing, more, Term, at_start, at_end, at_boundary, at_no_boundary, once, quantified, Quantifier, zero_or_more, one_or_more, zero_or_one, Atom, plain, escaped, control_escape, set_escape, dot, group}
+use Rattle.strkw_ecma.specs.Classes.{contents}
+use Rattle.strkw_ecma.specs.Syntax.{Disjunction, only, either, Alternative, nothing, more, Term, at_start, at_end, at_boundary, at_no_boundary, once, quantified, Quantifier, zero_or_more, one_or_more, zero_or_one, exactly, at_least, from_to, Atom, plain, escaped, control_escape, set_escape, dot, bracketed, group}
 
 abbrev pub one_char : ℕ → Pattern
 one_char c = class false false ((c, c) ∷ [])
 
-abbrev pub quantified_pattern : Quantifier → Pattern → Pattern
-quantified_pattern zero_or_more p = star p
-quantified_pattern one_or_more p = plus p
-quantified_pattern zero_or_one p = alt empty p
+-- how often a quantifier repeats
+pub data Times : Type 0 where
+  any_times some_times once_at_most : Times
+  exact_times : ℕ → Times
+  least_times : ℕ → Times
+  range_times : ℕ → ℕ → Times
+
+abbrev pub times : Quantifier → Times
+times zero_or_more = any_times
+times one_or_more = some_times
+times zero_or_one = once_at_most
+times (exactly ds) = exact_times (number ds)
+times (at_least ds) = least_times (number ds)
+times (from_to ds es) = range_times (number ds) (number es)
+
+abbrev pub repeated : ℕ → Pattern → Pattern
+repeated zero p = empty
+repeated (suc n) p = cat p (repeated n p)
+
+-- so often, and then as often as is left, each of which may be missing
+abbrev pub quantified_pattern : Times → Pattern → Pattern
+quantified_pattern any_times p = star p
+quantified_pattern some_times p = plus p
+quantified_pattern once_at_most p = alt empty p
+quantified_pattern (exact_times n) p = repeated n p
+quantified_pattern (least_times n) p = cat (repeated n p) (star p)
+quantified_pattern (range_times n m) p = cat (repeated n p) (repeated (m - n) (alt empty p))
+
+-- how many copies of what it repeats it takes
+abbrev pub copies : Times → ℕ
+copies any_times = 1
+copies some_times = 1
+copies once_at_most = 1
+copies (exact_times n) = n
+copies (least_times n) = n + 1
+copies (range_times n m) = m
 
 abbrev mutual
   pub pattern : Disjunction → Pattern
@@ -28,7 +62,7 @@ abbrev mutual
   term_pattern (once a) = atom_pattern a
   term_pattern at_boundary = look boundary
   term_pattern at_no_boundary = look no_boundary
-  term_pattern (quantified a q g) = quantified_pattern q (atom_pattern a)
+  term_pattern (quantified a q g) = quantified_pattern (times q) (atom_pattern a)
 
   pub atom_pattern : Atom → Pattern
   atom_pattern (plain c) = one_char c
@@ -36,4 +70,5 @@ abbrev mutual
   atom_pattern (control_escape c) = one_char (control_char c)
   atom_pattern (set_escape c) = class false (is_negative c) (set_of c)
   atom_pattern dot = class false true line_ends
-  atom_pattern (group d) = pattern d
+  atom_pattern (bracketed n r e) = class false n (contents r e)
+  atom_pattern (group g d) = pattern d

@@ -1,6 +1,12 @@
 -- How a pattern is read, character by character: what has been read so far is kept as parts of trees.
-use Rattle.std.specs.Prelude.{ℕ, nat_lt, nat_le, length, Bool, true, false, List, [], ◌∷◌, Option, Some, None, if◌then◌else◌, option_and_then}
-use Rattle.strkw_ecma.specs.Syntax.{Disjunction, only, either, Alternative, nothing, more, Term, at_start, at_end, at_boundary, at_no_boundary, once, quantified, Quantifier, zero_or_more, one_or_more, zero_or_one, greedy, lazy, Atom, plain, escaped, control_escape, set_escape, dot, group, Token, bar, asterisk, plus, question, caret, dollar, opening, closing, point, backslash, character, other, token, Escape, itself, control, set, boundary, no_boundary, unknown, escape, max_nesting, max_length}
+use Rattle.std.specs.Prelude.{ℕ, ◌*◌, ◌++◌, is_some, nat_lt, nat_le, ◌==◌, length, Bool, true, false, List, [], ◌∷◌, Option, Some, None, if◌then◌else◌, option_map, option_and_then}
+use Rattle.std.specs.Str.{byte}
+use Rattle.strkw_ecma.specs.Escapes.{Escape, itself, control, set, boundary, no_boundary, unknown, escape}
+use Rattle.strkw_ecma.specs.Classes.{ClassToken, closing_bracket, class_backslash, dash, class_character, class_token, class_escape, ClassAtom, class_plain, hyphen, class_escaped, class_control, class_set, backspace, Ranges, no_ranges, with_one, with_range, item, range}
+use Rattle.strkw_ecma.specs.Numbers.{number, number_of, max_count, CountToken, digit, comma, closing_brace, no_count, count_token}
+use Rattle.strkw_ecma.specs.Size.{size, max_size}
+use Rattle.strkw_ecma.specs.Patterns.{atom_pattern, times, copies}
+use Rattle.strkw_ecma.specs.Syntax.{Disjunction, only, either, Alternative, nothing, more, Term, at_start, at_end, at_boundary, at_no_boundary, once, quantified, Quantifier, zero_or_more, one_or_more, zero_or_one, exactly, at_least, from_to, greedy, lazy, Group, capturing, plain_group, Atom, plain, escaped, control_escape, set_escape, dot, bracketed, group, Token, bar, asterisk, plus, question, caret, dollar, opening as opening_token, closing, point, backslash, bracket, brace, character, other, token, max_nesting, max_length}
 
 -- the alternatives before the one that is read, and the terms of that one
 pub record Level : Type 0 where
@@ -13,13 +19,45 @@ pub data Last : Type 0 where
   atom : Atom → Last
   counted : Atom → Quantifier → Last
 
+-- a group that is open, and what stands before it in the level around it
+pub record Open : Type 0 where
+  pub group : Group
+  pub earlier : Option Disjunction
+  pub current : Alternative
+
+-- what of a class may belong to a range: an atom, or an atom and a `-`
+pub data Pending : Type 0 where
+  fresh : Pending
+  one : ClassAtom → Pending
+  dashed : ClassAtom → Pending
+
+pub record Class : Type 0 where
+  pub negated : Bool
+  pub ranges : Ranges
+  pub pending : Pending
+
+-- the digits of a count: of the first number, or of both
+pub data Count : Type 0 where
+  low : List ℕ → Count
+  high : List ℕ → List ℕ → Count
+
+-- what has just been read: a whole atom or term; `\`; `(`; `(?`; `[`; a part of a count, of a class, and there `\`
+pub data Mode : Type 0 where
+  between escaping opening extending class_opened : Mode
+  counting : Count → Mode
+  in_class : Class → Mode
+  class_escaping : Class → Mode
+
+abbrev pub is_between : Mode → Bool
+is_between between = true
+is_between m = false
+
 pub record State : Type 0 where
   -- the groups that are open, the innermost first
-  pub outer : List Level
+  pub outer : List Open
   pub level : Level
   pub last : Last
-  -- a backslash has just been read
-  pub escaping : Bool
+  pub mode : Mode
 
 abbrev pub ended : Alternative → Last → Alternative
 ended a none = a
@@ -36,48 +74,57 @@ level_ended l x = joined l.earlier (ended l.current x)
 abbrev pub new_level : Level
 new_level = record { earlier = None; current = nothing }
 
-abbrev pub with_atom : List Level → Level → Last → Atom → State
-with_atom outer l x a = record { outer = outer; level = record { earlier = l.earlier; current = ended l.current x }; last = atom a; escaping = false }
+abbrev pub with_atom : List Open → Level → Last → Atom → State
+with_atom outer l x a = record { outer = outer; level = record { earlier = l.earlier; current = ended l.current x }; last = atom a; mode = between }
 
-abbrev pub with_term : List Level → Level → Last → Term → State
-with_term outer l x t = record { outer = outer; level = record { earlier = l.earlier; current = more (ended l.current x) t }; last = none; escaping = false }
+abbrev pub with_term : List Open → Level → Last → Term → State
+with_term outer l x t = record { outer = outer; level = record { earlier = l.earlier; current = more (ended l.current x) t }; last = none; mode = between }
 
-abbrev pub closed : List Level → Disjunction → Option State
+abbrev pub closed : List Open → Disjunction → Option State
 closed [] d = None
-closed (l ∷ outer) d = Some (with_atom outer l none (group d))
+closed (o ∷ outer) d = Some (with_atom outer (record { earlier = o.earlier; current = o.current }) none (group o.group d))
 
-abbrev pub with_quantifier : List Level → Level → Last → Quantifier → Option State
+abbrev pub with_quantifier : List Open → Level → Last → Quantifier → Option State
 with_quantifier outer l none q = None
-with_quantifier outer l (atom a) q = Some (record { outer = outer; level = l; last = counted a q; escaping = false })
+with_quantifier outer l (atom a) q = Some (record { outer = outer; level = l; last = counted a q; mode = between })
 with_quantifier outer l (counted a p) q = None
 
-abbrev pub questioned : List Level → Level → Last → Option State
+abbrev pub questioned : List Open → Level → Last → Option State
 questioned outer l none = None
 questioned outer l (atom a) = with_quantifier outer l (atom a) zero_or_one
 questioned outer l (counted a q) = Some (with_term outer l none (quantified a q lazy))
 
-abbrev pub opened : List Level → Level → Last → Bool → Option State
-opened outer l x false = None
-opened outer l x true =
-    Some (record { outer = record { earlier = l.earlier; current = ended l.current x } ∷ outer; level = new_level; last = none; escaping = false })
+abbrev pub opened : List Open → Level → Last → Group → Bool → Option State
+opened outer l x g false = None
+opened outer l x g true =
+    Some (record { outer = record { group = g; earlier = l.earlier; current = ended l.current x } ∷ outer; level = new_level; last = none; mode = between })
+
+-- a group of this kind, where it is not nested too deep
+abbrev pub opened_within : List Open → Level → Last → Group → Option State
+opened_within outer l x g = opened outer l x g (nat_lt (length outer) max_nesting)
+
+abbrev pub with_mode : List Open → Level → Last → Mode → State
+with_mode outer l x m = record { outer = outer; level = l; last = x; mode = m }
 
 -- the state after a character
-abbrev pub on_token : List Level → Level → Last → ℕ → Token → Option State
+abbrev pub on_token : List Open → Level → Last → ℕ → Token → Option State
 on_token outer l x c bar =
-    Some (record { outer = outer; level = record { earlier = Some (level_ended l x); current = nothing }; last = none; escaping = false })
+    Some (record { outer = outer; level = record { earlier = Some (level_ended l x); current = nothing }; last = none; mode = between })
 on_token outer l x c asterisk = with_quantifier outer l x zero_or_more
 on_token outer l x c plus = with_quantifier outer l x one_or_more
 on_token outer l x c question = questioned outer l x
 on_token outer l x c caret = Some (with_term outer l x at_start)
 on_token outer l x c dollar = Some (with_term outer l x at_end)
-on_token outer l x c opening = opened outer l x (nat_lt (length outer) max_nesting)
+on_token outer l x c opening_token = Some (with_mode outer l x opening)
 on_token outer l x c closing = closed outer (level_ended l x)
 on_token outer l x c point = Some (with_atom outer l x dot)
-on_token outer l x c backslash = Some (record { outer = outer; level = l; last = x; escaping = true })
+on_token outer l x c backslash = Some (with_mode outer l x escaping)
+on_token outer l x c bracket = Some (with_mode outer l x class_opened)
+on_token outer l x c brace = Some (with_mode outer l x (counting (low [])))
 on_token outer l x c character = Some (with_atom outer l x (plain c))
 on_token outer l x c other = None
 
-abbrev pub on_escape : List Level → Level → Last → ℕ → Escape → Option State
+abbrev pub on_escape : List Open → Level → Last → ℕ → Escape → Option State
 on_escape outer l x c itself = Some (with_atom outer l x (escaped c))
 on_escape outer l x c control = Some (with_atom outer l x (control_escape c))
 on_escape outer l x c set = Some (with_atom outer l x (set_escape c))
@@ -85,21 +132,124 @@ on_escape outer l x c boundary = Some (with_term outer l x at_boundary)
 on_escape outer l x c no_boundary = Some (with_term outer l x at_no_boundary)
 on_escape outer l x c unknown = None
 
+-- behind `(`
+abbrev pub on_group : List Open → Level → Last → ℕ → Bool → Option State
+on_group outer l x c false = option_and_then (λ t. on_token t.outer t.level t.last c (token c)) (opened_within outer l x capturing)
+on_group outer l x c true = Some (with_mode outer l x extending)
+
+-- behind `(?`
+abbrev pub on_extension : List Open → Level → Last → Bool → Option State
+on_extension outer l x false = None
+on_extension outer l x true = opened_within outer l x plain_group
+
+-- a class after an atom
+abbrev pub ranged : Bool → Ranges → ClassAtom → ClassAtom → Option (ℕ × ℕ) → Option Class
+ranged n r y x None = None
+ranged n r y x (Some s) = Some (record { negated = n; ranges = with_range r y x; pending = fresh })
+
+abbrev pub took : Bool → Ranges → Pending → ClassAtom → Option Class
+took n r fresh x = Some (record { negated = n; ranges = r; pending = one x })
+took n r (one y) x = Some (record { negated = n; ranges = with_one r y; pending = one x })
+took n r (dashed y) x = ranged n r y x (range (item y) (item x))
+
+-- and after a `-`
+abbrev pub took_dash : Bool → Ranges → Pending → Option Class
+took_dash n r fresh = took n r fresh hyphen
+took_dash n r (one x) = Some (record { negated = n; ranges = r; pending = dashed x })
+took_dash n r (dashed x) = took n r (dashed x) hyphen
+
+abbrev pub class_read : Bool → Ranges → Pending → Atom
+class_read n r fresh = bracketed n r false
+class_read n r (one x) = bracketed n (with_one r x) false
+class_read n r (dashed x) = bracketed n (with_one r x) true
+
+abbrev pub within : List Open → Level → Last → Option Class → Option State
+within outer l x o = option_map (λ (k : Class). with_mode outer l x (in_class k)) o
+
+abbrev pub on_class_token : List Open → Level → Last → Bool → Ranges → Pending → ℕ → ClassToken → Option State
+on_class_token outer l x n r p c closing_bracket = Some (with_atom outer l x (class_read n r p))
+on_class_token outer l x n r p c class_backslash =
+    Some (with_mode outer l x (class_escaping (record { negated = n; ranges = r; pending = p })))
+on_class_token outer l x n r p c dash = within outer l x (took_dash n r p)
+on_class_token outer l x n r p c class_character = within outer l x (took n r p (class_plain c))
+
+abbrev pub on_class_escape : List Open → Level → Last → Bool → Ranges → Pending → ℕ → Escape → Option State
+on_class_escape outer l x n r p c itself = within outer l x (took n r p (class_escaped c))
+on_class_escape outer l x n r p c control = within outer l x (took n r p (class_control c))
+on_class_escape outer l x n r p c set = within outer l x (took n r p (class_set c))
+on_class_escape outer l x n r p c boundary = within outer l x (took n r p backspace)
+on_class_escape outer l x n r p c no_boundary = None
+on_class_escape outer l x n r p c unknown = None
+
+-- behind `[`
+abbrev pub on_class : List Open → Level → Last → ℕ → Bool → Option State
+on_class outer l x c false = on_class_token outer l x false no_ranges fresh c (class_token c)
+on_class outer l x c true = Some (with_mode outer l x (in_class (record { negated = true; ranges = no_ranges; pending = fresh })))
+
+-- where the test holds
+abbrev pub when : Bool → Option State → Option State
+when false o = None
+when true o = o
+
+-- a count behind the last atom
+abbrev pub with_count : List Open → Level → Last → Quantifier → Option State
+with_count outer l none q = None
+with_count outer l (atom a) q = when (nat_le (copies (times q) * size (atom_pattern a)) max_size) (with_quantifier outer l (atom a) q)
+with_count outer l (counted a p) q = None
+
+-- one more digit, where the number is not too great
+abbrev pub longer : List ℕ → ℕ → Bool → Option (List ℕ)
+longer ds c false = None
+longer ds c true = Some (ds ++ c ∷ [])
+
+abbrev pub with_digit : List ℕ → ℕ → Option (List ℕ)
+with_digit ds c = longer ds c (nat_le (number (ds ++ c ∷ [])) max_count)
+
+abbrev pub on_low : List Open → Level → Last → List ℕ → ℕ → CountToken → Option State
+on_low outer l x ds c digit = option_map (λ (es : List ℕ). with_mode outer l x (counting (low es))) (with_digit ds c)
+on_low outer l x ds c comma = when (is_some (number_of ds)) (Some (with_mode outer l x (counting (high ds []))))
+on_low outer l x ds c closing_brace = when (is_some (number_of ds)) (with_count outer l x (exactly ds))
+on_low outer l x ds c no_count = None
+
+abbrev pub range_read : List Open → Level → Last → List ℕ → List ℕ → Option State
+range_read outer l x ds [] = with_count outer l x (at_least ds)
+range_read outer l x ds (e ∷ es) = when (nat_le (number ds) (number (e ∷ es))) (with_count outer l x (from_to ds (e ∷ es)))
+
+abbrev pub on_high : List Open → Level → Last → List ℕ → List ℕ → ℕ → CountToken → Option State
+on_high outer l x ds es c digit = option_map (λ (fs : List ℕ). with_mode outer l x (counting (high ds fs))) (with_digit es c)
+on_high outer l x ds es c comma = None
+on_high outer l x ds es c closing_brace = range_read outer l x ds es
+on_high outer l x ds es c no_count = None
+
+abbrev pub on_count : List Open → Level → Last → Count → ℕ → Option State
+on_count outer l x (low ds) c = on_low outer l x ds c (count_token c)
+on_count outer l x (high ds es) c = on_high outer l x ds es c (count_token c)
+
+abbrev pub next_in : List Open → Level → Last → Mode → ℕ → Option State
+next_in outer l x between c = on_token outer l x c (token c)
+next_in outer l x escaping c = on_escape outer l x c (escape c)
+next_in outer l x opening c = on_group outer l x c (c == byte "?")
+next_in outer l x extending c = on_extension outer l x (c == byte ":")
+next_in outer l x (counting n) c = on_count outer l x n c
+next_in outer l x class_opened c = on_class outer l x c (c == byte "^")
+next_in outer l x (in_class k) c = on_class_token outer l x k.negated k.ranges k.pending c (class_token c)
+next_in outer l x (class_escaping k) c = on_class_escape outer l x k.negated k.ranges k.pending c (class_escape c)
+
 abbrev pub next : State → ℕ → Option State
-next s c = if s.escaping then on_escape s.outer s.level s.last c (escape c) else on_token s.outer s.level s.last c (token c)
+next s c = next_in s.outer s.level s.last s.mode c
 
 -- the tree, where the text may end
-abbrev pub at_close : List Level → Level → Last → Bool → Option Disjunction
-at_close [] l x false = Some (level_ended l x)
-at_close [] l x true = None
-at_close (o ∷ outer) l x e = None
+abbrev pub at_close : List Open → Level → Last → Bool → Option Disjunction
+at_close [] l x true = Some (level_ended l x)
+at_close [] l x false = None
+at_close (o ∷ outer) l x b = None
 
 abbrev pub read_from : State → List ℕ → Option Disjunction
-read_from s [] = at_close s.outer s.level s.last s.escaping
+read_from s [] = at_close s.outer s.level s.last (is_between s.mode)
 read_from s (c ∷ cs) = option_and_then (λ t. read_from t cs) (next s c)
 
 abbrev pub initial : State
-initial = record { outer = []; level = new_level; last = none; escaping = false }
+initial = record { outer = []; level = new_level; last = none; mode = between }
 
 abbrev pub read : List ℕ → Option Disjunction
 read = read_from initial

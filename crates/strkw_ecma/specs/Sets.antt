@@ -24,6 +24,24 @@ white_space =
 abbrev pub set_of : ℕ → List (ℕ × ℕ)
 set_of c = if is_one_of (codes "dD") c then digits else if is_one_of (codes "sS") c then white_space else word_characters
 
+-- the characters outside each set, up to the greatest
+abbrev pub non_digits : List (ℕ × ℕ)
+non_digits = (0x0, 0x2F) ∷ (0x3A, 0x10FFFF) ∷ []
+
+abbrev pub non_word_characters : List (ℕ × ℕ)
+non_word_characters = (0x0, 0x2F) ∷ (0x3A, 0x40) ∷ (0x5B, 0x5E) ∷ (0x60, 0x60) ∷ (0x7B, 0x10FFFF) ∷ []
+
+abbrev pub non_white_space : List (ℕ × ℕ)
+non_white_space =
+    (0x0, 0x8) ∷ (0xE, 0x1F) ∷ (0x21, 0x9F) ∷ (0xA1, 0x167F) ∷ (0x1681, 0x1FFF) ∷ (0x200B, 0x2027) ∷ (0x202A, 0x202E)
+    ∷ (0x2030, 0x205E) ∷ (0x2060, 0x2FFF) ∷ (0x3001, 0xFEFE) ∷ (0xFF00, 0x10FFFF) ∷ []
+
+-- the characters of a letter, in a class
+abbrev pub set_ranges : ℕ → List (ℕ × ℕ)
+set_ranges c =
+    if c == byte "D" then non_digits else if c == byte "S" then non_white_space else if c == byte "W" then non_word_characters
+    else set_of c
+
 abbrev pub is_negative : ℕ → Bool
 is_negative c = is_one_of (codes "DSW") c
 

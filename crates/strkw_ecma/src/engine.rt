@@ -1,12 +1,17 @@
 //! The engine, and what builds it.
 
-ghost use Rattle.std.specs.Prelude.{◌≡◌, true};
+ghost use Rattle.std.specs.Prelude.{◌≡◌, ℕ, List, true, Some, None};
+ghost use Rattle.strkw_ecma.specs.Search.{search_from};
+ghost use Rattle.strkw_ecma.specs.Table.{walk};
+ghost use Rattle.strkw_ecma.specs.declared.table.Table.{Table};
 ghost use Rattle.strkw_ecma.specs.Marks.{is_clean};
 ghost use Rattle.strkw_ecma.specs.Shape.{pattern_of};
 ghost use Rattle.strkw_ecma.specs.Outcomes.{search_outcome, takes_pattern, pattern_outcome};
 
+use crate::making::table_of;
 use crate::marks::is_found;
 use crate::reader::read;
+use crate::table::Table;
 use crate::tree::Tree;
 use std::alloc::{AllocError, Global};
 use strkw_pattern::{BuildRefusal, EngineBuilder, EngineFailure, RegexEngine};
@@ -15,15 +20,21 @@ use strkw_pattern::{BuildRefusal, EngineBuilder, EngineFailure, RegexEngine};
 #[derive(Drop)]
 pub struct EcmaMatcher {
     tree: Tree,
+    table: Option<Table>,
     ghost clean: { is_clean (pattern_of tree) ≡ true },
+    ghost exact: { (t : Table) → table ≡ Some t → (text : List ℕ) → walk t.firsts.items t.entries.items 0 text ≡ search_from (pattern_of tree) None text },
 }
 
 impl RegexEngine for EcmaMatcher {
     ghost outcome = { λ e text. search_outcome (pattern_of e.tree) text };
 
     /// Whether the pattern is found in the text (RegExpBuiltinExec, ECMA-262 2024, section 22.2.7.2), in one pass. The only
-    /// error is `EngineFailure::Memory`: each call copies the tree of the pattern, and allocates nothing else.
+    /// error is `EngineFailure::Memory`: where the pattern has no table, a call copies its tree, and allocates nothing else;
+    /// where it has one, nothing is allocated.
     fn is_match(&self, alloc: Global, text: &str) -> Result<bool, EngineFailure> {
+        if let Some(table) = &self.table {
+            return Ok(table.is_found(text));
+        }
         match self.tree.copy(alloc) {
             Ok(mut tree) => Ok(is_found(&mut tree, text)),
             Err(AllocError) => Err(EngineFailure::Memory),
@@ -32,13 +43,15 @@ impl RegexEngine for EcmaMatcher {
 }
 
 /// Builds engines of patterns of ECMA-262 2024 in Unicode mode (`Pattern`, section 22.2.1), of this part of its syntax:
-/// - alternatives with `|`, and groups with `( )`;
+/// - alternatives with `|`, and groups with `( )` and `(?: )`;
 /// - the assertions `^`, `$`, `\b`, `\B`;
-/// - behind an atom `*`, `+` or `?`, and a `?` behind that, which changes no answer;
+/// - behind an atom `*`, `+`, `?`, `{n}`, `{n,}` or `{n,m}`, and a `?` behind that, which changes no answer;
 /// - `.`; a character that is none of `^ $ \ . * + ? ( ) [ ] { } |`; `\` before one of those or `/`; `\f \n \r \t \v`;
-///   `\d \D \s \S \w \W`.
+///   `\d \D \s \S \w \W`;
+/// - classes with `[ ]` and `[^ ]`, of characters, ranges and those escapes, with `\-`, and `\b` for the backspace.
 ///
-/// Any other text is not taken, nor is a pattern with groups more than 250 deep or with more than 2,000 characters.
+/// Any other text is not taken, nor is a pattern with groups more than 250 deep, with more than 2,000 characters, with a count
+/// above 1,000, or with a counted term of which more than 2,000 nodes would come: its copies, each with the nodes of its tree.
 ///
 /// A match is a search for the pattern in the text (section 22.2.7.2), with no flag but `u`: characters are Unicode scalar
 /// values; `^` and `$` stand for the two ends of the text, `.` for each character but U+000A, U+000D, U+2028 and U+2029,
@@ -57,7 +70,10 @@ impl EngineBuilder for EcmaPatterns {
     #[tactic(auto, using(crate::proofs::Exact::clean_of, crate::proofs::Exact::outcome_of_it, crate::proofs::Exact::some_of, crate::proofs::Exact::none_of))]
     fn build(&self, alloc: Global, pattern: &str) -> Result<EcmaMatcher, BuildRefusal> {
         match read(alloc, pattern) {
-            Ok(Some(tree)) => Ok(EcmaMatcher { tree }),
+            Ok(Some(tree)) => match table_of(alloc, &tree) {
+                Ok(table) => Ok(EcmaMatcher { tree, table }),
+                Err(_) => Err(BuildRefusal::Memory),
+            },
             Ok(None) => Err(BuildRefusal::Pattern),
             Err(AllocError) => Err(BuildRefusal::Memory),
         }

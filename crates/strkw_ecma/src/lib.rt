@@ -3,12 +3,19 @@
 //! text.
 #![tactic(auto)]
 
+mod classes;
+mod counts;
 mod engine;
 pub mod laws;
+mod making;
 mod marks;
 mod reader;
+mod sets;
+mod states;
+mod table;
 #[cfg(test)]
 mod tests;
+mod tokens;
 mod tree;
 
 pub use engine::{EcmaMatcher, EcmaPatterns};

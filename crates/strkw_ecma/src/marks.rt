@@ -8,6 +8,7 @@ ghost use Rattle.strkw_ecma.specs.Marks.{leaves, step, reads, is_clean};
 ghost use Rattle.strkw_ecma.specs.Search.{search_from};
 ghost use Rattle.strkw_ecma.specs.Shape.{pattern_of};
 
+use crate::sets::WORD_CHARACTERS;
 use crate::tree::{CharRange, Tree};
 
 // Whether the character is in one of the ranges.
@@ -35,9 +36,7 @@ fn reads_class(next: Option<char>, negated: bool, ranges: &[CharRange]) -> bool
     }
 }
 
-const WORD_CHARACTERS: [CharRange; 4] = [('0', '9'), ('A', 'Z'), ('_', '_'), ('a', 'z')];
-
-fn is_word(c: Option<char>) -> bool
+pub(crate) fn is_word(c: Option<char>) -> bool
     ensures { result ≡ spec_is_word c }
 {
     reads_class(c, false, &WORD_CHARACTERS)
@@ -61,7 +60,7 @@ fn is_edge(c: Option<char>) -> bool
 // Whether a way through the pattern ends between two characters that went on from a mark or, where `enters` holds, began
 // there.
 #[cycle(leaves)]
-fn leaves_tree(tree: &Tree, last: Option<char>, next: Option<char>, enters: bool) -> bool
+pub(crate) fn leaves_tree(tree: &Tree, last: Option<char>, next: Option<char>, enters: bool) -> bool
     ensures { result ≡ leaves last next (pattern_of tree.now) enters }
 {
     match tree {
@@ -90,7 +89,12 @@ fn leaves_tree(tree: &Tree, last: Option<char>, next: Option<char>, enters: bool
 
 // The same, and the marks after the next character is read.
 #[cycle(step)]
-fn step_tree(tree: &mut Tree, last: Option<char>, next: Option<char>, enters: bool) -> bool
+pub(crate) fn step_tree(
+    tree: &mut Tree,
+    last: Option<char>,
+    next: Option<char>,
+    enters: bool,
+) -> bool
     ensures left { result ≡ leaves last next (pattern_of tree.old) enters }
     ensures marks { pattern_of tree.new ≡ step last next (pattern_of tree.old) enters }
 {

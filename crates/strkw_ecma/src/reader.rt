@@ -1,107 +1,28 @@
 //! How a pattern is read, character by character.
 
-ghost use Rattle.std.specs.Prelude.{◌≡◌, true, false, IfOk, option_map, nat_lt, length};
-ghost use Rattle.std.specs.Str.{chars};
-ghost use Rattle.strkw_ecma.specs.Tree.{cat, class, look, boundary, no_boundary};
-ghost use Rattle.strkw_ecma.specs.Patterns.{pattern, one_char as spec_one_char, quantified_pattern};
-ghost use Rattle.strkw_ecma.specs.Sets.{line_ends, set_of as spec_set_of, is_negative as spec_is_negative, control_char as spec_control_char};
+ghost use Rattle.std.specs.Prelude.{◌≡◌, false, IfOk, option_map, nat_lt, length, ◌==◌};
+ghost use Rattle.std.specs.Str.{chars, byte};
+ghost use Rattle.strkw_ecma.specs.Patterns.{pattern};
 ghost use Rattle.strkw_ecma.specs.Shape.{pattern_of};
-ghost use Rattle.strkw_ecma.specs.Syntax.{token as spec_token, escape as spec_escape, zero_or_one, max_nesting};
+ghost use Rattle.strkw_ecma.specs.Syntax.{token as spec_token};
+ghost use Rattle.strkw_ecma.specs.Escapes.{escape as spec_escape};
+ghost use Rattle.strkw_ecma.specs.Classes.{class_token as spec_class_token, class_escape as spec_class_escape};
 ghost use Rattle.strkw_ecma.specs.Reading.{read_pattern};
-ghost use Rattle.strkw_ecma.specs.Parts.{parts_of, token_of, escape_of, quantifier_of, last_of, ended as spec_ended, joined as spec_joined, level_ended, side_of, after_atom, after_term, after_bar, after_opening, after_closing, after_quantifier, after_question, after_escape, after_token, after_char, at_close, no_parts};
+ghost use Rattle.strkw_ecma.specs.Parts.{parts_of, quantifier_of, last_of, class_of, mode_of, ended as spec_ended, joined as spec_joined, level_ended, side_of, after_atom, after_term, after_bar, opened_within, after_closing, after_quantifier, after_question, after_escape, after_token, after_group, after_extension, within, after_class_token, after_class_escape, after_bracket, after_in, after_char, with_mode, at_close, no_parts, is_between};
 
-use crate::tree::{CharRange, Tree};
+mod counting;
+
+use crate::classes::{ClassReader, Item};
+use crate::counts::{Count, Quantifier, then};
+use crate::sets::{control_char, dot, one_char, set};
+use crate::tokens::{ClassToken, Escape, Token};
+use crate::tree::Tree;
 use std::alloc::{AllocError, Global};
 
 // How many groups may lie in one another, and how many characters a pattern may have.
 const MAX_NESTING: usize = 250;
 
 const MAX_LENGTH: u64 = 2000;
-
-// What a character is in a pattern.
-#[derive(Clone, Copy)]
-enum Token {
-    Bar,
-    Asterisk,
-    Plus,
-    Question,
-    Caret,
-    Dollar,
-    Opening,
-    Closing,
-    Point,
-    Backslash,
-    Character,
-    Other,
-}
-
-impl Token {
-    fn of(c: char) -> Token
-        ensures { token_of result ≡ spec_token c }
-    {
-        match c {
-            '|' => Token::Bar,
-            '*' => Token::Asterisk,
-            '+' => Token::Plus,
-            '?' => Token::Question,
-            '^' => Token::Caret,
-            '$' => Token::Dollar,
-            '(' => Token::Opening,
-            ')' => Token::Closing,
-            '.' => Token::Point,
-            '\\' => Token::Backslash,
-            '[' | ']' | '{' | '}' => Token::Other,
-            _ => Token::Character,
-        }
-    }
-}
-
-// What a character is behind a backslash.
-#[derive(Clone, Copy)]
-enum Escape {
-    Itself,
-    Control,
-    Set,
-    Boundary,
-    NoBoundary,
-    Unknown,
-}
-
-impl Escape {
-    fn of(c: char) -> Escape
-        ensures { escape_of result ≡ spec_escape c }
-    {
-        match c {
-            'b' => Escape::Boundary,
-            'B' => Escape::NoBoundary,
-            '^'
-            | '$'
-            | '\\'
-            | '.'
-            | '*'
-            | '+'
-            | '?'
-            | '('
-            | ')'
-            | '['
-            | ']'
-            | '{'
-            | '}'
-            | '|'
-            | '/' => Escape::Itself,
-            'f' | 'n' | 'r' | 't' | 'v' => Escape::Control,
-            'd' | 'D' | 's' | 'S' | 'w' | 'W' => Escape::Set,
-            _ => Escape::Unknown,
-        }
-    }
-}
-
-#[derive(Clone, Copy)]
-enum Quantifier {
-    ZeroOrMore,
-    OneOrMore,
-    ZeroOrOne,
-}
 
 // The last term, where more may follow it: an atom, where a quantifier may, or one with its quantifier, where a `?` may.
 #[derive(Drop)]
@@ -118,20 +39,27 @@ struct Level {
     current: Tree,
 }
 
-// What has been read: the groups that are open, the innermost last; the level within them; its last term; and whether a
-// backslash has just been read.
+// What has just been read: a whole atom or term; a backslash; `(`; `(?`; `[`; a part of a class, and there a backslash.
+#[derive(Drop)]
+enum Mode {
+    Between,
+    Escaping,
+    Opening,
+    Extending,
+    Counting(Count),
+    ClassOpened,
+    Class(ClassReader),
+    ClassEscaping(ClassReader),
+}
+
+// What has been read: the groups that are open, the innermost last; the level within them; its last term; and what is under
+// way.
 #[derive(Drop)]
 struct Reader {
     outer: Vec<Level>,
     level: Level,
     last: Last,
-    escaping: bool,
-}
-
-fn then(alloc: Global, first: Tree, second: Tree) -> Result<Tree, AllocError>
-    ensures { IfOk result (λ t. pattern_of t ≡ cat (pattern_of first) (pattern_of second)) }
-{
-    Ok(Tree::Then(Box::new(alloc, first)?, Box::new(alloc, second)?))
+    mode: Mode,
 }
 
 fn ended(alloc: Global, current: Tree, last: Last) -> Result<Tree, AllocError>
@@ -153,92 +81,6 @@ fn joined(alloc: Global, earlier: Option<Tree>, current: Tree) -> Result<Tree, A
     }
 }
 
-fn one_char(alloc: Global, c: char) -> Result<Tree, AllocError>
-    ensures { IfOk result (λ t. pattern_of t ≡ spec_one_char c) }
-{
-    Ok(Tree::Class {
-        marked: false,
-        negated: false,
-        ranges: vec![in alloc; (c, c)]?,
-    })
-}
-
-// All but the ends of lines.
-fn dot(alloc: Global) -> Result<Tree, AllocError>
-    ensures { IfOk result (λ t. pattern_of t ≡ class false true line_ends) }
-{
-    Ok(Tree::Class {
-        marked: false,
-        negated: true,
-        ranges: vec![in alloc; ('\n', '\n'), ('\r', '\r'), ('\u{2028}', '\u{2029}')]?,
-    })
-}
-
-// The set of a letter of `\d \D \s \S \w \W`.
-fn set_of(alloc: Global, c: char) -> Result<Vec<CharRange>, AllocError>
-    ensures { IfOk result (λ v. v.items ≡ spec_set_of c) }
-{
-    match c {
-        'd' | 'D' => Ok(vec![in alloc; ('0', '9')]?),
-        's' | 'S' => Ok(vec![in alloc;
-            ('\t', '\r'),
-            (' ', ' '),
-            ('\u{A0}', '\u{A0}'),
-            ('\u{1680}', '\u{1680}'),
-            ('\u{2000}', '\u{200A}'),
-            ('\u{2028}', '\u{2029}'),
-            ('\u{202F}', '\u{202F}'),
-            ('\u{205F}', '\u{205F}'),
-            ('\u{3000}', '\u{3000}'),
-            ('\u{FEFF}', '\u{FEFF}'),
-        ]?),
-        _ => Ok(vec![in alloc; ('0', '9'), ('A', 'Z'), ('_', '_'), ('a', 'z')]?),
-    }
-}
-
-// Whether a letter stands for all but its set.
-fn is_negative(c: char) -> bool
-    ensures { result ≡ spec_is_negative c }
-{
-    matches!(c, 'D' | 'S' | 'W')
-}
-
-fn set(alloc: Global, c: char) -> Result<Tree, AllocError>
-    ensures { IfOk result (λ t. pattern_of t ≡ class false (spec_is_negative c) (spec_set_of c)) }
-{
-    Ok(Tree::Class {
-        marked: false,
-        negated: is_negative(c),
-        ranges: set_of(alloc, c)?,
-    })
-}
-
-// The character of a letter of `\f \n \r \t \v`.
-fn control_char(c: char) -> char
-    ensures { result ≡ spec_control_char c }
-{
-    match c {
-        't' => '\t',
-        'n' => '\n',
-        'v' => '\u{B}',
-        'f' => '\u{C}',
-        _ => '\r',
-    }
-}
-
-impl Quantifier {
-    fn tree(self, alloc: Global, body: Tree) -> Result<Tree, AllocError>
-        ensures { IfOk result (λ t. pattern_of t ≡ quantified_pattern (quantifier_of self) (pattern_of body)) }
-    {
-        let body = Box::new(alloc, body)?;
-        Ok(match self {
-            Quantifier::ZeroOrMore => Tree::Star(body),
-            Quantifier::OneOrMore => Tree::Plus(body),
-            Quantifier::ZeroOrOne => Tree::Or(Box::new(alloc, Tree::Empty)?, body),
-        })
-    }
-}
-
 impl Reader {
     fn new(alloc: Global) -> Reader
         ensures { parts_of result ≡ no_parts }
@@ -250,7 +92,7 @@ impl Reader {
                 current: Tree::Empty,
             },
             last: Last::None,
-            escaping: false,
+            mode: Mode::Between,
         }
     }
 
@@ -269,7 +111,7 @@ impl Reader {
             outer,
             level: Level { earlier, current },
             last: Last::Atom(atom),
-            escaping: false,
+            mode: Mode::Between,
         })
     }
 
@@ -289,7 +131,7 @@ impl Reader {
             outer,
             level: Level { earlier, current },
             last: Last::None,
-            escaping: false,
+            mode: Mode::Between,
         })
     }
 
@@ -312,7 +154,7 @@ impl Reader {
                 current: Tree::Empty,
             },
             last: Last::None,
-            escaping: false,
+            mode: Mode::Between,
         })
     }
 
@@ -338,7 +180,7 @@ impl Reader {
             outer,
             level,
             last: Last::Counted(term),
-            escaping: false,
+            mode: Mode::Between,
         }))
     }
 
@@ -360,7 +202,7 @@ impl Reader {
                     outer,
                     level,
                     last: Last::Counted(term),
-                    escaping: false,
+                    mode: Mode::Between,
                 }))
             }
             Last::Counted(term) => {
@@ -370,15 +212,14 @@ impl Reader {
                     outer,
                     level: Level { earlier, current },
                     last: Last::None,
-                    escaping: false,
+                    mode: Mode::Between,
                 }))
             }
         }
     }
 
     fn opened(self, alloc: Global) -> Result<Option<Reader>, AllocError>
-        ensures { IfOk result (λ r. option_map parts_of r
-            ≡ after_opening (parts_of self) (nat_lt (length (parts_of self).outer) max_nesting)) }
+        ensures { IfOk result (λ r. option_map parts_of r ≡ opened_within (parts_of self)) }
     {
         let Reader {
             mut outer,
@@ -399,7 +240,7 @@ impl Reader {
                 current: Tree::Empty,
             },
             last: Last::None,
-            escaping: false,
+            mode: Mode::Between,
         }))
     }
 
@@ -422,7 +263,7 @@ impl Reader {
                 outer,
                 level,
                 last: Last::Atom(group),
-                escaping: false,
+                mode: Mode::Between,
             })),
         }
     }
@@ -441,41 +282,125 @@ impl Reader {
         Ok(Some(self.with_atom(alloc, atom)?))
     }
 
+    fn with_mode(self, mode: Mode) -> Reader
+        ensures { parts_of result ≡ with_mode (parts_of self) (mode_of mode) }
+    {
+        let Reader {
+            outer,
+            level,
+            last,
+            ..
+        } = self;
+        Reader {
+            outer,
+            level,
+            last,
+            mode,
+        }
+    }
+
     fn plain(self, alloc: Global, c: char) -> Result<Option<Reader>, AllocError>
         ensures { IfOk result (λ r. option_map parts_of r ≡ after_token (parts_of self) c (spec_token c)) }
     {
-        match Token::of(c) {
-            Token::Bar => Ok(Some(self.with_alternative(alloc)?)),
-            Token::Asterisk => self.with_quantifier(alloc, Quantifier::ZeroOrMore),
-            Token::Plus => self.with_quantifier(alloc, Quantifier::OneOrMore),
-            Token::Question => self.questioned(alloc),
-            Token::Caret => Ok(Some(self.with_term(alloc, Tree::Start)?)),
-            Token::Dollar => Ok(Some(self.with_term(alloc, Tree::End)?)),
-            Token::Opening => self.opened(alloc),
-            Token::Closing => self.closed(alloc),
-            Token::Point => {
-                let atom = dot(alloc)?;
-                Ok(Some(self.with_atom(alloc, atom)?))
+        let atom = match Token::of(c) {
+            Token::Bar => return Ok(Some(self.with_alternative(alloc)?)),
+            Token::Asterisk => return self.with_quantifier(alloc, Quantifier::ZeroOrMore),
+            Token::Plus => return self.with_quantifier(alloc, Quantifier::OneOrMore),
+            Token::Question => return self.questioned(alloc),
+            Token::Caret => return Ok(Some(self.with_term(alloc, Tree::Start)?)),
+            Token::Dollar => return Ok(Some(self.with_term(alloc, Tree::End)?)),
+            Token::Closing => return self.closed(alloc),
+            Token::Opening => return Ok(Some(self.with_mode(Mode::Opening))),
+            Token::Backslash => return Ok(Some(self.with_mode(Mode::Escaping))),
+            Token::Brace => return Ok(Some(self.with_mode(Mode::Counting(Count::Low(None))))),
+            Token::Bracket => return Ok(Some(self.with_mode(Mode::ClassOpened))),
+            Token::Other => return Ok(None),
+            Token::Point => dot(alloc)?,
+            Token::Character => one_char(alloc, c)?,
+        };
+        Ok(Some(self.with_atom(alloc, atom)?))
+    }
+
+    // Behind `(`.
+    fn in_group(self, alloc: Global, c: char) -> Result<Option<Reader>, AllocError>
+        ensures { IfOk result (λ r. option_map parts_of r ≡ after_group (parts_of self) c (c == byte "?")) }
+    {
+        if c == '?' {
+            return Ok(Some(self.with_mode(Mode::Extending)));
+        }
+        match self.opened(alloc)? {
+            Some(inner) => inner.plain(alloc, c),
+            None => Ok(None),
+        }
+    }
+
+    // Behind `(?`.
+    fn extended(self, alloc: Global, c: char) -> Result<Option<Reader>, AllocError>
+        ensures { IfOk result (λ r. option_map parts_of r ≡ after_extension (parts_of self) (c == byte ":")) }
+    {
+        if c == ':' {
+            self.opened(alloc)
+        } else {
+            Ok(None)
+        }
+    }
+
+    fn with_class(self, class: Option<ClassReader>) -> Option<Reader>
+        ensures { option_map parts_of result ≡ within (parts_of self) (option_map class_of class) }
+    {
+        match class {
+            Some(class) => Some(self.with_mode(Mode::Class(class))),
+            None => None,
+        }
+    }
+
+    fn class_plain(
+        self,
+        alloc: Global,
+        class: ClassReader,
+        c: char,
+    ) -> Result<Option<Reader>, AllocError>
+        ensures { IfOk result (λ r. option_map parts_of r
+            ≡ after_class_token (parts_of self) (class_of class) c (spec_class_token c)) }
+    {
+        let class = match ClassToken::of(c) {
+            ClassToken::Closing => {
+                let atom = class.closed()?;
+                return Ok(Some(self.with_atom(alloc, atom)?));
             }
-            Token::Backslash => {
-                let Reader {
-                    outer,
-                    level,
-                    last,
-                    ..
-                } = self;
-                Ok(Some(Reader {
-                    outer,
-                    level,
-                    last,
-                    escaping: true,
-                }))
+            ClassToken::Backslash => {
+                return Ok(Some(self.with_mode(Mode::ClassEscaping(class))));
             }
-            Token::Character => {
-                let atom = one_char(alloc, c)?;
-                Ok(Some(self.with_atom(alloc, atom)?))
-            }
-            Token::Other => Ok(None),
+            ClassToken::Dash => class.with_dash()?,
+            ClassToken::Character => class.with_item(Item::Char(c))?,
+        };
+        Ok(self.with_class(class))
+    }
+
+    fn class_escaped(self, class: ClassReader, c: char) -> Result<Option<Reader>, AllocError>
+        ensures { IfOk result (λ r. option_map parts_of r
+            ≡ after_class_escape (parts_of self) (class_of class) c (spec_class_escape c)) }
+    {
+        let item = match Escape::of_class(c) {
+            Escape::Itself => Item::Char(c),
+            Escape::Control => Item::Char(control_char(c)),
+            Escape::Set => Item::Set(c),
+            Escape::Boundary => Item::Char('\u{8}'),
+            Escape::NoBoundary | Escape::Unknown => return Ok(None),
+        };
+        let class = class.with_item(item)?;
+        Ok(self.with_class(class))
+    }
+
+    // Behind `[`.
+    fn in_bracket(self, alloc: Global, c: char) -> Result<Option<Reader>, AllocError>
+        ensures { IfOk result (λ r. option_map parts_of r ≡ after_bracket (parts_of self) c (c == byte "^")) }
+    {
+        if c == '^' {
+            let class = ClassReader::new(alloc, true);
+            Ok(Some(self.with_mode(Mode::Class(class))))
+        } else {
+            self.class_plain(alloc, ClassReader::new(alloc, false), c)
         }
     }
 
@@ -483,25 +408,43 @@ impl Reader {
     fn next(self, alloc: Global, c: char) -> Result<Option<Reader>, AllocError>
         ensures { IfOk result (λ r. option_map parts_of r ≡ after_char (parts_of self) c) }
     {
-        if self.escaping {
-            self.escaped(alloc, c)
-        } else {
-            self.plain(alloc, c)
+        let Reader {
+            outer,
+            level,
+            last,
+            mode,
+        } = self;
+        let so_far = Reader {
+            outer,
+            level,
+            last,
+            mode: Mode::Between,
+        };
+        match mode {
+            Mode::Between => so_far.plain(alloc, c),
+            Mode::Escaping => so_far.escaped(alloc, c),
+            Mode::Opening => so_far.in_group(alloc, c),
+            Mode::Extending => so_far.extended(alloc, c),
+            Mode::Counting(Count::Low(first)) => so_far.in_count(alloc, first, c),
+            Mode::Counting(Count::High(first, second)) => so_far.in_range(alloc, first, second, c),
+            Mode::ClassOpened => so_far.in_bracket(alloc, c),
+            Mode::Class(class) => so_far.class_plain(alloc, class, c),
+            Mode::ClassEscaping(class) => so_far.class_escaped(class, c),
         }
     }
 
     // The tree, where the pattern may end.
     fn end(self, alloc: Global) -> Result<Option<Tree>, AllocError>
         ensures { let s = parts_of self in
-            IfOk result (λ t. option_map pattern_of t ≡ at_close s.outer s.level s.last s.escaping) }
+            IfOk result (λ t. option_map pattern_of t ≡ at_close s.outer s.level s.last (is_between s.mode)) }
     {
         let Reader {
             outer,
             level,
             last,
-            escaping,
+            mode,
         } = self;
-        if !outer.is_empty() || escaping {
+        if !outer.is_empty() || !matches!(mode, Mode::Between) {
             return Ok(None);
         }
         let Level { earlier, current } = level;

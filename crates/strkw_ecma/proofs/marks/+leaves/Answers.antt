@@ -1,4 +1,3 @@
-use Rattle.std.proofs.Common.{◌≡◌, ◌∙◌}
 use Rattle.strkw_ecma.specs.Shape.{pattern_of}
 use Rattle.strkw_ecma.proofs.Shapes.{pattern-Plus}
 use Rattle.strkw_ecma.proofs.Steps.{plus_leaves}

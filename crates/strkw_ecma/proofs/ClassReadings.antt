@@ -1,0 +1,122 @@
+-- Each class is read from its spelling.
+use Rattle.std.proofs.Common.{◌≡◌, ℕ, Bool, true, false, List, ◌∷◌, ◌++◌, Option, Some, None, refl, sym, ap, ◌∙◌, append_assoc, true≢false}
+use Rattle.std.specs.Prelude.{option_and_then, is_some}
+use Rattle.std.specs.Str.{byte}
+use Rattle.strkw_ecma.specs.Escapes.{Escape}
+use Rattle.strkw_ecma.specs.Classes.{ClassToken, ClassAtom, class_plain, hyphen, class_escaped, class_control, class_set, backspace, Ranges, no_ranges, with_one, with_range, item, range, class_atom_spelling, ranges_spelling, negation_spelling, ending_spelling, IsClassAtom, is_hyphen, is_caret, MayBegin, MayFollow, MayEnd, AreRanges}
+use Rattle.strkw_ecma.specs.Syntax.{Disjunction, bracketed}
+use Rattle.strkw_ecma.specs.Reading.{Open, Level, Last, State, Pending, fresh, one, dashed, Class, Mode, between, class_opened, in_class, with_mode, with_atom, took, ranged, within, on_class_token, on_class_escape, on_class, read_from}
+
+abbrev class_of : Bool → Ranges → Pending → Class
+class_of n r p = record { negated = n; ranges = r; pending = p }
+
+-- behind the opening bracket and the `^`
+abbrev start : Bool → Mode
+start false = class_opened
+start true = in_class (class_of true no_ranges fresh)
+
+-- behind the spelling of these
+abbrev place : Bool → Ranges → Mode
+place n no_ranges = start n
+place n (with_one r x) = in_class (class_of n r (one x))
+place n (with_range r x y) = in_class (class_of n (with_range r x y) fresh)
+
+ranged_some : (n : Bool) (r : Ranges) (x y : ClassAtom) (o : Option (ℕ × ℕ)) → is_some o ≡ true
+    → ranged n r x y o ≡ Some (class_of n (with_range r x y) fresh)
+ranged_some n r x y None h = absurd (true≢false (sym h))
+ranged_some n r x y (Some s) h = refl
+
+module _ (outer : List Open) (l : Level) (x : Last) where
+  abbrev at : Mode → State
+  at m = with_mode outer l x m
+
+  abbrev then : Option State → List ℕ → Option Disjunction
+  then o cs = option_and_then (λ t. read_from t cs) o
+
+  -- one atom, from inside a class
+  reads_inside : (n : Bool) (r : Ranges) (p : Pending) (y : ClassAtom) → IsClassAtom y → is_hyphen y ≡ false → (cs : List ℕ)
+      → read_from (at (in_class (class_of n r p))) (class_atom_spelling y ++ cs) ≡ then (within outer l x (took n r p y)) cs
+  reads_inside n r p (class_plain c) h w cs = ap (λ (k : ClassToken). then (on_class_token outer l x n r p c k) cs) h
+  reads_inside n r p hyphen h w cs = absurd (true≢false w)
+  reads_inside n r p (class_escaped c) h w cs = ap (λ (k : Escape). then (on_class_escape outer l x n r p c k) cs) h
+  reads_inside n r p (class_control c) h w cs = ap (λ (k : Escape). then (on_class_escape outer l x n r p c k) cs) h
+  reads_inside n r p (class_set c) h w cs = ap (λ (k : Escape). then (on_class_escape outer l x n r p c k) cs) h
+  reads_inside n r p backspace h w cs = refl
+
+  -- one that may be a `-`: nothing is pending, or an atom and a `-`
+  reads_fresh : (n : Bool) (r : Ranges) (y : ClassAtom) → IsClassAtom y → (cs : List ℕ)
+      → read_from (at (in_class (class_of n r fresh))) (class_atom_spelling y ++ cs) ≡ read_from (at (in_class (class_of n r (one y)))) cs
+  reads_fresh n r (class_plain c) h cs = reads_inside n r fresh (class_plain c) h refl cs
+  reads_fresh n r hyphen h cs = refl
+  reads_fresh n r (class_escaped c) h cs = reads_inside n r fresh (class_escaped c) h refl cs
+  reads_fresh n r (class_control c) h cs = reads_inside n r fresh (class_control c) h refl cs
+  reads_fresh n r (class_set c) h cs = reads_inside n r fresh (class_set c) h refl cs
+  reads_fresh n r backspace h cs = refl
+
+  reads_dashed : (n : Bool) (r : Ranges) (z y : ClassAtom) → IsClassAtom y → (cs : List ℕ)
+      → read_from (at (in_class (class_of n r (dashed z)))) (class_atom_spelling y ++ cs) ≡ then (within outer l x (took n r (dashed z) y)) cs
+  reads_dashed n r z (class_plain c) h cs = reads_inside n r (dashed z) (class_plain c) h refl cs
+  reads_dashed n r z hyphen h cs = refl
+  reads_dashed n r z (class_escaped c) h cs = reads_inside n r (dashed z) (class_escaped c) h refl cs
+  reads_dashed n r z (class_control c) h cs = reads_inside n r (dashed z) (class_control c) h refl cs
+  reads_dashed n r z (class_set c) h cs = reads_inside n r (dashed z) (class_set c) h refl cs
+  reads_dashed n r z backspace h cs = refl
+
+  -- the first atom of a class that is not negated
+  reads_first : (y : ClassAtom) → IsClassAtom y → is_caret y ≡ false → (cs : List ℕ)
+      → read_from (at class_opened) (class_atom_spelling y ++ cs) ≡ read_from (at (in_class (class_of false no_ranges (one y)))) cs
+  reads_first (class_plain c) h w cs =
+      ap (λ (b : Bool). then (on_class outer l x c b) cs) w
+      ∙ ap (λ (k : ClassToken). then (on_class_token outer l x false no_ranges fresh c k) cs) h
+  reads_first hyphen h w cs = refl
+  reads_first (class_escaped c) h w cs = ap (λ (k : Escape). then (on_class_escape outer l x false no_ranges fresh c k) cs) h
+  reads_first (class_control c) h w cs = ap (λ (k : Escape). then (on_class_escape outer l x false no_ranges fresh c k) cs) h
+  reads_first (class_set c) h w cs = ap (λ (k : Escape). then (on_class_escape outer l x false no_ranges fresh c k) cs) h
+  reads_first backspace h w cs = refl
+
+  reads_start : (n : Bool) (y : ClassAtom) → IsClassAtom y → MayBegin n y → (cs : List ℕ)
+      → read_from (at (start n)) (class_atom_spelling y ++ cs) ≡ read_from (at (in_class (class_of n no_ranges (one y)))) cs
+  reads_start false y h w cs = reads_first y h w cs
+  reads_start true y h w cs = reads_fresh true no_ranges y h cs
+
+  reads_one : (n : Bool) (r : Ranges) (y : ClassAtom) → IsClassAtom y → MayFollow n r y → (cs : List ℕ)
+      → read_from (at (place n r)) (class_atom_spelling y ++ cs) ≡ read_from (at (in_class (class_of n r (one y)))) cs
+  reads_one n no_ranges y h w cs = reads_start n y h w cs
+  reads_one n (with_one r z) y h w cs = reads_inside n r (one z) y h w cs
+  reads_one n (with_range r a b) y h w cs = reads_fresh n (with_range r a b) y h cs
+
+  reads_ranges : (n : Bool) (r : Ranges) → AreRanges n r → (cs : List ℕ)
+      → read_from (at (start n)) (ranges_spelling r ++ cs) ≡ read_from (at (place n r)) cs
+  reads_ranges n no_ranges h cs = refl
+  reads_ranges n (with_one r y) h cs =
+      ap (read_from (at (start n))) (append_assoc (ranges_spelling r) (class_atom_spelling y) cs)
+      ∙ reads_ranges n r h.0 (class_atom_spelling y ++ cs) ∙ reads_one n r y h.1 h.2 cs
+  reads_ranges n (with_range r y z) h cs =
+      let back = byte "-" ∷ class_atom_spelling z in
+      ap (read_from (at (start n))) (append_assoc (ranges_spelling r ++ class_atom_spelling y) back cs
+      ∙ append_assoc (ranges_spelling r) (class_atom_spelling y) (back ++ cs))
+      ∙ reads_ranges n r h.0 (class_atom_spelling y ++ (back ++ cs)) ∙ reads_one n r y h.1.0 h.1.1 (back ++ cs)
+      ∙ reads_dashed n r y z h.2 cs
+      ∙ ap (λ (o : Option Class). then (within outer l x o) cs) (ranged_some n r y z (range (item y) (item z)) h.3)
+
+  closes : (n : Bool) (r : Ranges) (e : Bool) → MayEnd e r → (cs : List ℕ)
+      → read_from (at (place n r)) (ending_spelling e ++ cs) ≡ read_from (with_atom outer l x (bracketed n r e)) cs
+  closes false no_ranges false h cs = refl
+  closes true no_ranges false h cs = refl
+  closes n (with_one r y) false h cs = refl
+  closes n (with_range r y z) false h cs = refl
+  closes n no_ranges true h cs = absurd h
+  closes n (with_one r y) true h cs = refl
+  closes n (with_range r y z) true h cs = absurd h
+
+  begins : (n : Bool) (cs : List ℕ) → read_from (at between) (negation_spelling n ++ cs) ≡ read_from (at (start n)) cs
+  begins false cs = refl
+  begins true cs = refl
+
+  pub reads_class : (n : Bool) (r : Ranges) (e : Bool) → AreRanges n r → MayEnd e r → (cs : List ℕ)
+      → read_from (at between) (((negation_spelling n ++ ranges_spelling r) ++ ending_spelling e) ++ cs)
+      ≡ read_from (with_atom outer l x (bracketed n r e)) cs
+  reads_class n r e h w cs =
+      ap (read_from (at between)) (append_assoc (negation_spelling n ++ ranges_spelling r) (ending_spelling e) cs
+      ∙ append_assoc (negation_spelling n) (ranges_spelling r) (ending_spelling e ++ cs))
+      ∙ begins n (ranges_spelling r ++ (ending_spelling e ++ cs)) ∙ reads_ranges n r h (ending_spelling e ++ cs) ∙ closes n r e w cs

@@ -1,0 +1,158 @@
+-- What a state of the reader has read, and the steps in a class.
+use Rattle.std.proofs.Common.{◌≡◌, ℕ, Bool, List, [], ◌∷◌, ◌++◌, Option, Some, None, refl, sym, ap, ◌∙◌, append_assoc}
+use Rattle.std.proofs.lemmas.List.{append-nil}
+use Rattle.std.specs.Str.{byte}
+use Rattle.strkw_ecma.specs.Escapes.{Escape, itself, control, set, boundary, no_boundary, unknown}
+use Rattle.strkw_ecma.specs.Classes.{ClassToken, closing_bracket, class_backslash, dash, class_character, ClassAtom, class_plain, hyphen, class_escaped, class_control, class_set, backspace, Ranges, class_atom_spelling, ranges_spelling, negation_spelling}
+use Rattle.strkw_ecma.specs.Syntax.{Disjunction, Alternative, more, Term, Atom, quantifier_spelling, group_spelling, spelling, alternative_spelling, term_spelling, atom_spelling}
+use Rattle.strkw_ecma.specs.Reading.{Open, Level, Last, none, atom, counted, Pending, fresh, one, dashed, Class, Mode, between, escaping, opening, extending, class_opened, Count, low, high, counting, in_class, class_escaping, State, ended, joined, with_atom, took, took_dash, ranged, class_read, within, on_class_token, on_class_escape}
+use Rattle.strkw_ecma.proofs.Letters.{char_of_letter, char_of_class}
+
+abbrev pub level_spelling : Option Disjunction → Alternative → List ℕ
+level_spelling None a = alternative_spelling a
+level_spelling (Some d) a = spelling d ++ byte "|" ∷ alternative_spelling a
+
+abbrev pub last_spelling : Last → List ℕ
+last_spelling none = []
+last_spelling (atom x) = atom_spelling x
+last_spelling (counted x q) = atom_spelling x ++ quantifier_spelling q
+
+abbrev pub outer_spelling : List Open → List ℕ
+outer_spelling [] = []
+outer_spelling (o ∷ ls) = (outer_spelling ls ++ level_spelling o.earlier o.current) ++ group_spelling o.group
+
+abbrev pending_spelling : Pending → List ℕ
+pending_spelling fresh = []
+pending_spelling (one x) = class_atom_spelling x
+pending_spelling (dashed x) = class_atom_spelling x ++ byte "-" ∷ []
+
+abbrev pub class_text : Bool → Ranges → Pending → List ℕ
+class_text n r p = (negation_spelling n ++ ranges_spelling r) ++ pending_spelling p
+
+abbrev count_spelling : Count → List ℕ
+count_spelling (low ds) = byte "{" ∷ ds
+count_spelling (high ds es) = byte "{" ∷ (ds ++ byte "," ∷ es)
+
+abbrev mode_spelling : Mode → List ℕ
+mode_spelling between = []
+mode_spelling escaping = byte "\\" ∷ []
+mode_spelling opening = byte "(" ∷ []
+mode_spelling extending = byte "(" ∷ byte "?" ∷ []
+mode_spelling (counting n) = count_spelling n
+mode_spelling class_opened = byte "[" ∷ []
+mode_spelling (in_class k) = class_text k.negated k.ranges k.pending
+mode_spelling (class_escaping k) = class_text k.negated k.ranges k.pending ++ byte "\\" ∷ []
+
+-- what a state has read
+abbrev pub spelled : State → List ℕ
+spelled s = ((outer_spelling s.outer ++ level_spelling s.level.earlier s.level.current) ++ last_spelling s.last) ++ mode_spelling s.mode
+
+pub ended_spelling : (a : Alternative) (x : Last) → alternative_spelling (ended a x) ≡ alternative_spelling a ++ last_spelling x
+ended_spelling a none = sym (append-nil _)
+ended_spelling a (atom x) = refl
+ended_spelling a (counted x q) = ap (λ z. alternative_spelling a ++ z) (append-nil _)
+
+pub level_ended_spelling : (e : Option Disjunction) (a : Alternative) (x : Last)
+    → level_spelling e (ended a x) ≡ level_spelling e a ++ last_spelling x
+level_ended_spelling None a x = ended_spelling a x
+level_ended_spelling (Some d) a x =
+    ap (λ z. spelling d ++ byte "|" ∷ z) (ended_spelling a x) ∙ sym (append_assoc (spelling d) (byte "|" ∷ alternative_spelling a) (last_spelling x))
+
+pub joined_spelling : (e : Option Disjunction) (a : Alternative) → spelling (joined e a) ≡ level_spelling e a
+joined_spelling None a = refl
+joined_spelling (Some d) a = refl
+
+pub more_spelling : (e : Option Disjunction) (a : Alternative) (t : Term) → level_spelling e (more a t) ≡ level_spelling e a ++ term_spelling t
+more_spelling None a t = refl
+more_spelling (Some d) a t = sym (append_assoc (spelling d) (byte "|" ∷ alternative_spelling a) (term_spelling t))
+
+-- the state that was made has read the text
+abbrev pub HasRead : Option State → List ℕ → Type 0
+HasRead None text = Unit {0}
+HasRead (Some t) text = spelled t ≡ text
+
+-- the class that was made has read this
+abbrev HasTaken : Option Class → List ℕ → Type 0
+HasTaken None text = Unit {0}
+HasTaken (Some k) text = class_text k.negated k.ranges k.pending ≡ text
+
+ranged_read : (n : Bool) (r : Ranges) (w y : ClassAtom) (o : Option (ℕ × ℕ))
+    → HasTaken (ranged n r w y o) (class_text n r (dashed w) ++ class_atom_spelling y)
+ranged_read n r w y None = tt
+ranged_read n r w y (Some s) = append-nil _ ∙ regroup (negation_spelling n) (ranges_spelling r) (class_atom_spelling w) (class_atom_spelling y)
+  where
+    regroup : (a b c d : List ℕ) → a ++ ((b ++ c) ++ byte "-" ∷ d) ≡ ((a ++ b) ++ (c ++ byte "-" ∷ [])) ++ d
+    regroup a b c d =
+        ap (λ z. a ++ z) (append_assoc b c (byte "-" ∷ d)) ∙ sym (append_assoc a b (c ++ byte "-" ∷ d))
+        ∙ ap (λ z. (a ++ b) ++ z) (sym (append_assoc c (byte "-" ∷ []) d)) ∙ sym (append_assoc (a ++ b) (c ++ byte "-" ∷ []) d)
+
+took_read : (n : Bool) (r : Ranges) (p : Pending) (y : ClassAtom) → HasTaken (took n r p y) (class_text n r p ++ class_atom_spelling y)
+took_read n r fresh y = ap (λ z. z ++ class_atom_spelling y) (sym (append-nil (negation_spelling n ++ ranges_spelling r)))
+took_read n r (one w) y =
+    ap (λ z. z ++ class_atom_spelling y) (sym (append_assoc (negation_spelling n) (ranges_spelling r) (class_atom_spelling w)))
+took_read n r (dashed w) y = ranged_read n r w y _
+
+dash_read : (n : Bool) (r : Ranges) (p : Pending) → HasTaken (took_dash n r p) (class_text n r p ++ byte "-" ∷ [])
+dash_read n r fresh = took_read n r fresh hyphen
+dash_read n r (one w) = sym (append_assoc (negation_spelling n ++ ranges_spelling r) (class_atom_spelling w) (byte "-" ∷ []))
+dash_read n r (dashed w) = took_read n r (dashed w) hyphen
+
+module _ (outer : List Open) (l : Level) where
+  abbrev pub before : Last → List ℕ
+  before x = (outer_spelling outer ++ level_spelling l.earlier l.current) ++ last_spelling x
+
+  pub whole : (x : Last) → outer_spelling outer ++ level_spelling l.earlier (ended l.current x) ≡ before x
+  whole x =
+      ap (λ z. outer_spelling outer ++ z) (level_ended_spelling l.earlier l.current x)
+      ∙ sym (append_assoc (outer_spelling outer) (level_spelling l.earlier l.current) (last_spelling x))
+
+  pub atom_read : (x : Last) (a : Atom) → spelled (with_atom outer l x a) ≡ before x ++ atom_spelling a
+  atom_read x a = append-nil _ ∙ ap (λ z. z ++ atom_spelling a) (whole x)
+
+  within_read : (x : Last) (o : Option Class) (t : List ℕ) → HasTaken o t → (u : List ℕ) → before x ++ t ≡ u → HasRead (within outer l x o) u
+  within_read x None t h u e = tt
+  within_read x (Some k) t h u e = ap (λ z. before x ++ z) h ∙ e
+
+  class_atom_read : (x : Last) (n : Bool) (r : Ranges) (p : Pending) → atom_spelling (class_read n r p) ≡ class_text n r p ++ byte "]" ∷ []
+  class_atom_read x n r fresh = ap (λ z. z ++ byte "]" ∷ []) (sym (append-nil (negation_spelling n ++ ranges_spelling r)))
+  class_atom_read x n r (one y) =
+      ap (λ z. z ++ byte "]" ∷ []) (sym (append_assoc (negation_spelling n) (ranges_spelling r) (class_atom_spelling y)))
+  class_atom_read x n r (dashed y) =
+      ap (λ z. z ++ byte "-" ∷ byte "]" ∷ []) (sym (append_assoc (negation_spelling n) (ranges_spelling r) (class_atom_spelling y)))
+      ∙ dash_last (negation_spelling n ++ ranges_spelling r) (class_atom_spelling y)
+    where
+      dash_last : (a b : List ℕ) → (a ++ b) ++ byte "-" ∷ byte "]" ∷ [] ≡ (a ++ (b ++ byte "-" ∷ [])) ++ byte "]" ∷ []
+      dash_last a b =
+          append_assoc a b (byte "-" ∷ byte "]" ∷ [])
+          ∙ ap (λ z. a ++ z) (sym (append_assoc b (byte "-" ∷ []) (byte "]" ∷ [])))
+          ∙ sym (append_assoc a (b ++ byte "-" ∷ []) (byte "]" ∷ []))
+
+  pub class_token_read : (x : Last) (n : Bool) (r : Ranges) (p : Pending) (c : ℕ) (k : ClassToken) → char_of_class k c ≡ c
+      → HasRead (on_class_token outer l x n r p c k) ((before x ++ class_text n r p) ++ c ∷ [])
+  class_token_read x n r p c closing_bracket e =
+      atom_read x (class_read n r p) ∙ ap (λ z. before x ++ z) (class_atom_read x n r p)
+      ∙ sym (append_assoc (before x) (class_text n r p) (byte "]" ∷ [])) ∙ ap (λ z. (before x ++ class_text n r p) ++ z ∷ []) e
+  class_token_read x n r p c class_backslash e =
+      sym (append_assoc (before x) (class_text n r p) (byte "\\" ∷ [])) ∙ ap (λ z. (before x ++ class_text n r p) ++ z ∷ []) e
+  class_token_read x n r p c dash e =
+      within_read x (took_dash n r p) _ (dash_read n r p) _
+      (sym (append_assoc (before x) (class_text n r p) (byte "-" ∷ [])) ∙ ap (λ z. (before x ++ class_text n r p) ++ z ∷ []) e)
+  class_token_read x n r p c class_character e =
+      within_read x (took n r p (class_plain c)) _ (took_read n r p (class_plain c)) _ (sym (append_assoc (before x) (class_text n r p) (c ∷ [])))
+
+  -- behind a backslash, where the atom is spelled with the letter c
+  letter_read : (x : Last) (n : Bool) (r : Ranges) (p : Pending) (c : ℕ) (y : ClassAtom) → class_atom_spelling y ≡ byte "\\" ∷ c ∷ []
+      → HasRead (within outer l x (took n r p y)) ((before x ++ (class_text n r p ++ byte "\\" ∷ [])) ++ c ∷ [])
+  letter_read x n r p c y e =
+      within_read x (took n r p y) _ (took_read n r p y) _
+      (ap (λ z. before x ++ (class_text n r p ++ z)) e ∙ ap (λ z. before x ++ z) (sym (append_assoc (class_text n r p) (byte "\\" ∷ []) (c ∷ [])))
+      ∙ sym (append_assoc (before x) (class_text n r p ++ byte "\\" ∷ []) (c ∷ [])))
+
+  pub class_escape_read : (x : Last) (n : Bool) (r : Ranges) (p : Pending) (c : ℕ) (k : Escape) → char_of_letter k c ≡ c
+      → HasRead (on_class_escape outer l x n r p c k) ((before x ++ (class_text n r p ++ byte "\\" ∷ [])) ++ c ∷ [])
+  class_escape_read x n r p c itself e = letter_read x n r p c (class_escaped c) refl
+  class_escape_read x n r p c control e = letter_read x n r p c (class_control c) refl
+  class_escape_read x n r p c set e = letter_read x n r p c (class_set c) refl
+  class_escape_read x n r p c boundary e = letter_read x n r p c backspace (ap (λ z. byte "\\" ∷ z ∷ []) e)
+  class_escape_read x n r p c no_boundary e = tt
+  class_escape_read x n r p c unknown e = tt

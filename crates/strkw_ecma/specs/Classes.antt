@@ -1,0 +1,134 @@
+-- Classes of characters, after `CharacterClass` of ECMA-262 2024, section 22.2.1, in Unicode mode. The standard gives their
+-- contents from the last item on (`NonemptyClassRanges`), these trees from the first: a `-` stands for itself at the beginning,
+-- behind a range, and before the closing bracket.
+use Rattle.std.specs.Prelude.{◌≡◌, ℕ, nat_le, Bool, true, false, List, [], ◌∷◌, ◌++◌, Option, Some, None, is_some, if◌then◌else◌, ◌==◌}
+use Rattle.std.specs.Str.{byte}
+use Rattle.strkw_ecma.specs.Escapes.{Escape, itself, control, set, escape}
+use Rattle.strkw_ecma.specs.Sets.{control_char, set_ranges}
+
+-- what a character is in a class
+pub data ClassToken : Type 0 where
+  closing_bracket class_backslash dash class_character : ClassToken
+
+abbrev pub class_token : ℕ → ClassToken
+class_token c =
+    if c == byte "]" then closing_bracket else if c == byte "\\" then class_backslash else if c == byte "-" then dash
+    else class_character
+
+-- what a character is behind a backslash in a class: ClassEscape takes `-` too, and `b` is the backspace
+abbrev pub class_escape : ℕ → Escape
+class_escape c = if c == byte "-" then itself else escape c
+
+-- ClassAtom
+pub data ClassAtom : Type 0 where
+  class_plain : ℕ → ClassAtom
+  hyphen : ClassAtom
+  class_escaped : ℕ → ClassAtom
+  class_control : ℕ → ClassAtom
+  class_set : ℕ → ClassAtom
+  backspace : ClassAtom
+
+-- ClassContents: nothing, or what stands before its last atom or range
+pub data Ranges : Type 0 where
+  no_ranges : Ranges
+  with_one : Ranges → ClassAtom → Ranges
+  with_range : Ranges → ClassAtom → ClassAtom → Ranges
+
+-- what an atom of a class stands for: one character, or the set of a letter
+pub data Item : Type 0 where
+  char : ℕ → Item
+  set_item : ℕ → Item
+
+abbrev pub item : ClassAtom → Item
+item (class_plain c) = char c
+item hyphen = char (byte "-")
+item (class_escaped c) = char c
+item (class_control c) = char (control_char c)
+item (class_set c) = set_item c
+item backspace = char 8
+
+abbrev pub item_ranges : Item → List (ℕ × ℕ)
+item_ranges (char c) = (c, c) ∷ []
+item_ranges (set_item c) = set_ranges c
+
+-- characters alone bound a range, and the first is not the greater
+abbrev pub range : Item → Item → Option (ℕ × ℕ)
+range (char c) (char d) = if nat_le c d then Some (c, d) else None
+range (char c) (set_item d) = None
+range (set_item c) i = None
+
+abbrev pub range_list : Option (ℕ × ℕ) → List (ℕ × ℕ)
+range_list None = []
+range_list (Some r) = r ∷ []
+
+-- CompileToCharSet (section 22.2.2.9)
+abbrev pub ranges_of : Ranges → List (ℕ × ℕ)
+ranges_of no_ranges = []
+ranges_of (with_one r x) = ranges_of r ++ item_ranges (item x)
+ranges_of (with_range r x y) = ranges_of r ++ range_list (range (item x) (item y))
+
+-- with the `-` before the closing bracket, where there is one
+abbrev pub contents : Ranges → Bool → List (ℕ × ℕ)
+contents r false = ranges_of r
+contents r true = ranges_of r ++ item_ranges (char (byte "-"))
+
+abbrev pub class_atom_spelling : ClassAtom → List ℕ
+class_atom_spelling (class_plain c) = c ∷ []
+class_atom_spelling hyphen = byte "-" ∷ []
+class_atom_spelling (class_escaped c) = byte "\\" ∷ c ∷ []
+class_atom_spelling (class_control c) = byte "\\" ∷ c ∷ []
+class_atom_spelling (class_set c) = byte "\\" ∷ c ∷ []
+class_atom_spelling backspace = byte "\\" ∷ byte "b" ∷ []
+
+abbrev pub ranges_spelling : Ranges → List ℕ
+ranges_spelling no_ranges = []
+ranges_spelling (with_one r x) = ranges_spelling r ++ class_atom_spelling x
+ranges_spelling (with_range r x y) = (ranges_spelling r ++ class_atom_spelling x) ++ byte "-" ∷ class_atom_spelling y
+
+abbrev pub negation_spelling : Bool → List ℕ
+negation_spelling false = byte "[" ∷ []
+negation_spelling true = byte "[" ∷ byte "^" ∷ []
+
+abbrev pub ending_spelling : Bool → List ℕ
+ending_spelling false = byte "]" ∷ []
+ending_spelling true = byte "-" ∷ byte "]" ∷ []
+
+abbrev pub IsClassAtom : ClassAtom → Type 0
+IsClassAtom (class_plain c) = class_token c ≡ class_character
+IsClassAtom hyphen = Unit {0}
+IsClassAtom (class_escaped c) = class_escape c ≡ itself
+IsClassAtom (class_control c) = class_escape c ≡ control
+IsClassAtom (class_set c) = class_escape c ≡ set
+IsClassAtom backspace = Unit {0}
+
+abbrev pub is_hyphen : ClassAtom → Bool
+is_hyphen hyphen = true
+is_hyphen x = false
+
+-- a class that begins with `^` is a negated one
+abbrev pub is_caret : ClassAtom → Bool
+is_caret (class_plain c) = c == byte "^"
+is_caret x = false
+
+abbrev pub MayBegin : Bool → ClassAtom → Type 0
+MayBegin true x = Unit {0}
+MayBegin false x = is_caret x ≡ false
+
+-- the atom may stand behind these, in a class that is negated or not
+abbrev pub MayFollow : Bool → Ranges → ClassAtom → Type 0
+MayFollow n no_ranges x = MayBegin n x
+MayFollow n (with_one r y) x = is_hyphen x ≡ false
+MayFollow n (with_range r y z) x = Unit {0}
+
+-- a `-` before the closing bracket is one behind an atom: elsewhere it is itself an atom
+abbrev pub MayEnd : Bool → Ranges → Type 0
+MayEnd false r = Unit {0}
+MayEnd true no_ranges = ⊥
+MayEnd true (with_one r x) = Unit {0}
+MayEnd true (with_range r x y) = ⊥
+
+abbrev pub AreRanges : Bool → Ranges → Type 0
+AreRanges n no_ranges = Unit {0}
+AreRanges n (with_one r x) = AreRanges n r × IsClassAtom x × MayFollow n r x
+AreRanges n (with_range r x y) =
+    AreRanges n r × (IsClassAtom x × MayFollow n r x) × IsClassAtom y × (is_some (range (item x) (item y)) ≡ true)

@@ -1,0 +1,15 @@
+-- What a character is behind a backslash (ECMA-262 2024, section 22.2.1, in Unicode mode).
+use Rattle.std.specs.Prelude.{ℕ, codes, if◌then◌else◌, ◌==◌}
+use Rattle.std.specs.Str.{byte}
+use Rattle.strkw_text.specs.Characters.{is_one_of}
+
+-- a SyntaxCharacter or `/`, which IdentityEscape takes; one of ControlEscape; one of CharacterClassEscape; or an assertion's
+-- letter
+pub data Escape : Type 0 where
+  itself control set boundary no_boundary unknown : Escape
+
+abbrev pub escape : ℕ → Escape
+escape c =
+    if c == byte "b" then boundary else if c == byte "B" then no_boundary
+    else if is_one_of (codes "^$\\.*+?()[]{}|/") c then itself else if is_one_of (codes "fnrtv") c then control
+    else if is_one_of (codes "dDsSwW") c then set else unknown

@@ -1,0 +1,70 @@
+-- A table of the search: a row for marks that it can come to, and in a row a column for the end of the text and one for each
+-- class of characters that the pattern does not tell apart.
+use Rattle.std.specs.Prelude.{◌≡◌, ℕ, suc, ◌+◌, ◌*◌, ◌<◌, ◌==◌, nat_le, Bool, true, false, ◌&&◌, ◌||◌, List, [], ◌∷◌, length, Some, None, get_or, slice_get, if◌then◌else◌}
+use Rattle.strkw_ecma.specs.Tree.{Pattern, empty, class, look, cat, alt, star, plus}
+use Rattle.strkw_ecma.specs.Meaning.{is_word, is_edge}
+use Rattle.strkw_ecma.specs.Sets.{word_characters}
+use Rattle.strkw_ecma.specs.Marks.{leaves, step}
+use Rattle.strkw_ecma.specs.Shape.{pattern_of}
+use Rattle.strkw_ecma.specs.declared.states.State.{State}
+
+-- The number of a character's class: how many of these characters are not above it.
+abbrev pub class_of : List ℕ → ℕ → ℕ
+class_of [] c = 0
+class_of (t ∷ ts) c = if nat_le t c then suc (class_of ts c) else class_of ts c
+
+abbrev pub stride : ℕ
+stride = 64
+
+abbrev pub found : ℕ
+found = 255
+
+-- column 0 is that of the end of the text
+abbrev pub entry_at : List ℕ → ℕ → ℕ → ℕ
+entry_at entries row column = get_or entries (row * stride + column) 0
+
+-- The search by a table: an entry says that the pattern is found, or it names the next row.
+abbrev pub walk : List ℕ → List ℕ → ℕ → List ℕ → Bool
+walk firsts entries row [] = entry_at entries row 0 == found
+walk firsts entries row (c ∷ cs) =
+    (entry_at entries row (class_of firsts c) == found) || walk firsts entries (entry_at entries row (class_of firsts c)) cs
+
+abbrev pub has : List ℕ → ℕ → Bool
+has [] t = false
+has (u ∷ us) t = (u == t) || has us t
+
+-- a class begins with each range, and one behind it
+abbrev pub covers_ranges : List ℕ → List (ℕ × ℕ) → Bool
+covers_ranges firsts [] = true
+covers_ranges firsts (r ∷ rs) = (has firsts r.0 && has firsts (suc r.1)) && covers_ranges firsts rs
+
+abbrev pub covers : List ℕ → Pattern → Bool
+covers firsts empty = true
+covers firsts (class m n rs) = covers_ranges firsts rs
+covers firsts (look l) = true
+covers firsts (cat p q) = covers firsts p && covers firsts q
+covers firsts (alt p q) = covers firsts p && covers firsts q
+covers firsts (star p) = covers firsts p
+covers firsts (plus p) = covers firsts p
+
+-- the entry is right for a state of the search and the next character
+pub record IsEntry (states : List State) (s : State) (c : ℕ) (entry : ℕ) : Type 0 where
+  pub finds : (entry == found) ≡ leaves s.last (Some c) (pattern_of s.tree) true
+  pub goes : leaves s.last (Some c) (pattern_of s.tree) true ≡ false
+      → (t : State) × (slice_get states entry ≡ Some t) × (pattern_of t.tree ≡ step s.last (Some c) (pattern_of s.tree) true)
+      × (is_word t.last ≡ is_word (Some c)) × (is_edge t.last ≡ false)
+
+-- the row is right for a state, and for the first character of each class
+pub record IsRow (firsts entries : List ℕ) (states : List State) (s : State) (row : ℕ) : Type 0 where
+  pub ends : (entry_at entries row 0 == found) ≡ leaves s.last None (pattern_of s.tree) true
+  pub reads : (k : ℕ) → k < length firsts → IsEntry states s (get_or firsts k 0) (entry_at entries row (suc k))
+
+-- the table is right, with a state for each row, for a pattern
+pub record IsTable (firsts entries : List ℕ) (states : List State) (p : Pattern) : Type 0 where
+  pub few : length firsts < stride
+  pub covered : covers firsts p ≡ true
+  pub words : covers_ranges firsts word_characters ≡ true
+  pub numbered : (k : ℕ) → k < length firsts → class_of firsts (get_or firsts k 0) ≡ suc k
+  pub first : has firsts 0 ≡ true
+  pub begins : (s : State) × (slice_get states 0 ≡ Some s) × (pattern_of s.tree ≡ p) × (s.last ≡ None)
+  pub rows : (row : ℕ) (s : State) → slice_get states row ≡ Some s → IsRow firsts entries states s row

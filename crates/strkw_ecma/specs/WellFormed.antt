@@ -1,0 +1,44 @@
+-- Which trees of the syntax are patterns: each character stands where it may, and what repeats is not too large.
+use Rattle.std.specs.Prelude.{◌≡◌, ℕ, suc, ◌+◌, ◌*◌, ◌<◌, ◌≤◌}
+use Rattle.strkw_ecma.specs.Escapes.{itself, control, set, escape}
+use Rattle.strkw_ecma.specs.Classes.{AreRanges, MayEnd}
+use Rattle.strkw_ecma.specs.Numbers.{number, IsNumber}
+use Rattle.strkw_ecma.specs.Size.{size, max_size}
+use Rattle.strkw_ecma.specs.Patterns.{atom_pattern}
+use Rattle.strkw_ecma.specs.Syntax.{Disjunction, only, either, Alternative, nothing, more, Term, at_start, at_end, at_boundary, at_no_boundary, once, quantified, Quantifier, zero_or_more, one_or_more, zero_or_one, exactly, at_least, from_to, Atom, plain, escaped, control_escape, set_escape, dot, bracketed, group, token, character, max_nesting}
+
+-- of what has so many nodes. The counts do not fall, and no more than so many nodes come of a counted term
+abbrev pub IsQuantifier : Quantifier → ℕ → Type 0
+IsQuantifier zero_or_more s = Unit {0}
+IsQuantifier one_or_more s = Unit {0}
+IsQuantifier zero_or_one s = Unit {0}
+IsQuantifier (exactly ds) s = IsNumber ds × (number ds * s ≤ max_size)
+IsQuantifier (at_least ds) s = IsNumber ds × ((number ds + 1) * s ≤ max_size)
+IsQuantifier (from_to ds es) s = IsNumber ds × IsNumber es × (number ds ≤ number es) × (number es * s ≤ max_size)
+
+abbrev mutual
+  -- each character stands where it may, n groups being open around it
+  pub IsWellFormed : ℕ → Disjunction → Type 0
+  IsWellFormed n (only a) = IsAlternative n a
+  IsWellFormed n (either d a) = IsWellFormed n d × IsAlternative n a
+
+  pub IsAlternative : ℕ → Alternative → Type 0
+  IsAlternative n nothing = Unit {0}
+  IsAlternative n (more a t) = IsAlternative n a × IsTerm n t
+
+  pub IsTerm : ℕ → Term → Type 0
+  IsTerm n at_start = Unit {0}
+  IsTerm n at_end = Unit {0}
+  IsTerm n (once a) = IsAtom n a
+  IsTerm n at_boundary = Unit {0}
+  IsTerm n at_no_boundary = Unit {0}
+  IsTerm n (quantified a q g) = IsAtom n a × IsQuantifier q (size (atom_pattern a))
+
+  pub IsAtom : ℕ → Atom → Type 0
+  IsAtom n (plain c) = token c ≡ character
+  IsAtom n (escaped c) = escape c ≡ itself
+  IsAtom n (control_escape c) = escape c ≡ control
+  IsAtom n (set_escape c) = escape c ≡ set
+  IsAtom n dot = Unit {0}
+  IsAtom n (bracketed b r e) = AreRanges b r × MayEnd e r
+  IsAtom n (group g d) = (n < max_nesting) × IsWellFormed (suc n) d

@@ -1,0 +1,147 @@
+//! How a class of characters is read, item by item.
+
+ghost use Rattle.std.specs.Prelude.{◌≡◌, ◌++◌, IfOk, OnOk, option_map};
+ghost use Rattle.strkw_ecma.specs.Classes.{item_ranges, range};
+ghost use Rattle.strkw_ecma.specs.Shape.{pattern_of};
+ghost use Rattle.strkw_ecma.specs.Parts.{item_of, class_of, took, took_dash, class_read, new_class};
+
+use crate::sets::set_ranges;
+use crate::tree::{CharRange, Tree};
+use std::alloc::{AllocError, Global};
+
+// One character, or the set of a letter of `\d \D \s \S \w \W`.
+#[derive(Clone, Copy)]
+pub(crate) enum Item {
+    Char(char),
+    Set(char),
+}
+
+impl Item {
+    fn push_to(self, ranges: &mut Vec<CharRange>) -> Result<(), AllocError>
+        ensures { OnOk result (ranges.new.items ≡ ranges.old.items ++ item_ranges (item_of self)) }
+    {
+        match self {
+            Item::Char(c) => ranges.push((c, c))?,
+            Item::Set(letter) => ranges.extend_from_slice(set_ranges(letter))?,
+        }
+        Ok(())
+    }
+
+    // The range from this to the other, where they bound one.
+    fn range_to(self, other: Item) -> Option<CharRange>
+        ensures { result ≡ range (item_of self) (item_of other) }
+    {
+        let Item::Char(from) = self else {
+            return None;
+        };
+        let Item::Char(to) = other else {
+            return None;
+        };
+        if from <= to { Some((from, to)) } else { None }
+    }
+}
+
+// What may still belong to a range: an item, or an item and a `-`.
+#[derive(Clone, Copy)]
+enum Pending {
+    Fresh,
+    One(Item),
+    Dashed(Item),
+}
+
+#[derive(Drop)]
+pub(crate) struct ClassReader {
+    negated: bool,
+    ranges: Vec<CharRange>,
+    pending: Pending,
+}
+
+impl ClassReader {
+    pub(crate) fn new(alloc: Global, negated: bool) -> ClassReader
+        ensures { class_of result ≡ new_class negated }
+    {
+        ClassReader {
+            negated,
+            ranges: Vec::new(alloc),
+            pending: Pending::Fresh,
+        }
+    }
+
+    // After one more item, and `None` where it bounds no range with the one before the `-`.
+    pub(crate) fn with_item(self, item: Item) -> Result<Option<ClassReader>, AllocError>
+        ensures { let k = class_of self in
+            IfOk result (λ r. option_map class_of r ≡ took k.negated k.ranges k.pending (item_of item)) }
+    {
+        let ClassReader {
+            negated,
+            mut ranges,
+            pending,
+        } = self;
+        let pending = match pending {
+            Pending::Fresh => Pending::One(item),
+            Pending::One(before) => {
+                before.push_to(&mut ranges)?;
+                Pending::One(item)
+            }
+            Pending::Dashed(first) => {
+                let Some(range) = first.range_to(item) else {
+                    return Ok(None);
+                };
+                ranges.push(range)?;
+                Pending::Fresh
+            }
+        };
+        Ok(Some(ClassReader {
+            negated,
+            ranges,
+            pending,
+        }))
+    }
+
+    // After a `-`, which stands for itself where no item is before it.
+    pub(crate) fn with_dash(self) -> Result<Option<ClassReader>, AllocError>
+        ensures { let k = class_of self in
+            IfOk result (λ r. option_map class_of r ≡ took_dash k.negated k.ranges k.pending) }
+    {
+        match self.pending {
+            Pending::One(item) => {
+                let ClassReader {
+                    negated,
+                    ranges,
+                    ..
+                } = self;
+                Ok(Some(ClassReader {
+                    negated,
+                    ranges,
+                    pending: Pending::Dashed(item),
+                }))
+            }
+            _ => self.with_item(Item::Char('-')),
+        }
+    }
+
+    // The whole class, where the closing bracket stands here.
+    pub(crate) fn closed(self) -> Result<Tree, AllocError>
+        ensures { let k = class_of self in
+            IfOk result (λ t. pattern_of t ≡ class_read k.negated k.ranges k.pending) }
+    {
+        let ClassReader {
+            negated,
+            mut ranges,
+            pending,
+        } = self;
+        match pending {
+            Pending::Fresh => {}
+            Pending::One(item) => item.push_to(&mut ranges)?,
+            Pending::Dashed(item) => {
+                item.push_to(&mut ranges)?;
+                ranges.push(('-', '-'))?;
+            }
+        }
+        Ok(Tree::Class {
+            marked: false,
+            negated,
+            ranges,
+        })
+    }
+}

@@ -1,0 +1,199 @@
+//! How the table of a pattern is made: from the state at the beginning of a text on, by each class of characters.
+
+ghost use Rattle.std.specs.Prelude.{◌≡◌, ◌<◌, ℕ, List, length, get_or, IfOk, MatchOption, None};
+ghost use Rattle.strkw_ecma.specs.Search.{search_from};
+ghost use Rattle.strkw_ecma.specs.Shape.{pattern_of};
+ghost use Rattle.strkw_ecma.specs.Table.{class_of as spec_class_of, stride, walk};
+
+use crate::marks::{leaves_tree, step_tree};
+use crate::sets::WORD_CHARACTERS;
+use crate::states::{State, is_table};
+use crate::table::{FOUND, STRIDE, Table, class_of};
+use crate::tree::{CharRange, Tree};
+use std::alloc::{AllocError, Global};
+
+/// A pattern with more states is searched by its marks, and so is one with more nodes, since each entry costs a step.
+const MOST_ROWS: usize = 64;
+
+const MOST_NODES: usize = 128;
+
+#[cycle(nodes)]
+fn nodes(tree: &Tree) -> usize {
+    match tree {
+        Tree::Empty
+        | Tree::Class { .. }
+        | Tree::Start
+        | Tree::End
+        | Tree::Boundary
+        | Tree::NoBoundary => 1,
+        Tree::Then(one, other) | Tree::Or(one, other) => {
+            nodes(one).saturating_add(nodes(other)).saturating_add(1)
+        }
+        Tree::Star(body) | Tree::Plus(body) => nodes(body).saturating_add(1),
+    }
+}
+
+// One more first character of a class, where there is room.
+fn add_first(firsts: &mut Vec<char>, c: char) -> Result<(), AllocError> {
+    if firsts.len() < STRIDE && !firsts.contains(&c) {
+        firsts.push(c)?;
+    }
+    Ok(())
+}
+
+fn add_ranges(firsts: &mut Vec<char>, ranges: &[CharRange]) -> Result<(), AllocError> {
+    for range in ranges {
+        add_first(firsts, range.0)?;
+        if let Some(after) = char::from_u32(u32::from(range.1) + 1) {
+            add_first(firsts, after)?;
+        }
+    }
+    Ok(())
+}
+
+#[cycle(firsts)]
+fn add_firsts(firsts: &mut Vec<char>, tree: &Tree) -> Result<(), AllocError> {
+    match tree {
+        Tree::Empty | Tree::Start | Tree::End | Tree::Boundary | Tree::NoBoundary => Ok(()),
+        Tree::Class { ranges, .. } => add_ranges(firsts, ranges),
+        Tree::Then(one, other) | Tree::Or(one, other) => {
+            add_firsts(firsts, one)?;
+            add_firsts(firsts, other)
+        }
+        Tree::Star(body) | Tree::Plus(body) => add_firsts(firsts, body),
+    }
+}
+
+// The first characters of the classes that a pattern and `\b` do not tell apart, in order.
+fn firsts_of(alloc: Global, tree: &Tree) -> Result<Vec<char>, AllocError> {
+    let mut firsts = Vec::new(alloc);
+    add_first(&mut firsts, '\0')?;
+    add_ranges(&mut firsts, &WORD_CHARACTERS)?;
+    add_firsts(&mut firsts, tree)?;
+    firsts.sort_unstable();
+    Ok(firsts)
+}
+
+// The number of the state of these marks behind a character.
+fn number_of(states: &[State], tree: &Tree, last: char) -> Option<u8> {
+    for (row, state) in states.iter().enumerate() {
+        if state.is_that_of(tree, last) {
+            return u8::try_from(row).ok();
+        }
+    }
+    None
+}
+
+// The entry of a state and the next character, behind which there may be one more state; none where there is no room.
+fn entry_of(
+    alloc: Global,
+    states: &mut Vec<State>,
+    row: usize,
+    c: char,
+) -> Result<Option<u8>, AllocError> {
+    let Some(state) = states.get(row) else {
+        return Ok(None);
+    };
+    let mut tree = state.tree.copy(alloc)?;
+    if step_tree(&mut tree, state.last, Some(c), true) {
+        return Ok(Some(FOUND));
+    }
+    let known = number_of(states, &tree, c);
+    if known.is_some() {
+        return Ok(known);
+    }
+    let number = states.len();
+    if number >= MOST_ROWS {
+        return Ok(None);
+    }
+    states.push(State {
+        tree,
+        last: Some(c),
+    })?;
+    Ok(u8::try_from(number).ok())
+}
+
+// The row of a state, behind the rows before it. Whether there is room for the states that follow it.
+fn add_row(
+    alloc: Global,
+    firsts: &[char],
+    states: &mut Vec<State>,
+    entries: &mut Vec<u8>,
+    row: usize,
+) -> Result<bool, AllocError> {
+    let ends = match states.get(row) {
+        Some(state) => leaves_tree(&state.tree, state.last, None, true),
+        None => false,
+    };
+    entries.push(if ends { FOUND } else { 0 })?;
+    for c in firsts {
+        match entry_of(alloc, states, row, *c)? {
+            Some(entry) => entries.push(entry)?,
+            None => return Ok(false),
+        }
+    }
+    for _ in firsts.len()..STRIDE - 1 {
+        entries.push(0)?;
+    }
+    Ok(true)
+}
+
+fn ascii_classes(alloc: Global, firsts: &[char]) -> Result<Vec<u8>, AllocError>
+    requires { length firsts.now < stride }
+    ensures { IfOk result (λ classes. (c : ℕ) → c < length classes.items → get_or classes.items c 0 ≡ spec_class_of firsts.now c) }
+{
+    let mut classes = Vec::new(alloc);
+    for byte in 0..128u8 {
+        classes.push(class_of(firsts, char::from(byte)) as u8)?;
+    }
+    Ok(classes)
+}
+
+// The table of these states, where it is right.
+fn table_if_right(
+    alloc: Global,
+    firsts: Vec<char>,
+    entries: Vec<u8>,
+    states: &[State],
+    tree: &Tree,
+) -> Result<Option<Table>, AllocError>
+    ensures { IfOk result (λ made. MatchOption made Unit (λ t. (text : List ℕ) → walk t.firsts.items t.entries.items 0 text ≡ search_from (pattern_of tree.now) None text)) }
+{
+    if !is_table(alloc, &firsts, &entries, states, tree)? {
+        return Ok(None);
+    }
+    let ascii = ascii_classes(alloc, &firsts)?;
+    Ok(Some(Table {
+        firsts,
+        ascii,
+        entries,
+    }))
+}
+
+/// The table of a pattern, where it has few enough states and classes of characters.
+pub(crate) fn table_of(alloc: Global, tree: &Tree) -> Result<Option<Table>, AllocError>
+    ensures { IfOk result (λ made. MatchOption made Unit (λ t. (text : List ℕ) → walk t.firsts.items t.entries.items 0 text ≡ search_from (pattern_of tree.now) None text)) }
+{
+    if nodes(tree) > MOST_NODES {
+        return Ok(None);
+    }
+    let firsts = firsts_of(alloc, tree)?;
+    if firsts.len() >= STRIDE {
+        return Ok(None);
+    }
+    let mut states = Vec::new(alloc);
+    states.push(State {
+        tree: tree.copy(alloc)?,
+        last: None,
+    })?;
+    let mut entries = Vec::new(alloc);
+    for row in 0..MOST_ROWS {
+        if row == states.len() {
+            return table_if_right(alloc, firsts, entries, &states, tree);
+        }
+        if !add_row(alloc, &firsts, &mut states, &mut entries, row)? {
+            return Ok(None);
+        }
+    }
+    Ok(None)
+}

@@ -1,0 +1,229 @@
+//! How the table of a pattern is made, and that it is right: each entry is compared with a step of the marks.
+
+ghost use Rattle.std.specs.Prelude.{◌≡◌, ◌==◌, ◌≤◌, ◌<◌, ℕ, suc, List, length, true, false, IsTrue, IfOk, None, Some, get_or, slice_get};
+ghost use Rattle.strkw_ecma.specs.Meaning.{is_word as spec_is_word, is_edge as spec_is_edge};
+ghost use Rattle.strkw_ecma.specs.Shape.{pattern_of};
+ghost use Rattle.strkw_ecma.specs.Table.{class_of as spec_class_of, entry_at as spec_entry_at, found, has, covers as spec_covers, covers_ranges as spec_covers_ranges, stride, IsEntry, IsRow, IsTable};
+
+use crate::marks::{is_word, leaves_tree, step_tree};
+use crate::sets::WORD_CHARACTERS;
+use crate::table::{FOUND, STRIDE, Table, class_of, entry_at};
+use crate::tree::{CharRange, Tree};
+use std::alloc::{AllocError, Global};
+
+/// A state of the search between two characters: the marks, and a character that may stand for the last.
+#[derive(Drop)]
+pub(crate) struct State {
+    pub(crate) tree: Tree,
+    pub(crate) last: Option<char>,
+}
+
+impl State {
+    // Whether it is that of these marks behind a character.
+    pub(crate) fn is_that_of(&self, tree: &Tree, last: char) -> bool
+        ensures marks { IsTrue result → pattern_of self.now.tree ≡ pattern_of tree.now }
+        ensures word { IsTrue result → spec_is_word self.now.last ≡ spec_is_word (Some last) }
+        ensures edge { IsTrue result → spec_is_edge self.now.last ≡ false }
+    {
+        self.last.is_some()
+            && is_word(self.last) == is_word(Some(last))
+            && is_same(&self.tree, tree)
+    }
+}
+
+fn is_same_ranges(one: &[CharRange], other: &[CharRange]) -> bool
+    ensures { IsTrue result → one.now ≡ other.now }
+{
+    one == other
+}
+
+// Whether both are one pattern with the same marks.
+#[cycle(same)]
+fn is_same(one: &Tree, other: &Tree) -> bool
+    ensures { IsTrue result → pattern_of one.now ≡ pattern_of other.now }
+{
+    match (one, other) {
+        (Tree::Empty, Tree::Empty)
+        | (Tree::Start, Tree::Start)
+        | (Tree::End, Tree::End)
+        | (Tree::Boundary, Tree::Boundary)
+        | (Tree::NoBoundary, Tree::NoBoundary) => true,
+        (
+            Tree::Class {
+                marked,
+                negated,
+                ranges,
+            },
+            Tree::Class {
+                marked: other_marked,
+                negated: other_negated,
+                ranges: other_ranges,
+            },
+        ) => marked == other_marked
+            && negated == other_negated
+            && is_same_ranges(ranges, other_ranges),
+        (Tree::Then(one, two), Tree::Then(other, more))
+        | (Tree::Or(one, two), Tree::Or(other, more)) => {
+            is_same(one, other) && is_same(two, more)
+        }
+        (Tree::Star(one), Tree::Star(other)) | (Tree::Plus(one), Tree::Plus(other)) => is_same(
+            one, other,
+        ),
+        _ => false,
+    }
+}
+
+fn has_first(firsts: &[char], c: u32) -> bool
+    ensures { result ≡ has firsts.now c }
+{
+    for first in firsts {
+        if u32::from(*first) == c {
+            return true;
+        }
+    }
+    false
+}
+
+// Whether a class begins with each range, and one behind it.
+fn covers_ranges(firsts: &[char], ranges: &[CharRange]) -> bool
+    ensures { IsTrue result → spec_covers_ranges firsts.now ranges.now ≡ true }
+{
+    for range in ranges {
+        if !(has_first(firsts, u32::from(range.0)) && has_first(firsts, u32::from(range.1) + 1)) {
+            return false;
+        }
+    }
+    true
+}
+
+// The same for all ranges of a pattern.
+#[cycle(covers)]
+fn covers(firsts: &[char], tree: &Tree) -> bool
+    ensures { IsTrue result → spec_covers firsts.now (pattern_of tree.now) ≡ true }
+{
+    match tree {
+        Tree::Empty | Tree::Start | Tree::End | Tree::Boundary | Tree::NoBoundary => true,
+        Tree::Class { ranges, .. } => covers_ranges(firsts, ranges),
+        Tree::Then(one, other) | Tree::Or(one, other) => covers(firsts, one)
+            && covers(firsts, other),
+        Tree::Star(body) | Tree::Plus(body) => covers(firsts, body),
+    }
+}
+
+// Whether the characters are the first ones of the classes 1, 2, ..
+fn are_numbered(firsts: &[char]) -> bool
+    ensures { IsTrue result → (k : ℕ) → k < length firsts.now → spec_class_of firsts.now (get_or firsts.now k 0) ≡ suc k }
+{
+    for (k, first) in firsts.iter().enumerate() {
+        if class_of(firsts, *first) != k + 1 {
+            return false;
+        }
+    }
+    true
+}
+
+// Whether an entry says that the pattern is found, or else names the state of these marks behind a character.
+fn leads_to(states: &[State], entry: u8, is_found: bool, after: &Tree, c: char) -> bool
+    ensures finds { IsTrue result → (entry == found) ≡ is_found }
+    ensures state { IsTrue result → is_found ≡ false → (t : State) × (slice_get states.now entry ≡ Some t) × (pattern_of t.tree ≡ pattern_of after.now) × (spec_is_word t.last ≡ spec_is_word (Some c)) × (spec_is_edge t.last ≡ false) }
+{
+    if is_found {
+        return entry == FOUND;
+    }
+    if entry == FOUND {
+        return false;
+    }
+    match states.get(usize::from(entry)) {
+        Some(state) => state.is_that_of(after, c),
+        None => false,
+    }
+}
+
+// Whether an entry is right for a state and the next character.
+fn is_entry(
+    alloc: Global,
+    states: &[State],
+    state: &State,
+    c: char,
+    entry: u8,
+) -> Result<bool, AllocError>
+    ensures { IfOk result (λ right. IsTrue right → IsEntry states.now state.now c entry) }
+{
+    let mut tree = state.tree.copy(alloc)?;
+    let is_found = step_tree(&mut tree, state.last, Some(c), true);
+    Ok(leads_to(states, entry, is_found, &tree, c))
+}
+
+// Whether a row is right for a state.
+fn is_row(
+    alloc: Global,
+    firsts: &[char],
+    entries: &[u8],
+    states: &[State],
+    state: &State,
+    row: u8,
+) -> Result<bool, AllocError>
+    requires { length firsts.now < stride }
+    ensures { IfOk result (λ right. IsTrue right → IsRow firsts.now entries.now states.now state.now row) }
+{
+    let ends = leaves_tree(&state.tree, state.last, None, true);
+    if (entry_at(entries, row, 0) == FOUND) != ends {
+        return Ok(false);
+    }
+    for (k, first) in firsts.iter().enumerate() {
+        if !is_entry(alloc, states, state, *first, entry_at(entries, row, k + 1))? {
+            return Ok(false);
+        }
+    }
+    Ok(true)
+}
+
+// Whether each row is right for the state of its number.
+fn are_rows(
+    alloc: Global,
+    firsts: &[char],
+    entries: &[u8],
+    states: &[State],
+) -> Result<bool, AllocError>
+    requires rows { length states.now ≤ 255 }
+    requires few { length firsts.now < stride }
+    ensures { IfOk result (λ right. IsTrue right → (row : ℕ) (s : State) → slice_get states.now row ≡ Some s → IsRow firsts.now entries.now states.now s row) }
+{
+    for (row, state) in states.iter().enumerate() {
+        if !is_row(alloc, firsts, entries, states, state, row as u8)? {
+            return Ok(false);
+        }
+    }
+    Ok(true)
+}
+
+// Whether the first state is that of a pattern at the beginning of a text.
+fn begins(states: &[State], tree: &Tree) -> bool
+    ensures { IsTrue result → (s : State) × (slice_get states.now 0 ≡ Some s) × (pattern_of s.tree ≡ pattern_of tree.now) × (s.last ≡ None) }
+{
+    match states.first() {
+        Some(state) => state.last.is_none() && is_same(&state.tree, tree),
+        None => false,
+    }
+}
+
+pub(crate) fn is_table(
+    alloc: Global,
+    firsts: &[char],
+    entries: &[u8],
+    states: &[State],
+    tree: &Tree,
+) -> Result<bool, AllocError>
+    ensures { IfOk result (λ right. IsTrue right → IsTable firsts.now entries.now states.now (pattern_of tree.now)) }
+{
+    if firsts.len() >= STRIDE || states.len() > 255 {
+        return Ok(false);
+    }
+    if !covers(firsts, tree) || !covers_ranges(firsts, &WORD_CHARACTERS) {
+        return Ok(false);
+    }
+    if !has_first(firsts, 0) || !are_numbered(firsts) || !begins(states, tree) {
+        return Ok(false);
+    }
+    Ok(are_rows(alloc, firsts, entries, states)?)
+}

@@ -1,0 +1,145 @@
+//! What a character is in a pattern, behind a backslash, and in a class.
+
+ghost use Rattle.std.specs.Prelude.{◌≡◌};
+ghost use Rattle.strkw_ecma.specs.Syntax.{token as spec_token};
+ghost use Rattle.strkw_ecma.specs.Escapes.{escape as spec_escape};
+ghost use Rattle.strkw_ecma.specs.Classes.{class_token as spec_class_token, class_escape as spec_class_escape};
+ghost use Rattle.strkw_ecma.specs.Numbers.{count_token as spec_count_token};
+ghost use Rattle.strkw_ecma.specs.Parts.{token_of, escape_of, class_token_of, count_token_of};
+
+// What a character is in a pattern.
+#[derive(Clone, Copy)]
+pub(crate) enum Token {
+    Bar,
+    Asterisk,
+    Plus,
+    Question,
+    Caret,
+    Dollar,
+    Opening,
+    Closing,
+    Point,
+    Backslash,
+    Bracket,
+    Brace,
+    Character,
+    Other,
+}
+
+impl Token {
+    pub(crate) fn of(c: char) -> Token
+        ensures { token_of result ≡ spec_token c }
+    {
+        match c {
+            '|' => Token::Bar,
+            '*' => Token::Asterisk,
+            '+' => Token::Plus,
+            '?' => Token::Question,
+            '^' => Token::Caret,
+            '$' => Token::Dollar,
+            '(' => Token::Opening,
+            ')' => Token::Closing,
+            '.' => Token::Point,
+            '\\' => Token::Backslash,
+            '[' => Token::Bracket,
+            '{' => Token::Brace,
+            ']' | '}' => Token::Other,
+            _ => Token::Character,
+        }
+    }
+}
+
+// What a character is behind a backslash.
+#[derive(Clone, Copy)]
+pub(crate) enum Escape {
+    Itself,
+    Control,
+    Set,
+    Boundary,
+    NoBoundary,
+    Unknown,
+}
+
+impl Escape {
+    pub(crate) fn of(c: char) -> Escape
+        ensures { escape_of result ≡ spec_escape c }
+    {
+        match c {
+            'b' => Escape::Boundary,
+            'B' => Escape::NoBoundary,
+            '^'
+            | '$'
+            | '\\'
+            | '.'
+            | '*'
+            | '+'
+            | '?'
+            | '('
+            | ')'
+            | '['
+            | ']'
+            | '{'
+            | '}'
+            | '|'
+            | '/' => Escape::Itself,
+            'f' | 'n' | 'r' | 't' | 'v' => Escape::Control,
+            'd' | 'D' | 's' | 'S' | 'w' | 'W' => Escape::Set,
+            _ => Escape::Unknown,
+        }
+    }
+
+    // The same in a class, where a `-` may stand there too.
+    pub(crate) fn of_class(c: char) -> Escape
+        ensures { escape_of result ≡ spec_class_escape c }
+    {
+        if c == '-' {
+            Escape::Itself
+        } else {
+            Escape::of(c)
+        }
+    }
+}
+
+// What a character is in a class.
+#[derive(Clone, Copy)]
+pub(crate) enum ClassToken {
+    Closing,
+    Backslash,
+    Dash,
+    Character,
+}
+
+impl ClassToken {
+    pub(crate) fn of(c: char) -> ClassToken
+        ensures { class_token_of result ≡ spec_class_token c }
+    {
+        match c {
+            ']' => ClassToken::Closing,
+            '\\' => ClassToken::Backslash,
+            '-' => ClassToken::Dash,
+            _ => ClassToken::Character,
+        }
+    }
+}
+
+// What a character is in a count.
+#[derive(Clone, Copy)]
+pub(crate) enum CountToken {
+    Digit,
+    Comma,
+    Closing,
+    Other,
+}
+
+impl CountToken {
+    pub(crate) fn of(c: char) -> CountToken
+        ensures { count_token_of result ≡ spec_count_token c }
+    {
+        match c {
+            '0'..='9' => CountToken::Digit,
+            ',' => CountToken::Comma,
+            '}' => CountToken::Closing,
+            _ => CountToken::Other,
+        }
+    }
+}
