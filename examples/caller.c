@@ -48,7 +48,7 @@ static void expect(bool holds, const char *what) {
     }
 }
 
-/* 0 or 1, or any other number for a name that is none or for want of memory. */
+/* 0 or 1, or any other number for a name that is none, or out of memory. */
 static int ask(const char *name, const uint8_t *text, size_t count) {
     for (size_t i = 0; i < sizeof formats / sizeof *formats; i++)
         if (strcmp(formats[i].name, name) == 0) return formats[i].check(text, count);

@@ -9,11 +9,10 @@ use Rattle.strkw_pattern.specs.declared.engine.Outcome.{Outcome}
 use Rattle.strkw_keywords.specs.Meanings.{no_lists}
 use Rattle.strkw_keywords.specs.Errors.{NodeReports}
 use Rattle.strkw_keywords.specs.Remarks.{Remark}
-use Rattle.strkw_keywords.specs.Object.{Settings}
+use Rattle.strkw_keywords.specs.Object.{Settings, FirstRefusal, remarks_on}
 use Rattle.strkw_keywords.specs.Lengths.{IsEmpty}
 use Rattle.strkw_keywords.proofs.Folding.{interval_is_left}
 use Rattle.strkw_cli.specs.declared.strings.StringKeywords.{StringKeywords}
-use Rattle.strkw_cli.specs.Noted.{FirstRefusal, remarks_on}
 use Rattle.strkw_cli.specs.Compiled.{IsCompiledFrom, keywords_assertions, keywords_interval, keywords_remarks}
 use Rattle.strkw_keywords.specs.Compiled.{out_of_memory}
 use Rattle.strkw_cli.specs.Request.{Request}
@@ -55,7 +54,7 @@ answer_of_compiled outcome r k told errors notes of tells reports noted =
       ),
     )
 
--- the answer by a refusal that is not want of memory
+-- the answer by a refusal that is not out of memory
 pub answer_of_refusal : (r : Request) (e : CompileError) → (refusal_of e ≡ out_of_memory) ⊎ FirstRefusal (settings_for r) r.schema (Some (refusal_of e)) → reason_of e.kind ≢ memory
     → Answers (Some r) (refused_line (refusal_of e) ++ codes "end\n")
 answer_of_refusal r e (inl none) had = absurd (had (ap (λ r. r.reason) none))

@@ -7,8 +7,7 @@ use Rattle.strkw_report.specs.Refusals.{Refusal}
 use Rattle.strkw_report.specs.declared.error.Site.{Site}
 use Rattle.strkw_keywords.specs.Meanings.{Lists, no_lists}
 use Rattle.strkw_keywords.specs.Remarks.{Remark}
-use Rattle.strkw_keywords.specs.Object.{Settings, Errors}
-use Rattle.strkw_cli.specs.Noted.{FirstRefusal, Notes}
+use Rattle.strkw_keywords.specs.Object.{Settings, Errors, FirstRefusal, Notes}
 use Rattle.strkw_cli.specs.Request.{Request, IsReading, request_in}
 use Rattle.strkw_cli.specs.Printed.{TellsFold, verdict_lines, note_lines}
 use Rattle.strkw_cli.specs.Lines.{lines}

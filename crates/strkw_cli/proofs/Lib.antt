@@ -1,6 +1,5 @@
 pub mod Results
 pub mod Many
-pub mod Entries
 mod FirstPlaces
 pub mod Steps
 pub mod Whole
@@ -15,3 +14,4 @@ pub mod AnswerLemmas
 pub mod OutcomeLemmas
 pub mod RunLemmas
 pub mod Folding
+pub mod AnswerExistence

@@ -1,14 +1,16 @@
 -- What several validators assert and note.
-use Rattle.std.proofs.Common.{◌≡◌, ◌<◌, ℕ, zero, suc, ◌+◌, List, [], ◌∷◌, ◌++◌, Bool, true, false, Option, Some, None, refl, sym, ap, ◌∙◌, subst, length, get_or, take, arith, append_assoc, ◌&&◌}
+use Rattle.std.proofs.Common.{◌≡◌, ◌<◌, ℕ, zero, suc, ◌+◌, List, [], ◌∷◌, ◌++◌, Bool, true, false, Option, Some, None, Err, refl, sym, ap, ◌∙◌, subst, length, get_or, take, arith, append_assoc, ◌&&◌}
 use Rattle.std.proofs.lemmas.Bool.{true_from_ne_false}
 use Rattle.std.proofs.lemmas.List.{append-nil, take_more}
 use Rattle.strkw_report.specs.Kinds.{Report}
 use Rattle.strkw_report.specs.declared.error.Site.{Site}
 use Rattle.strkw_pattern.specs.declared.engine.Outcome.{Outcome}
 use Rattle.strkw_keywords.specs.Meanings.{Lists}
-use Rattle.strkw_keywords.specs.Demands.{is_quiet}
 use Rattle.strkw_keywords.specs.Errors.{Assertion, NodeReports, IsInUse, all_quiet, Appends}
-use Rattle.strkw_keywords.proofs.InTurn.{in_turn}
+use Rattle.strkw_keywords.specs.Verdicts.{IsVerdict}
+use Rattle.strkw_keywords.specs.declared.validate.Fault.{Fault}
+use Rattle.strkw_keywords.proofs.First.{fault_within}
+use Rattle.strkw_keywords.proofs.InTurn.{in_turn, nothing_split, quiet-append}
 use Rattle.strkw_keywords.specs.declared.validator.Validator.{Validator}
 use Rattle.strkw_keywords.specs.Validators.{assertions_of, assertions_in, remarks_in, listed_remark, remark_made}
 
@@ -16,15 +18,9 @@ use Rattle.strkw_keywords.specs.Validators.{assertions_of, assertions_in, remark
 pub report_append : (front back : List Assertion) (lists : Lists) (site : Site) (at : Option (List ℕ)) (es fs : List Report) → NodeReports front lists site at es → NodeReports back lists site at fs → NodeReports (front ++ back) lists site at (es ++ fs)
 report_append front back lists site at es fs a b = (in_turn front back lists site at (es ++ fs)).1 (record { early = es; late = fs; of_first = a; of_others = b; joined = refl })
 
--- where nothing is reported, no part reports anything
-no_part : (P Q : List Report → Type 0) (early late : List Report) → [] ≡ early ++ late → P early → Q late → P [] × Q []
-no_part P Q [] late joined p q = (p, subst Q (sym joined) q)
-no_part P Q (r ∷ early) late joined p q = absurd (cc)
-
-pub nothing_split : (front back : List Assertion) (lists : Lists) (site : Site) (at : Option (List ℕ)) → NodeReports (front ++ back) lists site at [] → NodeReports front lists site at [] × NodeReports back lists site at []
-nothing_split front back lists site at a =
-    let turn = (in_turn front back lists site at []).0 a in
-    no_part (NodeReports front lists site at) (NodeReports back lists site at) turn.early turn.late turn.joined turn.of_first turn.of_others
+pub nothing_asserted : (lists : Lists) (site : Site) (at : Option (List ℕ)) → NodeReports [] lists site at []
+nothing_asserted lists site None = refl
+nothing_asserted lists site (Some text) = refl
 
 -- nothing is added where nothing is asserted
 pub nothing_yet : (lists : Lists) (site : Site) (at : Option (List ℕ)) (old : List Report) → Appends (NodeReports [] lists site at) old old
@@ -73,23 +69,32 @@ module _ {E : Type 0} (outcome : E → List ℕ → Outcome) where
     reported = rw (in_more vs i v h e) (report_append (assertions_in outcome (take i vs)) (assertions_of outcome v) lists site there a.added b.added a.reported b.reported);
   }
 
+  -- what is asserted in front of one validator, by it, and behind it
+  split_at : (vs : List (Validator E)) (i : ℕ) (v : Validator E) → i < length vs → v ≡ get_or vs i v → (later : List Assertion) × (assertions_in outcome vs ≡ assertions_in outcome (take i vs) ++ (assertions_of outcome v ++ later))
+  split_at [] i v h e = absurd (omega (arith, h))
+  split_at (w ∷ vs) zero v h e = (assertions_in outcome vs, ap (λ x. assertions_of outcome x ++ assertions_in outcome vs) (sym e))
+  split_at (w ∷ vs) (suc i) v h e =
+      let (later, same) = split_at vs i v (omega (arith, h)) e in
+      (later, ap (λ l. assertions_of outcome w ++ l) same ∙ sym (append_assoc (assertions_of outcome w) (assertions_in outcome (take i vs)) (assertions_of outcome v ++ later)))
+
+  -- the fault of one validator, in front of which nothing is reported
+  pub fault_at : (lists : Lists) (site : Site) (there : Option (List ℕ)) (vs : List (Validator E)) (i : ℕ) (v : Validator E) (fault : Fault) → i < length vs → v ≡ get_or vs i v → NodeReports (assertions_in outcome (take i vs)) lists site there [] → IsVerdict (assertions_of outcome v) lists site there (Err fault) → IsVerdict (assertions_in outcome vs) lists site there (Err fault)
+  fault_at lists site there vs i v fault h e quiet verdict =
+      let (later, same) = split_at vs i v h e in
+      subst (λ l. IsVerdict l lists site there (Err fault)) (sym same) (fault_within (assertions_in outcome (take i vs)) (assertions_of outcome v) later lists site there fault quiet verdict)
+
+  pub silent_more : (lists : Lists) (site : Site) (there : Option (List ℕ)) (vs : List (Validator E)) (i : ℕ) (v : Validator E) → i < length vs → v ≡ get_or vs i v → NodeReports (assertions_in outcome (take i vs)) lists site there [] → NodeReports (assertions_of outcome v) lists site there [] → NodeReports (assertions_in outcome (take (i + 1) vs)) lists site there []
+  silent_more lists site there vs i v h e a b = rw (in_more vs i v h e) (report_append (assertions_in outcome (take i vs)) (assertions_of outcome v) lists site there [] [] a b)
+
   -- the remarks up to one more
   pub remarks_more : (vs : List (Validator E)) (i : ℕ) (v : Validator E) → i < length vs → v ≡ get_or vs i v → remarks_in (take (i + 1) vs) ≡ remarks_in (take i vs) ++ listed_remark (remark_made v)
   remarks_more vs i v h e = rw (take_more vs i v h, ← e, noted-append (take i vs) (v ∷ []), append-nil (listed_remark (remark_made v))) refl
 
 -- ---- memory
 
-and_assoc : (a b c : Bool) → (a && (b && c)) ≡ ((a && b) && c)
-and_assoc true b c = refl
-and_assoc false b c = refl
-
 and_false : (a : Bool) → (a && false) ≡ false
 and_false true = refl
 and_false false = refl
-
-pub quiet-append : (front back : List Assertion) → all_quiet (front ++ back) ≡ (all_quiet front && all_quiet back)
-quiet-append [] back = refl
-quiet-append (a ∷ front) back = ap (λ b. is_quiet a.demand && b) (quiet-append front back) ∙ and_assoc (is_quiet a.demand) (all_quiet front) (all_quiet back)
 
 module _ {E : Type 0} (outcome : E → List ℕ → Outcome) where
   pub loud_at : (vs : List (Validator E)) (i : ℕ) (v : Validator E) → i < length vs → v ≡ get_or vs i v → all_quiet (assertions_of outcome v) ≡ false → all_quiet (assertions_in outcome vs) ≡ false

@@ -8,23 +8,14 @@ use Rattle.strkw_pattern.specs.declared.engine.Outcome.{Outcome}
 use Rattle.strkw_keywords.specs.Meanings.{Lists}
 use Rattle.strkw_keywords.specs.Errors.{NodeReports, IsInUse}
 use Rattle.strkw_keywords.specs.Remarks.{Remark}
-use Rattle.strkw_keywords.specs.Object.{Settings, Errors, refusal, asserted, remarked}
+use Rattle.strkw_keywords.specs.Object.{Settings, Errors, asserted, remarked, FirstRefusal, remarks_on, Notes}
 use Rattle.strkw_keywords.specs.Laws.{CompiledIsInUse}
 use Rattle.strkw_cli.specs.declared.strings.StringKeywords.{StringKeywords}
 use Rattle.strkw_keywords.specs.FormatLaws.{IsInside}
 use Rattle.strkw_keywords.specs.Lengths.{IsEmpty, interval}
 use Rattle.strkw_keywords.specs.Folding.{IsInInterval, FoldsToFalse, IntervalIsLeft}
-use Rattle.strkw_cli.specs.Noted.{FirstRefusal, remarks_on, Notes}
 use Rattle.strkw_cli.specs.Compiled.{keywords_assertions, keywords_interval, keywords_remarks, IsCompiledFrom}
-use Rattle.strkw_cli.proofs.Entries.{AreEntries-unique}
-
--- ---- one meaning
-
-pub FirstRefusal-unique : (s : Settings) (ms : Members) (a b : Option Refusal) → FirstRefusal s ms a → FirstRefusal s ms b → a ≡ b
-FirstRefusal-unique s ms a b (es, are, x) (fs, too, y) = sym x ∙ ap (refusal s.place) (AreEntries-unique s ms es fs are too) ∙ y
-
-pub Notes-unique : (s : Settings) (ms : Members) (node : Option (List ℕ)) (a b : List Remark) → Notes s ms node a → Notes s ms node b → a ≡ b
-Notes-unique s ms node a b (es, are, x) (fs, too, y) = x ∙ ap (λ l. remarks_on node (remarked s.place l)) (AreEntries-unique s ms es fs are too) ∙ sym y
+use Rattle.strkw_keywords.proofs.Entries.{AreEntries-unique, FirstRefusal-unique}
 
 -- ---- the compiled object
 

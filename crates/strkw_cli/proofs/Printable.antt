@@ -10,7 +10,7 @@ use Rattle.serde_json.specs.Written.{has_float}
 use Rattle.strkw_report.specs.Refusals.{Refusal, not_string, unknown_format, fractional_number, prints_float, reason_of, refusal_of}
 use Rattle.strkw_report.specs.declared.refusal.CompileError.{CompileError}
 use Rattle.strkw_keywords.specs.Compiled.{out_of_memory}
-use Rattle.strkw_cli.specs.Noted.{FirstRefusal, remarks_on, Notes}
+use Rattle.strkw_keywords.specs.Object.{FirstRefusal, remarks_on, Notes, Settings, Entry, nothing, malformed, gives, Keyed, of_string, of_text, known_media_type, known_codec, known_format, ContentRule, ignored, checked, noted, content_rule, encoded_check, media_type_beside, media_type_check, encoding_check, encoding_beside, noted_text, schema_beside, media_type_entry, encoding_entry, schema_entry, checks_formats, ignores_unknown, checked_format, format_entry, limit_entry, as_limit, min_entry, max_entry, engine_entry, value_at, keywords, IsEntryAt, IsPatternEntry, IsPatternValue, AreEntries, remark_by, remarked, refusal_or, refusal, no_string}
 use Rattle.strkw_coding.specs.declared.codec.Codec.{Codec}
 use Rattle.strkw_coding.specs.declared.media_type.BuiltinMediaType.{BuiltinMediaType}
 use Rattle.strkw_keywords.specs.declared.builtin.BuiltinFormat.{BuiltinFormat}
@@ -21,7 +21,7 @@ use Rattle.strkw_keywords.specs.Meanings.{Choice}
 use Rattle.strkw_keywords.specs.Places.{Place}
 use Rattle.strkw_keywords.specs.Demands.{Demand, at_least, at_most}
 use Rattle.strkw_keywords.specs.Remarks.{Remark, remark_at}
-use Rattle.strkw_keywords.specs.Object.{Settings, Entry, nothing, malformed, gives, Keyed, of_string, of_text, known_media_type, known_codec, known_format, ContentRule, ignored, checked, noted, content_rule, encoded_check, media_type_beside, media_type_check, encoding_check, encoding_beside, noted_text, schema_beside, media_type_entry, encoding_entry, schema_entry, checks_formats, ignores_unknown, checked_format, format_entry, limit_entry, as_limit, min_entry, max_entry, engine_entry, entry_of, value_at, IsPatternEntry, IsPatternValue, AreEntries, remark_by, remarked, refusal_or, refusal, no_string}
+use Rattle.strkw_keywords.proofs.Entries.{of_value, each_entry}
 use Rattle.strkw_cli.specs.Printed.{HasText, ArePrintable}
 
 -- what an entry notes has a text, and so has its refusal
@@ -140,39 +140,20 @@ pattern_at_printable s (Some d) e is = pattern_value_printable s d (as_str d) e 
 
 -- ---- the object
 
-entry_printable : (f : Data → Entry) (there : Option Data) → ((d : Data) → IsPrintable (f d)) → IsPrintable (entry_of f there)
-entry_printable f None each = tt
-entry_printable f (Some d) each = each d
-
 abbrev pub ArePrintableEntries : List Keyed → Type 0
 ArePrintableEntries es = AllByRecursion (λ e. IsPrintable e.entry) es
 
+entry_printable : (s : Settings) (ms : Members) (k : Keyword) (e : Entry) → IsEntryAt s ms k e → IsPrintable e
+entry_printable s ms ContentMediaType e = of_value IsPrintable (media_type_entry (content_rule s.draft) s ms) (value_at s.options ContentMediaType ms) e tt (media_type_printable (content_rule s.draft) s ms)
+entry_printable s ms ContentEncoding e = of_value IsPrintable (encoding_entry (content_rule s.draft) s ms) (value_at s.options ContentEncoding ms) e tt (encoding_printable (content_rule s.draft) s ms)
+entry_printable s ms ContentSchema e = of_value IsPrintable (schema_entry (content_rule s.draft) ms) (value_at s.options ContentSchema ms) e tt (schema_printable (content_rule s.draft) ms)
+entry_printable s ms Format e = of_value IsPrintable (format_entry s) (value_at s.options Format ms) e tt (format_printable s)
+entry_printable s ms MinLength e = of_value IsPrintable min_entry (value_at s.options MinLength ms) e tt (λ d. limit_printable at_least MinLength (as_limit d))
+entry_printable s ms MaxLength e = of_value IsPrintable max_entry (value_at s.options MaxLength ms) e tt (λ d. limit_printable at_most MaxLength (as_limit d))
+entry_printable s ms Pattern e = pattern_at_printable s (value_at s.options Pattern ms) e
+
 entries_printable : (s : Settings) (ms : Members) (es : List Keyed) → AreEntries s ms es → ArePrintableEntries es
-entries_printable s ms es (p, at, is) =
-    let rule = content_rule s.draft in
-    let there : Keyword → Option Data = λ keyword. value_at s.options keyword ms in
-    subst ArePrintableEntries (sym is) (
-      entry_printable (media_type_entry rule s ms) (there ContentMediaType) (media_type_printable rule s ms),
-      (
-        entry_printable (encoding_entry rule s ms) (there ContentEncoding) (encoding_printable rule s ms),
-        (
-          entry_printable (schema_entry rule ms) (there ContentSchema) (schema_printable rule ms),
-          (
-            entry_printable (format_entry s) (there Format) (format_printable s),
-            (
-              entry_printable min_entry (there MinLength) (λ d. limit_printable at_least MinLength (as_limit d)),
-              (
-                entry_printable max_entry (there MaxLength) (λ d. limit_printable at_most MaxLength (as_limit d)),
-                (
-                  pattern_at_printable s (there Pattern) p at,
-                  tt,
-                ),
-              ),
-            ),
-          ),
-        ),
-      ),
-    )
+entries_printable s ms es are = each_entry IsPrintable s ms (entry_printable s ms) keywords es are.in_order
 
 listed_printable : (place : Place) (es : List Keyed) → ArePrintableEntries es → ArePrintable (remarked place es)
 listed_printable place [] each = All-nil HasText
@@ -204,7 +185,7 @@ first_printable place (e ∷ others) each = refused_printable place e.entry (ref
 pub refusal_printable : (s : Settings) (ms : Members) (why : Refusal) → FirstRefusal s ms (Some why) → prints_float why.reason ≡ false
 refusal_printable s ms why (es, are, first) = subst PrintsNoFloat first (first_printable s.place es (entries_printable s ms es are))
 
--- want of memory included
+-- out of memory included
 pub refused_prints : (s : Settings) (ms : Members) (e : CompileError) → (refusal_of e ≡ out_of_memory) ⊎ FirstRefusal s ms (Some (refusal_of e)) → prints_float (reason_of e.kind) ≡ false
 refused_prints s ms e (inl none) = ap (λ r. prints_float r.reason) none
 refused_prints s ms e (inr first) = refusal_printable s ms (refusal_of e) first

@@ -1,7 +1,6 @@
 -- Steps of the compilation, one after another.
-use Rattle.std.proofs.Common.{◌≡◌, ℕ, List, [], ◌∷◌, ◌++◌, Bool, true, false, Option, Some, None, Result, Ok, Err, refl, sym, ap, ◌∙◌, inl, inr, append_assoc, if◌then◌else◌}
+use Rattle.std.proofs.Common.{◌≡◌, ℕ, List, [], ◌∷◌, ◌++◌, Option, Some, None, Result, Ok, Err, refl, sym, ap, ◌∙◌, inl, inr, append_assoc}
 use Rattle.std.proofs.lemmas.List.{append-nil}
-use Rattle.serde_json.specs.Data.{Members}
 use Rattle.strkw_report.specs.Refusals.{Refusal, refusal_of}
 use Rattle.strkw_report.specs.declared.refusal.CompileError.{CompileError}
 use Rattle.strkw_pattern.specs.declared.engine.Outcome.{Outcome}
@@ -9,11 +8,10 @@ use Rattle.strkw_keywords.specs.declared.validator.Validator.{Validator}
 use Rattle.strkw_keywords.specs.Places.{Place}
 use Rattle.strkw_keywords.specs.Errors.{placed}
 use Rattle.strkw_keywords.specs.Validators.{assertions_of, assertions_in, remarks_in, listed_remark, remark_made}
-use Rattle.strkw_keywords.specs.Object.{Settings, Entry, nothing, malformed, gives, Keyed, IsPatternAt, pattern_keyed, refusal, refusal_or, asserted, demands_by, remarked, remark_by, is_fused, min_keyed, max_keyed, min_share, max_share}
-use Rattle.strkw_keywords.specs.Compiled.{IsCompiled, IsPatternCompiled, StandsFor}
+use Rattle.strkw_keywords.specs.Object.{Entry, nothing, malformed, gives, Keyed, refusal, refusal_or, asserted, demands_by, remarked, remark_by}
+use Rattle.strkw_keywords.specs.Compiled.{IsCompiled, StandsFor}
 use Rattle.strkw_cli.specs.Steps.{IsRefused, Stand, Adds}
 use Rattle.strkw_cli.proofs.Many.{in-append, noted-append}
-use Rattle.strkw_cli.proofs.Entries.{pattern_exists}
 
 -- ---- entries, one list behind another
 
@@ -64,7 +62,7 @@ module _ {E : Type 0} (outcome : E → List ℕ → Outcome) (place : Place) whe
   kept es old new v e c = record { answer = one_stands es old new v e c.answer }
 
   -- what stands for entries, and what stands for those behind them
-  stand_both : (es fs : List Keyed) (old mid new : List (Validator E)) → Stand outcome place es old mid → Stand outcome place fs mid new → Stand outcome place (es ++ fs) old new
+  pub stand_both : (es fs : List Keyed) (old mid new : List (Validator E)) → Stand outcome place es old mid → Stand outcome place fs mid new → Stand outcome place (es ++ fs) old new
   stand_both es fs old mid new a b = record {
     good = refusal-passed place es fs a.good ∙ b.good;
     asserts = b.asserts ∙ ap (λ l. l ++ asserted place fs) a.asserts ∙ append_assoc (assertions_in outcome old) (asserted place es) (asserted place fs) ∙ ap (λ l. assertions_in outcome old ++ l) (sym (asserted-append place es fs));
@@ -87,34 +85,3 @@ module _ {E : Type 0} (outcome : E → List ℕ → Outcome) (place : Place) whe
   pub and_then : (es fs : List Keyed) (old mid new : List (Validator E)) (r : Result (Unit {0}) CompileError) → Adds outcome place es old mid (Ok tt) → Adds outcome place fs mid new r → Adds outcome place (es ++ fs) old new r
   and_then es fs old mid new (Ok x) a b = record { answer = stand_both es fs old mid new a.answer b.answer }
   and_then es fs old mid new (Err e) a b = record { answer = refused_behind es fs e a.answer.good b.answer }
-
--- ---- the two lengths
-
-shared : (b : Bool) (x y : Keyed) → (x ∷ (if b then y ∷ [] else [])) ++ (if b then [] else y ∷ []) ≡ x ∷ y ∷ []
-shared true x y = refl
-shared false x y = refl
-
-pub shares : (s : Settings) (ms : Members) → min_share s.options ms ++ max_share s.options ms ≡ min_keyed s.options ms ∷ max_keyed s.options ms ∷ []
-shares s ms = shared (is_fused s.options ms) (min_keyed s.options ms) (max_keyed s.options ms)
-
--- ---- the pattern
-
-module _ {E : Type 0} (outcome : E → List ℕ → Outcome) (s : Settings) (ms : Members) where
-  refused_pattern : (e : CompileError) → IsPatternCompiled outcome s ms (Some (Err e)) → (p : Entry) × IsPatternAt s ms p × IsCompiled outcome s.place (pattern_keyed p ∷ []) (Some (Err e))
-  refused_pattern e c =
-      let p = pattern_exists s ms in (
-        p.0,
-        p.1,
-        record {
-          answer = elim c.answer [
-            | inl none ↦ inl none
-            | inr first ↦ inr (first p.0 p.1)
-          ];
-        },
-      )
-
-  -- an entry of the pattern, and what was compiled of it
-  pub pattern_compiled : (r : Option (Result (Validator E) CompileError)) → IsPatternCompiled outcome s ms r → (p : Entry) × IsPatternAt s ms p × IsCompiled outcome s.place (pattern_keyed p ∷ []) r
-  pattern_compiled None c = (c.answer.0, c.answer.1, record { answer = c.answer.2 })
-  pattern_compiled (Some (Ok v)) c = (c.answer.0, c.answer.1, record { answer = c.answer.2 })
-  pattern_compiled (Some (Err e)) c = refused_pattern e c

@@ -1,85 +1,55 @@
 -- The steps of the compilation of a whole schema object.
-use Rattle.std.proofs.Common.{◌≡◌, ◌⊎◌, ℕ, List, [], ◌∷◌, ◌++◌, Some, Result, Ok, Err, refl, ap, ◌∙◌, subst, inl, inr}
+use Rattle.std.proofs.Common.{◌≡◌, ◌⊎◌, ◌<◌, ℕ, ◌+◌, List, [], ◌++◌, Option, Some, Result, Ok, Err, sym, ap, ◌∙◌, subst, inl, inr, length, get_or, take}
 use Rattle.serde_json.specs.Data.{Members}
 use Rattle.strkw_report.specs.Refusals.{refusal_of}
 use Rattle.strkw_report.specs.declared.refusal.CompileError.{CompileError}
 use Rattle.strkw_pattern.specs.declared.engine.Outcome.{Outcome}
+use Rattle.strkw_keywords.specs.declared.keyword.Keyword.{Keyword}
 use Rattle.strkw_keywords.specs.declared.validator.Validator.{Validator}
+use Rattle.strkw_keywords.specs.Places.{Place}
 use Rattle.strkw_keywords.specs.Validators.{assertions_in, remarks_in}
-use Rattle.strkw_keywords.specs.Object.{Settings, Entry, Keyed, IsPatternAt, AreEntries, media_type_keyed, encoding_keyed, schema_keyed, format_keyed, min_keyed, max_keyed, pattern_keyed, min_share, max_share, refusal, asserted, remarked}
-use Rattle.strkw_keywords.specs.Compiled.{out_of_memory}
+use Rattle.strkw_keywords.specs.Object.{Settings, Keyed, AreEntries, is_fused, refusal, asserted, remarked, keywords, AreEntriesOf, shares, FirstRefusal}
+use Rattle.strkw_keywords.specs.Compiled.{out_of_memory, IsCompiled, IsCompiledAt}
+use Rattle.strkw_keywords.proofs.Entries.{entries_of_exist}
+use Rattle.strkw_keywords.proofs.EntriesOf.{entries_both, shares_all, shares_at, shares_more}
 use Rattle.strkw_cli.specs.declared.strings.StringKeywords.{StringKeywords}
-use Rattle.strkw_cli.specs.Noted.{FirstRefusal}
 use Rattle.strkw_cli.specs.Compiled.{IsCompiledFrom}
-use Rattle.strkw_cli.specs.Steps.{IsRefused, Adds}
-use Rattle.strkw_cli.proofs.Entries.{pattern_exists}
-use Rattle.strkw_cli.proofs.Steps.{refused_first, and_then, shares}
+use Rattle.strkw_cli.specs.Steps.{IsRefused, Stand, Adds}
+use Rattle.strkw_cli.proofs.Steps.{refused_first, and_then, stand_both}
 
 module _ {E : Type 0} (outcome : E → List ℕ → Outcome) (s : Settings) (ms : Members) where
-  -- the first step of several, where it is refused
-  pub refused_one : (a : Keyed) (others : List Keyed) (old mid new : List (Validator E)) (e : CompileError) → Adds outcome s.place (a ∷ []) old mid (Err e) → Adds outcome s.place (a ∷ others) old new (Err e)
-  refused_one a others old mid new e step = refused_first outcome s.place (a ∷ []) others old mid new e step
-
-  -- and where others follow it
-  pub one_and_then : (a : Keyed) (others : List Keyed) (old mid new : List (Validator E)) (r : Result (Unit {0}) CompileError) → Adds outcome s.place (a ∷ []) old mid (Ok tt) → Adds outcome s.place others mid new r → Adds outcome s.place (a ∷ others) old new r
-  one_and_then a others old mid new r step rest = and_then outcome s.place (a ∷ []) others old mid new r step rest
-
-  -- both lengths
-  pub refused_min_length : (old mid new : List (Validator E)) (e : CompileError) → Adds outcome s.place (min_share s.options ms) old mid (Err e) → Adds outcome s.place (min_keyed s.options ms ∷ max_keyed s.options ms ∷ []) old new (Err e)
-  refused_min_length old mid new e step =
-      subst (λ es. Adds outcome s.place es old new (Err e)) (shares s ms) (refused_first outcome s.place (min_share s.options ms) (max_share s.options ms) old mid new e step)
-
-  pub both_lengths : (old mid new : List (Validator E)) (r : Result (Unit {0}) CompileError) → Adds outcome s.place (min_share s.options ms) old mid (Ok tt) → Adds outcome s.place (max_share s.options ms) mid new r → Adds outcome s.place (min_keyed s.options ms ∷ max_keyed s.options ms ∷ []) old new r
-  both_lengths old mid new r a b =
-      subst (λ es. Adds outcome s.place es old new r) (shares s ms) (and_then outcome s.place (min_share s.options ms) (max_share s.options ms) old mid new r a b)
-
-  -- ---- all entries
-
-  abbrev content : List Keyed
-  content = media_type_keyed s ms ∷ encoding_keyed s ms ∷ schema_keyed s ms ∷ []
-
-  abbrev lengths : List Keyed
-  lengths = min_keyed s.options ms ∷ max_keyed s.options ms ∷ []
-
-  -- the entries are these, and the steps answer for them
+  -- the entries are those of the object, and the steps answer for them
   abbrev pub Whole : List (Validator E) → List (Validator E) → Result (Unit {0}) CompileError → Type 0
   Whole old new r = (es : List Keyed) × AreEntries s ms es × Adds outcome s.place es old new r
 
-  pub refused_in_content : (old mid new : List (Validator E)) (e : CompileError) → Adds outcome s.place content old mid (Err e) → Whole old new (Err e)
-  refused_in_content old mid new e a =
-      let p = pattern_exists s ms in
-      let rest = format_keyed s ms ∷ min_keyed s.options ms ∷ max_keyed s.options ms ∷ pattern_keyed p.0 ∷ [] in
-      (content ++ rest, (p.0, p.1, refl), refused_first outcome s.place content rest old mid new e a)
+  -- the entries of these keywords, and of those that are fused with them, are stood for
+  abbrev pub Done : List Keyword → List (Validator E) → List (Validator E) → Type 0
+  Done ks old new = (es : List Keyed) × AreEntriesOf s ms (shares (is_fused s.options ms) ks) es × Stand outcome s.place es old new
 
-  pub refused_in_format : (old mid next new : List (Validator E)) (e : CompileError) → Adds outcome s.place content old mid (Ok tt) → Adds outcome s.place (format_keyed s ms ∷ []) mid next (Err e) → Whole old new (Err e)
-  refused_in_format old mid next new e a b =
-      let p = pattern_exists s ms in
-      let rest = min_keyed s.options ms ∷ max_keyed s.options ms ∷ pattern_keyed p.0 ∷ [] in (
-        content ++ format_keyed s ms ∷ rest,
-        (p.0, p.1, refl),
-        and_then outcome s.place content (format_keyed s ms ∷ rest) old mid new (Err e) a (refused_one (format_keyed s ms) rest mid next new e b),
+  pub done_more : (ks : List Keyword) (i : ℕ) (k : Keyword) (old mid new : List (Validator E)) (r : Option (Result (Validator E) CompileError)) → i < length ks → k ≡ get_or ks i k → Done (take i ks) old mid → IsCompiledAt outcome s ms k r
+      → ((place : Place) (es : List Keyed) → IsCompiled outcome place es r → Adds outcome place es mid new (Ok tt)) → Done (take (i + 1) ks) old new
+  done_more ks i k old mid new r h e (es, are, stand) compiled keeps =
+      let fs = compiled.entries in (
+        es ++ fs,
+        subst (λ l. AreEntriesOf s ms l (es ++ fs)) (sym (shares_more (is_fused s.options ms) ks i k h e)) (entries_both s ms _ _ es fs are compiled.are_entries),
+        stand_both outcome s.place es fs old mid new stand (keeps s.place fs compiled.answer).answer,
       )
 
-  pub refused_in_lengths : (old mid next last new : List (Validator E)) (e : CompileError) → Adds outcome s.place content old mid (Ok tt) → Adds outcome s.place (format_keyed s ms ∷ []) mid next (Ok tt)
-      → Adds outcome s.place lengths next last (Err e) → Whole old new (Err e)
-  refused_in_lengths old mid next last new e a b c =
-      let p = pattern_exists s ms in
-      let rest = lengths ++ pattern_keyed p.0 ∷ [] in (
-        content ++ format_keyed s ms ∷ rest,
-        (p.0, p.1, refl),
-        and_then outcome s.place content (format_keyed s ms ∷ rest) old mid new (Err e) a
-            (one_and_then (format_keyed s ms) rest mid next new (Err e) b (refused_first outcome s.place lengths (pattern_keyed p.0 ∷ []) next last new e c)),
+  pub done_refused : (i : ℕ) (k : Keyword) (old mid next new : List (Validator E)) (r : Option (Result (Validator E) CompileError)) (error : CompileError) → i < length keywords → k ≡ get_or keywords i k → Done (take i keywords) old mid → IsCompiledAt outcome s ms k r
+      → ((place : Place) (es : List Keyed) → IsCompiled outcome place es r → Adds outcome place es mid next (Err error)) → Whole old new (Err error)
+  done_refused i k old mid next new r error h e (es, are, stand) compiled keeps =
+      let fs = compiled.entries in
+      let (later, same) = shares_at (is_fused s.options ms) keywords i k h e in
+      let (gs, others) = entries_of_exist s ms later in
+      let whole = entries_both s ms _ _ es (fs ++ gs) are (entries_both s ms _ _ fs gs compiled.are_entries others) in (
+        es ++ (fs ++ gs),
+        record { in_order = subst (λ l. AreEntriesOf s ms l (es ++ (fs ++ gs))) (sym same ∙ shares_all s ms) whole },
+        and_then outcome s.place es (fs ++ gs) old mid new (Err error) (record { answer = stand }) (refused_first outcome s.place fs gs mid next new error (keeps s.place fs compiled.answer)),
       )
 
-  pub all_added : (old mid next last new : List (Validator E)) (r : Result (Unit {0}) CompileError) → Adds outcome s.place content old mid (Ok tt) → Adds outcome s.place (format_keyed s ms ∷ []) mid next (Ok tt)
-      → Adds outcome s.place lengths next last (Ok tt) → (p : Entry) × IsPatternAt s ms p × Adds outcome s.place (pattern_keyed p ∷ []) last new r → Whole old new r
-  all_added old mid next last new r a b c (p, at, d) =
-      let rest = lengths ++ pattern_keyed p ∷ [] in (
-        content ++ format_keyed s ms ∷ rest,
-        (p, at, refl),
-        and_then outcome s.place content (format_keyed s ms ∷ rest) old mid new r a
-            (one_and_then (format_keyed s ms) rest mid next new r b (and_then outcome s.place lengths (pattern_keyed p ∷ []) next last new r c d)),
-      )
+  pub done_all : (old new : List (Validator E)) → Done keywords old new → Whole old new (Ok tt)
+  done_all old new (es, are, stand) =
+      (es, record { in_order = subst (λ l. AreEntriesOf s ms l es) (shares_all s ms) are }, record { answer = stand })
 
   -- ---- the object
 

@@ -9,9 +9,8 @@ use Rattle.strkw_pattern.specs.declared.engine.Outcome.TheVariants.{NoMatch}
 use Rattle.strkw_keywords.specs.declared.options.Options.{Options}
 use Rattle.strkw_keywords.specs.Meanings.{no_lists}
 use Rattle.strkw_keywords.specs.Remarks.{Remark}
-use Rattle.strkw_keywords.specs.Object.{Settings, default_options, Errors}
+use Rattle.strkw_keywords.specs.Object.{Settings, default_options, Errors, FirstRefusal, Notes}
 use Rattle.strkw_keywords.specs.Folding.{FoldsToFalse}
-use Rattle.strkw_cli.specs.Noted.{FirstRefusal, Notes}
 use Rattle.strkw_cli.specs.Request.{Request, IsReading, request_in}
 use Rattle.strkw_cli.specs.Printed.{refused_line, TellsFold, verdict_lines, note_lines}
 use Rattle.strkw_cli.specs.Lines.{lines}

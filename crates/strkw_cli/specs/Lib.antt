@@ -1,5 +1,3 @@
-pub mod Handed
-pub mod Noted
 pub mod Compiled
 pub mod Steps
 pub mod Request

@@ -47,7 +47,8 @@ has_only_request_keys no_members = true
 has_only_request_keys (member k d ms) = is_request_key k && has_only_request_keys ms
 
 -- the parts of a request, each of its kind
-abbrev pub request_of_parts : Option Draft → Option Members → Option Data → Option (Option Bool) → Option (Option Bool) → Option (Option Bool) → Option Request
+abbrev pub request_of_parts : Option Draft → Option Members → Option Data → Option (Option Bool) → Option (Option Bool) → Option (Option Bool)
+    → Option Request
 request_of_parts draft schema instance validate ignore fold =
     option_and_then (λ d. option_and_then (λ s. option_and_then (λ i. option_and_then (λ v. option_and_then (λ g. option_map (λ f. record {
       draft = d;

@@ -9,7 +9,7 @@ use Rattle.strkw_keywords.specs.Validators.{assertions_in, remarks_in}
 use Rattle.strkw_keywords.specs.Object.{Keyed, refusal, asserted, remarked}
 use Rattle.strkw_keywords.specs.Compiled.{out_of_memory}
 
--- this is the first refusal, or no memory
+-- this is the first refusal, or out of memory
 abbrev pub IsRefused : CompileError → Option Refusal → Type 0
 IsRefused e first = (refusal_of e ≡ out_of_memory) ⊎ (first ≡ Some (refusal_of e))
 
@@ -19,7 +19,8 @@ pub record Stand {E : Type 0} (outcome : E → List ℕ → Outcome) (place : Pl
   pub asserts : assertions_in outcome new ≡ assertions_in outcome old ++ asserted place es
   pub notes : remarks_in new ≡ remarks_in old ++ remarked place es
 
-abbrev pub AddsCase : {E : Type 0} → (E → List ℕ → Outcome) → Place → List Keyed → List (Validator E) → List (Validator E) → Result (Unit {0}) CompileError → Type 0
+abbrev pub AddsCase : {E : Type 0} → (E → List ℕ → Outcome) → Place → List Keyed → List (Validator E) → List (Validator E)
+    → Result (Unit {0}) CompileError → Type 0
 AddsCase outcome place es old new (Ok x) = Stand outcome place es old new
 AddsCase outcome place es old new (Err e) = IsRefused e (refusal place es)
 

@@ -3,7 +3,7 @@
 ghost use Rattle.std.specs.Prelude.{◌≡◌, ℕ, List, ◌++◌, Some, OnOk, OnErr};
 ghost use Rattle.serde_json.specs.View.{view};
 ghost use Rattle.strkw_cli.specs.Request.{request_in as request_of};
-ghost use Rattle.strkw_cli.specs.Handed.{settings_of};
+ghost use Rattle.strkw_keywords.specs.Handed.{settings_of};
 ghost use Rattle.strkw_cli.specs.Borrowed.{request_view};
 ghost use Rattle.strkw_cli.specs.Answer.{IsAnswer, Answers, settings_for, root_site};
 ghost use Rattle.strkw_cli.specs.Compiled.{keywords_interval};
@@ -20,7 +20,7 @@ use strkw_keywords::{Checks, ContentCodec, Context, Format, MediaTypeCheck, Opti
 use strkw_pattern::{EngineBuilder, NoPatterns, RegexEngine};
 use strkw_report::{Location, Site};
 
-/// Appends the answer to a line. Where a growth is refused, the vector is as it was.
+/// Appends the answer to a line. Out of memory, the vector is as it was.
 pub fn answer(alloc: Global, line: &[u8], out: &mut Vec<u8>) -> Result<(), AllocError>
     ensures ok { OnOk result ((made : List ℕ) × (out.new.items ≡ out.old.items ++ made) × IsAnswer line.now made) }
     ensures err { OnErr result (out.new.items ≡ out.old.items) }
@@ -33,7 +33,7 @@ pub fn answer(alloc: Global, line: &[u8], out: &mut Vec<u8>) -> Result<(), Alloc
     result
 }
 
-// Appends the answer to a line, or a beginning of it where a growth is refused.
+// Appends the answer to a line, or a beginning of it where it is out of memory.
 fn answer_line(alloc: Global, line: &[u8], out: &mut Vec<u8>) -> Result<(), AllocError>
     ensures ok { OnOk result ((made : List ℕ) × (out.new.items ≡ out.old.items ++ made) × IsAnswer line.now made) }
     ensures err { OnErr result ((more : List ℕ) × (out.new.items ≡ out.old.items ++ more)) }

@@ -13,7 +13,7 @@ pub enum RunFault {
     Read,
     /// The sink failed.
     Write,
-    /// A growth was refused.
+    /// Out of memory.
     Memory,
     /// As many reads as a `u64` counts each gave bytes.
     TooLong,

@@ -11,9 +11,8 @@ ghost use Rattle.strkw_keywords.specs.Lengths.{IsEmpty};
 ghost use Rattle.strkw_keywords.specs.Folding.{IsInInterval, FoldsToFalse, RefusesTexts, AcceptAlike};
 ghost use Rattle.strkw_keywords.specs.Errors.{NodeReports, IsInUse};
 ghost use Rattle.strkw_keywords.specs.Remarks.{Remark};
-ghost use Rattle.strkw_keywords.specs.Object.{Settings, Keyed, AreEntries, Errors};
+ghost use Rattle.strkw_keywords.specs.Object.{Settings, Errors, FirstRefusal, remarks_on, Notes};
 ghost use Rattle.strkw_cli.specs.declared.strings.StringKeywords.{StringKeywords};
-ghost use Rattle.strkw_cli.specs.Noted.{FirstRefusal, remarks_on, Notes};
 ghost use Rattle.strkw_cli.specs.Printed.{ArePrintable};
 ghost use Rattle.strkw_cli.specs.Answer.{IsAnswer, IsOutput};
 ghost use Rattle.strkw_cli.specs.Compiled.{keywords_assertions, keywords_interval, keywords_remarks, IsCompiledFrom};
@@ -22,7 +21,10 @@ use strkw_keywords::laws::{
     compiled_is_in_use, interval_is_what_demands_leave, lengths_outside_are_errors,
 };
 pub use strkw_keywords::laws::{
-    errors_are_determined, folded_objects_refuse_texts, other_objects_accept_some_text,
+    entries_are_determined, entries_exist, errors_are_determined, errors_are_there,
+    first_refusal_exists, first_refusal_is_determined, folded_objects_refuse_texts,
+    no_text_has_no_errors, no_text_has_no_notes, notes_are_determined, notes_exist,
+    other_objects_accept_some_text,
 };
 use strkw_pattern::RegexEngine;
 use strkw_report::Node;
@@ -77,28 +79,8 @@ pub fn lists_of_compile_are_in_use<E: RegexEngine>()
 
 /// A schema object that is compiled is not refused: its entries have no first refusal.
 pub fn compiled_object_has_no_refusal<E: RegexEngine>()
-    ensures { (s : Settings) (ms : Members) (k : StringKeywords E) (first : Option Refusal) → IsCompiledFrom E.outcome s ms k → FirstRefusal s ms first → first ≡ None }
-{}
-
-/// A schema object has a list of entries.
-pub fn entries_exist()
-    ensures { (s : Settings) (ms : Members) → (es : List Keyed) × AreEntries s ms es }
-{}
-
-/// A schema object has at most one list of entries.
-pub fn entries_are_determined()
-    ensures { (s : Settings) (ms : Members) (a b : List Keyed) → AreEntries s ms a → AreEntries s ms b → a ≡ b }
-{}
-
-/// What the first refusal of a schema object is, or that it has none, has at most one answer.
-pub fn first_refusal_is_determined()
-    ensures { (s : Settings) (ms : Members) (a b : Option Refusal) → FirstRefusal s ms a → FirstRefusal s ms b → a ≡ b }
-{}
-
-/// An instance has at most one list of notes by a schema object.
-pub fn notes_are_determined()
-    ensures { (s : Settings) (ms : Members) (instance : Option (List ℕ)) (a b : List Remark)
-        → Notes s ms instance a → Notes s ms instance b → a ≡ b }
+    ensures { (s : Settings) (ms : Members) (k : StringKeywords E) (first : Option Refusal) → IsCompiledFrom E.outcome s ms k
+        → FirstRefusal s ms first → first ≡ None }
 {}
 
 /// A first refusal prints no number but whole ones of 64 bits: `CompileError::text` gives its text.
@@ -111,16 +93,6 @@ pub fn notes_have_texts()
     ensures { (s : Settings) (ms : Members) (instance : Option (List ℕ)) (remarks : List Remark) → Notes s ms instance remarks → ArePrintable remarks }
 {}
 
-/// An instance that is no text has no errors.
-pub fn no_text_has_no_errors()
-    ensures { (s : Settings) (ms : Members) (lists : Lists) (site : Site) (rs : List Report) → Errors s ms lists site None rs → rs ≡ [] }
-{}
-
-/// An instance that is no text has no notes.
-pub fn no_text_has_no_notes()
-    ensures { (s : Settings) (ms : Members) (remarks : List Remark) → Notes s ms None remarks → remarks ≡ [] }
-{}
-
 /// A line has at most one answer.
 pub fn answer_is_determined()
     ensures { (line a b : List ℕ) → IsAnswer line a → IsAnswer line b → a ≡ b }
@@ -130,9 +102,23 @@ pub fn answer_is_determined()
     notes_are_determined();
 }
 
+/// It cannot be that a line has no answer; so it has exactly one.
+pub fn answer_is_there()
+    ensures { (line : List ℕ) → ((answer : List ℕ) → IsAnswer line answer → ⊥) → ⊥ }
+{
+    errors_are_there();
+}
+
 /// An input has at most one output.
 pub fn output_is_determined()
     ensures { (input a b : List ℕ) → IsOutput input a → IsOutput input b → a ≡ b }
 {
     answer_is_determined();
+}
+
+/// It cannot be that an input has no output; so it has exactly one.
+pub fn output_is_there()
+    ensures { (input : List ℕ) → ((output : List ℕ) → IsOutput input output → ⊥) → ⊥ }
+{
+    answer_is_there();
 }

@@ -15,8 +15,6 @@ mod printing;
 mod request;
 mod running;
 mod strings;
-#[cfg(test)]
-mod tests;
 
 pub use answering::answer;
 pub use compile::compile_strings;

@@ -41,7 +41,7 @@ impl Source for MemorySource {
     }
 }
 
-/// A growing vector that takes bytes. A refused growth is its failure.
+/// A growing vector that takes bytes. Out of memory is its failure.
 #[derive(Drop)]
 pub struct MemorySink {
     bytes: Vec<u8>,

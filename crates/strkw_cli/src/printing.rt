@@ -1,4 +1,4 @@
-//! The lines of an answer. Each call appends them, or a beginning of them where a growth is refused.
+//! The lines of an answer. Each call appends them, or a beginning of them where it is out of memory.
 
 ghost use Rattle.std.specs.Prelude.{◌≡◌, ◌↔◌, ℕ, List, ◌++◌, ◌≢◌, false, IsTrue, OnOk, OnErr, codes, map};
 ghost use Rattle.std.specs.List.{flat_map};
@@ -98,7 +98,7 @@ fn push_note_line(alloc: Global, note: &Note, out: &mut Vec<u8>) -> Result<(), A
     out.extend_from_slice(b"\n")
 }
 
-/// Appends the line of a refusal, and the end. Want of memory is no answer, and is passed on.
+/// Appends the line of a refusal, and the end. Out of memory is no answer, and is passed on.
 pub(super) fn push_refusal(
     alloc: Global,
     refusal: &CompileError,

@@ -146,7 +146,7 @@ fn piece_room(alloc: Global) -> Result<Vec<u8>, AllocError>
 /// `folds_to_false` says; `error L: T` for each error, or `valid`, and then `note L: V` for each note, with its value V as
 /// compact JSON; and at last `end`. No check is registered, and a pattern that is not literal is refused.
 ///
-/// `Read` and `Write` come exactly where the source and the sink have failed, `Memory` where a growth was refused,
+/// `Read` and `Write` come exactly where the source and the sink have failed, `Memory` where it is out of memory,
 /// `TooLong` after 2^64 - 1 reads that each gave bytes. Each answer is made whole before its first byte is written. What
 /// is written after `Read`, `Memory` and `TooLong` are whole answers, to lines whose line feed was read.
 ///

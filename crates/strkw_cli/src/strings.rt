@@ -7,8 +7,8 @@ ghost use Rattle.strkw_keywords.specs.Remarks.{remark_of};
 ghost use Rattle.strkw_keywords.specs.Lengths.{IsEmpty};
 ghost use Rattle.strkw_keywords.specs.Validators.{listed_remark, remark_made};
 ghost use Rattle.strkw_keywords.specs.Verdicts.{IsVerdict};
-ghost use Rattle.strkw_cli.specs.Handed.{lists_of};
-ghost use Rattle.strkw_cli.specs.Noted.{remarks_on};
+ghost use Rattle.strkw_keywords.specs.Handed.{lists_of};
+ghost use Rattle.strkw_keywords.specs.Object.{remarks_on};
 ghost use Rattle.strkw_cli.specs.Compiled.{keywords_assertions, keywords_interval, keywords_remarks};
 
 use std::alloc::{AllocError, Global};
@@ -79,7 +79,7 @@ impl<E: RegexEngine> StringKeywords<E> {
         greatest < least
     }
 
-    /// Whether an instance has no errors, under lists of which `uses` is true. The only error is want of memory, and none
+    /// Whether an instance has no errors, under lists of which `uses` is true. The only error is out of memory, and none
     /// where `takes_no_memory` is true.
     pub fn is_valid<N: Node>(
         &self,
@@ -102,7 +102,7 @@ impl<E: RegexEngine> StringKeywords<E> {
 
     /// Appends the errors of an instance, in the order of the entries, each with the place of its keyword in the schema
     /// and on the way of evaluation, and with the place of the instance. The lists are such that `uses` is true of them.
-    /// The only error is want of memory; the vector then holds what it held.
+    /// The only error is out of memory; the vector then holds what it held.
     pub fn collect_errors<N: Node>(
         &self,
         alloc: Global,
@@ -132,8 +132,8 @@ impl<E: RegexEngine> StringKeywords<E> {
 
     /// `Ok` where an instance has no errors, under lists of which `uses` is true.
     ///
-    /// Errors: `Fault::Invalid` of the first of the errors that `collect_errors` appends, and `Fault::Memory` where a
-    /// growth was refused.
+    /// Errors: `Fault::Invalid` of the first of the errors that `collect_errors` appends, and `Fault::Memory` where
+    /// it is out of memory.
     pub fn validate<N: Node>(
         &self,
         alloc: Global,
@@ -142,22 +142,20 @@ impl<E: RegexEngine> StringKeywords<E> {
         checks: &Checks,
     ) -> Result<(), Fault>
         requires { IsInUse (keywords_assertions E.outcome self.now) (lists_of admits accepted encoded decoding checks.now) }
-        ensures { IsVerdict (NodeReports (keywords_assertions E.outcome self.now) (lists_of admits accepted encoded decoding checks.now) site.now (N.text node.now)) result }
+        ensures { IsVerdict (keywords_assertions E.outcome self.now) (lists_of admits accepted encoded decoding checks.now) site.now
+            (N.text node.now) result }
     {
-        let mut errors = Vec::new(alloc);
-        match self.collect_errors(alloc, node, site, checks, &mut errors) {
-            Ok(()) => {}
-            Err(_) => return Err(Fault::Memory),
+        for validator in &self.validators {
+            match validator.validate(alloc, node, site, checks) {
+                Ok(()) => {}
+                Err(fault) => return Err(fault),
+            }
         }
-        if errors.as_slice().is_empty() {
-            Ok(())
-        } else {
-            Err(Fault::Invalid(errors.remove(0)))
-        }
+        Ok(())
     }
 
     /// The errors of an instance, and what is noted of it where it is a text, whether it has errors or not, under lists
-    /// of which `uses` is true. The only error is want of memory.
+    /// of which `uses` is true. The only error is out of memory.
     pub fn evaluate<N: Node>(
         &self,
         alloc: Global,
@@ -166,7 +164,8 @@ impl<E: RegexEngine> StringKeywords<E> {
         checks: &Checks,
     ) -> Result<ObjectEvaluation, AllocError>
         requires { IsInUse (keywords_assertions E.outcome self.now) (lists_of admits accepted encoded decoding checks.now) }
-        ensures errors { IfOk result (λ r. NodeReports (keywords_assertions E.outcome self.now) (lists_of admits accepted encoded decoding checks.now) site.now (N.text node.now) r.errors.items) }
+        ensures errors { IfOk result (λ r. NodeReports (keywords_assertions E.outcome self.now)
+            (lists_of admits accepted encoded decoding checks.now) site.now (N.text node.now) r.errors.items) }
         ensures notes { IfOk result (λ r. map remark_of r.notes.items ≡ remarks_on (N.text node.now) (keywords_remarks self.now)) }
     {
         let mut errors = Vec::new(alloc);

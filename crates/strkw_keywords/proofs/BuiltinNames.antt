@@ -7,19 +7,18 @@ use Rattle.std.proofs.lemmas.Option.{none-some, same_Some}
 use Rattle.std.proofs.lemmas.Slice.Eq.{bytes_eq-Decides}
 use Rattle.strkw_report.specs.declared.draft.Draft.{Draft}
 use Rattle.strkw_report.specs.declared.draft.Draft.TheVariants.{Draft4, Draft6, Draft7, Draft201909, Draft202012}
-use Rattle.serde_json.specs.Data.{Data, Members, string}
-use Rattle.serde_json.specs.Find.{as_str, get_member}
+use Rattle.serde_json.specs.Data.{Data, string}
+use Rattle.serde_json.specs.Find.{as_str}
 use Rattle.strkw_pattern.specs.declared.engine.Outcome.{Outcome}
 use Rattle.strkw_keywords.specs.declared.keyword.Keyword.TheVariants.{Format}
 use Rattle.strkw_keywords.specs.declared.validator.Validator.{Validator}
-use Rattle.strkw_keywords.specs.Keywords.{keyword_name}
 use Rattle.strkw_keywords.specs.Meanings.{builtin, row_names, first_named}
 use Rattle.strkw_keywords.specs.Demands.{is_format}
 use Rattle.strkw_keywords.specs.Errors.{placed}
 use Rattle.strkw_keywords.specs.Remarks.{remark_at}
 use Rattle.strkw_keywords.specs.Validators.{place_of, assertions_of, remark_made}
-use Rattle.strkw_keywords.specs.Object.{Settings, gives, is_overridden, checks_formats, format_keyed}
-use Rattle.strkw_keywords.specs.Compiled.{IsBuilt}
+use Rattle.strkw_keywords.specs.Object.{Settings, gives, checks_formats, format_entry}
+use Rattle.strkw_keywords.specs.Compiled.{alone, IsBuilt}
 use Rattle.strkw_keywords.specs.declared.builtin.BuiltinFormat.{BuiltinFormat}
 use Rattle.strkw_keywords.specs.declared.builtin.BuiltinFormat.TheVariants.{Date, DateTime, Duration, Hostname, HostnameDraft4, Ipv4, Ipv6, Iri, IriReference, JsonPointer, RelativeJsonPointer, Time, Uri, UriReference, UriTemplate, Uuid}
 use Rattle.strkw_keywords.specs.FormatLaws.{BuiltinFormatOfName}
@@ -71,13 +70,13 @@ known_found draft Uuid h = rw h refl
 pub found_by_name : BuiltinFormatOfName
 found_by_name draft name f = (passes draft name f, (λ h. subst (λ n. builtin_named draft n ≡ Some f) h.0 (known_found draft f h.1)))
 
-format_given : (s : Settings) (ms : Members) (d : Data) (name : List ℕ) (f : BuiltinFormat) → get_member (keyword_name Format) ms ≡ Some d → is_overridden s.options Format ≡ false → as_str d ≡ Some name → checks_formats s.options s.draft ≡ true → first_named name (row_names s.lists.formats) ≡ None → builtin_named s.draft name ≡ Some f → (format_keyed s ms).entry ≡ gives (is_format (builtin f) ∷ []) (Some (string name))
-format_given s ms d name f present kept is checks none known = rw (kept, present, is, checks, none, known) refl
+format_given : (s : Settings) (d : Data) (name : List ℕ) (f : BuiltinFormat) → as_str d ≡ Some name → checks_formats s.options s.draft ≡ true → first_named name (row_names s.lists.formats) ≡ None → builtin_named s.draft name ≡ Some f → format_entry s d ≡ gives (is_format (builtin f) ∷ []) (Some (string name))
+format_given s d name f is checks none known = rw (is, checks, none, known) refl
 
 -- the validator of a built-in format stands for the format's entry
-pub builtin_stands : {E : Type 0} (outcome : E → List ℕ → Outcome) (s : Settings) (ms : Members) (d : Data) (name : List ℕ) (f : BuiltinFormat) (v : Validator E) → get_member (keyword_name Format) ms ≡ Some d → is_overridden s.options Format ≡ false → as_str d ≡ Some name → checks_formats s.options s.draft ≡ true → first_named name (row_names s.lists.formats) ≡ None → builtin_named s.draft name ≡ Some f → assertions_of outcome v ≡ placed s.place (is_format (builtin f) ∷ []) → remark_made v ≡ Some (remark_at s.place.schema Format (string (format_name f))) → place_of v ≡ s.place → IsBuilt outcome s.place (format_keyed s ms ∷ []) (Ok (Some v))
-builtin_stands outcome s ms d name f v present kept is checks none known asserts notes stands =
-    let given = format_given s ms d name f present kept is checks none known in
+pub builtin_stands : {E : Type 0} (outcome : E → List ℕ → Outcome) (s : Settings) (d : Data) (name : List ℕ) (f : BuiltinFormat) (v : Validator E) → as_str d ≡ Some name → checks_formats s.options s.draft ≡ true → first_named name (row_names s.lists.formats) ≡ None → builtin_named s.draft name ≡ Some f → assertions_of outcome v ≡ placed s.place (is_format (builtin f) ∷ []) → remark_made v ≡ Some (remark_at s.place.schema Format (string (format_name f))) → place_of v ≡ s.place → IsBuilt outcome s.place (alone Format (format_entry s d)) (Ok (Some v))
+builtin_stands outcome s d name f v is checks none known asserts notes stands =
+    let given = format_given s d name f is checks none known in
     record {
       answer = record {
         good = rw given refl;

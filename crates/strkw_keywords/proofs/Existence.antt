@@ -10,7 +10,9 @@ use Rattle.strkw_keywords.specs.Meanings.{Decoded, no_encoding, no_text, decoded
 use Rattle.strkw_keywords.specs.Demands.{Demand, is_media_type, is_encoded, encodes_media_type, is_format, at_least, at_most, compares, matches, Finding, HasFinding, FoundUnless, IsContentFinding, Decodes, CodecDecodes}
 use Rattle.strkw_keywords.specs.Places.{standing}
 use Rattle.strkw_keywords.specs.Errors.{Assertion, reported, AllReport}
-use Rattle.strkw_keywords.specs.Laws.{ReportsAreThere}
+use Rattle.strkw_keywords.specs.Object.{asserted}
+use Rattle.strkw_keywords.specs.Laws.{ReportsAreThere, ErrorsAreThere}
+use Rattle.strkw_keywords.proofs.Entries.{entries_exist}
 
 FoundUnless-there : (P : Type 0) (k : Keyword) (kind : Kind) → ((found : Option Finding) → FoundUnless P k kind found → ⊥) → ⊥
 FoundUnless-there P k kind none = none (Some (record { keyword = k; kind = kind })) (inr ((λ p. none None (inl (p, refl))), refl))
@@ -23,8 +25,8 @@ content-there c m lists (decoded t) none = FoundUnless-there _ _ _ none
 builtin-there : (c : Codec) (text : List ℕ) → ((d : Decoded) → CodecDecodes c text d → ⊥) → ⊥
 builtin-there c text none = none no_encoding (λ is. none no_text (is.0, is.1, λ utf8. none (decoded is.0) (is.1, utf8)))
 
-row-there : (o : Option CodecRow) (text : List ℕ) → ((d : Decoded) → MatchOption o (d ≡ decoded text) (λ r. d ≡ r.decode (chars text)) → ⊥) → ⊥
-row-there None text none = none (decoded text) refl
+row-there : (o : Option CodecRow) (text : List ℕ) → ((d : Decoded) → MatchOption o (d ≡ no_encoding) (λ r. d ≡ r.decode (chars text)) → ⊥) → ⊥
+row-there None text none = none no_encoding refl
 row-there (Some r) text none = none (r.decode (chars text)) refl
 
 decodes-there : (c : Choice Codec) (lists : Lists) (text : List ℕ) → ((d : Decoded) → Decodes c lists text d → ⊥) → ⊥
@@ -49,3 +51,8 @@ text-there (a ∷ others) lists site text none =
 pub reports_there : ReportsAreThere
 reports_there assertions lists site None none = none [] refl
 reports_there assertions lists site (Some text) none = text-there assertions lists site text none
+
+pub errors_there : ErrorsAreThere
+errors_there s ms lists site node none =
+    let (es, are) = entries_exist s ms in
+    reports_there (asserted s.place es) lists site node (λ rs h. none rs (es, are, h))

@@ -16,9 +16,10 @@ use Rattle.strkw_keywords.specs.Formats.{Window}
 use Rattle.strkw_keywords.specs.FormatLaws.{IsInside}
 use Rattle.strkw_keywords.specs.Demands.{at_least, at_most}
 use Rattle.strkw_keywords.specs.Errors.{placed}
-use Rattle.strkw_keywords.specs.Object.{Settings, Entry, nothing, malformed, gives, of_string, of_text, known_media_type, known_codec, known_format, ContentRule, ignored, checked, noted, content_rule, encoded_check, media_type_beside, media_type_check, encoding_check, encoding_beside, noted_text, schema_beside, media_type_entry, encoding_entry, schema_entry, checks_formats, ignores_unknown, checked_format, limit_entry, as_limit, min_entry, max_entry, engine_entry, no_string, IsPatternEntry, IsPatternValue, IsPatternAt, entry_of, value_at, Keyed, format_keyed, min_keyed, max_keyed, demands_by, asserted, entries_with}
+use Rattle.strkw_keywords.specs.Object.{Settings, Entry, nothing, malformed, gives, of_string, of_text, known_media_type, known_codec, known_format, ContentRule, ignored, checked, noted, content_rule, encoded_check, media_type_beside, media_type_check, encoding_check, encoding_beside, noted_text, schema_beside, media_type_entry, encoding_entry, schema_entry, checks_formats, ignores_unknown, checked_format, limit_entry, as_limit, min_entry, max_entry, engine_entry, no_string, IsPatternEntry, IsPatternValue, format_entry, IsEntryAt, entry_of, value_at, Keyed, keywords, AreEntriesOf, demands_by, asserted}
 use Rattle.strkw_keywords.specs.Lengths.{any_length, common, window_at, interval, OutsideIsAnError}
 use Rattle.strkw_keywords.specs.Folding.{IsInInterval, IntervalIsLeft, FoldedRefuseTexts, OthersAcceptSomeText}
+use Rattle.strkw_keywords.proofs.Entries.{of_value}
 use Rattle.strkw_keywords.proofs.Lengths.{inside_any, inside_common, common_any, any_common, interval_append, empty_or_least, below_is_empty, inside_is_no_error, text_of_length}
 
 -- the lengths that an entry leaves; an object's place is no matter
@@ -32,10 +33,6 @@ LeavesAny place e = left_by place e ≡ any_length
 -- ---- content and patterns bound no length
 
 module _ (place : Place) where
-  value_any : (of : Data → Entry) (o : Option Data) → ((d : Data) → LeavesAny place (of d)) → LeavesAny place (entry_of of o)
-  value_any of None h = refl
-  value_any of (Some d) h = h d
-
   string_any : (entry : List ℕ → Entry) (keyword : Keyword) (d : Data) (o : Option (List ℕ)) → ((name : List ℕ) → LeavesAny place (entry name)) → LeavesAny place (of_string entry keyword d o)
   string_any entry keyword d (Some name) h = h name
   string_any entry keyword d None h = refl
@@ -174,28 +171,40 @@ three_left : (a b c u v w d : Window) → a ≡ any_length → b ≡ any_length 
 three_left a b c u v w d e f g h =
     without_first a _ e ∙ without_first b _ f ∙ without_first c _ g ∙ ap (λ x. common u (common v x)) (without_last w d h)
 
+-- one entry for each keyword
+abbrev seven : Entry → Entry → Entry → Entry → Entry → Entry → Entry → List Keyed
+seven a b c f low high p =
+    record { keyword = ContentMediaType; entry = a } ∷ record { keyword = ContentEncoding; entry = b } ∷ record { keyword = ContentSchema; entry = c } ∷ record { keyword = Format; entry = f }
+    ∷ record { keyword = MinLength; entry = low } ∷ record { keyword = MaxLength; entry = high } ∷ record { keyword = Pattern; entry = p } ∷ []
+
+by_value : (of : Data → Entry) (o : Option Data) (e : Entry) → MatchOption o (e ≡ nothing) (λ d. e ≡ of d) → e ≡ entry_of of o
+by_value of None e h = h
+by_value of (Some d) e h = h
+
 -- a length is in the interval exactly where the entries of the three keywords leave it
 module _ (s : Settings) (ms : Members) where
+  three_of_seven : (a b c f low high p : Entry) → IsEntryAt s ms ContentMediaType a → IsEntryAt s ms ContentEncoding b → IsEntryAt s ms ContentSchema c → IsEntryAt s ms Pattern p
+      → interval (asserted s.place (seven a b c f low high p)) ≡ common (left_by s.place f) (common (left_by s.place low) (left_by s.place high))
+  three_of_seven a b c f low high p at-a at-b at-c at-p =
+      interval_by_entry s.place (seven a b c f low high p)
+      ∙ three_left _ _ _ (left_by s.place f) (left_by s.place low) (left_by s.place high) _
+      (of_value (LeavesAny s.place) (media_type_entry (content_rule s.draft) s ms) (value_at s.options ContentMediaType ms) a refl (media_type_entry_any s.place s ms (content_rule s.draft)) at-a)
+      (of_value (LeavesAny s.place) (encoding_entry (content_rule s.draft) s ms) (value_at s.options ContentEncoding ms) b refl (encoding_entry_any s.place s ms (content_rule s.draft)) at-b)
+      (of_value (LeavesAny s.place) (schema_entry (content_rule s.draft) ms) (value_at s.options ContentSchema ms) c refl (schema_entry_any s.place ms (content_rule s.draft)) at-c)
+      (pattern_any s.place s (value_at s.options Pattern ms) p at-p)
+
+  -- the same, by the three values
   abbrev format_left : Window
-  format_left = left_by s.place (format_keyed s ms).entry
+  format_left = left_by s.place (entry_of (format_entry s) (value_at s.options Format ms))
 
   abbrev least_left : Window
-  least_left = left_by s.place (min_keyed s.options ms).entry
+  least_left = left_by s.place (entry_of min_entry (value_at s.options MinLength ms))
 
   abbrev greatest_left : Window
-  greatest_left = left_by s.place (max_keyed s.options ms).entry
+  greatest_left = left_by s.place (entry_of max_entry (value_at s.options MaxLength ms))
 
-  interval_of_entries : (p : Entry) → IsPatternAt s ms p → interval (asserted s.place (entries_with s ms p)) ≡ common format_left (common least_left greatest_left)
-  interval_of_entries p at =
-      interval_by_entry s.place (entries_with s ms p)
-      ∙ three_left _ _ _ format_left least_left greatest_left _
-      (value_any s.place (media_type_entry (content_rule s.draft) s ms) (value_at s.options ContentMediaType ms) (media_type_entry_any s.place s ms (content_rule s.draft)))
-      (value_any s.place (encoding_entry (content_rule s.draft) s ms) (value_at s.options ContentEncoding ms) (encoding_entry_any s.place s ms (content_rule s.draft)))
-      (value_any s.place (schema_entry (content_rule s.draft) ms) (value_at s.options ContentSchema ms) (schema_entry_any s.place ms (content_rule s.draft)))
-      (pattern_any s.place s (value_at s.options Pattern ms) p at)
-
-  inside_three : (n : ℕ) → IsInside (common format_left (common least_left greatest_left)) n ↔ IsInInterval s ms n
-  inside_three n =
+  inside_values : (n : ℕ) → IsInside (common format_left (common least_left greatest_left)) n ↔ IsInInterval s ms n
+  inside_values n =
       let outer = inside_common format_left (common least_left greatest_left) n in
       let inner = inside_common least_left greatest_left n in
       let by_format = either_format s.place s (checks_formats s.options s.draft) (value_at s.options Format ms) n in
@@ -208,9 +217,22 @@ module _ (s : Settings) (ms : Members) where
         (λ h. outer.1 (by_format.1 h.in_window, inner.1 (by_least.1 h.long_enough, by_greatest.1 h.short_enough))),
       )
 
+  inside_three : (f low high : Entry) (n : ℕ) → IsEntryAt s ms Format f → IsEntryAt s ms MinLength low → IsEntryAt s ms MaxLength high
+      → IsInside (common (left_by s.place f) (common (left_by s.place low) (left_by s.place high))) n ↔ IsInInterval s ms n
+  inside_three f low high n at-f at-low at-high =
+      let format-is = by_value (format_entry s) (value_at s.options Format ms) f at-f in
+      let low-is = by_value min_entry (value_at s.options MinLength ms) low at-low in
+      let high-is = by_value max_entry (value_at s.options MaxLength ms) high at-high in
+      rw (format-is, low-is, high-is) (inside_values n)
+
+  inside_all : (es : List Keyed) (n : ℕ) → AreEntriesOf s ms keywords es → IsInside (interval (asserted s.place es)) n ↔ IsInInterval s ms n
+  inside_all es n (a, r1, at-a, is-a, (b, r2, at-b, is-b, (c, r3, at-c, is-c, (f, r4, at-f, is-f, (low, r5, at-low, is-low, (high, r6, at-high, is-high, (p, r7, at-p, is-p, none))))))) =
+      let whole : es ≡ seven a b c f low high p = rw (is-a, is-b, is-c, is-f, is-low, is-high, is-p, none) refl in
+      let left = ap (λ l. interval (asserted s.place l)) whole ∙ three_of_seven a b c f low high p at-a at-b at-c at-p in
+      subst (λ w. IsInside w n ↔ IsInInterval s ms n) (sym left) (inside_three f low high n at-f at-low at-high)
+
 pub interval_is_left : IntervalIsLeft
-interval_is_left s ms es n (p, at, is) =
-    rw (is, interval_of_entries s ms p at) (inside_three s ms n)
+interval_is_left s ms es n are = inside_all s ms es n are.in_order
 
 -- ---- objects that fold, and others
 

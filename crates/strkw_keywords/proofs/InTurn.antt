@@ -1,5 +1,5 @@
 -- On the errors of assertions, one after the other.
-use Rattle.std.proofs.Common.{◌≡◌, ◌↔◌, ℕ, List, [], ◌∷◌, ◌++◌, Some, None, refl, sym, ap, ◌∙◌}
+use Rattle.std.proofs.Common.{◌≡◌, ◌↔◌, ℕ, List, [], ◌∷◌, ◌++◌, Bool, true, false, ◌&&◌, Option, Some, None, refl, sym, ap, ◌∙◌, subst}
 use Rattle.std.specs.Str.{chars}
 use Rattle.std.proofs.lemmas.List.{append_assoc}
 use Rattle.strkw_report.specs.Kinds.{Report, report_at, regex_engine_failure, backtrack_limit_exceeded}
@@ -10,8 +10,8 @@ use Rattle.strkw_keywords.specs.declared.keyword.Keyword.TheVariants.{Pattern}
 use Rattle.strkw_keywords.specs.Keywords.{keyword_name}
 use Rattle.strkw_keywords.specs.Meanings.{Lists}
 use Rattle.strkw_keywords.specs.Places.{Place, standing}
-use Rattle.strkw_keywords.specs.Demands.{at_least, at_most, matches, Finding, found_by_outcome}
-use Rattle.strkw_keywords.specs.Errors.{Assertion, placed, reported, AllReport, NodeReports}
+use Rattle.strkw_keywords.specs.Demands.{at_least, at_most, matches, Finding, found_by_outcome, is_quiet}
+use Rattle.strkw_keywords.specs.Errors.{Assertion, placed, reported, AllReport, NodeReports, all_quiet}
 use Rattle.strkw_keywords.specs.Laws.{ReportInTurn, AssertionsReportInTurn, FusedLengthsReportBoth, EngineFailuresAreErrors, ReportsAreDetermined}
 use Rattle.strkw_keywords.proofs.Reports.{HasFinding-unique}
 
@@ -30,7 +30,7 @@ text_in_turn (a ∷ first) others lists site text rs h =
       joined = h.3 ∙ ap (λ l. mine ++ l) later.joined ∙ sym (append_assoc mine later.early later.late);
     }
 
-text_of_both : (first others : List Assertion) (lists : Lists) (site : Site) (text : List ℕ) (early late : List Report) → AllReport first lists site text early → AllReport others lists site text late → AllReport (first ++ others) lists site text (early ++ late)
+pub text_of_both : (first others : List Assertion) (lists : Lists) (site : Site) (text : List ℕ) (early late : List Report) → AllReport first lists site text early → AllReport others lists site text late → AllReport (first ++ others) lists site text (early ++ late)
 text_of_both [] others lists site text early late h k = rw h k
 text_of_both (a ∷ first) others lists site text early late h k = (
   h.0,
@@ -52,6 +52,16 @@ in_turn first others lists site (Some text) rs = (
 
 pub fused : FusedLengthsReportBoth
 fused place low high lists site node rs = in_turn (placed place (at_least low ∷ [])) (placed place (at_most high ∷ [])) lists site node rs
+
+-- where nothing is reported, no part reports anything
+no_part : (P Q : List Report → Type 0) (early late : List Report) → [] ≡ early ++ late → P early → Q late → P [] × Q []
+no_part P Q [] late joined p q = (p, subst Q (sym joined) q)
+no_part P Q (r ∷ early) late joined p q = absurd (cc)
+
+pub nothing_split : (front back : List Assertion) (lists : Lists) (site : Site) (at : Option (List ℕ)) → NodeReports (front ++ back) lists site at [] → NodeReports front lists site at [] × NodeReports back lists site at []
+nothing_split front back lists site at a =
+    let turn = (in_turn front back lists site at []).0 a in
+    no_part (NodeReports front lists site at) (NodeReports back lists site at) turn.early turn.late turn.joined turn.of_first turn.of_others
 
 -- ---- one error
 
@@ -89,3 +99,23 @@ text_determined once (a ∷ rest) lists site text rs others h k =
 pub reports_determined : EncodesOnce → ReportsAreDetermined
 reports_determined once assertions lists site None rs others h k = h ∙ sym k
 reports_determined once assertions lists site (Some text) rs others h k = text_determined once assertions lists site text rs others h k
+
+-- ---- memory
+
+and_assoc : (a b c : Bool) → (a && (b && c)) ≡ ((a && b) && c)
+and_assoc true b c = refl
+and_assoc false b c = refl
+
+pub quiet-append : (front back : List Assertion) → all_quiet (front ++ back) ≡ (all_quiet front && all_quiet back)
+quiet-append [] back = refl
+quiet-append (a ∷ front) back = ap (λ b. is_quiet a.demand && b) (quiet-append front back) ∙ and_assoc (is_quiet a.demand) (all_quiet front) (all_quiet back)
+
+and_true : (a b : Bool) → (a && b) ≡ true → (a ≡ true) × (b ≡ true)
+and_true true b e = (refl, e)
+and_true false b e = absurd (cc)
+
+-- what is within quiet assertions is quiet
+pub quiet_within : (front mid back : List Assertion) → all_quiet (front ++ (mid ++ back)) ≡ true → all_quiet mid ≡ true
+quiet_within front mid back e =
+    let behind = (and_true (all_quiet front) (all_quiet (mid ++ back)) (sym (quiet-append front (mid ++ back)) ∙ e)).1 in
+    (and_true (all_quiet mid) (all_quiet back) (sym (quiet-append mid back) ∙ behind)).0

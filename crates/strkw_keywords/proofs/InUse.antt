@@ -16,8 +16,9 @@ use Rattle.strkw_keywords.specs.Formats.{builtin_named}
 use Rattle.strkw_keywords.specs.Meanings.{Choice, builtin, row, row_names, codec_names, first_named}
 use Rattle.strkw_keywords.specs.Demands.{Demand, at_least, at_most, KeepsFirst, KeepsRows}
 use Rattle.strkw_keywords.specs.Errors.{Assertion, placed, IsInUse}
-use Rattle.strkw_keywords.specs.Object.{Settings, Entry, nothing, malformed, gives, of_string, of_text, chosen, codec_named, left_on, media_type_left_on, known_media_type, known_codec, known_format, ContentRule, ignored, checked, noted, content_rule, encoded_check, media_type_beside, media_type_check, encoding_check, encoding_beside, noted_text, schema_beside, media_type_entry, encoding_entry, schema_entry, checks_formats, ignores_unknown, checked_format, format_entry, limit_entry, as_limit, min_entry, max_entry, engine_entry, no_string, IsPatternEntry, IsPatternValue, IsPatternAt, entry_of, value_at, Keyed, demands_by, asserted, entries_with}
+use Rattle.strkw_keywords.specs.Object.{Settings, Entry, nothing, malformed, gives, of_string, of_text, chosen, codec_named, left_on, media_type_left_on, known_media_type, known_codec, known_format, ContentRule, ignored, checked, noted, content_rule, encoded_check, media_type_beside, media_type_check, encoding_check, encoding_beside, noted_text, schema_beside, media_type_entry, encoding_entry, schema_entry, checks_formats, ignores_unknown, checked_format, format_entry, limit_entry, as_limit, min_entry, max_entry, engine_entry, no_string, IsPatternEntry, IsPatternValue, IsEntryAt, value_at, Keyed, keywords, demands_by, asserted}
 use Rattle.strkw_keywords.specs.Laws.{CompiledIsInUse}
+use Rattle.strkw_keywords.proofs.Entries.{of_value, each_entry}
 
 -- the rows that an entry rests on are the first of their names
 abbrev pub EntryKeeps : Settings → Entry → Type 0
@@ -47,10 +48,6 @@ string_keeps s entry keyword d None h = tt
 
 text_keeps : (s : Settings) (entry : List ℕ → Entry) (keyword : Keyword) (d : Data) → ((name : List ℕ) → EntryKeeps s (entry name)) → EntryKeeps s (of_text entry keyword d)
 text_keeps s entry keyword d h = string_keeps s entry keyword d (as_str d) h
-
-value_keeps : (s : Settings) (of : Data → Entry) (o : Option Data) → ((d : Data) → EntryKeeps s (of d)) → EntryKeeps s (entry_of of o)
-value_keeps s of None h = tt
-value_keeps s of (Some d) h = h d
 
 encoded_keeps : (s : Settings) (m : Choice BuiltinMediaType) (o : Option (Choice Codec)) → KeepsFirst (row_names s.lists.media_types) m → ((c : Choice Codec) → o ≡ Some c → KeepsFirst (codec_names s.lists.codecs) c) → EntryKeeps s (encoded_check m o)
 encoded_keeps s m None h k = tt
@@ -137,33 +134,14 @@ all_keep : (s : Settings) (es : List Keyed) → AllByRecursion (λ e. EntryKeeps
 all_keep s [] h = tt
 all_keep s (e ∷ others) h = join_keeps s (placed s.place (demands_by e.entry)) (asserted s.place others) h.0 (all_keep s others h.1)
 
--- what the value at a keyword comes to, where every value keeps its rows
-at_keyword : (s : Settings) (ms : Members) (keyword : Keyword) (of : Data → Entry) → ((d : Data) → EntryKeeps s (of d)) → EntryKeeps s (entry_of of (value_at s.options keyword ms))
-at_keyword s ms keyword of h = value_keeps s of (value_at s.options keyword ms) h
-
-seven_keep : (s : Settings) (ms : Members) (p : Entry) → IsPatternAt s ms p → AllByRecursion (λ e. EntryKeeps s e.entry) (entries_with s ms p)
-seven_keep s ms p h = (
-  at_keyword s ms ContentMediaType (media_type_entry (content_rule s.draft) s ms) (media_type_entry_keeps s ms (content_rule s.draft)),
-  (
-    at_keyword s ms ContentEncoding (encoding_entry (content_rule s.draft) s ms) (encoding_entry_keeps s ms (content_rule s.draft)),
-    (
-      at_keyword s ms ContentSchema (schema_entry (content_rule s.draft) ms) (schema_entry_keeps s ms (content_rule s.draft)),
-      (
-        at_keyword s ms Format (format_entry s) (format_entry_keeps s),
-        (
-          at_keyword s ms MinLength min_entry (λ d. limit_keeps s at_least MinLength (as_limit d) (λ n. tt)),
-          (
-            at_keyword s ms MaxLength max_entry (λ d. limit_keeps s at_most MaxLength (as_limit d) (λ n. tt)),
-            (
-              pattern_keeps s (value_at s.options Pattern ms) p h,
-              tt,
-            ),
-          ),
-        ),
-      ),
-    ),
-  ),
-)
+entry_keeps : (s : Settings) (ms : Members) (k : Keyword) (e : Entry) → IsEntryAt s ms k e → EntryKeeps s e
+entry_keeps s ms ContentMediaType e = of_value (EntryKeeps s) (media_type_entry (content_rule s.draft) s ms) (value_at s.options ContentMediaType ms) e tt (media_type_entry_keeps s ms (content_rule s.draft))
+entry_keeps s ms ContentEncoding e = of_value (EntryKeeps s) (encoding_entry (content_rule s.draft) s ms) (value_at s.options ContentEncoding ms) e tt (encoding_entry_keeps s ms (content_rule s.draft))
+entry_keeps s ms ContentSchema e = of_value (EntryKeeps s) (schema_entry (content_rule s.draft) ms) (value_at s.options ContentSchema ms) e tt (schema_entry_keeps s ms (content_rule s.draft))
+entry_keeps s ms Format e = of_value (EntryKeeps s) (format_entry s) (value_at s.options Format ms) e tt (format_entry_keeps s)
+entry_keeps s ms MinLength e = of_value (EntryKeeps s) min_entry (value_at s.options MinLength ms) e tt (λ d. limit_keeps s at_least MinLength (as_limit d) (λ n. tt))
+entry_keeps s ms MaxLength e = of_value (EntryKeeps s) max_entry (value_at s.options MaxLength ms) e tt (λ d. limit_keeps s at_most MaxLength (as_limit d) (λ n. tt))
+entry_keeps s ms Pattern e = pattern_keeps s (value_at s.options Pattern ms) e
 
 pub in_use : CompiledIsInUse
-in_use s ms es h = rw h.2 (all_keep s (entries_with s ms h.0) (seven_keep s ms h.0 h.1))
+in_use s ms es h = all_keep s es (each_entry (EntryKeeps s) s ms (entry_keeps s ms) keywords es h.in_order)

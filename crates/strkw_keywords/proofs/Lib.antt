@@ -11,3 +11,6 @@ pub mod BuiltinNames
 pub mod Existence
 pub mod Lengths
 pub mod Folding
+pub mod First
+pub mod Entries
+pub mod EntriesOf

@@ -1,7 +1,7 @@
 -- On the errors that assertions report.
-use Rattle.std.proofs.Common.{◌≡◌, ◌<◌, ◌↔◌, ℕ, List, [], ◌∷◌, ◌++◌, map, Bool, false, Option, Some, None, refl, sym, ap, ◌∙◌, subst, inl, inr, length, get_or, arith, MatchOption, IsTrue, slice_get, Result, Ok, Err, OnOk}
+use Rattle.std.proofs.Common.{◌≡◌, ◌↔◌, ℕ, List, [], ◌∷◌, ◌++◌, map, Bool, true, false, Option, Some, None, refl, sym, ap, ◌∙◌, subst, inl, inr, MatchOption, IsTrue, slice_get, Result, Ok, Err, OnOk}
 use Rattle.std.proofs.lemmas.List.{append_assoc}
-use Rattle.strkw_report.specs.Kinds.{Kind, content_encoding, format, Report, report_at, Standing}
+use Rattle.strkw_report.specs.Kinds.{Kind, content_encoding, content_media_type, format, Report, report_at, Standing}
 use Rattle.strkw_report.specs.declared.error.Site.{Site}
 use Rattle.strkw_coding.specs.Laws.{EncodesOnce}
 use Rattle.strkw_coding.specs.declared.codec.Codec.{Codec}
@@ -9,20 +9,13 @@ use Rattle.strkw_coding.specs.declared.media_type.BuiltinMediaType.{BuiltinMedia
 use Rattle.std.specs.Str.{chars}
 use Rattle.strkw_keywords.specs.Meanings.{Decoded, no_encoding, no_text, decoded, CodecRow, Lists, Choice, builtin, row}
 use Rattle.strkw_keywords.specs.declared.keyword.Keyword.{Keyword}
-use Rattle.strkw_keywords.specs.declared.keyword.Keyword.TheVariants.{ContentEncoding, Format}
+use Rattle.strkw_keywords.specs.declared.keyword.Keyword.TheVariants.{ContentMediaType, ContentEncoding, Format}
 use Rattle.strkw_keywords.specs.Keywords.{keyword_name}
-use Rattle.strkw_keywords.specs.Demands.{Demand, is_media_type, is_encoded, encodes_media_type, is_format, at_least, at_most, compares, matches, Finding, HasFinding, FoundUnless, IsContentFinding, Decodes, CodecDecodes, listed, Finds, NodeFinding, NodeFinds, IsEncoded, IsOfFormat}
-use Rattle.strkw_keywords.specs.Choices.{chosen_codec_name, chosen_format_name}
+use Rattle.strkw_keywords.specs.Demands.{Demand, is_media_type, is_encoded, encodes_media_type, is_format, at_least, at_most, compares, matches, Finding, HasFinding, FoundUnless, IsContentFinding, Decodes, CodecDecodes, listed, Finds, IsEncoded, IsOfFormat, IsOfMediaType}
+use Rattle.strkw_keywords.specs.Choices.{chosen_codec_name, chosen_media_type_name, chosen_format_name}
 use Rattle.strkw_keywords.specs.declared.builtin.BuiltinFormat.{BuiltinFormat}
 use Rattle.strkw_keywords.specs.Places.{Place, standing}
 use Rattle.strkw_keywords.specs.Errors.{placed, reported, AllReport, NodeReports, Appends}
-
--- the first of what was collected
-pub first_collected : (P : List Report → Type 0) (old new : List Report) (x : Report) → old ≡ [] → Appends P old new → 0 < length new → x ≡ get_or new 0 x → (others : List Report) × P (x ∷ others)
-first_collected P [] [] x o a h e = absurd (omega arith)
-first_collected P (z ∷ zs) [] x o a h e = absurd (omega arith)
-first_collected P [] (y ∷ ys) x o a h e = (ys, rw e (subst P (sym a.grown) a.reported))
-first_collected P (z ∷ zs) (y ∷ ys) x o a h e = absurd (cc)
 
 -- ---- a text has one finding by a demand, or none
 
@@ -43,7 +36,7 @@ builtin-unique once c text (decoded t) no_encoding p q = absurd (q (t, p.0))
 builtin-unique once c text (decoded t) no_text p q = absurd (q.2 (rw (once c text q.0 t q.1 p.0) p.1))
 builtin-unique once c text (decoded t) (decoded u) p q = ap decoded (once c text t u p.0 q.0)
 
-row-unique : (o : Option CodecRow) (text : List ℕ) (a b : Decoded) → MatchOption o (a ≡ decoded text) (λ r. a ≡ r.decode (chars text)) → MatchOption o (b ≡ decoded text) (λ r. b ≡ r.decode (chars text)) → a ≡ b
+row-unique : (o : Option CodecRow) (text : List ℕ) (a b : Decoded) → MatchOption o (a ≡ no_encoding) (λ r. a ≡ r.decode (chars text)) → MatchOption o (b ≡ no_encoding) (λ r. b ≡ r.decode (chars text)) → a ≡ b
 row-unique None text a b p q = p ∙ sym q
 row-unique (Some r) text a b p q = p ∙ sym q
 
@@ -78,7 +71,7 @@ errors_listed : (s : Standing) (text : List ℕ) (found : Option Finding) (rest 
 errors_listed s text None rest = refl
 errors_listed s text (Some f) rest = refl
 
-found_reports : (place : Place) (ds : List Demand) (lists : Lists) (site : Site) (text : List ℕ) (fs : List Finding) → Finds ds lists text fs → AllReport (placed place ds) lists site text (errors_of (standing place site) text fs)
+pub found_reports : (place : Place) (ds : List Demand) (lists : Lists) (site : Site) (text : List ℕ) (fs : List Finding) → Finds ds lists text fs → AllReport (placed place ds) lists site text (errors_of (standing place site) text fs)
 found_reports place [] lists site text fs h = rw h refl
 found_reports place (d ∷ others) lists site text fs h =
     (h.0, errors_of (standing place site) text h.1, h.2, ap (errors_of (standing place site) text) h.3 ∙ errors_listed (standing place site) text h.0 h.1, found_reports place others lists site text h.1 h.4)
@@ -87,7 +80,7 @@ pub none_reported : (s : Standing) (text : List ℕ) (found : Option Finding) (r
 none_reported s text None rest e = (refl, sym e)
 none_reported s text (Some f) rest e = absurd (cc)
 
-none_found : EncodesOnce → (place : Place) (ds : List Demand) (lists : Lists) (site : Site) (text : List ℕ) (fs : List Finding) → Finds ds lists text fs → AllReport (placed place ds) lists site text [] → fs ≡ []
+pub none_found : EncodesOnce → (place : Place) (ds : List Demand) (lists : Lists) (site : Site) (text : List ℕ) (fs : List Finding) → Finds ds lists text fs → AllReport (placed place ds) lists site text [] → fs ≡ []
 none_found once place [] lists site text fs h r = h
 none_found once place (d ∷ others) lists site text fs h r =
     let parts = none_reported (standing place site) text r.0 r.1 r.3 in
@@ -95,10 +88,9 @@ none_found once place (d ∷ others) lists site text fs h r =
     let rest = none_found once place others lists site text h.1 h.4 (subst (λ l. AllReport (placed place others) lists site text l) parts.1 r.4) in
     h.3 ∙ ap (λ o. listed o ++ h.1) same ∙ rest
 
--- a node is valid where nothing is found
-pub valid_by_findings : EncodesOnce → (place : Place) (ds : List Demand) (lists : Lists) (node : Option (List ℕ)) (fs : List Finding) (b : Bool) → NodeFinds ds lists node fs → (IsTrue b ↔ (fs ≡ [])) → (site : Site) → IsTrue b ↔ NodeReports (placed place ds) lists site node []
-valid_by_findings once place ds lists None fs b h t site = ((λ _. refl), (λ _. t.1 h))
-valid_by_findings once place ds lists (Some text) fs b h t site = (
+-- a text is valid where nothing is found
+pub valid_by_findings : EncodesOnce → (place : Place) (ds : List Demand) (lists : Lists) (there : Option (List ℕ)) (text : List ℕ) (fs : List Finding) (b : Bool) → Some text ≡ there → Finds ds lists text fs → (IsTrue b ↔ (fs ≡ [])) → (site : Site) → IsTrue b ↔ NodeReports (placed place ds) lists site there []
+valid_by_findings once place ds lists there text fs b e h t site = subst (λ n. IsTrue b ↔ NodeReports (placed place ds) lists site n []) e (
   (λ yes. subst (λ l. AllReport (placed place ds) lists site text (errors_of (standing place site) text l)) (t.0 yes) (found_reports place ds lists site text fs h)),
   (λ r. t.1 (none_found once place ds lists site text fs h r)),
 )
@@ -108,41 +100,44 @@ two_reported s text a None = errors_listed s text a []
 two_reported s text a (Some f) = errors_listed s text a (f ∷ [])
 
 -- what is collected of two findings
-collected_of_text : (place : Place) (ds : List Demand) (lists : Lists) (site : Site) (text : List ℕ) (a b : Option Finding) (old new : List Report) → new ≡ old ++ reported (standing place site) text a ++ reported (standing place site) text b → NodeFinds ds lists (Some text) (listed a ++ listed b) → Appends (NodeReports (placed place ds) lists site (Some text)) old new
+collected_of_text : (place : Place) (ds : List Demand) (lists : Lists) (site : Site) (text : List ℕ) (a b : Option Finding) (old new : List Report) → new ≡ old ++ reported (standing place site) text a ++ reported (standing place site) text b → Finds ds lists text (listed a ++ listed b) → Appends (NodeReports (placed place ds) lists site (Some text)) old new
 collected_of_text place ds lists site text a b old new g h = record {
   added = reported (standing place site) text a ++ reported (standing place site) text b;
   grown = g ∙ append_assoc old (reported (standing place site) text a) (reported (standing place site) text b);
   reported = rw (← two_reported (standing place site) text a b) (found_reports place ds lists site text (listed a ++ listed b) h);
 }
 
-pub collected_by_findings : (place : Place) (ds : List Demand) (lists : Lists) (site : Site) (there : Option (List ℕ)) (text : List ℕ) (a b : Option Finding) (old new : List Report) → Some text ≡ there → NodeFinds ds lists there (listed a ++ listed b) → new ≡ old ++ reported (standing place site) text a ++ reported (standing place site) text b → Appends (NodeReports (placed place ds) lists site there) old new
+pub collected_by_findings : (place : Place) (ds : List Demand) (lists : Lists) (site : Site) (there : Option (List ℕ)) (text : List ℕ) (a b : Option Finding) (old new : List Report) → Some text ≡ there → Finds ds lists text (listed a ++ listed b) → new ≡ old ++ reported (standing place site) text a ++ reported (standing place site) text b → Appends (NodeReports (placed place ds) lists site there) old new
 collected_by_findings place ds lists site there text a b old new e h g =
-    subst (λ n. NodeFinds ds lists n (listed a ++ listed b) → Appends (NodeReports (placed place ds) lists site n) old new) e (collected_of_text place ds lists site text a b old new g) h
+    subst (λ n. Appends (NodeReports (placed place ds) lists site n) old new) e (collected_of_text place ds lists site text a b old new g h)
 
 -- the same of a call that may be refused
-pub collected_ok : {E : Type 0} (r : Result (Unit {0}) E) (place : Place) (ds : List Demand) (lists : Lists) (site : Site) (there : Option (List ℕ)) (text : List ℕ) (a b : Option Finding) (old new : List Report) → Some text ≡ there → NodeFinds ds lists there (listed a ++ listed b) → OnOk r (new ≡ old ++ reported (standing place site) text a ++ reported (standing place site) text b) → OnOk r (Appends (NodeReports (placed place ds) lists site there) old new)
+pub collected_ok : {E : Type 0} (r : Result (Unit {0}) E) (place : Place) (ds : List Demand) (lists : Lists) (site : Site) (there : Option (List ℕ)) (text : List ℕ) (a b : Option Finding) (old new : List Report) → Some text ≡ there → Finds ds lists text (listed a ++ listed b) → OnOk r (new ≡ old ++ reported (standing place site) text a ++ reported (standing place site) text b) → OnOk r (Appends (NodeReports (placed place ds) lists site there) old new)
 collected_ok (Ok x) place ds lists site there text a b old new e h g = collected_by_findings place ds lists site there text a b old new e h g
 collected_ok (Err x) place ds lists site there text a b old new e h g = tt
 
 -- ---- one finding
 
-pub finds_one : (d : Demand) (lists : Lists) (node : Option (List ℕ)) (found : Option Finding) → NodeFinding d lists node found → NodeFinds (d ∷ []) lists node (listed found ++ [])
-finds_one d lists None found h = rw h refl
-finds_one d lists (Some text) found h = (found, [], h, refl, refl)
+pub finds_one : (d : Demand) (lists : Lists) (text : List ℕ) (found : Option Finding) → HasFinding d lists text found → Finds (d ∷ []) lists text (listed found ++ [])
+finds_one d lists text found h = (found, [], h, refl, refl)
 
 -- ---- one text
-
--- a node that is a text
-pub at_text : (d : Demand) (lists : Lists) (there : Option (List ℕ)) (text : List ℕ) (found : Option Finding) → Some text ≡ there → HasFinding d lists text found → NodeFinding d lists there found
-at_text d lists there text found e h = subst (λ n. NodeFinding d lists n found) e h
 
 not_true : (b : Bool) (P : Type 0) → b ≡ false → (IsTrue b ↔ P) → P → ⊥
 not_true b P e t p = let yes = t.1 p in absurd (cc)
 
 -- a text that its codec does not take
-pub not_encoded : (c : Choice Codec) (lists : Lists) (there : Option (List ℕ)) (text name : List ℕ) (b : Bool) → Some text ≡ there → b ≡ false → (IsTrue b ↔ IsEncoded c lists text) → name ≡ chosen_codec_name c → NodeFinding (is_encoded c) lists there (Some (record { keyword = ContentEncoding; kind = content_encoding name }))
-not_encoded c lists there text name b e f t n = at_text (is_encoded c) lists there text _ e (inr (not_true b (IsEncoded c lists text) f t, rw n refl))
+pub not_encoded : (c : Choice Codec) (lists : Lists) (text name : List ℕ) (b : Bool) → b ≡ false → (IsTrue b ↔ IsEncoded c lists text) → name ≡ chosen_codec_name c → HasFinding (is_encoded c) lists text (Some (record { keyword = ContentEncoding; kind = content_encoding name }))
+not_encoded c lists text name b f t n = inr (not_true b (IsEncoded c lists text) f t, rw n refl)
 
 -- a text that its format does not admit
-pub not_of_format : (f : Choice BuiltinFormat) (lists : Lists) (there : Option (List ℕ)) (text name : List ℕ) (b : Bool) → Some text ≡ there → b ≡ false → (IsTrue b ↔ IsOfFormat f lists text) → name ≡ chosen_format_name f → NodeFinding (is_format f) lists there (Some (record { keyword = Format; kind = format name }))
-not_of_format f lists there text name b e h t n = at_text (is_format f) lists there text _ e (inr (not_true b (IsOfFormat f lists text) h t, rw n refl))
+pub not_of_format : (f : Choice BuiltinFormat) (lists : Lists) (text name : List ℕ) (b : Bool) → b ≡ false → (IsTrue b ↔ IsOfFormat f lists text) → name ≡ chosen_format_name f → HasFinding (is_format f) lists text (Some (record { keyword = Format; kind = format name }))
+not_of_format f lists text name b h t n = inr (not_true b (IsOfFormat f lists text) h t, rw n refl)
+
+-- a text that encodes one of the media type
+pub decodes_well : (c : Choice Codec) (m : Choice BuiltinMediaType) (lists : Lists) (text t : List ℕ) (d : Decoded) (b : Bool) → d ≡ decoded t → Decodes c lists text d → b ≡ true → (IsTrue b ↔ IsOfMediaType m lists t) → HasFinding (encodes_media_type c m) lists text None
+decodes_well c m lists text t d b e h accepted of = (decoded t, subst (Decodes c lists text) e h, inl (of.0 accepted, refl))
+
+-- and one that encodes another
+pub decodes_badly : (c : Choice Codec) (m : Choice BuiltinMediaType) (lists : Lists) (text t name : List ℕ) (d : Decoded) (b : Bool) → d ≡ decoded t → Decodes c lists text d → b ≡ false → (IsTrue b ↔ IsOfMediaType m lists t) → name ≡ chosen_media_type_name m → HasFinding (encodes_media_type c m) lists text (Some (record { keyword = ContentMediaType; kind = content_media_type name }))
+decodes_badly c m lists text t name d b e h refused of n = (decoded t, subst (Decodes c lists text) e h, inr (not_true b (IsOfMediaType m lists t) refused of, rw n refl))

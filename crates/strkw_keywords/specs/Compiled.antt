@@ -1,5 +1,5 @@
 -- What compile functions answer.
-use Rattle.std.specs.Prelude.{◌≡◌, ◌⊎◌, ℕ, List, [], ◌∷◌, Option, Some, None, Result, Ok, Err}
+use Rattle.std.specs.Prelude.{◌≡◌, ◌⊎◌, ℕ, List, [], ◌∷◌, Option, Some, None, Result, Ok, Err, if◌then◌else◌}
 use Rattle.serde_json.specs.Data.{Members}
 use Rattle.strkw_report.specs.Paths.{below}
 use Rattle.strkw_report.specs.Refusals.{memory, Refusal, reason_of, refusal_of}
@@ -9,11 +9,14 @@ use Rattle.strkw_keywords.specs.declared.compile.Refused.{Refused}
 use Rattle.strkw_keywords.specs.declared.compile.Refused.TheVariants.{Malformed, Memory}
 use Rattle.strkw_keywords.specs.declared.validator.Validator.{Validator}
 use Rattle.strkw_keywords.specs.Keywords.{keyword_name}
+use Rattle.strkw_keywords.specs.declared.keyword.Keyword.TheVariants.{MinLength, MaxLength}
+use Rattle.strkw_keywords.specs.declared.options.Options.{Options}
+use Rattle.strkw_keywords.specs.Object.{Settings, Entry, Keyed, AreEntriesOf, share, is_fused, least_entry, greatest_entry, refusal, asserted, remarked}
+use Rattle.strkw_keywords.specs.declared.keyword.Keyword.{Keyword}
 use Rattle.strkw_keywords.specs.Places.{Place}
 use Rattle.strkw_keywords.specs.Validators.{place_of, assertions_of, remark_made, listed_remark}
-use Rattle.strkw_keywords.specs.Object.{Settings, Entry, Keyed, pattern_keyed, IsPatternAt, refusal, asserted, remarked}
 
--- the refusal of a growth: it stands at the root
+-- out of memory: it stands at the root
 abbrev pub out_of_memory : Refusal
 out_of_memory = record { reason = memory; location = [] }
 
@@ -24,6 +27,18 @@ pub record StandsFor {E : Type 0} (outcome : E → List ℕ → Outcome) (place 
   pub asserts : assertions_of outcome v ≡ asserted place es
   pub notes : listed_remark (remark_made v) ≡ remarked place es
   pub stands : place_of v ≡ place
+
+-- one entry
+abbrev pub alone : Keyword → Entry → List Keyed
+alone k e = record { keyword = k; entry = e } ∷ []
+
+-- the entries that the validator of `minLength` stands for, and those that are left to `maxLength`
+abbrev pub min_share : Options → Members → List Keyed
+min_share options ms = record { keyword = MinLength; entry = least_entry options ms }
+    ∷ (if is_fused options ms then alone MaxLength (greatest_entry options ms) else [])
+
+abbrev pub max_share : Options → Members → List Keyed
+max_share options ms = if is_fused options ms then [] else alone MaxLength (greatest_entry options ms)
 
 -- these entries add nothing
 pub record AddsNothing (place : Place) (es : List Keyed) : Type 0 where
@@ -45,13 +60,11 @@ IsBuiltCase outcome place es (Err r) = (r ≡ Memory) ⊎ (refusal place es ≡ 
 pub record IsBuilt {E : Type 0} (outcome : E → List ℕ → Outcome) (place : Place) (es : List Keyed) (result : Result (Option (Validator E)) Refused) : Type 0 where
   pub answer : IsBuiltCase outcome place es result
 
-abbrev pub IsPatternBuiltCase : {E : Type 0} → (E → List ℕ → Outcome) → Settings → Members → Result (Option (Validator E)) Refused → Type 0
-IsPatternBuiltCase outcome s ms (Ok None) = (p : Entry) × IsPatternAt s ms p × AddsNothing s.place (pattern_keyed p ∷ [])
-IsPatternBuiltCase outcome s ms (Ok (Some v)) = (p : Entry) × IsPatternAt s ms p × StandsFor outcome s.place (pattern_keyed p ∷ []) v
-IsPatternBuiltCase outcome s ms (Err r) = (r ≡ Memory) ⊎ ((p : Entry) → IsPatternAt s ms p → refusal s.place (pattern_keyed p ∷ []) ≡ Some (refused_at s.place r))
-
-pub record IsPatternBuilt {E : Type 0} (outcome : E → List ℕ → Outcome) (s : Settings) (ms : Members) (result : Result (Option (Validator E)) Refused) : Type 0 where
-  pub answer : IsPatternBuiltCase outcome s ms result
+-- the same of a keyword, for the entries for which its validator is to stand
+pub record IsBuiltAt {E : Type 0} (outcome : E → List ℕ → Outcome) (s : Settings) (ms : Members) (k : Keyword) (result : Result (Option (Validator E)) Refused) : Type 0 where
+  pub entries : List Keyed
+  pub are_entries : AreEntriesOf s ms (share (is_fused s.options ms) k) entries
+  pub answer : IsBuilt outcome s.place entries result
 
 -- ---- answers
 
@@ -60,15 +73,12 @@ IsCompiledCase outcome place es None = AddsNothing place es
 IsCompiledCase outcome place es (Some (Ok v)) = StandsFor outcome place es v
 IsCompiledCase outcome place es (Some (Err e)) = (refusal_of e ≡ out_of_memory) ⊎ (refusal place es ≡ Some (refusal_of e))
 
--- the answer for some entries: that they add nothing, what stands for them, or the first refusal, or no memory
+-- the answer for some entries: that they add nothing, what stands for them, or the first refusal, or out of memory
 pub record IsCompiled {E : Type 0} (outcome : E → List ℕ → Outcome) (place : Place) (es : List Keyed) (result : Option (Result (Validator E) CompileError)) : Type 0 where
   pub answer : IsCompiledCase outcome place es result
 
-abbrev pub IsPatternCompiledCase : {E : Type 0} → (E → List ℕ → Outcome) → Settings → Members → Option (Result (Validator E) CompileError) → Type 0
-IsPatternCompiledCase outcome s ms None = (p : Entry) × IsPatternAt s ms p × AddsNothing s.place (pattern_keyed p ∷ [])
-IsPatternCompiledCase outcome s ms (Some (Ok v)) = (p : Entry) × IsPatternAt s ms p × StandsFor outcome s.place (pattern_keyed p ∷ []) v
-IsPatternCompiledCase outcome s ms (Some (Err e)) = (refusal_of e ≡ out_of_memory) ⊎ ((p : Entry) → IsPatternAt s ms p → refusal s.place (pattern_keyed p ∷ []) ≡ Some (refusal_of e))
-
--- the same of `pattern`: some entry that the pattern has adds nothing or is stood for, or all of them are refused so
-pub record IsPatternCompiled {E : Type 0} (outcome : E → List ℕ → Outcome) (s : Settings) (ms : Members) (result : Option (Result (Validator E) CompileError)) : Type 0 where
-  pub answer : IsPatternCompiledCase outcome s ms result
+-- the answer for a keyword: that of the entries for which its validator is to stand
+pub record IsCompiledAt {E : Type 0} (outcome : E → List ℕ → Outcome) (s : Settings) (ms : Members) (k : Keyword) (result : Option (Result (Validator E) CompileError)) : Type 0 where
+  pub entries : List Keyed
+  pub are_entries : AreEntriesOf s ms (share (is_fused s.options ms) k) entries
+  pub answer : IsCompiled outcome s.place entries result

@@ -33,9 +33,9 @@ pub record Finding : Type 0 where
 
 -- ---- what the words of a schema mean
 
--- the row at a position admits the text, if there is one
+-- the row at a position admits the text; where there is no row, nothing is admitted
 abbrev pub Admits : List Row → ℕ → List ℕ → Type 0
-Admits rows at text = MatchOption (slice_get rows at) (Unit {0}) (λ r. IsTrue (r.admits (chars text)))
+Admits rows at text = MatchOption (slice_get rows at) ⊥ (λ r. IsTrue (r.admits (chars text)))
 
 abbrev pub IsOfFormat : Choice BuiltinFormat → Lists → List ℕ → Type 0
 IsOfFormat (builtin f) lists text = IsOfBuiltin f (chars text)
@@ -45,9 +45,9 @@ abbrev pub IsOfMediaType : Choice BuiltinMediaType → Lists → List ℕ → Ty
 IsOfMediaType (builtin m) lists text = IsOfBuiltinMediaType m text
 IsOfMediaType (row at name) lists text = Admits lists.media_types at text
 
--- the codec at a position takes the text for an encoding, if there is one
+-- the codec at a position takes the text for an encoding; where there is no row, nothing is one
 abbrev pub Takes : List CodecRow → ℕ → List ℕ → Type 0
-Takes rows at text = MatchOption (slice_get rows at) (Unit {0}) (λ r. IsTrue (r.is_encoded (chars text)))
+Takes rows at text = MatchOption (slice_get rows at) ⊥ (λ r. IsTrue (r.is_encoded (chars text)))
 
 abbrev pub IsEncoded : Choice Codec → Lists → List ℕ → Type 0
 IsEncoded (builtin c) lists text = IsEncoding c text
@@ -59,7 +59,7 @@ CodecDecodes c text no_text = EncodesNoText c text
 CodecDecodes c text (decoded t) = Encodes c text t × IsUtf8 t
 
 abbrev pub RowDecodes : List CodecRow → ℕ → List ℕ → Decoded → Type 0
-RowDecodes rows at text d = MatchOption (slice_get rows at) (d ≡ decoded text) (λ r. d ≡ r.decode (chars text))
+RowDecodes rows at text d = MatchOption (slice_get rows at) (d ≡ no_encoding) (λ r. d ≡ r.decode (chars text))
 
 -- the text decodes to this
 abbrev pub Decodes : Choice Codec → Lists → List ℕ → Decoded → Type 0
@@ -102,14 +102,8 @@ listed (Some f) = f ∷ []
 -- these are the findings of a text by several demands, in their order
 abbrev pub Finds : List Demand → Lists → List ℕ → List Finding → Type 0
 Finds [] lists text fs = fs ≡ []
-Finds (d ∷ others) lists text fs = (found : Option Finding) × (rest : List Finding) × HasFinding d lists text found × (fs ≡ listed found ++ rest) × Finds others lists text rest
-
--- the same of a node, which has none where it is no text
-abbrev pub NodeFinding : Demand → Lists → Option (List ℕ) → Option Finding → Type 0
-NodeFinding d lists node found = MatchOption node (found ≡ None) (λ text. HasFinding d lists text found)
-
-abbrev pub NodeFinds : List Demand → Lists → Option (List ℕ) → List Finding → Type 0
-NodeFinds ds lists node fs = MatchOption node (fs ≡ []) (λ text. Finds ds lists text fs)
+Finds (d ∷ others) lists text fs = (found : Option Finding) × (rest : List Finding) × HasFinding d lists text found × (fs ≡ listed found ++ rest)
+    × Finds others lists text rest
 
 -- ---- the rows that demands rest on
 

@@ -1,5 +1,5 @@
 -- Findings, as the code keeps them.
-use Rattle.std.specs.Prelude.{List, ◌++◌, option_map}
+use Rattle.std.specs.Prelude.{List, [], ◌∷◌, ◌++◌, Option, Some, None, option_map}
 use Rattle.strkw_report.specs.Kinds.{min_length, max_length, pattern, backtrack_limit_exceeded, regex_engine_failure, format, content_encoding, content_media_type, from_utf8}
 use Rattle.strkw_keywords.specs.declared.keyword.Keyword.TheVariants.{ContentMediaType, ContentEncoding, Format, MinLength, MaxLength, Pattern}
 use Rattle.strkw_keywords.specs.Demands.{Finding, listed}
@@ -20,3 +20,8 @@ finding_of found.FromUtf8 = record { keyword = ContentEncoding; kind = from_utf8
 
 abbrev pub findings_of : Findings → List Finding
 findings_of fs = listed (option_map finding_of fs.first) ++ listed (option_map finding_of fs.second)
+
+-- the first of several findings
+abbrev pub first_of : List Finding → Option Finding
+first_of [] = None
+first_of (f ∷ fs) = Some f

@@ -19,7 +19,8 @@ use Rattle.strkw_keywords.specs.declared.builtin.BuiltinFormat.TheVariants.{Date
 
 -- each format once, in order
 abbrev pub formats : List BuiltinFormat
-formats = Date ∷ DateTime ∷ Duration ∷ Hostname ∷ HostnameDraft4 ∷ Ipv4 ∷ Ipv6 ∷ Iri ∷ IriReference ∷ JsonPointer ∷ RelativeJsonPointer ∷ Time ∷ Uri ∷ UriReference ∷ UriTemplate ∷ Uuid ∷ []
+formats = Date ∷ DateTime ∷ Duration ∷ Hostname ∷ HostnameDraft4 ∷ Ipv4 ∷ Ipv6 ∷ Iri ∷ IriReference ∷ JsonPointer ∷ RelativeJsonPointer ∷ Time
+    ∷ Uri ∷ UriReference ∷ UriTemplate ∷ Uuid ∷ []
 
 -- how many formats stand before it
 abbrev pub format_place : BuiltinFormat → ℕ

@@ -66,6 +66,11 @@ abbrev pub ErrorsAreDetermined : Type 0
 ErrorsAreDetermined = (s : Settings) (ms : Members) (lists : Lists) (site : Site) (node : Option (List ℕ)) (rs others : List Report)
     → Errors s ms lists site node rs → Errors s ms lists site node others → rs ≡ others
 
+-- and it cannot be that it has none
+abbrev pub ErrorsAreThere : Type 0
+ErrorsAreThere = (s : Settings) (ms : Members) (lists : Lists) (site : Site) (node : Option (List ℕ))
+    → ((rs : List Report) → Errors s ms lists site node rs → ⊥) → ⊥
+
 -- what is compiled under some lists is in use with them
 abbrev pub CompiledIsInUse : Type 0
 CompiledIsInUse = (s : Settings) (ms : Members) (es : List Keyed) → AreEntries s ms es → IsInUse (asserted s.place es) s.lists

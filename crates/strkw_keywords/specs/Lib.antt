@@ -9,13 +9,17 @@ pub mod Places
 pub mod Errors
 pub mod Remarks
 pub mod Findings
+pub mod Parts
 pub mod Verdicts
 pub mod Decodings
 pub mod LiteralKinds
 pub mod Validators
 pub mod Object
+pub mod Rules
 pub mod Settings
+pub mod Handed
 pub mod Compiled
 pub mod Laws
 pub mod Lengths
 pub mod Folding
+pub mod FirstLaws

@@ -70,10 +70,6 @@ is_overridden options keyword = is_on options.overridden (keyword_place keyword)
 abbrev pub value_at : Options → Keyword → Members → Option Data
 value_at options keyword ms = if is_overridden options keyword then None else get_member (keyword_name keyword) ms
 
-abbrev pub entry_of : (Data → Entry) → Option Data → Entry
-entry_of of None = nothing
-entry_of of (Some d) = of d
-
 -- why a value that is no string is refused
 abbrev pub no_string : Data → Reason
 no_string d = if has_float d then fractional_number else not_string d
@@ -216,7 +212,8 @@ checked_format s name (Some f) = gives (is_format f ∷ []) (Some (string name))
 checked_format s name None = if ignores_unknown s.options then nothing else malformed Format (unknown_format name s.options.formats_by_dialect)
 
 abbrev pub format_entry : Settings → Data → Entry
-format_entry s d = of_text (λ name. if checks_formats s.options s.draft then checked_format s name (known_format s name) else gives [] (Some (string name))) Format d
+format_entry s d = of_text (λ name. if checks_formats s.options s.draft then checked_format s name (known_format s name)
+    else gives [] (Some (string name))) Format d
 
 -- ---- lengths
 
@@ -257,50 +254,33 @@ pub record Keyed : Type 0 where
   pub keyword : Keyword
   pub entry : Entry
 
--- what the value at a keyword comes to, where that value has one entry
-abbrev pub keyed_by : Options → Members → Keyword → (Data → Entry) → Keyed
-keyed_by options ms keyword of = record { keyword = keyword; entry = entry_of of (value_at options keyword ms) }
+-- the keywords, in the order in which entries are looked at
+abbrev pub keywords : List Keyword
+keywords = ContentMediaType ∷ ContentEncoding ∷ ContentSchema ∷ Format ∷ MinLength ∷ MaxLength ∷ Pattern ∷ []
 
-abbrev pub media_type_keyed : Settings → Members → Keyed
-media_type_keyed s ms = keyed_by s.options ms ContentMediaType (media_type_entry (content_rule s.draft) s ms)
+-- what the value at a keyword comes to
+abbrev pub IsEntryOf : Settings → Members → Keyword → Data → Entry → Type 0
+IsEntryOf s ms ContentMediaType d e = e ≡ media_type_entry (content_rule s.draft) s ms d
+IsEntryOf s ms ContentEncoding d e = e ≡ encoding_entry (content_rule s.draft) s ms d
+IsEntryOf s ms ContentSchema d e = e ≡ schema_entry (content_rule s.draft) ms d
+IsEntryOf s ms Format d e = e ≡ format_entry s d
+IsEntryOf s ms MinLength d e = e ≡ min_entry d
+IsEntryOf s ms MaxLength d e = e ≡ max_entry d
+IsEntryOf s ms Pattern d e = IsPatternValue s d e
 
-abbrev pub encoding_keyed : Settings → Members → Keyed
-encoding_keyed s ms = keyed_by s.options ms ContentEncoding (encoding_entry (content_rule s.draft) s ms)
+-- this is the entry of a keyword: nothing where the object has no such key, or the keyword is overridden
+abbrev pub IsEntryAt : Settings → Members → Keyword → Entry → Type 0
+IsEntryAt s ms k e = MatchOption (value_at s.options k ms) (e ≡ nothing) (λ d. IsEntryOf s ms k d e)
 
-abbrev pub schema_keyed : Settings → Members → Keyed
-schema_keyed s ms = keyed_by s.options ms ContentSchema (schema_entry (content_rule s.draft) ms)
-
-abbrev pub format_keyed : Settings → Members → Keyed
-format_keyed s ms = keyed_by s.options ms Format (format_entry s)
-
-abbrev pub min_keyed : Options → Members → Keyed
-min_keyed options ms = keyed_by options ms MinLength min_entry
-
-abbrev pub max_keyed : Options → Members → Keyed
-max_keyed options ms = keyed_by options ms MaxLength max_entry
-
-abbrev pub pattern_keyed : Entry → Keyed
-pattern_keyed e = record { keyword = Pattern; entry = e }
-
--- this is the entry of `pattern`
-abbrev pub IsPatternAt : Settings → Members → Entry → Type 0
-IsPatternAt s ms e = MatchOption (value_at s.options Pattern ms) (e ≡ nothing) (λ d. IsPatternValue s d e)
-
--- the seven entries in their order, p being that of `pattern`
-abbrev pub entries_with : Settings → Members → Entry → List Keyed
-entries_with s ms p =
-    media_type_keyed s ms
-    ∷ encoding_keyed s ms
-    ∷ schema_keyed s ms
-    ∷ format_keyed s ms
-    ∷ min_keyed s.options ms
-    ∷ max_keyed s.options ms
-    ∷ pattern_keyed p
-    ∷ []
+-- these are the entries of some keywords, in their order
+abbrev pub AreEntriesOf : Settings → Members → List Keyword → List Keyed → Type 0
+AreEntriesOf s ms [] es = es ≡ []
+AreEntriesOf s ms (k ∷ ks) es = (e : Entry) × (rest : List Keyed) × IsEntryAt s ms k e × (es ≡ record { keyword = k; entry = e } ∷ rest)
+    × AreEntriesOf s ms ks rest
 
 -- these are the entries of an object
-abbrev pub AreEntries : Settings → Members → List Keyed → Type 0
-AreEntries s ms es = (p : Entry) × IsPatternAt s ms p × (es ≡ entries_with s ms p)
+pub record AreEntries (s : Settings) (ms : Members) (es : List Keyed) : Type 0 where
+  pub in_order : AreEntriesOf s ms keywords es
 
 -- ---- what entries say together
 
@@ -339,6 +319,19 @@ remarked place (e ∷ others) = remark_by place e.keyword e.entry ++ remarked pl
 abbrev pub Errors : Settings → Members → Lists → Site → Option (List ℕ) → List Report → Type 0
 Errors s ms lists site node rs = (es : List Keyed) × AreEntries s ms es × NodeReports (asserted s.place es) lists site node rs
 
+-- the first refusal of the entries of a schema object, or that none of them is refused
+abbrev pub FirstRefusal : Settings → Members → Option Refusal → Type 0
+FirstRefusal s ms first = (es : List Keyed) × AreEntries s ms es × (refusal s.place es ≡ first)
+
+-- remarks are made of texts alone
+abbrev pub remarks_on : Option (List ℕ) → List Remark → List Remark
+remarks_on None remarks = []
+remarks_on (Some text) remarks = remarks
+
+-- these are the notes of a node by a schema object: those of its entries in their order, whatever its errors are
+abbrev pub Notes : Settings → Members → Option (List ℕ) → List Remark → Type 0
+Notes s ms node remarks = (es : List Keyed) × AreEntries s ms es × (remarks ≡ remarks_on node (remarked s.place es))
+
 -- ---- the two lengths, which one validator may stand for
 
 abbrev pub is_given : Entry → Bool
@@ -346,14 +339,31 @@ is_given nothing = false
 is_given (malformed keyword why) = false
 is_given (gives ds remark) = true
 
+abbrev pub entry_of : (Data → Entry) → Option Data → Entry
+entry_of of None = nothing
+entry_of of (Some d) = of d
+
+-- the entries of both lengths
+abbrev pub least_entry : Options → Members → Entry
+least_entry options ms = entry_of min_entry (value_at options MinLength ms)
+
+abbrev pub greatest_entry : Options → Members → Entry
+greatest_entry options ms = entry_of max_entry (value_at options MaxLength ms)
+
 -- both limits are there and good
 abbrev pub is_fused : Options → Members → Bool
-is_fused options ms = is_given (min_keyed options ms).entry && is_given (max_keyed options ms).entry
+is_fused options ms = is_given (least_entry options ms) && is_given (greatest_entry options ms)
 
--- the entries that the validator of `minLength` stands for
-abbrev pub min_share : Options → Members → List Keyed
-min_share options ms = min_keyed options ms ∷ (if is_fused options ms then max_keyed options ms ∷ [] else [])
+-- the keywords for whose entries one validator stands
+abbrev pub share : Bool → Keyword → List Keyword
+share fused ContentMediaType = ContentMediaType ∷ []
+share fused ContentEncoding = ContentEncoding ∷ []
+share fused ContentSchema = ContentSchema ∷ []
+share fused Format = Format ∷ []
+share fused MinLength = MinLength ∷ (if fused then MaxLength ∷ [] else [])
+share fused MaxLength = if fused then [] else MaxLength ∷ []
+share fused Pattern = Pattern ∷ []
 
--- and those that are left to `maxLength`
-abbrev pub max_share : Options → Members → List Keyed
-max_share options ms = if is_fused options ms then [] else max_keyed options ms ∷ []
+abbrev pub shares : Bool → List Keyword → List Keyword
+shares fused [] = []
+shares fused (k ∷ ks) = share fused k ++ shares fused ks

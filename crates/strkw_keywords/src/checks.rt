@@ -1,10 +1,15 @@
+//! The caller's own checks: the traits that they implement, their rows, and the first row of a name.
+
 ghost use Rattle.std.specs.Prelude.{◌≡◌, ◌↔◌, List, ℕ, Bool, Some, None, IfOk, IfErr, MatchOption, IsTrue, string_bytes};
 ghost use Rattle.std.specs.List.{position_from};
 ghost use Rattle.std.specs.Str.{chars, bytes_eq};
 ghost use Rattle.strkw_keywords.specs.Meanings.{no_encoding, no_text, decoded, row_names, codec_names, first_named};
-ghost use Rattle.strkw_keywords.specs.Lists.{lists};
-ghost use Rattle.strkw_keywords.specs.Demands.{Admits, Takes};
+ghost use Rattle.strkw_keywords.specs.Lists.{lists_of};
+ghost use Rattle.strkw_keywords.specs.Demands.{Admits, Takes, KeepsFirst};
+ghost use Rattle.strkw_keywords.specs.Choices.{choice_of};
+ghost use Rattle.strkw_keywords.specs.Parts.{IsFirst};
 
+use crate::parts::RowRef;
 use std::alloc::{AllocError, Global};
 use strkw_coding::DecodeError;
 
@@ -14,7 +19,7 @@ pub trait Format: Drop {
     /// Whether it admits a text.
     ghost admits: { Self → List ℕ → Bool };
 
-    /// Whether it admits the text. The only error is want of memory.
+    /// Whether it admits the text. The only error is out of memory.
     fn is_valid(&self, alloc: Global, value: &str) -> Result<bool, AllocError>
         ensures { IfOk result (λ b. b ≡ admits self.now (chars value.now)) };
 }
@@ -24,7 +29,7 @@ pub trait MediaTypeCheck: Drop {
     /// Which texts are of the media type.
     ghost accepted: { Self → List ℕ → Bool };
 
-    /// Whether the text is of the media type. The only error is want of memory.
+    /// Whether the text is of the media type. The only error is out of memory.
     fn accepts(&self, alloc: Global, value: &str) -> Result<bool, AllocError>
         ensures { IfOk result (λ b. b ≡ accepted self.now (chars value.now)) };
 }
@@ -40,7 +45,7 @@ pub trait ContentCodec: Drop {
     /// What a text decodes to.
     ghost decoding: { Self → List ℕ → Decoded };
 
-    /// Whether the text is an encoding. The only error is want of memory.
+    /// Whether the text is an encoding. The only error is out of memory.
     fn is_encoded(&self, alloc: Global, value: &str) -> Result<bool, AllocError>
         ensures { IfOk result (λ b. b ≡ encoded self.now (chars value.now)) };
 
@@ -97,6 +102,21 @@ pub struct Checks<'a> {
 pub(crate) enum Choice<A> {
     Builtin(A),
     Row { position: usize, name: String },
+}
+
+impl<A> Choice<A> {
+    // The row that it names, if it names one.
+    pub(crate) fn row(&self) -> Option<RowRef<'_>>
+        ensures { (names : List (List ℕ)) → IsFirst result names ↔ KeepsFirst names (choice_of self.now) }
+    {
+        match self {
+            Choice::Builtin(_) => None,
+            Choice::Row { position, name } => Some(RowRef {
+                position: *position,
+                name: name.as_str(),
+            }),
+        }
+    }
 }
 
 impl NamedFormat {
@@ -178,25 +198,25 @@ fn first_named<R: Named>(rows: &[R], name: &str) -> Option<usize>
 
 impl Checks<'_> {
     pub(crate) fn format_named(&self, name: &str) -> Option<usize>
-        ensures { result ≡ first_named name.now (row_names (lists (λ f. admits f.check) (λ m. accepted m.check) (λ c. encoded c.codec) (λ c. decoding c.codec) self.now).formats) }
+        ensures { result ≡ first_named name.now (row_names (lists_of admits accepted encoded decoding self.now).formats) }
     {
         first_named(self.formats, name)
     }
 
     pub(crate) fn media_type_named(&self, name: &str) -> Option<usize>
-        ensures { result ≡ first_named name.now (row_names (lists (λ f. admits f.check) (λ m. accepted m.check) (λ c. encoded c.codec) (λ c. decoding c.codec) self.now).media_types) }
+        ensures { result ≡ first_named name.now (row_names (lists_of admits accepted encoded decoding self.now).media_types) }
     {
         first_named(self.media_types, name)
     }
 
     pub(crate) fn codec_named(&self, name: &str) -> Option<usize>
-        ensures { result ≡ first_named name.now (codec_names (lists (λ f. admits f.check) (λ m. accepted m.check) (λ c. encoded c.codec) (λ c. decoding c.codec) self.now).codecs) }
+        ensures { result ≡ first_named name.now (codec_names (lists_of admits accepted encoded decoding self.now).codecs) }
     {
         first_named(self.codecs, name)
     }
 }
 
-// ---- what the row at a position says
+// ---- what the row at a position says; where there is none, nothing is admitted
 
 pub(crate) fn ask_format(
     alloc: Global,
@@ -204,12 +224,12 @@ pub(crate) fn ask_format(
     position: usize,
     text: &str,
 ) -> Result<bool, AllocError>
-    ensures { IfOk result (λ b. IsTrue b ↔ Admits (lists (λ f. admits f.check) (λ m. accepted m.check) (λ c. encoded c.codec) (λ c. decoding c.codec) checks.now).formats position text.now) }
+    ensures { IfOk result (λ b. IsTrue b ↔ Admits (lists_of admits accepted encoded decoding checks.now).formats position text.now) }
 {
     if position < checks.formats.len() {
         checks.formats[position].ask(alloc, text)
     } else {
-        Ok(true)
+        Ok(false)
     }
 }
 
@@ -219,12 +239,12 @@ pub(crate) fn ask_media_type(
     position: usize,
     text: &str,
 ) -> Result<bool, AllocError>
-    ensures { IfOk result (λ b. IsTrue b ↔ Admits (lists (λ f. admits f.check) (λ m. accepted m.check) (λ c. encoded c.codec) (λ c. decoding c.codec) checks.now).media_types position text.now) }
+    ensures { IfOk result (λ b. IsTrue b ↔ Admits (lists_of admits accepted encoded decoding checks.now).media_types position text.now) }
 {
     if position < checks.media_types.len() {
         checks.media_types[position].ask(alloc, text)
     } else {
-        Ok(true)
+        Ok(false)
     }
 }
 
@@ -234,11 +254,11 @@ pub(crate) fn ask_codec(
     position: usize,
     text: &str,
 ) -> Result<bool, AllocError>
-    ensures { IfOk result (λ b. IsTrue b ↔ Takes (lists (λ f. admits f.check) (λ m. accepted m.check) (λ c. encoded c.codec) (λ c. decoding c.codec) checks.now).codecs position text.now) }
+    ensures { IfOk result (λ b. IsTrue b ↔ Takes (lists_of admits accepted encoded decoding checks.now).codecs position text.now) }
 {
     if position < checks.codecs.len() {
         checks.codecs[position].ask(alloc, text)
     } else {
-        Ok(true)
+        Ok(false)
     }
 }

@@ -1,14 +1,15 @@
+//! What the compile functions share: why an entry is refused, and where.
+
 ghost use Rattle.std.specs.Prelude.{◌≡◌, ◌⊎◌, List, IfOk, option_map};
 ghost use Rattle.serde_json.specs.View.{view, members_view};
-ghost use Rattle.serde_json.specs.Data.{Members};
 ghost use Rattle.serde_json.specs.Find.{get_member};
 ghost use Rattle.strkw_report.specs.Paths.{below};
 ghost use Rattle.strkw_report.specs.Refusals.{refusal_of};
 ghost use Rattle.strkw_keywords.specs.Keywords.{keyword_name};
 ghost use Rattle.strkw_keywords.specs.Places.{Place};
-ghost use Rattle.strkw_keywords.specs.Object.{Keyed, Settings, no_string};
+ghost use Rattle.strkw_keywords.specs.Object.{Keyed, no_string};
 ghost use Rattle.strkw_keywords.specs.Settings.{place_in};
-ghost use Rattle.strkw_keywords.specs.Compiled.{out_of_memory, refused_at, IsBuilt, IsCompiled, IsPatternBuilt, IsPatternCompiled};
+ghost use Rattle.strkw_keywords.specs.Compiled.{out_of_memory, refused_at, IsBuilt, IsCompiled};
 
 use crate::keyword::Keyword;
 use crate::options::Context;
@@ -27,7 +28,7 @@ pub(crate) enum Refused {
         keyword: Keyword,
         kind: CompileErrorKind,
     },
-    // A growth was refused.
+    // Out of memory.
     Memory,
 }
 
@@ -85,10 +86,8 @@ pub(crate) fn located<E: RegexEngine>(
     location: &Location,
     built: Result<Option<Validator<E>>, Refused>,
 ) -> Option<Result<Validator<E>, CompileError>>
-    ensures entries { (place : Place) (es : List Keyed) → place.schema ≡ location.now → IsBuilt E.outcome place es built
+    ensures { (place : Place) (es : List Keyed) → place.schema ≡ location.now → IsBuilt E.outcome place es built
         → IsCompiled E.outcome place es result }
-    ensures pattern { (s : Settings) (ms : Members) → s.place.schema ≡ location.now → IsPatternBuilt E.outcome s ms built
-        → IsPatternCompiled E.outcome s ms result }
 {
     match built {
         Ok(None) => None,
@@ -97,7 +96,7 @@ pub(crate) fn located<E: RegexEngine>(
     }
 }
 
-// The refusal with its place, or the root for want of memory.
+// The refusal with its place; out of memory stands at the root.
 fn refusal(alloc: Global, location: &Location, refused: Refused) -> CompileError
     ensures { (place : Place) → place.schema ≡ location.now
         → (refusal_of result ≡ out_of_memory) ⊎ ((refused ≡ Refused.Memory → ⊥) × (refusal_of result ≡ refused_at place refused)) }

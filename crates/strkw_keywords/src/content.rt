@@ -1,11 +1,10 @@
 //! What a media type and a codec say of a text, and the validators of the three content keywords.
 ghost use Rattle.std.specs.Prelude.{◌≡◌, ◌↔◌, IfOk, IsTrue};
 ghost use Rattle.std.specs.Str.{chars};
-ghost use Rattle.strkw_keywords.specs.Lists.{lists};
+ghost use Rattle.strkw_keywords.specs.Lists.{lists_of};
 ghost use Rattle.strkw_keywords.specs.Meanings.{row_names, codec_names};
 ghost use Rattle.strkw_keywords.specs.Choices.{choice_of, chosen_media_type_name, chosen_codec_name};
-ghost use Rattle.strkw_coding.specs.Names.{media_type_name, codec_name};
-ghost use Rattle.strkw_keywords.specs.Demands.{IsOfMediaType, IsEncoded, Decodes, CodecDecodes, RowDecodes, KeepsFirst};
+ghost use Rattle.strkw_keywords.specs.Demands.{IsOfMediaType, IsEncoded, Decodes, CodecDecodes, RowDecodes};
 ghost use Rattle.strkw_keywords.specs.Decodings.{decoded_of};
 
 mod annotations;
@@ -37,31 +36,11 @@ pub(crate) enum DecodedText {
     Text(String),
 }
 
-fn media_type_str(media_type: BuiltinMediaType) -> &'static str
-    ensures { result.now ≡ media_type_name media_type }
-{
-    match media_type {
-        BuiltinMediaType::Json => "application/json",
-    }
-}
-
-fn codec_str(codec: Codec) -> &'static str
-    ensures { result.now ≡ codec_name codec }
-{
-    match codec {
-        Codec::Base64 => "base64",
-        Codec::Base64Url => "base64url",
-        Codec::Base32 => "base32",
-        Codec::Base32Hex => "base32hex",
-        Codec::Base16 => "base16",
-    }
-}
-
 fn chosen_media_type(choice: &Choice<BuiltinMediaType>) -> &str
     ensures { result.now ≡ chosen_media_type_name (choice_of choice.now) }
 {
     match choice {
-        Choice::Builtin(media_type) => media_type_str(*media_type),
+        Choice::Builtin(media_type) => media_type.as_str(),
         Choice::Row { name, .. } => name.as_str(),
     }
 }
@@ -72,7 +51,7 @@ fn accepts(
     checks: &Checks,
     text: &str,
 ) -> Result<bool, AllocError>
-    ensures { IfOk result (λ b. IsTrue b ↔ IsOfMediaType (choice_of choice.now) (lists (λ f. admits f.check) (λ m. accepted m.check) (λ c. encoded c.codec) (λ c. decoding c.codec) checks.now) text.now) }
+    ensures { IfOk result (λ b. IsTrue b ↔ IsOfMediaType (choice_of choice.now) (lists_of admits accepted encoded decoding checks.now) text.now) }
 {
     match choice {
         Choice::Builtin(media_type) => media_type.accepts(alloc, text),
@@ -80,20 +59,11 @@ fn accepts(
     }
 }
 
-fn keeps_media_type(choice: &Choice<BuiltinMediaType>, checks: &Checks) -> bool
-    ensures { IsTrue result ↔ KeepsFirst (row_names (lists (λ f. admits f.check) (λ m. accepted m.check) (λ c. encoded c.codec) (λ c. decoding c.codec) checks.now).media_types) (choice_of choice.now) }
-{
-    match choice {
-        Choice::Builtin(_) => true,
-        Choice::Row { position, name } => checks.media_type_named(name.as_str()) == Some(*position),
-    }
-}
-
 fn chosen_codec(choice: &Choice<Codec>) -> &str
     ensures { result.now ≡ chosen_codec_name (choice_of choice.now) }
 {
     match choice {
-        Choice::Builtin(codec) => codec_str(*codec),
+        Choice::Builtin(codec) => codec.as_str(),
         Choice::Row { name, .. } => name.as_str(),
     }
 }
@@ -104,7 +74,7 @@ fn is_encoding(
     checks: &Checks,
     text: &str,
 ) -> Result<bool, AllocError>
-    ensures { IfOk result (λ b. IsTrue b ↔ IsEncoded (choice_of choice.now) (lists (λ f. admits f.check) (λ m. accepted m.check) (λ c. encoded c.codec) (λ c. decoding c.codec) checks.now) text.now) }
+    ensures { IfOk result (λ b. IsTrue b ↔ IsEncoded (choice_of choice.now) (lists_of admits accepted encoded decoding checks.now) text.now) }
 {
     match choice {
         Choice::Builtin(codec) => codec.is_encoded(alloc, text),
@@ -118,20 +88,11 @@ fn decode(
     checks: &Checks,
     text: &str,
 ) -> Result<DecodedText, AllocError>
-    ensures { IfOk result (λ d. Decodes (choice_of choice.now) (lists (λ f. admits f.check) (λ m. accepted m.check) (λ c. encoded c.codec) (λ c. decoding c.codec) checks.now) text.now (decoded_of d)) }
+    ensures { IfOk result (λ d. Decodes (choice_of choice.now) (lists_of admits accepted encoded decoding checks.now) text.now (decoded_of d)) }
 {
     match choice {
         Choice::Builtin(codec) => decode_builtin(alloc, *codec, text),
         Choice::Row { position, .. } => decode_by_row(alloc, checks, *position, text),
-    }
-}
-
-fn keeps_codec(choice: &Choice<Codec>, checks: &Checks) -> bool
-    ensures { IsTrue result ↔ KeepsFirst (codec_names (lists (λ f. admits f.check) (λ m. accepted m.check) (λ c. encoded c.codec) (λ c. decoding c.codec) checks.now).codecs) (choice_of choice.now) }
-{
-    match choice {
-        Choice::Builtin(_) => true,
-        Choice::Row { position, name } => checks.codec_named(name.as_str()) == Some(*position),
     }
 }
 
@@ -152,12 +113,12 @@ fn decode_by_row(
     position: usize,
     text: &str,
 ) -> Result<DecodedText, AllocError>
-    ensures { IfOk result (λ d. RowDecodes (lists (λ f. admits f.check) (λ m. accepted m.check) (λ c. encoded c.codec) (λ c. decoding c.codec) checks.now).codecs position text.now (decoded_of d)) }
+    ensures { IfOk result (λ d. RowDecodes (lists_of admits accepted encoded decoding checks.now).codecs position text.now (decoded_of d)) }
 {
     if position < checks.codecs.len() {
         decode_by(alloc, &checks.codecs[position], text)
     } else {
-        Ok(DecodedText::Text(String::from_str(alloc, text)?))
+        Ok(DecodedText::NoEncoding)
     }
 }
 

@@ -1,7 +1,7 @@
 //! What most callers hand in: no checks of their own, and the context of a schema object that is a document by itself.
 
 ghost use Rattle.std.specs.Prelude.{◌≡◌, None, []};
-ghost use Rattle.strkw_keywords.specs.Lists.{lists};
+ghost use Rattle.strkw_keywords.specs.Lists.{lists_of};
 ghost use Rattle.strkw_keywords.specs.Meanings.{no_lists};
 ghost use Rattle.strkw_keywords.specs.Object.{default_options};
 
@@ -13,7 +13,7 @@ use strkw_report::{Draft, Location};
 impl Checks<'static> {
     /// No rows: nothing is known but what is built in.
     pub fn none() -> Checks<'static>
-        ensures { lists (λ f. admits f.check) (λ m. accepted m.check) (λ c. encoded c.codec) (λ c. decoding c.codec) result ≡ no_lists }
+        ensures { lists_of admits accepted encoded decoding result ≡ no_lists }
     {
         Checks {
             formats: &[],
@@ -32,7 +32,7 @@ impl<'a, B> Context<'a, B> {
         ensures location { result.location ≡ [] }
         ensures absolute { result.absolute ≡ None }
         ensures options { result.options ≡ default_options }
-        ensures checks { lists (λ f. admits f.check) (λ m. accepted m.check) (λ c. encoded c.codec) (λ c. decoding c.codec) result.checks ≡ no_lists }
+        ensures checks { lists_of admits accepted encoded decoding result.checks ≡ no_lists }
         ensures builder { result.builder.now ≡ builder.now }
     {
         Context {

@@ -1,6 +1,8 @@
-ghost use Rattle.std.specs.Prelude.{◌≡◌, ◌↔◌, [], ◌++◌, IfOk, OnOk, OnErr, IsTrue, option_map};
+//! What a validator finds of a text, and the errors that are built of it.
+
+ghost use Rattle.std.specs.Prelude.{◌≡◌, ◌↔◌, [], ◌∷◌, ◌++◌, Some, None, IfOk, OnOk, OnErr, IsTrue, option_map};
 ghost use Rattle.strkw_report.specs.KindOf.{kind_of};
-ghost use Rattle.strkw_keywords.specs.Findings.{finding_of, findings_of};
+ghost use Rattle.strkw_keywords.specs.Findings.{finding_of, findings_of, first_of};
 ghost use Rattle.strkw_keywords.specs.Places.{standing};
 ghost use Rattle.strkw_keywords.specs.Errors.{reported};
 
@@ -36,8 +38,28 @@ pub enum FindingRef<'a> {
 /// errors.
 #[derive(Drop)]
 pub struct Findings<'a> {
-    pub(crate) first: Option<FindingRef<'a>>,
-    pub(crate) second: Option<FindingRef<'a>>,
+    /// What the first keyword finds.
+    pub first: Option<FindingRef<'a>>,
+    /// What the second finds, where there is one.
+    pub second: Option<FindingRef<'a>>,
+}
+
+/// What a validator finds, or that it was out of memory.
+pub type Found<'a> = Result<Findings<'a>, AllocError>;
+
+// What one keyword finds, if anything, or that it was out of memory.
+pub(crate) type FoundOne<'a> = Result<Option<FindingRef<'a>>, AllocError>;
+
+impl<'a> Findings<'a> {
+    // What one keyword finds, if anything.
+    pub(crate) fn one(first: Option<FindingRef<'a>>) -> Findings<'a>
+        ensures { result ≡ record { first = first.entry; second = None } }
+    {
+        Findings {
+            first,
+            second: None,
+        }
+    }
 }
 
 impl Findings<'_> {
@@ -46,6 +68,16 @@ impl Findings<'_> {
         ensures { IsTrue result ↔ (findings_of self.now ≡ []) }
     {
         self.first.is_none() && self.second.is_none()
+    }
+
+    // The first of what is found.
+    pub(crate) fn first(&self) -> Option<&FindingRef<'_>>
+        ensures { first_of (findings_of self.now) ≡ option_map (λ f. finding_of f.now) result }
+    {
+        match &self.first {
+            Some(finding) => Some(finding),
+            None => self.second.as_ref(),
+        }
     }
 }
 
@@ -95,6 +127,30 @@ impl FindingRef<'_> {
     }
 }
 
+impl FindingRef<'_> {
+    // The error of a finding on a text.
+    pub(crate) fn error(
+        &self,
+        alloc: Global,
+        origin: &Origin,
+        text: &str,
+        site: &Site,
+    ) -> Result<ValidationError, AllocError>
+        ensures { IfOk result (λ e. reported (standing origin.now site.now) text.now (Some (finding_of self.now)) ≡ e ∷ []) }
+    {
+        let kind = self.kind(alloc)?;
+        error_at(
+            alloc,
+            kind,
+            self.keyword().as_str(),
+            text,
+            &origin.location,
+            &origin.absolute,
+            site,
+        )
+    }
+}
+
 // Adds the error of a finding on a text, if there is one.
 fn push_finding(
     alloc: Global,
@@ -110,16 +166,7 @@ fn push_finding(
     let Some(finding) = finding else {
         return Ok(());
     };
-    let kind = finding.kind(alloc)?;
-    let error = error_at(
-        alloc,
-        kind,
-        finding.keyword().as_str(),
-        text,
-        &origin.location,
-        &origin.absolute,
-        site,
-    )?;
+    let error = finding.error(alloc, origin, text, site)?;
     errors.push(error)?;
     Ok(())
 }

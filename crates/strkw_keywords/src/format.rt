@@ -1,10 +1,12 @@
+//! The validators of `format`.
+
 ghost use Rattle.std.specs.Prelude.{◌≡◌, [], ◌∷◌, Some, None, IfOk, option_map, string_bytes};
 ghost use Rattle.serde_json.specs.Data.{string};
-ghost use Rattle.strkw_keywords.specs.Lists.{lists};
+ghost use Rattle.strkw_keywords.specs.Lists.{lists_of};
 ghost use Rattle.strkw_keywords.specs.Meanings.{no_lists, builtin, row};
 ghost use Rattle.strkw_keywords.specs.Formats.{format_name, bounds};
 ghost use Rattle.strkw_keywords.specs.Lengths.{window_left};
-ghost use Rattle.strkw_keywords.specs.Demands.{is_format, NodeFinding};
+ghost use Rattle.strkw_keywords.specs.Demands.{is_format, HasFinding};
 ghost use Rattle.strkw_keywords.specs.Findings.{finding_of};
 ghost use Rattle.strkw_keywords.specs.Remarks.{remark_at};
 ghost use Rattle.strkw_keywords.specs.declared.keyword.Keyword.TheVariants as keyword;
@@ -13,13 +15,13 @@ mod build;
 
 use crate::builtin::BuiltinFormat;
 use crate::checks::{Checks, ContentCodec, Format, MediaTypeCheck, ask_format};
-use crate::findings::{FindingRef, Findings};
+use crate::findings::{FindingRef, Findings, Found, FoundOne};
 use crate::keyword::Keyword;
-use crate::note::{Note, note_of_text};
 use crate::origin::Origin;
+use crate::parts::{Noted, Parts, RowRef};
 use crate::validate::{Uses, Validate};
 pub use build::compile;
-use std::alloc::{AllocError, Global};
+use std::alloc::Global;
 use strkw_report::Node;
 
 /// Demands that a text is of a built-in format, and notes the name of the format (2020-12, section 7.3).
@@ -30,10 +32,9 @@ pub struct FormatValidator {
 }
 
 impl FormatValidator {
-    fn finding<N: Node>(&self, node: &N) -> Option<FindingRef<'static>>
-        ensures { NodeFinding (is_format (builtin self.now.format)) no_lists (N.text node.now) (option_map finding_of result) }
+    fn finding(&self, text: &str) -> Option<FindingRef<'static>>
+        ensures { HasFinding (is_format (builtin self.now.format)) no_lists text.now (option_map finding_of result) }
     {
-        let text = node.as_text()?;
         if self.format.is_valid(text) {
             None
         } else {
@@ -57,39 +58,17 @@ impl Uses for FormatValidator {
 
     ghost remark = { λ v. Some (remark_at v.origin.schema keyword.Format (string (format_name v.format))) };
 
-    fn origin(&self) -> &Origin {
-        &self.origin
-    }
-
-    fn note(&self, alloc: Global) -> Result<Option<Note>, AllocError> {
-        Ok(Some(note_of_text(
-            alloc,
-            &self.origin.location,
-            Keyword::Format,
-            self.format.as_str(),
-        )?))
-    }
-
-    fn takes_no_memory(&self) -> bool {
-        true
-    }
-
-    fn uses(&self, _checks: &Checks) -> bool {
-        true
+    fn parts(&self) -> Parts<'_> {
+        Parts::noting(
+            &self.origin,
+            Noted::Text(Keyword::Format, self.format.as_str()),
+        )
     }
 }
 
 impl<N: Node> Validate<N> for FormatValidator {
-    fn findings(
-        &self,
-        _alloc: Global,
-        node: &N,
-        _checks: &Checks,
-    ) -> Result<Findings<'_>, AllocError> {
-        Ok(Findings {
-            first: self.finding(node),
-            second: None,
-        })
+    fn findings(&self, _alloc: Global, _node: &N, text: &str, _checks: &Checks) -> Found<'_> {
+        Ok(Findings::one(self.finding(text)))
     }
 }
 
@@ -103,17 +82,10 @@ pub struct CustomFormatValidator {
 }
 
 impl CustomFormatValidator {
-    fn finding<N: Node>(
-        &self,
-        alloc: Global,
-        node: &N,
-        checks: &Checks,
-    ) -> Result<Option<FindingRef<'_>>, AllocError>
-        ensures { IfOk result (λ o. NodeFinding (is_format (row self.now.position (string_bytes self.now.name))) (lists (λ f. admits f.check) (λ m. accepted m.check) (λ c. encoded c.codec) (λ c. decoding c.codec) checks.now) (N.text node.now) (option_map finding_of o)) }
+    fn finding(&self, alloc: Global, text: &str, checks: &Checks) -> FoundOne<'_>
+        ensures { IfOk result (λ o. HasFinding (is_format (row self.now.position (string_bytes self.now.name)))
+            (lists_of admits accepted encoded decoding checks.now) text.now (option_map finding_of o)) }
     {
-        let Some(text) = node.as_text() else {
-            return Ok(None);
-        };
         if ask_format(alloc, checks, self.position, text)? {
             Ok(None)
         } else {
@@ -129,39 +101,24 @@ impl Uses for CustomFormatValidator {
 
     ghost remark = { λ v. Some (remark_at v.origin.schema keyword.Format (string (string_bytes v.name))) };
 
-    fn origin(&self) -> &Origin {
-        &self.origin
-    }
-
-    fn note(&self, alloc: Global) -> Result<Option<Note>, AllocError> {
-        Ok(Some(note_of_text(
-            alloc,
-            &self.origin.location,
-            Keyword::Format,
-            self.name.as_str(),
-        )?))
-    }
-
-    fn takes_no_memory(&self) -> bool {
-        false
-    }
-
-    fn uses(&self, checks: &Checks) -> bool {
-        checks.format_named(self.name.as_str()) == Some(self.position)
+    fn parts(&self) -> Parts<'_> {
+        Parts {
+            origin: &self.origin,
+            noted: Some(Noted::Text(Keyword::Format, self.name.as_str())),
+            format: Some(RowRef {
+                position: self.position,
+                name: self.name.as_str(),
+            }),
+            media_type: None,
+            codec: None,
+            is_quiet: false,
+        }
     }
 }
 
 impl<N: Node> Validate<N> for CustomFormatValidator {
-    fn findings(
-        &self,
-        alloc: Global,
-        node: &N,
-        checks: &Checks,
-    ) -> Result<Findings<'_>, AllocError> {
-        Ok(Findings {
-            first: self.finding(alloc, node, checks)?,
-            second: None,
-        })
+    fn findings(&self, alloc: Global, _node: &N, text: &str, checks: &Checks) -> Found<'_> {
+        Ok(Findings::one(self.finding(alloc, text, checks)?))
     }
 }
 
@@ -179,38 +136,16 @@ impl Uses for AnnotationOnlyFormatValidator {
 
     ghost remark = { λ v. Some (remark_at v.origin.schema keyword.Format (string (string_bytes v.name))) };
 
-    fn origin(&self) -> &Origin {
-        &self.origin
-    }
-
-    fn note(&self, alloc: Global) -> Result<Option<Note>, AllocError> {
-        Ok(Some(note_of_text(
-            alloc,
-            &self.origin.location,
-            Keyword::Format,
-            self.name.as_str(),
-        )?))
-    }
-
-    fn takes_no_memory(&self) -> bool {
-        true
-    }
-
-    fn uses(&self, _checks: &Checks) -> bool {
-        true
+    fn parts(&self) -> Parts<'_> {
+        Parts::noting(
+            &self.origin,
+            Noted::Text(Keyword::Format, self.name.as_str()),
+        )
     }
 }
 
 impl<N: Node> Validate<N> for AnnotationOnlyFormatValidator {
-    fn findings(
-        &self,
-        _alloc: Global,
-        _node: &N,
-        _checks: &Checks,
-    ) -> Result<Findings<'_>, AllocError> {
-        Ok(Findings {
-            first: None,
-            second: None,
-        })
+    fn findings(&self, _alloc: Global, _node: &N, _text: &str, _checks: &Checks) -> Found<'_> {
+        Ok(Findings::one(None))
     }
 }

@@ -1,3 +1,5 @@
+//! The seven keywords.
+
 ghost use Rattle.std.specs.Prelude.{◌≡◌};
 ghost use Rattle.strkw_keywords.specs.Keywords.{keyword_name, keyword_place};
 
@@ -22,6 +24,17 @@ pub enum Keyword {
 }
 
 impl Keyword {
+    /// Each keyword once, in that order.
+    pub const VARIANTS: &'static [Keyword] = &[
+        Keyword::ContentMediaType,
+        Keyword::ContentEncoding,
+        Keyword::ContentSchema,
+        Keyword::Format,
+        Keyword::MinLength,
+        Keyword::MaxLength,
+        Keyword::Pattern,
+    ];
+
     /// Its key in a schema object.
     pub fn as_str(self) -> &'static str
         ensures { result.now ≡ keyword_name self }

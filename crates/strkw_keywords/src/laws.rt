@@ -1,23 +1,36 @@
 //! Laws over the definitions that the calls of this crate name. A function here does nothing, and its clauses are the law.
-ghost use Rattle.std.specs.Prelude.{◌≡◌, ◌↔◌, ℕ, List, IsTrue, IfSome, Some, length};
+ghost use Rattle.std.specs.Prelude.{◌≡◌, ◌↔◌, ℕ, List, [], IsTrue, IfSome, Option, Some, None, length};
 ghost use Rattle.std.specs.Str.{chars};
 ghost use Rattle.std.specs.Ordering.{nat_cmp};
 ghost use Rattle.std.specs.Hash as fed;
 ghost use Rattle.strkw_keywords.specs.declared.builtin.BuiltinFormat.{BuiltinFormat};
 ghost use Rattle.strkw_keywords.specs.Formats.{IsOfBuiltin, format_place, formats, window_of, example_of, window_texts_of};
+ghost use Rattle.serde_json.specs.Data.{Members};
+ghost use Rattle.strkw_report.specs.Kinds.{Report};
+ghost use Rattle.strkw_report.specs.Refusals.{Refusal};
+ghost use Rattle.strkw_report.specs.declared.error.Site.{Site};
+ghost use Rattle.strkw_keywords.specs.Meanings.{Lists};
+ghost use Rattle.strkw_keywords.specs.Remarks.{Remark};
+ghost use Rattle.strkw_keywords.specs.Object.{Settings, Keyed, keywords, AreEntries, Errors, FirstRefusal, Notes};
+ghost use Rattle.strkw_keywords.specs.FirstLaws.{FirstErrorIsHead};
 ghost use Rattle.strkw_keywords.specs.FormatLaws.{IsInside, AreBoth, AreTextsAtEnds, BuiltinFormatOfName};
 ghost use Rattle.strkw_keywords.specs.Lengths.{CommonIsInBoth, EmptyByItsEnds, OutsideIsAnError};
 ghost use Rattle.strkw_keywords.specs.Folding.{IntervalIsLeft, FoldedRefuseTexts, OthersAcceptSomeText};
-ghost use Rattle.strkw_keywords.specs.Laws.{AssertionsReportInTurn, FusedLengthsReportBoth, OthersHaveNone, EngineFailuresAreErrors, ReportsAreDetermined, ReportsAreThere, ErrorsAreDetermined, CompiledIsInUse, FirstRowCounts};
+ghost use Rattle.strkw_keywords.specs.Laws.{AssertionsReportInTurn, FusedLengthsReportBoth, OthersHaveNone, EngineFailuresAreErrors, ReportsAreDetermined, ReportsAreThere, ErrorsAreDetermined, ErrorsAreThere, CompiledIsInUse, FirstRowCounts};
 
 use crate::builtin::BuiltinFormat;
+use crate::keyword::Keyword;
 use std::hash::Hash;
 use strkw_coding::laws::encodes_once;
-use strkw_pattern::laws::literal_is_determined;
 
 /// `VARIANTS` has each format once, in order.
 pub fn variants_are_listed()
     ensures { BuiltinFormat.VARIANTS.now ≡ formats }
+{}
+
+/// `Keyword::VARIANTS` has each keyword once, in the order of entries.
+pub fn keywords_are_listed()
+    ensures { Keyword.VARIANTS.now ≡ keywords }
 {}
 
 /// Two formats are equal by `==` exactly where they are the same variant.
@@ -165,13 +178,65 @@ pub fn reports_are_there()
     ensures { ReportsAreThere }
 {}
 
+/// The error that `validate` answers is the first of those that `collect_errors` appends.
+pub fn first_error_is_the_head()
+    ensures { FirstErrorIsHead }
+{
+    encodes_once();
+}
+
+/// A schema object has a list of entries.
+pub fn entries_exist()
+    ensures { (s : Settings) (ms : Members) → (es : List Keyed) × AreEntries s ms es }
+{}
+
+/// A schema object has at most one list of entries.
+pub fn entries_are_determined()
+    ensures { (s : Settings) (ms : Members) (a b : List Keyed) → AreEntries s ms a → AreEntries s ms b → a ≡ b }
+{}
+
+/// A schema object has a first refusal, or it is settled that it has none.
+pub fn first_refusal_exists()
+    ensures { (s : Settings) (ms : Members) → (first : Option Refusal) × FirstRefusal s ms first }
+{}
+
+/// What the first refusal of a schema object is, or that it has none, has at most one answer.
+pub fn first_refusal_is_determined()
+    ensures { (s : Settings) (ms : Members) (a b : Option Refusal) → FirstRefusal s ms a → FirstRefusal s ms b → a ≡ b }
+{}
+
+/// An instance has a list of notes by a schema object.
+pub fn notes_exist()
+    ensures { (s : Settings) (ms : Members) (instance : Option (List ℕ)) → (remarks : List Remark) × Notes s ms instance remarks }
+{}
+
+/// An instance has at most one list of notes by a schema object.
+pub fn notes_are_determined()
+    ensures { (s : Settings) (ms : Members) (instance : Option (List ℕ)) (a b : List Remark)
+        → Notes s ms instance a → Notes s ms instance b → a ≡ b }
+{}
+
 /// An instance has at most one list of errors by a schema object.
 pub fn errors_are_determined()
     ensures { ErrorsAreDetermined }
 {
     encodes_once();
-    literal_is_determined();
 }
+
+/// It cannot be that an instance has no list of errors by a schema object; so it has exactly one.
+pub fn errors_are_there()
+    ensures { ErrorsAreThere }
+{}
+
+/// An instance that is no text has no errors.
+pub fn no_text_has_no_errors()
+    ensures { (s : Settings) (ms : Members) (lists : Lists) (site : Site) (rs : List Report) → Errors s ms lists site None rs → rs ≡ [] }
+{}
+
+/// An instance that is no text has no notes.
+pub fn no_text_has_no_notes()
+    ensures { (s : Settings) (ms : Members) (remarks : List Remark) → Notes s ms None remarks → remarks ≡ [] }
+{}
 
 /// What is compiled with some lists of checks is in use with them.
 pub fn compiled_is_in_use()

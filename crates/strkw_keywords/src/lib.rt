@@ -8,6 +8,7 @@ mod checks;
 mod compile;
 pub mod content;
 mod defaults;
+mod entry;
 mod fault_text;
 mod findings;
 pub mod format;
@@ -18,9 +19,8 @@ pub mod min_length;
 mod note;
 mod options;
 mod origin;
+mod parts;
 pub mod pattern;
-#[cfg(test)]
-mod tests;
 mod validate;
 mod validator;
 
@@ -34,7 +34,8 @@ pub use content::{
     ContentMediaTypeAndEncodingValidator, ContentMediaTypeAnnotationValidator,
     ContentMediaTypeValidator, ContentSchemaAnnotationValidator,
 };
-pub use findings::{FindingRef, Findings};
+pub use entry::compile_entry;
+pub use findings::{FindingRef, Findings, Found};
 pub use format::{AnnotationOnlyFormatValidator, CustomFormatValidator, FormatValidator};
 pub use keyword::Keyword;
 pub use max_length::MaxLengthValidator;
@@ -42,6 +43,7 @@ pub use min_length::{LengthRangeValidator, MinLengthValidator};
 pub use note::Note;
 pub use options::{Context, Options};
 pub use origin::Origin;
+pub use parts::{Noted, Parts, RowRef};
 pub use pattern::{
     AlternationPatternValidator, ExactPatternValidator, NoWhitespacePatternValidator,
     PatternValidator, PrefixPatternValidator,

@@ -1,6 +1,8 @@
-ghost use Rattle.std.specs.Prelude.{◌≡◌, ℕ, List, [], ◌∷◌, Option, None, option_map, length};
+//! The validator of `maxLength`.
+
+ghost use Rattle.std.specs.Prelude.{◌≡◌, ℕ, List, [], ◌∷◌, Some, None, option_map, length};
 ghost use Rattle.std.specs.Str.{chars};
-ghost use Rattle.strkw_keywords.specs.Demands.{at_most, NodeFinding};
+ghost use Rattle.strkw_keywords.specs.Demands.{at_most, HasFinding};
 ghost use Rattle.strkw_keywords.specs.Meanings.{no_lists};
 ghost use Rattle.strkw_keywords.specs.Findings.{finding_of};
 ghost use Rattle.strkw_keywords.specs.Formats.{bounds};
@@ -9,13 +11,13 @@ ghost use Rattle.strkw_keywords.specs.Lengths.{window_left};
 mod build;
 
 use crate::checks::Checks;
-use crate::findings::{FindingRef, Findings};
-use crate::note::Note;
+use crate::findings::{FindingRef, Findings, Found};
 use crate::origin::Origin;
+use crate::parts::Parts;
 use crate::validate::{Uses, Validate};
 pub use build::compile;
 pub(crate) use build::limit_in;
-use std::alloc::{AllocError, Global};
+use std::alloc::Global;
 use strkw_report::Node;
 
 /// Demands that a text has so many characters or fewer (2020-12, section 6.3.1).
@@ -27,8 +29,8 @@ pub struct MaxLengthValidator {
 
 // The finding on a node with this number of characters.
 pub(crate) fn too_long(limit: u64, characters: Option<u64>) -> Option<FindingRef<'static>>
-    ensures { (text : Option (List ℕ)) → characters ≡ option_map (λ s. length (chars s)) text
-        → NodeFinding (at_most limit) no_lists text (option_map finding_of result) }
+    ensures { (text : List ℕ) → characters ≡ Some (length (chars text))
+        → HasFinding (at_most limit) no_lists text (option_map finding_of result) }
 {
     if characters? > limit {
         Some(FindingRef::MaxLength(limit))
@@ -53,33 +55,13 @@ impl Uses for MaxLengthValidator {
 
     ghost remark = { λ _. None };
 
-    fn origin(&self) -> &Origin {
-        &self.origin
-    }
-
-    fn note(&self, _alloc: Global) -> Result<Option<Note>, AllocError> {
-        Ok(None)
-    }
-
-    fn takes_no_memory(&self) -> bool {
-        true
-    }
-
-    fn uses(&self, _checks: &Checks) -> bool {
-        true
+    fn parts(&self) -> Parts<'_> {
+        Parts::plain(&self.origin)
     }
 }
 
 impl<N: Node> Validate<N> for MaxLengthValidator {
-    fn findings(
-        &self,
-        _alloc: Global,
-        node: &N,
-        _checks: &Checks,
-    ) -> Result<Findings<'_>, AllocError> {
-        Ok(Findings {
-            first: too_long(self.limit, node.text_length()),
-            second: None,
-        })
+    fn findings(&self, _alloc: Global, node: &N, _text: &str, _checks: &Checks) -> Found<'_> {
+        Ok(Findings::one(too_long(self.limit, node.text_length())))
     }
 }

@@ -1,3 +1,5 @@
+//! What a schema object is compiled under.
+
 ghost use Rattle.std.specs.Prelude.{◌≡◌};
 ghost use Rattle.strkw_keywords.specs.Object.{default_options, is_on, is_overridden, has_codec, codec_place};
 

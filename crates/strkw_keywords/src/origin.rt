@@ -1,3 +1,5 @@
+//! Where a schema object stands.
+
 ghost use Rattle.std.specs.Prelude.{◌≡◌, option_map, string_bytes};
 ghost use Rattle.strkw_keywords.specs.Places.{Place};
 

@@ -1,17 +1,19 @@
+//! The validators of `pattern`: four of literals, and one of engines.
+
 ghost use Rattle.std.specs.Prelude.{◌≡◌, [], ◌∷◌, Some, None, IfOk, option_map, string_bytes};
 ghost use Rattle.strkw_pattern.specs.Matcher.{literal_outcome, outcome_of};
 ghost use Rattle.strkw_keywords.specs.Meanings.{no_lists};
 ghost use Rattle.strkw_keywords.specs.LiteralKinds.{kind_of, prefix, exact, alternation, no_whitespace};
-ghost use Rattle.strkw_keywords.specs.Demands.{compares, matches, NodeFinding};
+ghost use Rattle.strkw_keywords.specs.Demands.{compares, matches, HasFinding};
 ghost use Rattle.strkw_keywords.specs.Findings.{finding_of};
 ghost use Rattle.std.specs.Str.{chars};
 
 mod build;
 
 use crate::checks::Checks;
-use crate::findings::{FindingRef, Findings};
-use crate::note::Note;
+use crate::findings::{FindingRef, Findings, Found, FoundOne};
 use crate::origin::Origin;
+use crate::parts::Parts;
 use crate::validate::{Uses, Validate};
 pub use build::compile;
 use std::alloc::{AllocError, Global};
@@ -26,10 +28,10 @@ pub(crate) struct Literal {
 }
 
 impl Literal {
-    fn finding<N: Node>(&self, alloc: Global, node: &N) -> Option<FindingRef<'_>>
-        ensures { NodeFinding (compares (string_bytes self.now.pattern) (literal_outcome self.now.matcher)) no_lists (N.text node.now) (option_map finding_of result) }
+    fn finding(&self, alloc: Global, text: &str) -> Option<FindingRef<'_>>
+        ensures { HasFinding (compares (string_bytes self.now.pattern) (literal_outcome self.now.matcher)) no_lists text.now
+            (option_map finding_of result) }
     {
-        let text = node.as_text()?;
         if is_matched(alloc, &self.matcher, text) {
             None
         } else {
@@ -62,34 +64,14 @@ impl Uses for PrefixPatternValidator {
 
     ghost remark = { λ _. None };
 
-    fn origin(&self) -> &Origin {
-        &self.origin
-    }
-
-    fn note(&self, _alloc: Global) -> Result<Option<Note>, AllocError> {
-        Ok(None)
-    }
-
-    fn takes_no_memory(&self) -> bool {
-        true
-    }
-
-    fn uses(&self, _checks: &Checks) -> bool {
-        true
+    fn parts(&self) -> Parts<'_> {
+        Parts::plain(&self.origin)
     }
 }
 
 impl<N: Node> Validate<N> for PrefixPatternValidator {
-    fn findings(
-        &self,
-        alloc: Global,
-        node: &N,
-        _checks: &Checks,
-    ) -> Result<Findings<'_>, AllocError> {
-        Ok(Findings {
-            first: self.literal.finding(alloc, node),
-            second: None,
-        })
+    fn findings(&self, alloc: Global, _node: &N, text: &str, _checks: &Checks) -> Found<'_> {
+        Ok(Findings::one(self.literal.finding(alloc, text)))
     }
 }
 
@@ -108,34 +90,14 @@ impl Uses for ExactPatternValidator {
 
     ghost remark = { λ _. None };
 
-    fn origin(&self) -> &Origin {
-        &self.origin
-    }
-
-    fn note(&self, _alloc: Global) -> Result<Option<Note>, AllocError> {
-        Ok(None)
-    }
-
-    fn takes_no_memory(&self) -> bool {
-        true
-    }
-
-    fn uses(&self, _checks: &Checks) -> bool {
-        true
+    fn parts(&self) -> Parts<'_> {
+        Parts::plain(&self.origin)
     }
 }
 
 impl<N: Node> Validate<N> for ExactPatternValidator {
-    fn findings(
-        &self,
-        alloc: Global,
-        node: &N,
-        _checks: &Checks,
-    ) -> Result<Findings<'_>, AllocError> {
-        Ok(Findings {
-            first: self.literal.finding(alloc, node),
-            second: None,
-        })
+    fn findings(&self, alloc: Global, _node: &N, text: &str, _checks: &Checks) -> Found<'_> {
+        Ok(Findings::one(self.literal.finding(alloc, text)))
     }
 }
 
@@ -154,34 +116,14 @@ impl Uses for AlternationPatternValidator {
 
     ghost remark = { λ _. None };
 
-    fn origin(&self) -> &Origin {
-        &self.origin
-    }
-
-    fn note(&self, _alloc: Global) -> Result<Option<Note>, AllocError> {
-        Ok(None)
-    }
-
-    fn takes_no_memory(&self) -> bool {
-        true
-    }
-
-    fn uses(&self, _checks: &Checks) -> bool {
-        true
+    fn parts(&self) -> Parts<'_> {
+        Parts::plain(&self.origin)
     }
 }
 
 impl<N: Node> Validate<N> for AlternationPatternValidator {
-    fn findings(
-        &self,
-        alloc: Global,
-        node: &N,
-        _checks: &Checks,
-    ) -> Result<Findings<'_>, AllocError> {
-        Ok(Findings {
-            first: self.literal.finding(alloc, node),
-            second: None,
-        })
+    fn findings(&self, alloc: Global, _node: &N, text: &str, _checks: &Checks) -> Found<'_> {
+        Ok(Findings::one(self.literal.finding(alloc, text)))
     }
 }
 
@@ -200,34 +142,14 @@ impl Uses for NoWhitespacePatternValidator {
 
     ghost remark = { λ _. None };
 
-    fn origin(&self) -> &Origin {
-        &self.origin
-    }
-
-    fn note(&self, _alloc: Global) -> Result<Option<Note>, AllocError> {
-        Ok(None)
-    }
-
-    fn takes_no_memory(&self) -> bool {
-        true
-    }
-
-    fn uses(&self, _checks: &Checks) -> bool {
-        true
+    fn parts(&self) -> Parts<'_> {
+        Parts::plain(&self.origin)
     }
 }
 
 impl<N: Node> Validate<N> for NoWhitespacePatternValidator {
-    fn findings(
-        &self,
-        alloc: Global,
-        node: &N,
-        _checks: &Checks,
-    ) -> Result<Findings<'_>, AllocError> {
-        Ok(Findings {
-            first: self.literal.finding(alloc, node),
-            second: None,
-        })
+    fn findings(&self, alloc: Global, _node: &N, text: &str, _checks: &Checks) -> Found<'_> {
+        Ok(Findings::one(self.literal.finding(alloc, text)))
     }
 }
 
@@ -240,16 +162,10 @@ pub struct PatternValidator<E> {
 }
 
 impl<E: RegexEngine> PatternValidator<E> {
-    fn finding<N: Node>(
-        &self,
-        alloc: Global,
-        node: &N,
-    ) -> Result<Option<FindingRef<'_>>, AllocError>
-        ensures { IfOk result (λ o. NodeFinding (matches (string_bytes self.now.pattern) (E.outcome self.now.engine)) no_lists (N.text node.now) (option_map finding_of o)) }
+    fn finding(&self, alloc: Global, text: &str) -> FoundOne<'_>
+        ensures { IfOk result (λ o. HasFinding (matches (string_bytes self.now.pattern) (E.outcome self.now.engine)) no_lists
+            text.now (option_map finding_of o)) }
     {
-        let Some(text) = node.as_text() else {
-            return Ok(None);
-        };
         match self.engine.is_match(alloc, text) {
             Ok(true) => Ok(None),
             Ok(false) => Ok(Some(FindingRef::Pattern(self.pattern.as_str()))),
@@ -269,33 +185,13 @@ impl<E: RegexEngine> Uses for PatternValidator<E> {
 
     ghost remark = { λ _. None };
 
-    fn origin(&self) -> &Origin {
-        &self.origin
-    }
-
-    fn note(&self, _alloc: Global) -> Result<Option<Note>, AllocError> {
-        Ok(None)
-    }
-
-    fn takes_no_memory(&self) -> bool {
-        false
-    }
-
-    fn uses(&self, _checks: &Checks) -> bool {
-        true
+    fn parts(&self) -> Parts<'_> {
+        Parts::of_content(&self.origin, None, None)
     }
 }
 
 impl<E: RegexEngine, N: Node> Validate<N> for PatternValidator<E> {
-    fn findings(
-        &self,
-        alloc: Global,
-        node: &N,
-        _checks: &Checks,
-    ) -> Result<Findings<'_>, AllocError> {
-        Ok(Findings {
-            first: self.finding(alloc, node)?,
-            second: None,
-        })
+    fn findings(&self, alloc: Global, _node: &N, text: &str, _checks: &Checks) -> Found<'_> {
+        Ok(Findings::one(self.finding(alloc, text)?))
     }
 }

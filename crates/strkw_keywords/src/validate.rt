@@ -1,18 +1,23 @@
+//! What every validator answers. An implementor gives two methods, `parts` and `findings`; the others rest on them.
+
 ghost use Rattle.std.specs.Prelude.{◌≡◌, ◌↔◌, List, [], true, Option, Some, None, IfOk, IsOk, OnOk, OnErr, IsTrue, option_map};
 ghost use Rattle.serde_json.specs.View.{view};
 ghost use Rattle.strkw_report.specs.declared.error.Site.{Site};
-ghost use Rattle.strkw_keywords.specs.Lists.{lists};
-ghost use Rattle.strkw_keywords.specs.Demands.{Demand, NodeFinds};
+ghost use Rattle.strkw_keywords.specs.Lists.{lists_of};
+ghost use Rattle.strkw_keywords.specs.Demands.{Demand, Finds};
 ghost use Rattle.strkw_keywords.specs.Places.{Place};
 ghost use Rattle.strkw_keywords.specs.Errors.{placed, NodeReports, IsInUse, all_quiet, Appends};
 ghost use Rattle.strkw_keywords.specs.Findings.{findings_of};
+ghost use Rattle.strkw_keywords.specs.Meanings.{Lists};
+ghost use Rattle.strkw_keywords.specs.Parts.{noted_remark, RowsAreFirst};
 ghost use Rattle.strkw_keywords.specs.Remarks.{Remark, remark_of, annotation_of};
 ghost use Rattle.strkw_keywords.specs.Verdicts.{IsVerdict};
 
 use crate::checks::{Checks, ContentCodec, Format, MediaTypeCheck};
-use crate::findings::{Findings, push_findings};
+use crate::findings::{Found, push_findings};
 use crate::note::Note;
 use crate::origin::Origin;
+use crate::parts::Parts;
 use std::alloc::{AllocError, Global};
 use strkw_coding::laws::encodes_once;
 use strkw_report::{EvaluationResult, Node, Site, ValidationError};
@@ -22,8 +27,18 @@ use strkw_report::{EvaluationResult, Node, Site, ValidationError};
 pub enum Fault {
     /// The first of its errors.
     Invalid(ValidationError),
-    /// A growth was refused.
+    /// Out of memory.
     Memory,
+}
+
+impl From<AllocError> for Fault {
+    ghost use Rattle.strkw_keywords.specs.declared.validate.Fault.TheVariants.{Memory};
+
+    ghost from_gives = { λ _ f. f ≡ Memory };
+
+    fn from(_: AllocError) -> Fault {
+        Fault::Memory
+    }
 }
 
 /// What a validator demands and notes, and on which of the caller's rows it rests.
@@ -37,49 +52,79 @@ pub trait Uses {
     /// What it notes of every text, if it notes anything.
     ghost remark: { Self → Option Remark };
 
-    /// Where its schema object stands.
-    fn origin(&self) -> &Origin
-        ensures { result.now ≡ place self.now };
+    /// What it is, beside its test of a text: `origin`, `note`, `takes_no_memory` and `uses` rest on it.
+    fn parts(&self) -> Parts<'_>
+        ensures origin { result.origin.now ≡ place self.now }
+        ensures noted { noted_remark (place self.now).schema result.noted ≡ remark self.now }
+        ensures quiet { result.is_quiet ≡ all_quiet (placed (place self.now) (demands self.now)) }
+        ensures rows { (lists : Lists) → RowsAreFirst result lists ↔ IsInUse (placed (place self.now) (demands self.now)) lists };
 
-    /// What it notes of every text, if it notes anything. It does not look at errors. The only error is want of memory.
-    fn note(&self, alloc: Global) -> Result<Option<Note>, AllocError>
-        ensures { IfOk result (λ o. option_map remark_of o ≡ remark self.now) };
+    /// Where its schema object stands.
+    final fn origin(&self) -> &Origin
+        ensures { result.now ≡ place self.now }
+    {
+        self.parts().origin
+    }
+
+    /// What it notes of every text, if it notes anything. It does not look at errors. The only error is out of memory.
+    final fn note(&self, alloc: Global) -> Result<Option<Note>, AllocError>
+        ensures { IfOk result (λ o. option_map remark_of o ≡ remark self.now) }
+    {
+        let parts = self.parts();
+        let origin = parts.origin;
+        match parts.noted {
+            None => Ok(None),
+            Some(noted) => Ok(Some(noted.note(alloc, &origin.location)?)),
+        }
+    }
 
     /// Whether its test of a text takes no memory, so that `is_valid` always answers: in all validators but the three
     /// content checks, `CustomFormatValidator` and `PatternValidator`.
-    fn takes_no_memory(&self) -> bool
-        ensures { result ≡ all_quiet (placed (place self.now) (demands self.now)) };
+    final fn takes_no_memory(&self) -> bool
+        ensures { result ≡ all_quiet (placed (place self.now) (demands self.now)) }
+    {
+        self.parts().is_quiet
+    }
 
     /// Whether the lists have what it keeps: at each position that it kept when it was compiled there is a row of the
     /// kept name, and no earlier row has that name. So it is with the lists that it was compiled with; and with empty
     /// lists, where it keeps no position.
-    fn uses(&self, checks: &Checks) -> bool
-        ensures { IsTrue result ↔ IsInUse (placed (place self.now) (demands self.now)) (lists (λ f. admits f.check) (λ m. accepted m.check) (λ c. encoded c.codec) (λ c. decoding c.codec) checks.now) };
+    final fn uses(&self, checks: &Checks) -> bool
+        ensures { IsTrue result ↔ IsInUse (placed (place self.now) (demands self.now)) (lists_of admits accepted encoded decoding checks.now) }
+    {
+        self.parts().rows_are_first(checks)
+    }
 }
 
 /// A validator of the nodes of one representation. Its four calls rest on one meaning: the errors that a node has of what
 /// the validator demands. Each asks that `uses` is true of the lists that it is given.
 pub trait Validate<N: Node>: Uses {
-    /// What a node fails at, in the order of the errors. The only error is want of memory, and none where
-    /// `takes_no_memory` is true.
-    fn findings(&self, alloc: Global, node: &N, checks: &Checks) -> Result<Findings<'_>, AllocError>
-        requires { IsInUse (placed (Self.place self.now) (Self.demands self.now)) (lists (λ f. admits f.check) (λ m. accepted m.check) (λ c. encoded c.codec) (λ c. decoding c.codec) checks.now) }
-        ensures found { IfOk result (λ fs. NodeFinds (Self.demands self.now) (lists (λ f. admits f.check) (λ m. accepted m.check) (λ c. encoded c.codec) (λ c. decoding c.codec) checks.now) (N.text node.now) (findings_of fs)) }
+    /// What a node that is this text fails at, in the order of the errors. The only error is out of memory, and none
+    /// where `takes_no_memory` is true.
+    fn findings(&self, alloc: Global, node: &N, text: &str, checks: &Checks) -> Found<'_>
+        requires in_use { IsInUse (placed (Self.place self.now) (Self.demands self.now)) (lists_of admits accepted encoded decoding checks.now) }
+        requires is_text { N.text node.now ≡ Some text.now }
+        ensures found { IfOk result (λ fs. Finds (Self.demands self.now) (lists_of admits accepted encoded decoding checks.now)
+            text.now (findings_of fs)) }
         ensures answers { all_quiet (placed (Self.place self.now) (Self.demands self.now)) ≡ true → IsOk result };
 
-    /// Whether the node has no errors. The only error is want of memory, and none where `takes_no_memory` is true.
+    /// Whether the node has no errors. The only error is out of memory, and none where `takes_no_memory` is true.
     final fn is_valid(&self, alloc: Global, node: &N, checks: &Checks) -> Result<bool, AllocError>
-        requires { IsInUse (placed (Self.place self.now) (Self.demands self.now)) (lists (λ f. admits f.check) (λ m. accepted m.check) (λ c. encoded c.codec) (λ c. decoding c.codec) checks.now) }
+        requires { IsInUse (placed (Self.place self.now) (Self.demands self.now)) (lists_of admits accepted encoded decoding checks.now) }
         ensures exact { IfOk result (λ b. (site : Site) → (IsTrue b
-            ↔ NodeReports (placed (Self.place self.now) (Self.demands self.now)) (lists (λ f. admits f.check) (λ m. accepted m.check) (λ c. encoded c.codec) (λ c. decoding c.codec) checks.now) site (N.text node.now) [])) }
+            ↔ NodeReports (placed (Self.place self.now) (Self.demands self.now)) (lists_of admits accepted encoded decoding checks.now) site
+            (N.text node.now) [])) }
         ensures answers { all_quiet (placed (Self.place self.now) (Self.demands self.now)) ≡ true → IsOk result }
     {
         encodes_once();
-        Ok(self.findings(alloc, node, checks)?.is_empty())
+        let Some(text) = node.as_text() else {
+            return Ok(true);
+        };
+        Ok(self.findings(alloc, node, text, checks)?.is_empty())
     }
 
     /// Appends the errors of the node, each with the place of its keyword in the schema and on the way of evaluation,
-    /// and with the place of the instance. The only error is want of memory; the vector then holds what it held.
+    /// and with the place of the instance. The only error is out of memory; the vector then holds what it held.
     final fn collect_errors(
         &self,
         alloc: Global,
@@ -88,22 +133,24 @@ pub trait Validate<N: Node>: Uses {
         checks: &Checks,
         errors: &mut Vec<ValidationError>,
     ) -> Result<(), AllocError>
-        requires { IsInUse (placed (Self.place self.now) (Self.demands self.now)) (lists (λ f. admits f.check) (λ m. accepted m.check) (λ c. encoded c.codec) (λ c. decoding c.codec) checks.now) }
+        requires { IsInUse (placed (Self.place self.now) (Self.demands self.now)) (lists_of admits accepted encoded decoding checks.now) }
         ensures appended { OnOk result (Appends
-            (NodeReports (placed (Self.place self.now) (Self.demands self.now)) (lists (λ f. admits f.check) (λ m. accepted m.check) (λ c. encoded c.codec) (λ c. decoding c.codec) checks.now) site.now (N.text node.now))
+            (NodeReports (placed (Self.place self.now) (Self.demands self.now)) (lists_of admits accepted encoded decoding checks.now)
+            site.now (N.text node.now))
             errors.old.items errors.new.items) }
         ensures kept { OnErr result (errors.new.items ≡ errors.old.items) }
     {
         let Some(text) = node.as_text() else {
             return Ok(());
         };
-        let findings = self.findings(alloc, node, checks)?;
+        let findings = self.findings(alloc, node, text, checks)?;
         push_findings(alloc, self.origin(), text, site, findings, errors)
     }
 
     /// `Ok` where the node has no errors.
     ///
-    /// Errors: `Invalid` of the first of the errors that `collect_errors` appends, and `Memory`.
+    /// Errors: `Invalid` of the first error, and `Memory`, but not where the node has no errors and `takes_no_memory` is
+    /// true.
     final fn validate(
         &self,
         alloc: Global,
@@ -111,23 +158,26 @@ pub trait Validate<N: Node>: Uses {
         site: &Site,
         checks: &Checks,
     ) -> Result<(), Fault>
-        requires { IsInUse (placed (Self.place self.now) (Self.demands self.now)) (lists (λ f. admits f.check) (λ m. accepted m.check) (λ c. encoded c.codec) (λ c. decoding c.codec) checks.now) }
-        ensures { IsVerdict (NodeReports (placed (Self.place self.now) (Self.demands self.now)) (lists (λ f. admits f.check) (λ m. accepted m.check) (λ c. encoded c.codec) (λ c. decoding c.codec) checks.now) site.now (N.text node.now)) result }
+        requires { IsInUse (placed (Self.place self.now) (Self.demands self.now)) (lists_of admits accepted encoded decoding checks.now) }
+        ensures { IsVerdict (placed (Self.place self.now) (Self.demands self.now)) (lists_of admits accepted encoded decoding checks.now)
+            site.now (N.text node.now) result }
     {
-        let mut errors = Vec::new(alloc);
-        match self.collect_errors(alloc, node, site, checks, &mut errors) {
-            Ok(()) => {}
-            Err(_) => return Err(Fault::Memory),
-        }
-        if errors.as_slice().is_empty() {
-            Ok(())
-        } else {
-            Err(Fault::Invalid(errors.remove(0)))
+        encodes_once();
+        let Some(text) = node.as_text() else {
+            return Ok(());
+        };
+        let findings = self.findings(alloc, node, text, checks)?;
+        match findings.first() {
+            None => Ok(()),
+            Some(finding) => {
+                let error = finding.error(alloc, self.origin(), text, site)?;
+                Err(Fault::Invalid(error))
+            }
         }
     }
 
     /// The errors of the node, and the value that the validator annotates it with: the one that it notes, where the
-    /// node is a text, whether it has errors or not. The only error is want of memory.
+    /// node is a text, whether it has errors or not. The only error is out of memory.
     final fn evaluate(
         &self,
         alloc: Global,
@@ -135,8 +185,9 @@ pub trait Validate<N: Node>: Uses {
         site: &Site,
         checks: &Checks,
     ) -> Result<EvaluationResult, AllocError>
-        requires { IsInUse (placed (Self.place self.now) (Self.demands self.now)) (lists (λ f. admits f.check) (λ m. accepted m.check) (λ c. encoded c.codec) (λ c. decoding c.codec) checks.now) }
-        ensures errors { IfOk result (λ r. NodeReports (placed (Self.place self.now) (Self.demands self.now)) (lists (λ f. admits f.check) (λ m. accepted m.check) (λ c. encoded c.codec) (λ c. decoding c.codec) checks.now) site.now (N.text node.now) r.errors.items) }
+        requires { IsInUse (placed (Self.place self.now) (Self.demands self.now)) (lists_of admits accepted encoded decoding checks.now) }
+        ensures errors { IfOk result (λ r. NodeReports (placed (Self.place self.now) (Self.demands self.now))
+            (lists_of admits accepted encoded decoding checks.now) site.now (N.text node.now) r.errors.items) }
         ensures annotation { IfOk result (λ r. option_map view r.annotation ≡ annotation_of (Self.remark self.now) (N.text node.now)) }
     {
         let mut errors = Vec::new(alloc);

@@ -1,3 +1,5 @@
+//! One type over the seventeen validators.
+
 ghost use Rattle.std.specs.Prelude.{◌≡◌};
 ghost use Rattle.strkw_keywords.specs.Formats.{bounds};
 ghost use Rattle.strkw_keywords.specs.Lengths.{interval};
@@ -9,18 +11,17 @@ use crate::content::{
     ContentMediaTypeAndEncodingValidator, ContentMediaTypeAnnotationValidator,
     ContentMediaTypeValidator, ContentSchemaAnnotationValidator,
 };
-use crate::findings::Findings;
+use crate::findings::Found;
 use crate::format::{AnnotationOnlyFormatValidator, CustomFormatValidator, FormatValidator};
 use crate::max_length::MaxLengthValidator;
 use crate::min_length::{LengthRangeValidator, MinLengthValidator};
-use crate::note::Note;
-use crate::origin::Origin;
+use crate::parts::Parts;
 use crate::pattern::{
     AlternationPatternValidator, ExactPatternValidator, NoWhitespacePatternValidator,
     PatternValidator, PrefixPatternValidator,
 };
 use crate::validate::{Uses, Validate};
-use std::alloc::{AllocError, Global};
+use std::alloc::Global;
 use strkw_pattern::RegexEngine;
 use strkw_report::Node;
 
@@ -101,120 +102,49 @@ impl<E: RegexEngine> Uses for Validator<E> {
 
     ghost remark = { remark_made };
 
-    fn origin(&self) -> &Origin {
+    fn parts(&self) -> Parts<'_> {
         match self {
-            Validator::ContentMediaType(v) => v.origin(),
-            Validator::ContentEncoding(v) => v.origin(),
-            Validator::ContentMediaTypeAndEncoding(v) => v.origin(),
-            Validator::ContentMediaTypeAnnotation(v) => v.origin(),
-            Validator::ContentEncodingAnnotation(v) => v.origin(),
-            Validator::ContentSchemaAnnotation(v) => v.origin(),
-            Validator::Format(v) => v.origin(),
-            Validator::CustomFormat(v) => v.origin(),
-            Validator::AnnotationOnlyFormat(v) => v.origin(),
-            Validator::MinLength(v) => v.origin(),
-            Validator::MaxLength(v) => v.origin(),
-            Validator::LengthRange(v) => v.origin(),
-            Validator::PrefixPattern(v) => v.origin(),
-            Validator::ExactPattern(v) => v.origin(),
-            Validator::AlternationPattern(v) => v.origin(),
-            Validator::NoWhitespacePattern(v) => v.origin(),
-            Validator::Pattern(v) => v.origin(),
-        }
-    }
-
-    fn note(&self, alloc: Global) -> Result<Option<Note>, AllocError> {
-        match self {
-            Validator::ContentMediaType(v) => v.note(alloc),
-            Validator::ContentEncoding(v) => v.note(alloc),
-            Validator::ContentMediaTypeAndEncoding(v) => v.note(alloc),
-            Validator::ContentMediaTypeAnnotation(v) => v.note(alloc),
-            Validator::ContentEncodingAnnotation(v) => v.note(alloc),
-            Validator::ContentSchemaAnnotation(v) => v.note(alloc),
-            Validator::Format(v) => v.note(alloc),
-            Validator::CustomFormat(v) => v.note(alloc),
-            Validator::AnnotationOnlyFormat(v) => v.note(alloc),
-            Validator::MinLength(v) => v.note(alloc),
-            Validator::MaxLength(v) => v.note(alloc),
-            Validator::LengthRange(v) => v.note(alloc),
-            Validator::PrefixPattern(v) => v.note(alloc),
-            Validator::ExactPattern(v) => v.note(alloc),
-            Validator::AlternationPattern(v) => v.note(alloc),
-            Validator::NoWhitespacePattern(v) => v.note(alloc),
-            Validator::Pattern(v) => v.note(alloc),
-        }
-    }
-
-    fn takes_no_memory(&self) -> bool {
-        match self {
-            Validator::ContentMediaType(v) => v.takes_no_memory(),
-            Validator::ContentEncoding(v) => v.takes_no_memory(),
-            Validator::ContentMediaTypeAndEncoding(v) => v.takes_no_memory(),
-            Validator::ContentMediaTypeAnnotation(v) => v.takes_no_memory(),
-            Validator::ContentEncodingAnnotation(v) => v.takes_no_memory(),
-            Validator::ContentSchemaAnnotation(v) => v.takes_no_memory(),
-            Validator::Format(v) => v.takes_no_memory(),
-            Validator::CustomFormat(v) => v.takes_no_memory(),
-            Validator::AnnotationOnlyFormat(v) => v.takes_no_memory(),
-            Validator::MinLength(v) => v.takes_no_memory(),
-            Validator::MaxLength(v) => v.takes_no_memory(),
-            Validator::LengthRange(v) => v.takes_no_memory(),
-            Validator::PrefixPattern(v) => v.takes_no_memory(),
-            Validator::ExactPattern(v) => v.takes_no_memory(),
-            Validator::AlternationPattern(v) => v.takes_no_memory(),
-            Validator::NoWhitespacePattern(v) => v.takes_no_memory(),
-            Validator::Pattern(v) => v.takes_no_memory(),
-        }
-    }
-
-    fn uses(&self, checks: &Checks) -> bool {
-        match self {
-            Validator::ContentMediaType(v) => v.uses(checks),
-            Validator::ContentEncoding(v) => v.uses(checks),
-            Validator::ContentMediaTypeAndEncoding(v) => v.uses(checks),
-            Validator::ContentMediaTypeAnnotation(v) => v.uses(checks),
-            Validator::ContentEncodingAnnotation(v) => v.uses(checks),
-            Validator::ContentSchemaAnnotation(v) => v.uses(checks),
-            Validator::Format(v) => v.uses(checks),
-            Validator::CustomFormat(v) => v.uses(checks),
-            Validator::AnnotationOnlyFormat(v) => v.uses(checks),
-            Validator::MinLength(v) => v.uses(checks),
-            Validator::MaxLength(v) => v.uses(checks),
-            Validator::LengthRange(v) => v.uses(checks),
-            Validator::PrefixPattern(v) => v.uses(checks),
-            Validator::ExactPattern(v) => v.uses(checks),
-            Validator::AlternationPattern(v) => v.uses(checks),
-            Validator::NoWhitespacePattern(v) => v.uses(checks),
-            Validator::Pattern(v) => v.uses(checks),
+            Validator::ContentMediaType(v) => v.parts(),
+            Validator::ContentEncoding(v) => v.parts(),
+            Validator::ContentMediaTypeAndEncoding(v) => v.parts(),
+            Validator::ContentMediaTypeAnnotation(v) => v.parts(),
+            Validator::ContentEncodingAnnotation(v) => v.parts(),
+            Validator::ContentSchemaAnnotation(v) => v.parts(),
+            Validator::Format(v) => v.parts(),
+            Validator::CustomFormat(v) => v.parts(),
+            Validator::AnnotationOnlyFormat(v) => v.parts(),
+            Validator::MinLength(v) => v.parts(),
+            Validator::MaxLength(v) => v.parts(),
+            Validator::LengthRange(v) => v.parts(),
+            Validator::PrefixPattern(v) => v.parts(),
+            Validator::ExactPattern(v) => v.parts(),
+            Validator::AlternationPattern(v) => v.parts(),
+            Validator::NoWhitespacePattern(v) => v.parts(),
+            Validator::Pattern(v) => v.parts(),
         }
     }
 }
 
 impl<E: RegexEngine, N: Node> Validate<N> for Validator<E> {
-    fn findings(
-        &self,
-        alloc: Global,
-        node: &N,
-        checks: &Checks,
-    ) -> Result<Findings<'_>, AllocError> {
+    fn findings(&self, alloc: Global, node: &N, text: &str, checks: &Checks) -> Found<'_> {
         match self {
-            Validator::ContentMediaType(v) => v.findings(alloc, node, checks),
-            Validator::ContentEncoding(v) => v.findings(alloc, node, checks),
-            Validator::ContentMediaTypeAndEncoding(v) => v.findings(alloc, node, checks),
-            Validator::ContentMediaTypeAnnotation(v) => v.findings(alloc, node, checks),
-            Validator::ContentEncodingAnnotation(v) => v.findings(alloc, node, checks),
-            Validator::ContentSchemaAnnotation(v) => v.findings(alloc, node, checks),
-            Validator::Format(v) => v.findings(alloc, node, checks),
-            Validator::CustomFormat(v) => v.findings(alloc, node, checks),
-            Validator::AnnotationOnlyFormat(v) => v.findings(alloc, node, checks),
-            Validator::MinLength(v) => v.findings(alloc, node, checks),
-            Validator::MaxLength(v) => v.findings(alloc, node, checks),
-            Validator::LengthRange(v) => v.findings(alloc, node, checks),
-            Validator::PrefixPattern(v) => v.findings(alloc, node, checks),
-            Validator::ExactPattern(v) => v.findings(alloc, node, checks),
-            Validator::AlternationPattern(v) => v.findings(alloc, node, checks),
-            Validator::NoWhitespacePattern(v) => v.findings(alloc, node, checks),
-            Validator::Pattern(v) => v.findings(alloc, node, checks),
+            Validator::ContentMediaType(v) => v.findings(alloc, node, text, checks),
+            Validator::ContentEncoding(v) => v.findings(alloc, node, text, checks),
+            Validator::ContentMediaTypeAndEncoding(v) => v.findings(alloc, node, text, checks),
+            Validator::ContentMediaTypeAnnotation(v) => v.findings(alloc, node, text, checks),
+            Validator::ContentEncodingAnnotation(v) => v.findings(alloc, node, text, checks),
+            Validator::ContentSchemaAnnotation(v) => v.findings(alloc, node, text, checks),
+            Validator::Format(v) => v.findings(alloc, node, text, checks),
+            Validator::CustomFormat(v) => v.findings(alloc, node, text, checks),
+            Validator::AnnotationOnlyFormat(v) => v.findings(alloc, node, text, checks),
+            Validator::MinLength(v) => v.findings(alloc, node, text, checks),
+            Validator::MaxLength(v) => v.findings(alloc, node, text, checks),
+            Validator::LengthRange(v) => v.findings(alloc, node, text, checks),
+            Validator::PrefixPattern(v) => v.findings(alloc, node, text, checks),
+            Validator::ExactPattern(v) => v.findings(alloc, node, text, checks),
+            Validator::AlternationPattern(v) => v.findings(alloc, node, text, checks),
+            Validator::NoWhitespacePattern(v) => v.findings(alloc, node, text, checks),
+            Validator::Pattern(v) => v.findings(alloc, node, text, checks),
         }
     }
 }

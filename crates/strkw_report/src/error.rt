@@ -143,7 +143,7 @@ pub(crate) fn characters(n: u64) -> &'static str
 impl ValidationError {
     ghost use Rattle.strkw_report.specs.Kinds.{text_of};
 
-    /// What the error says, with the instance as compact JSON text. It is refused only for want of memory.
+    /// What the error says, with the instance as compact JSON text. It is refused only where it is out of memory.
     pub fn text(&self, alloc: Global) -> Result<String, AllocError>
         ensures { IfOk result (λ s. string_bytes s ≡ text_of self.now) }
     {
@@ -153,7 +153,7 @@ impl ValidationError {
 }
 
 /// The error of this kind that a keyword reports on a text, the schema object being at `location` in its document,
-/// whose absolute prefix is `prefix`. It is refused only for want of memory.
+/// whose absolute prefix is `prefix`. It is refused only where it is out of memory.
 pub fn error_at(
     alloc: Global,
     kind: ErrorKind,

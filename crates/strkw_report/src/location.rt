@@ -30,7 +30,7 @@ impl Location {
     }
 
     /// The place of the member or the item `segment` of this place: `/` and the segment follow, with `~` written
-    /// `~0` and `/` written `~1` (RFC 6901, section 3). It is refused only for want of memory.
+    /// `~0` and `/` written `~1` (RFC 6901, section 3). It is refused only where it is out of memory.
     pub fn join(&self, segment: &str) -> Result<Location, AllocError>
         ensures { IfOk result (λ l. l ≡ below self.now segment.now) }
     {

@@ -30,14 +30,14 @@ pub enum CompileErrorKind {
 pub struct CompileError {
     /// Why it is refused.
     pub kind: CompileErrorKind,
-    /// The place of the keyword that is refused, or the root for want of memory.
+    /// The place of the keyword that is refused, or the root where it is out of memory.
     pub location: Location,
 }
 
 impl CompileError {
     /// What the refusal says, with a refused value or pattern as compact JSON text. The text is promised where each
     /// number in that value is a whole number of 64 bits; `holds_fraction` is the test. The call is refused only
-    /// for want of memory.
+    /// for being out of memory.
     pub fn text(&self, alloc: Global) -> Result<String, AllocError>
         ensures { IfOk result (λ s. prints_float (reason_of self.now.kind) ≡ false
             → string_bytes s ≡ explanation (reason_of self.now.kind)) }

@@ -226,46 +226,6 @@ const REFUSALS: [(Why, &str); 13] = [
     (Why::Memory, "out of memory"),
 ];
 
-// `Display` writes what `text` gives.
-#[test]
-fn texts_are_displayed(rt: HostRuntime) -> Result<(), Fail> {
-    let alloc = rt.alloc();
-    for (fault, text, want) in ERRORS {
-        let error = error_of(alloc, fault, text)?;
-        assert_eq!(rt; error.to_string(alloc)?.as_str(), want);
-    }
-    for (why, want) in REFUSALS {
-        let refusal = refusal_of(alloc, why)?;
-        assert_eq!(rt; refusal.to_string(alloc)?.as_str(), want);
-    }
-    Ok(())
-}
-
-// Texts with each character that JSON escapes, and with some that it does not.
-const ESCAPED: [&str; 7] = [
-    "\u{0}\u{1}\u{2}\u{3}\u{4}\u{5}\u{6}\u{7}",
-    "\u{8}\u{9}\u{A}\u{B}\u{C}\u{D}\u{E}\u{F}",
-    "\u{10}\u{11}\u{12}\u{13}\u{14}\u{15}\u{16}\u{17}",
-    "\u{18}\u{19}\u{1A}\u{1B}\u{1C}\u{1D}\u{1E}\u{1F}",
-    "a\"b\\c/d",
-    " !#[]~\u{7F}\u{80}\u{2028}é\u{10FFFF}",
-    "",
-];
-
-#[test]
-fn patterns_are_displayed_as_json(rt: HostRuntime) -> Result<(), Fail> {
-    let alloc = rt.alloc();
-    for pattern in ESCAPED {
-        let refusal = refusal_of(alloc, Why::Regex(pattern)).map_err(|_| "out of memory")?;
-        assert_eq!(rt;
-            refusal.to_string(alloc)?.as_str(),
-            refusal.text(alloc)?.as_str(),
-            "{pattern:?}"
-        );
-    }
-    Ok(())
-}
-
 #[test]
 fn texts_of_refusals_under_refusal(rt: HostRuntime) -> Result<(), Fail> {
     for (why, want) in REFUSALS {

@@ -6,13 +6,13 @@ ghost use Rattle.strkw_keywords.specs.Remarks.{remark_at};
 ghost use Rattle.strkw_keywords.specs.declared.keyword.Keyword.TheVariants as keyword;
 
 use crate::checks::Checks;
-use crate::findings::Findings;
+use crate::findings::{Findings, Found};
 use crate::keyword::Keyword;
-use crate::note::{Note, note_of_text, note_of_value};
 use crate::origin::Origin;
+use crate::parts::{Noted, Parts};
 use crate::validate::{Uses, Validate};
 use serde_json::Value;
-use std::alloc::{AllocError, Global};
+use std::alloc::Global;
 use strkw_report::Node;
 
 /// Notes the media type of a text, and makes no errors (2020-12, section 8.4).
@@ -29,39 +29,17 @@ impl Uses for ContentMediaTypeAnnotationValidator {
 
     ghost remark = { λ v. Some (remark_at v.origin.schema keyword.ContentMediaType (string (string_bytes v.media_type))) };
 
-    fn origin(&self) -> &Origin {
-        &self.origin
-    }
-
-    fn note(&self, alloc: Global) -> Result<Option<Note>, AllocError> {
-        Ok(Some(note_of_text(
-            alloc,
-            &self.origin.location,
-            Keyword::ContentMediaType,
-            self.media_type.as_str(),
-        )?))
-    }
-
-    fn takes_no_memory(&self) -> bool {
-        true
-    }
-
-    fn uses(&self, _checks: &Checks) -> bool {
-        true
+    fn parts(&self) -> Parts<'_> {
+        Parts::noting(
+            &self.origin,
+            Noted::Text(Keyword::ContentMediaType, self.media_type.as_str()),
+        )
     }
 }
 
 impl<N: Node> Validate<N> for ContentMediaTypeAnnotationValidator {
-    fn findings(
-        &self,
-        _alloc: Global,
-        _node: &N,
-        _checks: &Checks,
-    ) -> Result<Findings<'_>, AllocError> {
-        Ok(Findings {
-            first: None,
-            second: None,
-        })
+    fn findings(&self, _alloc: Global, _node: &N, _text: &str, _checks: &Checks) -> Found<'_> {
+        Ok(Findings::one(None))
     }
 }
 
@@ -79,39 +57,17 @@ impl Uses for ContentEncodingAnnotationValidator {
 
     ghost remark = { λ v. Some (remark_at v.origin.schema keyword.ContentEncoding (string (string_bytes v.encoding))) };
 
-    fn origin(&self) -> &Origin {
-        &self.origin
-    }
-
-    fn note(&self, alloc: Global) -> Result<Option<Note>, AllocError> {
-        Ok(Some(note_of_text(
-            alloc,
-            &self.origin.location,
-            Keyword::ContentEncoding,
-            self.encoding.as_str(),
-        )?))
-    }
-
-    fn takes_no_memory(&self) -> bool {
-        true
-    }
-
-    fn uses(&self, _checks: &Checks) -> bool {
-        true
+    fn parts(&self) -> Parts<'_> {
+        Parts::noting(
+            &self.origin,
+            Noted::Text(Keyword::ContentEncoding, self.encoding.as_str()),
+        )
     }
 }
 
 impl<N: Node> Validate<N> for ContentEncodingAnnotationValidator {
-    fn findings(
-        &self,
-        _alloc: Global,
-        _node: &N,
-        _checks: &Checks,
-    ) -> Result<Findings<'_>, AllocError> {
-        Ok(Findings {
-            first: None,
-            second: None,
-        })
+    fn findings(&self, _alloc: Global, _node: &N, _text: &str, _checks: &Checks) -> Found<'_> {
+        Ok(Findings::one(None))
     }
 }
 
@@ -129,33 +85,16 @@ impl Uses for ContentSchemaAnnotationValidator {
 
     ghost remark = { λ v. Some (remark_at v.origin.schema keyword.ContentSchema (view v.schema)) };
 
-    fn origin(&self) -> &Origin {
-        &self.origin
-    }
-
-    fn note(&self, _alloc: Global) -> Result<Option<Note>, AllocError> {
-        Ok(Some(note_of_value(&self.origin.location, Keyword::ContentSchema, &self.schema)?))
-    }
-
-    fn takes_no_memory(&self) -> bool {
-        true
-    }
-
-    fn uses(&self, _checks: &Checks) -> bool {
-        true
+    fn parts(&self) -> Parts<'_> {
+        Parts::noting(
+            &self.origin,
+            Noted::Value(Keyword::ContentSchema, &self.schema),
+        )
     }
 }
 
 impl<N: Node> Validate<N> for ContentSchemaAnnotationValidator {
-    fn findings(
-        &self,
-        _alloc: Global,
-        _node: &N,
-        _checks: &Checks,
-    ) -> Result<Findings<'_>, AllocError> {
-        Ok(Findings {
-            first: None,
-            second: None,
-        })
+    fn findings(&self, _alloc: Global, _node: &N, _text: &str, _checks: &Checks) -> Found<'_> {
+        Ok(Findings::one(None))
     }
 }

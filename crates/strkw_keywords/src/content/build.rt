@@ -1,12 +1,14 @@
-ghost use Rattle.std.specs.Prelude.{◌≡◌, [], ◌∷◌, Some, false, IfOk, option_map};
+//! The entries of content, where they are checked and where they are noted.
+
+ghost use Rattle.std.specs.Prelude.{◌≡◌, Some, false, IfOk, option_map};
 ghost use Rattle.serde_json.specs.View.{view, members_view};
 ghost use Rattle.serde_json.specs.Find.{get_member};
 ghost use Rattle.strkw_keywords.specs.Keywords.{keyword_name};
-ghost use Rattle.strkw_keywords.specs.Settings.{place_in, settings};
-ghost use Rattle.strkw_keywords.specs.Object.{is_overridden, content_rule, checked, noted, media_type_keyed, encoding_keyed, schema_keyed, codec_named, known_media_type, known_codec};
-ghost use Rattle.strkw_keywords.specs.Compiled.{IsBuilt, IsCompiled};
+ghost use Rattle.strkw_keywords.specs.Settings.{place_in, settings_of};
+ghost use Rattle.strkw_keywords.specs.Object.{is_overridden, content_rule, checked, noted, media_type_entry, encoding_entry, schema_entry, codec_named, known_media_type, known_codec};
+ghost use Rattle.strkw_keywords.specs.Compiled.{alone, IsBuilt, IsCompiledAt};
 ghost use Rattle.strkw_keywords.specs.Choices.{choice_of};
-ghost use Rattle.strkw_keywords.specs.Lists.{lists};
+ghost use Rattle.strkw_keywords.specs.Lists.{lists_of};
 
 use crate::checks::{Choice, ContentCodec, Format, MediaTypeCheck};
 use crate::compile::{Refused, located, member, no_string, origin_of};
@@ -30,7 +32,8 @@ fn media_type_known<B>(
     ctx: &Context<'_, B>,
     name: &str,
 ) -> Result<Option<Choice<BuiltinMediaType>>, AllocError>
-    ensures { IfOk result (λ o. option_map choice_of o ≡ known_media_type (lists (λ f. admits f.check) (λ m. accepted m.check) (λ c. encoded c.codec) (λ c. decoding c.codec) ctx.now.checks) ctx.now.options name.now) }
+    ensures { IfOk result (λ o. option_map choice_of o ≡ known_media_type
+        (lists_of admits accepted encoded decoding ctx.now.checks) ctx.now.options name.now) }
 {
     if let Some(position) = ctx.checks.media_type_named(name) {
         return Ok(Some(Choice::Row {
@@ -58,7 +61,7 @@ fn codec_known<B>(
     ctx: &Context<'_, B>,
     name: &str,
 ) -> Result<Option<Choice<Codec>>, AllocError>
-    ensures { IfOk result (λ o. option_map choice_of o ≡ known_codec (lists (λ f. admits f.check) (λ m. accepted m.check) (λ c. encoded c.codec) (λ c. decoding c.codec) ctx.now.checks) ctx.now.options name.now) }
+    ensures { IfOk result (λ o. option_map choice_of o ≡ known_codec (lists_of admits accepted encoded decoding ctx.now.checks) ctx.now.options name.now) }
 {
     if let Some(position) = ctx.checks.codec_named(name) {
         return Ok(Some(Choice::Row {
@@ -84,10 +87,9 @@ fn build_media_type<B: EngineBuilder>(
     parent: &Map<String, Value>,
     value: &Value,
 ) -> Result<Option<Validator<B::Engine>>, Refused>
-    requires present { get_member (keyword_name Keyword.ContentMediaType) (members_view parent.now.entries) ≡ Some (view value.now) }
-    requires draft { content_rule ctx.now.draft ≡ checked }
-    requires kept { is_overridden ctx.now.options Keyword.ContentMediaType ≡ false }
-    ensures { IsBuilt B.Engine.outcome (place_in ctx.now) (media_type_keyed (settings B.takes B.outcome (λ f. admits f.check) (λ m. accepted m.check) (λ c. encoded c.codec) (λ c. decoding c.codec) ctx.now) (members_view parent.now.entries) ∷ []) result }
+    ensures { IsBuilt B.Engine.outcome (place_in ctx.now) (alone Keyword.ContentMediaType
+        (media_type_entry checked (settings_of B.takes B.outcome admits accepted encoded decoding ctx.now) (members_view parent.now.entries)
+        (view value.now))) result }
 {
     let Some(name) = value.as_str() else {
         return Err(no_string(value, Keyword::ContentMediaType));
@@ -126,7 +128,7 @@ fn build_media_type<B: EngineBuilder>(
 ///
 /// Refusals: `NotString` at that keyword for a value that is no string, or `FractionalNumber` in its place where that
 /// value holds a number that is no whole number of 64 bits, and the same of `contentEncoding`, at that keyword, where
-/// the media type is known; `Memory`, at the root, for want of memory.
+/// the media type is known; `Memory`, at the root, where it is out of memory.
 pub fn compile_media_type<B: EngineBuilder>(
     alloc: Global,
     ctx: &Context<'_, B>,
@@ -136,7 +138,9 @@ pub fn compile_media_type<B: EngineBuilder>(
     requires present { get_member (keyword_name Keyword.ContentMediaType) (members_view parent.now.entries) ≡ Some (view value.now) }
     requires draft { content_rule ctx.now.draft ≡ checked }
     requires kept { is_overridden ctx.now.options Keyword.ContentMediaType ≡ false }
-    ensures { IsCompiled B.Engine.outcome (place_in ctx.now) (media_type_keyed (settings B.takes B.outcome (λ f. admits f.check) (λ m. accepted m.check) (λ c. encoded c.codec) (λ c. decoding c.codec) ctx.now) (members_view parent.now.entries) ∷ []) result }
+    ensures { IsCompiledAt B.Engine.outcome
+        (settings_of B.takes B.outcome admits accepted encoded decoding ctx.now) (members_view parent.now.entries)
+        Keyword.ContentMediaType result }
 {
     located(
         alloc,
@@ -151,10 +155,9 @@ fn build_encoding<B: EngineBuilder>(
     parent: &Map<String, Value>,
     value: &Value,
 ) -> Result<Option<Validator<B::Engine>>, Refused>
-    requires present { get_member (keyword_name Keyword.ContentEncoding) (members_view parent.now.entries) ≡ Some (view value.now) }
-    requires draft { content_rule ctx.now.draft ≡ checked }
-    requires kept { is_overridden ctx.now.options Keyword.ContentEncoding ≡ false }
-    ensures { IsBuilt B.Engine.outcome (place_in ctx.now) (encoding_keyed (settings B.takes B.outcome (λ f. admits f.check) (λ m. accepted m.check) (λ c. encoded c.codec) (λ c. decoding c.codec) ctx.now) (members_view parent.now.entries) ∷ []) result }
+    ensures { IsBuilt B.Engine.outcome (place_in ctx.now) (alone Keyword.ContentEncoding
+        (encoding_entry checked (settings_of B.takes B.outcome admits accepted encoded decoding ctx.now) (members_view parent.now.entries)
+        (view value.now))) result }
 {
     if member(parent, Keyword::ContentMediaType.as_str()).is_some() {
         return Ok(None);
@@ -177,7 +180,7 @@ fn build_encoding<B: EngineBuilder>(
 /// that the entry adds nothing: there is a key `contentMediaType`, overridden or not, or the codec is unknown.
 ///
 /// Refusals: `NotString` at that keyword for a value that is no string, or `FractionalNumber` in its place where that
-/// value holds a number that is no whole number of 64 bits; `Memory`, at the root, for want of memory.
+/// value holds a number that is no whole number of 64 bits; `Memory`, at the root, where it is out of memory.
 pub fn compile_content_encoding<B: EngineBuilder>(
     alloc: Global,
     ctx: &Context<'_, B>,
@@ -187,7 +190,9 @@ pub fn compile_content_encoding<B: EngineBuilder>(
     requires present { get_member (keyword_name Keyword.ContentEncoding) (members_view parent.now.entries) ≡ Some (view value.now) }
     requires draft { content_rule ctx.now.draft ≡ checked }
     requires kept { is_overridden ctx.now.options Keyword.ContentEncoding ≡ false }
-    ensures { IsCompiled B.Engine.outcome (place_in ctx.now) (encoding_keyed (settings B.takes B.outcome (λ f. admits f.check) (λ m. accepted m.check) (λ c. encoded c.codec) (λ c. decoding c.codec) ctx.now) (members_view parent.now.entries) ∷ []) result }
+    ensures { IsCompiledAt B.Engine.outcome
+        (settings_of B.takes B.outcome admits accepted encoded decoding ctx.now) (members_view parent.now.entries)
+        Keyword.ContentEncoding result }
 {
     located(
         alloc,
@@ -202,10 +207,9 @@ fn build_media_type_annotation<B: EngineBuilder>(
     _parent: &Map<String, Value>,
     value: &Value,
 ) -> Result<Option<Validator<B::Engine>>, Refused>
-    requires present { get_member (keyword_name Keyword.ContentMediaType) (members_view _parent.now.entries) ≡ Some (view value.now) }
-    requires draft { content_rule ctx.now.draft ≡ noted }
-    requires kept { is_overridden ctx.now.options Keyword.ContentMediaType ≡ false }
-    ensures { IsBuilt B.Engine.outcome (place_in ctx.now) (media_type_keyed (settings B.takes B.outcome (λ f. admits f.check) (λ m. accepted m.check) (λ c. encoded c.codec) (λ c. decoding c.codec) ctx.now) (members_view _parent.now.entries) ∷ []) result }
+    ensures { IsBuilt B.Engine.outcome (place_in ctx.now) (alone Keyword.ContentMediaType
+        (media_type_entry noted (settings_of B.takes B.outcome admits accepted encoded decoding ctx.now) (members_view _parent.now.entries)
+        (view value.now))) result }
 {
     let Some(text) = value.as_str() else {
         return Ok(None);
@@ -219,8 +223,8 @@ fn build_media_type_annotation<B: EngineBuilder>(
 /// The validator of the entry `contentMediaType` from draft 2019-09 on, which notes its value (2020-12, section 8.4).
 ///
 /// `value` is the parent's value at `contentMediaType`, which is not overridden, and the draft is 2019-09 or 2020-12.
-/// `None` means that the entry adds nothing: the value is no string. The only refusal is `Memory`, at the root, for
-/// want of memory.
+/// `None` means that the entry adds nothing: the value is no string. The only refusal is `Memory`, at the root, where
+/// it is out of memory.
 pub fn compile_media_type_annotation<B: EngineBuilder>(
     alloc: Global,
     ctx: &Context<'_, B>,
@@ -230,7 +234,9 @@ pub fn compile_media_type_annotation<B: EngineBuilder>(
     requires present { get_member (keyword_name Keyword.ContentMediaType) (members_view parent.now.entries) ≡ Some (view value.now) }
     requires draft { content_rule ctx.now.draft ≡ noted }
     requires kept { is_overridden ctx.now.options Keyword.ContentMediaType ≡ false }
-    ensures { IsCompiled B.Engine.outcome (place_in ctx.now) (media_type_keyed (settings B.takes B.outcome (λ f. admits f.check) (λ m. accepted m.check) (λ c. encoded c.codec) (λ c. decoding c.codec) ctx.now) (members_view parent.now.entries) ∷ []) result }
+    ensures { IsCompiledAt B.Engine.outcome
+        (settings_of B.takes B.outcome admits accepted encoded decoding ctx.now) (members_view parent.now.entries)
+        Keyword.ContentMediaType result }
 {
     located(
         alloc,
@@ -245,10 +251,9 @@ fn build_encoding_annotation<B: EngineBuilder>(
     _parent: &Map<String, Value>,
     value: &Value,
 ) -> Result<Option<Validator<B::Engine>>, Refused>
-    requires present { get_member (keyword_name Keyword.ContentEncoding) (members_view _parent.now.entries) ≡ Some (view value.now) }
-    requires draft { content_rule ctx.now.draft ≡ noted }
-    requires kept { is_overridden ctx.now.options Keyword.ContentEncoding ≡ false }
-    ensures { IsBuilt B.Engine.outcome (place_in ctx.now) (encoding_keyed (settings B.takes B.outcome (λ f. admits f.check) (λ m. accepted m.check) (λ c. encoded c.codec) (λ c. decoding c.codec) ctx.now) (members_view _parent.now.entries) ∷ []) result }
+    ensures { IsBuilt B.Engine.outcome (place_in ctx.now) (alone Keyword.ContentEncoding
+        (encoding_entry noted (settings_of B.takes B.outcome admits accepted encoded decoding ctx.now) (members_view _parent.now.entries)
+        (view value.now))) result }
 {
     let Some(text) = value.as_str() else {
         return Ok(None);
@@ -262,8 +267,8 @@ fn build_encoding_annotation<B: EngineBuilder>(
 /// The validator of the entry `contentEncoding` from draft 2019-09 on, which notes its value (2020-12, section 8.3).
 ///
 /// `value` is the parent's value at `contentEncoding`, which is not overridden, and the draft is 2019-09 or 2020-12.
-/// `None` means that the entry adds nothing: the value is no string. The only refusal is `Memory`, at the root, for
-/// want of memory.
+/// `None` means that the entry adds nothing: the value is no string. The only refusal is `Memory`, at the root, where
+/// it is out of memory.
 pub fn compile_content_encoding_annotation<B: EngineBuilder>(
     alloc: Global,
     ctx: &Context<'_, B>,
@@ -273,7 +278,9 @@ pub fn compile_content_encoding_annotation<B: EngineBuilder>(
     requires present { get_member (keyword_name Keyword.ContentEncoding) (members_view parent.now.entries) ≡ Some (view value.now) }
     requires draft { content_rule ctx.now.draft ≡ noted }
     requires kept { is_overridden ctx.now.options Keyword.ContentEncoding ≡ false }
-    ensures { IsCompiled B.Engine.outcome (place_in ctx.now) (encoding_keyed (settings B.takes B.outcome (λ f. admits f.check) (λ m. accepted m.check) (λ c. encoded c.codec) (λ c. decoding c.codec) ctx.now) (members_view parent.now.entries) ∷ []) result }
+    ensures { IsCompiledAt B.Engine.outcome
+        (settings_of B.takes B.outcome admits accepted encoded decoding ctx.now) (members_view parent.now.entries)
+        Keyword.ContentEncoding result }
 {
     located(
         alloc,
@@ -288,10 +295,8 @@ fn build_schema_annotation<B: EngineBuilder>(
     parent: &Map<String, Value>,
     value: &Value,
 ) -> Result<Option<Validator<B::Engine>>, Refused>
-    requires present { get_member (keyword_name Keyword.ContentSchema) (members_view parent.now.entries) ≡ Some (view value.now) }
-    requires draft { content_rule ctx.now.draft ≡ noted }
-    requires kept { is_overridden ctx.now.options Keyword.ContentSchema ≡ false }
-    ensures { IsBuilt B.Engine.outcome (place_in ctx.now) (schema_keyed (settings B.takes B.outcome (λ f. admits f.check) (λ m. accepted m.check) (λ c. encoded c.codec) (λ c. decoding c.codec) ctx.now) (members_view parent.now.entries) ∷ []) result }
+    ensures { IsBuilt B.Engine.outcome (place_in ctx.now) (alone Keyword.ContentSchema
+        (schema_entry noted (members_view parent.now.entries) (view value.now))) result }
 {
     if member(parent, Keyword::ContentMediaType.as_str()).is_none() {
         return Ok(None);
@@ -314,7 +319,7 @@ fn build_schema_annotation<B: EngineBuilder>(
 /// `None` means that the entry adds nothing: there is no key `contentMediaType`.
 ///
 /// Refusals: `FractionalNumber` at `contentSchema`, where the noted value holds a number that is no whole number of 64
-/// bits; `Memory`, at the root, for want of memory.
+/// bits; `Memory`, at the root, where it is out of memory.
 pub fn compile_content_schema_annotation<B: EngineBuilder>(
     alloc: Global,
     ctx: &Context<'_, B>,
@@ -324,7 +329,9 @@ pub fn compile_content_schema_annotation<B: EngineBuilder>(
     requires present { get_member (keyword_name Keyword.ContentSchema) (members_view parent.now.entries) ≡ Some (view value.now) }
     requires draft { content_rule ctx.now.draft ≡ noted }
     requires kept { is_overridden ctx.now.options Keyword.ContentSchema ≡ false }
-    ensures { IsCompiled B.Engine.outcome (place_in ctx.now) (schema_keyed (settings B.takes B.outcome (λ f. admits f.check) (λ m. accepted m.check) (λ c. encoded c.codec) (λ c. decoding c.codec) ctx.now) (members_view parent.now.entries) ∷ []) result }
+    ensures { IsCompiledAt B.Engine.outcome
+        (settings_of B.takes B.outcome admits accepted encoded decoding ctx.now) (members_view parent.now.entries)
+        Keyword.ContentSchema result }
 {
     located(
         alloc,

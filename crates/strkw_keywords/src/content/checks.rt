@@ -1,20 +1,17 @@
 //! The content keywords where they are checked: drafts 6 and 7.
 ghost use Rattle.std.specs.Prelude.{[], ◌∷◌, None, IfOk, option_map};
-ghost use Rattle.strkw_keywords.specs.Lists.{lists};
+ghost use Rattle.strkw_keywords.specs.Lists.{lists_of};
 ghost use Rattle.strkw_keywords.specs.Choices.{choice_of};
-ghost use Rattle.strkw_keywords.specs.Demands.{is_media_type, is_encoded, encodes_media_type, NodeFinding};
+ghost use Rattle.strkw_keywords.specs.Demands.{is_media_type, is_encoded, encodes_media_type, HasFinding};
 ghost use Rattle.strkw_keywords.specs.Findings.{finding_of};
 
-use super::{
-    DecodedText, accepts, chosen_codec, chosen_media_type, decode, is_encoding, keeps_codec,
-    keeps_media_type,
-};
+use super::{DecodedText, accepts, chosen_codec, chosen_media_type, decode, is_encoding};
 use crate::checks::{Checks, Choice, ContentCodec, Format, MediaTypeCheck};
-use crate::findings::{FindingRef, Findings};
-use crate::note::Note;
+use crate::findings::{FindingRef, Findings, Found, FoundOne};
 use crate::origin::Origin;
+use crate::parts::Parts;
 use crate::validate::{Uses, Validate};
-use std::alloc::{AllocError, Global};
+use std::alloc::Global;
 use strkw_coding::{BuiltinMediaType, Codec};
 use strkw_report::Node;
 
@@ -26,17 +23,10 @@ pub struct ContentMediaTypeValidator {
 }
 
 impl ContentMediaTypeValidator {
-    fn finding<N: Node>(
-        &self,
-        alloc: Global,
-        node: &N,
-        checks: &Checks,
-    ) -> Result<Option<FindingRef<'_>>, AllocError>
-        ensures { IfOk result (λ o. NodeFinding (is_media_type (choice_of self.now.media_type)) (lists (λ f. admits f.check) (λ m. accepted m.check) (λ c. encoded c.codec) (λ c. decoding c.codec) checks.now) (N.text node.now) (option_map finding_of o)) }
+    fn finding(&self, alloc: Global, text: &str, checks: &Checks) -> FoundOne<'_>
+        ensures { IfOk result (λ o. HasFinding (is_media_type (choice_of self.now.media_type))
+            (lists_of admits accepted encoded decoding checks.now) text.now (option_map finding_of o)) }
     {
-        let Some(text) = node.as_text() else {
-            return Ok(None);
-        };
         if accepts(alloc, &self.media_type, checks, text)? {
             Ok(None)
         } else {
@@ -52,34 +42,14 @@ impl Uses for ContentMediaTypeValidator {
 
     ghost remark = { λ _. None };
 
-    fn origin(&self) -> &Origin {
-        &self.origin
-    }
-
-    fn note(&self, _alloc: Global) -> Result<Option<Note>, AllocError> {
-        Ok(None)
-    }
-
-    fn takes_no_memory(&self) -> bool {
-        false
-    }
-
-    fn uses(&self, checks: &Checks) -> bool {
-        keeps_media_type(&self.media_type, checks)
+    fn parts(&self) -> Parts<'_> {
+        Parts::of_content(&self.origin, self.media_type.row(), None)
     }
 }
 
 impl<N: Node> Validate<N> for ContentMediaTypeValidator {
-    fn findings(
-        &self,
-        alloc: Global,
-        node: &N,
-        checks: &Checks,
-    ) -> Result<Findings<'_>, AllocError> {
-        Ok(Findings {
-            first: self.finding(alloc, node, checks)?,
-            second: None,
-        })
+    fn findings(&self, alloc: Global, _node: &N, text: &str, checks: &Checks) -> Found<'_> {
+        Ok(Findings::one(self.finding(alloc, text, checks)?))
     }
 }
 
@@ -91,17 +61,10 @@ pub struct ContentEncodingValidator {
 }
 
 impl ContentEncodingValidator {
-    fn finding<N: Node>(
-        &self,
-        alloc: Global,
-        node: &N,
-        checks: &Checks,
-    ) -> Result<Option<FindingRef<'_>>, AllocError>
-        ensures { IfOk result (λ o. NodeFinding (is_encoded (choice_of self.now.codec)) (lists (λ f. admits f.check) (λ m. accepted m.check) (λ c. encoded c.codec) (λ c. decoding c.codec) checks.now) (N.text node.now) (option_map finding_of o)) }
+    fn finding(&self, alloc: Global, text: &str, checks: &Checks) -> FoundOne<'_>
+        ensures { IfOk result (λ o. HasFinding (is_encoded (choice_of self.now.codec)) (lists_of admits accepted encoded decoding checks.now)
+            text.now (option_map finding_of o)) }
     {
-        let Some(text) = node.as_text() else {
-            return Ok(None);
-        };
         if is_encoding(alloc, &self.codec, checks, text)? {
             Ok(None)
         } else {
@@ -117,34 +80,14 @@ impl Uses for ContentEncodingValidator {
 
     ghost remark = { λ _. None };
 
-    fn origin(&self) -> &Origin {
-        &self.origin
-    }
-
-    fn note(&self, _alloc: Global) -> Result<Option<Note>, AllocError> {
-        Ok(None)
-    }
-
-    fn takes_no_memory(&self) -> bool {
-        false
-    }
-
-    fn uses(&self, checks: &Checks) -> bool {
-        keeps_codec(&self.codec, checks)
+    fn parts(&self) -> Parts<'_> {
+        Parts::of_content(&self.origin, None, self.codec.row())
     }
 }
 
 impl<N: Node> Validate<N> for ContentEncodingValidator {
-    fn findings(
-        &self,
-        alloc: Global,
-        node: &N,
-        checks: &Checks,
-    ) -> Result<Findings<'_>, AllocError> {
-        Ok(Findings {
-            first: self.finding(alloc, node, checks)?,
-            second: None,
-        })
+    fn findings(&self, alloc: Global, _node: &N, text: &str, checks: &Checks) -> Found<'_> {
+        Ok(Findings::one(self.finding(alloc, text, checks)?))
     }
 }
 
@@ -159,17 +102,10 @@ pub struct ContentMediaTypeAndEncodingValidator {
 }
 
 impl ContentMediaTypeAndEncodingValidator {
-    fn finding<N: Node>(
-        &self,
-        alloc: Global,
-        node: &N,
-        checks: &Checks,
-    ) -> Result<Option<FindingRef<'_>>, AllocError>
-        ensures { IfOk result (λ o. NodeFinding (encodes_media_type (choice_of self.now.codec) (choice_of self.now.media_type)) (lists (λ f. admits f.check) (λ m. accepted m.check) (λ c. encoded c.codec) (λ c. decoding c.codec) checks.now) (N.text node.now) (option_map finding_of o)) }
+    fn finding(&self, alloc: Global, text: &str, checks: &Checks) -> FoundOne<'_>
+        ensures { IfOk result (λ o. HasFinding (encodes_media_type (choice_of self.now.codec) (choice_of self.now.media_type))
+            (lists_of admits accepted encoded decoding checks.now) text.now (option_map finding_of o)) }
     {
-        let Some(text) = node.as_text() else {
-            return Ok(None);
-        };
         match decode(alloc, &self.codec, checks, text)? {
             DecodedText::NoEncoding => Ok(Some(FindingRef::ContentEncoding(chosen_codec(
                 &self.codec,
@@ -193,33 +129,13 @@ impl Uses for ContentMediaTypeAndEncodingValidator {
 
     ghost remark = { λ _. None };
 
-    fn origin(&self) -> &Origin {
-        &self.origin
-    }
-
-    fn note(&self, _alloc: Global) -> Result<Option<Note>, AllocError> {
-        Ok(None)
-    }
-
-    fn takes_no_memory(&self) -> bool {
-        false
-    }
-
-    fn uses(&self, checks: &Checks) -> bool {
-        keeps_codec(&self.codec, checks) && keeps_media_type(&self.media_type, checks)
+    fn parts(&self) -> Parts<'_> {
+        Parts::of_content(&self.origin, self.media_type.row(), self.codec.row())
     }
 }
 
 impl<N: Node> Validate<N> for ContentMediaTypeAndEncodingValidator {
-    fn findings(
-        &self,
-        alloc: Global,
-        node: &N,
-        checks: &Checks,
-    ) -> Result<Findings<'_>, AllocError> {
-        Ok(Findings {
-            first: self.finding(alloc, node, checks)?,
-            second: None,
-        })
+    fn findings(&self, alloc: Global, _node: &N, text: &str, checks: &Checks) -> Found<'_> {
+        Ok(Findings::one(self.finding(alloc, text, checks)?))
     }
 }

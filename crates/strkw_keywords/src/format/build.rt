@@ -1,10 +1,12 @@
-ghost use Rattle.std.specs.Prelude.{◌≡◌, [], ◌∷◌, Some, false};
+//! The entry `format`.
+
+ghost use Rattle.std.specs.Prelude.{◌≡◌, Some, false};
 ghost use Rattle.serde_json.specs.View.{view, members_view};
 ghost use Rattle.serde_json.specs.Find.{get_member};
 ghost use Rattle.strkw_keywords.specs.Keywords.{keyword_name};
-ghost use Rattle.strkw_keywords.specs.Settings.{place_in, settings};
-ghost use Rattle.strkw_keywords.specs.Object.{is_overridden, format_keyed, checks_formats, checks_formats_itself, ignores_unknown};
-ghost use Rattle.strkw_keywords.specs.Compiled.{IsBuilt, IsCompiled};
+ghost use Rattle.strkw_keywords.specs.Settings.{place_in, settings_of};
+ghost use Rattle.strkw_keywords.specs.Object.{is_overridden, format_entry, checks_formats, checks_formats_itself, ignores_unknown};
+ghost use Rattle.strkw_keywords.specs.Compiled.{alone, IsBuilt, IsCompiledAt};
 
 use crate::builtin::builtin_format;
 use crate::checks::{ContentCodec, Format, MediaTypeCheck};
@@ -21,12 +23,10 @@ use strkw_report::{CompileError, CompileErrorKind, Draft};
 fn build<B: EngineBuilder>(
     alloc: Global,
     ctx: &Context<'_, B>,
-    parent: &Map<String, Value>,
     value: &Value,
 ) -> Result<Option<Validator<B::Engine>>, Refused>
-    requires present { get_member (keyword_name Keyword.Format) (members_view parent.now.entries) ≡ Some (view value.now) }
-    requires kept { is_overridden ctx.now.options Keyword.Format ≡ false }
-    ensures { IsBuilt B.Engine.outcome (place_in ctx.now) (format_keyed (settings B.takes B.outcome (λ f. admits f.check) (λ m. accepted m.check) (λ c. encoded c.codec) (λ c. decoding c.codec) ctx.now) (members_view parent.now.entries) ∷ []) result }
+    ensures { IsBuilt B.Engine.outcome (place_in ctx.now) (alone Keyword.Format
+        (format_entry (settings_of B.takes B.outcome admits accepted encoded decoding ctx.now) (view value.now))) result }
 {
     let Some(name) = value.as_str() else {
         return Err(no_string(value, Keyword::Format));
@@ -74,7 +74,7 @@ fn build<B: EngineBuilder>(
 ///
 /// Refusals: `NotString` at that keyword for a value that is no string, or `FractionalNumber` in its place where that
 /// value holds a number that is no whole number of 64 bits; `UnknownFormat` there for an unknown format that is not
-/// ignored; `Memory`, at the root, for want of memory.
+/// ignored; `Memory`, at the root, where it is out of memory.
 pub fn compile<B: EngineBuilder>(
     alloc: Global,
     ctx: &Context<'_, B>,
@@ -83,9 +83,11 @@ pub fn compile<B: EngineBuilder>(
 ) -> Option<Result<Validator<B::Engine>, CompileError>>
     requires present { get_member (keyword_name Keyword.Format) (members_view parent.now.entries) ≡ Some (view value.now) }
     requires kept { is_overridden ctx.now.options Keyword.Format ≡ false }
-    ensures { IsCompiled B.Engine.outcome (place_in ctx.now) (format_keyed (settings B.takes B.outcome (λ f. admits f.check) (λ m. accepted m.check) (λ c. encoded c.codec) (λ c. decoding c.codec) ctx.now) (members_view parent.now.entries) ∷ []) result }
+    ensures { IsCompiledAt B.Engine.outcome
+        (settings_of B.takes B.outcome admits accepted encoded decoding ctx.now) (members_view parent.now.entries)
+        Keyword.Format result }
 {
-    located(alloc, &ctx.location, build(alloc, ctx, parent, value))
+    located(alloc, &ctx.location, build(alloc, ctx, value))
 }
 
 // Whether formats are checked, or only noted.

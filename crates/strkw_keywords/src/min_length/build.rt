@@ -1,12 +1,15 @@
+//! The entry `minLength`, and its limit beside that of `maxLength`.
+
 ghost use Rattle.std.specs.Prelude.{◌≡◌, [], ◌∷◌, Some, false, None, MatchOption};
 ghost use Rattle.serde_json.specs.View.{view, members_view};
 ghost use Rattle.serde_json.specs.Find.{get_member};
 ghost use Rattle.strkw_keywords.specs.Keywords.{keyword_name};
-ghost use Rattle.strkw_keywords.specs.Settings.{place_in};
-ghost use Rattle.strkw_keywords.specs.Object.{is_overridden, min_keyed, min_share, is_given, gives, as_limit};
-ghost use Rattle.strkw_keywords.specs.Compiled.{IsBuilt, IsCompiled};
+ghost use Rattle.strkw_keywords.specs.Settings.{place_in, settings_of};
+ghost use Rattle.strkw_keywords.specs.Object.{is_overridden, is_given, gives, as_limit, least_entry};
+ghost use Rattle.strkw_keywords.specs.Compiled.{min_share, IsBuilt, IsCompiledAt};
 ghost use Rattle.strkw_keywords.specs.Demands.{at_least};
 
+use crate::checks::{ContentCodec, Format, MediaTypeCheck};
 use crate::compile::{Refused, located, member, origin_of};
 use crate::keyword::Keyword;
 use crate::max_length;
@@ -27,7 +30,8 @@ pub(crate) fn limit_of(value: &Value) -> Option<u64>
 
 // The limit of `minLength`, where its entry is good.
 pub(crate) fn limit_in(options: &Options, parent: &Map<String, Value>) -> Option<u64>
-    ensures { MatchOption result (is_given (min_keyed options.now (members_view parent.now.entries)).entry ≡ false) (λ n. (min_keyed options.now (members_view parent.now.entries)).entry ≡ gives (at_least n ∷ []) None) }
+    ensures { MatchOption result (is_given (least_entry options.now (members_view parent.now.entries)) ≡ false)
+        (λ n. (least_entry options.now (members_view parent.now.entries)) ≡ gives (at_least n ∷ []) None) }
 {
     if options.is_overridden(Keyword::MinLength) {
         return None;
@@ -64,7 +68,7 @@ fn build<B: EngineBuilder>(
 /// `value` is the parent's value at `minLength`, which is not overridden. The answer is never `None`.
 ///
 /// Refusals: `Size` at that keyword for a value that is no whole number from 0 to 18446744073709551615; `Memory`, at
-/// the root, for want of memory.
+/// the root, where it is out of memory.
 pub fn compile<B: EngineBuilder>(
     alloc: Global,
     ctx: &Context<'_, B>,
@@ -73,7 +77,9 @@ pub fn compile<B: EngineBuilder>(
 ) -> Option<Result<Validator<B::Engine>, CompileError>>
     requires present { get_member (keyword_name Keyword.MinLength) (members_view parent.now.entries) ≡ Some (view value.now) }
     requires kept { is_overridden ctx.now.options Keyword.MinLength ≡ false }
-    ensures { IsCompiled B.Engine.outcome (place_in ctx.now) (min_share ctx.now.options (members_view parent.now.entries)) result }
+    ensures { IsCompiledAt B.Engine.outcome
+        (settings_of B.takes B.outcome admits accepted encoded decoding ctx.now) (members_view parent.now.entries)
+        Keyword.MinLength result }
 {
     located(alloc, &ctx.location, build(alloc, ctx, parent, value))
 }

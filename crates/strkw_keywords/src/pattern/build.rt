@@ -1,12 +1,14 @@
+//! The entry `pattern`.
+
 ghost use Rattle.std.specs.Prelude.{◌≡◌, false, Some, None, [], ◌∷◌, string_bytes};
 ghost use Rattle.serde_json.specs.View.{view, members_view};
 ghost use Rattle.serde_json.specs.Find.{get_member};
 ghost use Rattle.strkw_pattern.specs.Matcher.{literal_outcome, matcher_of};
 ghost use Rattle.strkw_keywords.specs.Keywords.{keyword_name};
-ghost use Rattle.strkw_keywords.specs.Settings.{settings};
+ghost use Rattle.strkw_keywords.specs.Settings.{settings_of};
 ghost use Rattle.strkw_keywords.specs.Demands.{compares};
 ghost use Rattle.strkw_keywords.specs.Validators.{place_of, demands_of, remark_made};
-ghost use Rattle.strkw_keywords.specs.Compiled.{IsPatternBuilt, IsPatternCompiled};
+ghost use Rattle.strkw_keywords.specs.Compiled.{IsBuiltAt, IsCompiledAt};
 ghost use Rattle.strkw_keywords.specs.Object.{is_overridden};
 
 use crate::checks::{ContentCodec, Format, MediaTypeCheck};
@@ -35,7 +37,8 @@ fn build<B: EngineBuilder>(
 ) -> Result<Option<Validator<B::Engine>>, Refused>
     requires present { get_member (keyword_name Keyword.Pattern) (members_view _parent.now.entries) ≡ Some (view value.now) }
     requires kept { is_overridden ctx.now.options Keyword.Pattern ≡ false }
-    ensures { IsPatternBuilt B.Engine.outcome (settings B.takes B.outcome (λ f. admits f.check) (λ m. accepted m.check) (λ c. encoded c.codec) (λ c. decoding c.codec) ctx.now) (members_view _parent.now.entries) result }
+    ensures { IsBuiltAt B.Engine.outcome (settings_of B.takes B.outcome admits accepted encoded decoding ctx.now)
+        (members_view _parent.now.entries) Keyword.Pattern result }
 {
     matcher_answers_search();
     let Some(text) = value.as_str() else {
@@ -67,7 +70,7 @@ fn build<B: EngineBuilder>(
 ///
 /// Refusals: `NotString` at that keyword for a value that is no string, or `FractionalNumber` in its place where that
 /// value holds a number that is no whole number of 64 bits; `Regex` there for a pattern that is not literal and that
-/// the builder does not take; `Memory`, at the root, for want of memory.
+/// the builder does not take; `Memory`, at the root, where it is out of memory.
 pub fn compile<B: EngineBuilder>(
     alloc: Global,
     ctx: &Context<'_, B>,
@@ -76,7 +79,8 @@ pub fn compile<B: EngineBuilder>(
 ) -> Option<Result<Validator<B::Engine>, CompileError>>
     requires present { get_member (keyword_name Keyword.Pattern) (members_view parent.now.entries) ≡ Some (view value.now) }
     requires kept { is_overridden ctx.now.options Keyword.Pattern ≡ false }
-    ensures { IsPatternCompiled B.Engine.outcome (settings B.takes B.outcome (λ f. admits f.check) (λ m. accepted m.check) (λ c. encoded c.codec) (λ c. decoding c.codec) ctx.now) (members_view parent.now.entries) result }
+    ensures { IsCompiledAt B.Engine.outcome (settings_of B.takes B.outcome admits accepted encoded decoding ctx.now)
+        (members_view parent.now.entries) Keyword.Pattern result }
 {
     located(alloc, &ctx.location, build(alloc, ctx, parent, value))
 }

@@ -9,7 +9,7 @@ use Rattle.strkw_keywords.specs.Remarks.{remark_of}
 use Rattle.strkw_cli.specs.Compiled.{IsCompiledFrom, keywords_assertions}
 use Rattle.strkw_cli.specs.Borrowed.{request_view}
 use Rattle.strkw_cli.specs.Answer.{settings_for, root_site}
-use Rattle.strkw_cli.specs.Noted.{FirstRefusal}
+use Rattle.strkw_keywords.specs.Object.{FirstRefusal}
 use Rattle.strkw_cli.specs.Printed.{ArePrintable, verdict_lines, note_lines}
 use Rattle.strkw_cli.proofs.AnswerCases.{compiled_printable, answer_of_compiled, appended_twice, appended_more, appended_answer, appended_refusal}
 use Rattle.strkw_cli.proofs.answering.answer_request.Goals as goal

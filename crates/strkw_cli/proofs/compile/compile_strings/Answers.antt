@@ -1,6 +1,6 @@
 use Rattle.std.proofs.lemmas.Result.{err_from_is_err_and}
 use Rattle.serde_json.specs.View.{members_view}
-use Rattle.strkw_cli.specs.Handed.{settings_of}
+use Rattle.strkw_keywords.specs.Handed.{settings_of}
 use Rattle.strkw_cli.specs.declared.strings.StringKeywords.{StringKeywords}
 use Rattle.strkw_cli.proofs.Whole.{refused_object, compiled_object}
 use Rattle.strkw_cli.proofs.Printable.{refused_prints}

@@ -1,4 +1,3 @@
-use Rattle.std.proofs.Common.{refl}
 use Rattle.std.proofs.lemmas.Option.{slice_get-map, slice_get-get_or, slice_get_past}
 use Rattle.strkw_keywords.proofs.Rows.{ok_truth}
 use Rattle.strkw_keywords.proofs.checks.ask_media_type.Goals as goal
@@ -11,4 +10,4 @@ returns-then-position-checks g c =
 pub returns-else-position-checks : goal.returns-else-position-checks
 returns-else-position-checks g c =
     let e = slice_get_past c.args.checks.now.media_types.now c.args.position c.if-position-checks.false in
-    simp (slice_get-map, e) ((λ _. tt), (λ _. refl))
+    simp (slice_get-map, e) ((λ h. absurd (cc)), (λ none. absurd none))

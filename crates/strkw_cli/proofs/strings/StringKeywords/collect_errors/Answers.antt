@@ -1,4 +1,4 @@
-use Rattle.strkw_cli.specs.Handed.{lists_of}
+use Rattle.strkw_keywords.specs.Handed.{lists_of}
 use Rattle.strkw_cli.proofs.Many.{in_use_at, nothing_yet, collected_more}
 use Rattle.strkw_cli.proofs.strings.StringKeywords.collect_errors.Goals as goal
 

@@ -1,6 +1,6 @@
 use Rattle.std.proofs.Common.{refl, IsTrue, rules}
 use Rattle.std.proofs.lemmas.List.{take_all}
-use Rattle.strkw_cli.specs.Handed.{lists_of}
+use Rattle.strkw_keywords.specs.Handed.{lists_of}
 use Rattle.strkw_cli.proofs.Many.{in_use_at, nothing_at, nothing_more, quiet_at}
 use Rattle.strkw_cli.proofs.strings.StringKeywords.is_valid.Goals as goal
 

@@ -1,6 +1,6 @@
 use Rattle.std.proofs.Common.{[], take}
 use Rattle.strkw_report.specs.declared.error.Site.{Site}
-use Rattle.strkw_cli.specs.Handed.{lists_of}
+use Rattle.strkw_keywords.specs.Handed.{lists_of}
 use Rattle.strkw_keywords.specs.Errors.{NodeReports}
 use Rattle.strkw_keywords.specs.Validators.{assertions_in}
 use Rattle.strkw_cli.proofs.strings.StringKeywords.is_valid.Given as goal

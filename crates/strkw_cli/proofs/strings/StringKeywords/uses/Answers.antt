@@ -1,5 +1,5 @@
 use Rattle.std.proofs.Common.{IsTrue, rules}
-use Rattle.strkw_cli.specs.Handed.{lists_of}
+use Rattle.strkw_keywords.specs.Handed.{lists_of}
 use Rattle.strkw_cli.proofs.Many.{in_use_at, use_append, in_more}
 use Rattle.strkw_cli.proofs.strings.StringKeywords.uses.Goals as goal
 

@@ -1,5 +1,5 @@
 use Rattle.std.proofs.Common.{take}
-use Rattle.strkw_cli.specs.Handed.{lists_of}
+use Rattle.strkw_keywords.specs.Handed.{lists_of}
 use Rattle.strkw_keywords.specs.Errors.{IsInUse}
 use Rattle.strkw_keywords.specs.Validators.{assertions_in}
 use Rattle.strkw_cli.proofs.strings.StringKeywords.uses.Given as goal

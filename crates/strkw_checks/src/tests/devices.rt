@@ -1,0 +1,320 @@
+//! Sources that fail at a read, sinks that fail in an answer, and the devices of a host.
+
+ghost use Rattle.std.specs.Prelude.{◌≡◌, ◌<◌, ◌≤◌, Some, length, vec_len, drop};
+
+use std::alloc::{AllocError, Global};
+use std::io;
+use std::io::{ErrorKind, Read, Write};
+use std::test::Fail;
+use strkw_cli::{
+    DeviceFailed, HostSink, HostSource, MemorySink, MemorySource, RunFault, Sink, Source, run,
+};
+
+/// Five requests, the last without a line feed.
+pub(super) fn script() -> &'static [u8] {
+    b"{\"draft\":7,\"schema\":{\"minLength\":5,\"maxLength\":3},\"instance\":\"abcd\"}\n{\"draft\":5}\n{\"draft\":7,\"schema\":{\"format\":\"date\"},\"instance\":\"2020-02-30\"}\n{\"draft\":7,\"schema\":{\"minLength\":2.0},\"instance\":1}\n{\"draft\":202012,\"schema\":{\"format\":\"date\"},\"instance\":\"x\"}"
+}
+
+/// Their answers.
+pub(super) fn answers() -> &'static [u8] {
+    b"error /minLength: \"abcd\" is shorter than 5 characters\nerror /maxLength: \"abcd\" is longer than 3 characters\nend\nbad request\nend\nerror /format: \"2020-02-30\" is not a \"date\"\nnote /format: \"date\"\nend\nrefused /minLength: the limit is not a non-negative whole number of 64 bits\nend\nvalid\nnote /format: \"date\"\nend\n"
+}
+
+/// How many bytes of the answers stand before each answer, and how many there are.
+pub(super) fn ends() -> [usize; 6] {
+    [0, 111, 127, 196, 276, 307]
+}
+
+// The length of the first line, with its line feed.
+fn line_len(bytes: &[u8]) -> usize
+    ensures within { result ≤ length bytes.now }
+    ensures some { 0 < length bytes.now → 0 < result }
+{
+    match bytes.iter().position(|byte| *byte == b'\n') {
+        Some(offset) => offset + 1,
+        None => bytes.len(),
+    }
+}
+
+// A source that hands out one line a read, fails after so many reads, and notes the least room that it was asked to
+// fill.
+#[derive(Drop)]
+struct LineByLine {
+    bytes: Vec<u8>,
+    passed: usize,
+    reads: usize,
+    least: usize,
+    failed: bool,
+    ghost within: { passed ≤ vec_len bytes },
+}
+
+impl Source for LineByLine {
+    ghost left = { λ source. Some (drop source.passed source.bytes.items) };
+
+    ghost has_failed = { λ source. source.failed };
+
+    fn read(&mut self, buffer: &mut [u8]) -> Result<usize, DeviceFailed> {
+        self.least = self.least.min(buffer.len());
+        if self.reads == 0 {
+            self.failed = true;
+            return Err(DeviceFailed);
+        }
+        self.reads -= 1;
+        let line = line_len(&self.bytes[self.passed..]);
+        let count = buffer.len().min(line);
+        let end = self.passed + count;
+        buffer[..count].copy_from_slice(&self.bytes[self.passed..end]);
+        self.passed = end;
+        Ok(count)
+    }
+
+    fn has_failed(&self) -> bool {
+        self.failed
+    }
+}
+
+// The source fails at its k-th read, for each k: the lines whose line feed was read are answered, and an
+// unfinished line is not. The sixth read finds the end. Each read is for 16 KiB at least.
+#[test]
+fn a_read_fails(rt: HostRuntime) -> Result<(), Fail> {
+    for reads in 0..8usize {
+        let mut source = LineByLine {
+            bytes: script().to_vec(rt.alloc())?,
+            passed: 0,
+            reads,
+            least: usize::MAX,
+            failed: false,
+        };
+        let mut sink = MemorySink::new(rt.alloc());
+        let ended = run(rt.alloc(), &mut source, &mut sink);
+        if reads > 5 {
+            assert_eq!(rt; ended, Ok(()));
+            assert!(rt; sink.bytes() == answers());
+        } else {
+            assert_eq!(rt; ended, Err(RunFault::Read));
+            let end = ends()[reads.min(4)];
+            assert!(rt; Some(sink.bytes()) == answers().get(..end), "{reads}");
+        }
+        assert_eq!(rt; source.has_failed(), reads <= 5);
+        assert!(rt; source.least >= 16384);
+    }
+    Ok(())
+}
+
+// A sink that takes at most seven bytes a write, and fails once it has taken so many.
+#[derive(Drop)]
+struct ShortSink {
+    bytes: Vec<u8>,
+    room: usize,
+    failed: bool,
+}
+
+impl Sink for ShortSink {
+    ghost taken = { λ sink. Some sink.bytes.items };
+
+    ghost has_failed = { λ sink. sink.failed };
+
+    fn write(&mut self, bytes: &[u8]) -> Result<usize, DeviceFailed> {
+        let count = bytes.len().min(7).min(self.room);
+        if count == 0 && !bytes.is_empty() {
+            self.failed = true;
+            return Err(DeviceFailed);
+        }
+        match self.bytes.extend_from_slice(&bytes[..count]) {
+            Ok(()) => {
+                self.room -= count;
+                Ok(count)
+            }
+            Err(_) => {
+                self.failed = true;
+                Err(DeviceFailed)
+            }
+        }
+    }
+
+    fn has_failed(&self) -> bool {
+        self.failed
+    }
+}
+
+// The sink fails at each byte of each answer: the answers before are whole, and a beginning of that one follows.
+#[test]
+fn a_write_fails(rt: HostRuntime) -> Result<(), Fail> {
+    for room in 0..308usize {
+        let mut source = MemorySource::new(script().to_vec(rt.alloc())?);
+        let mut sink = ShortSink {
+            bytes: Vec::new(rt.alloc()),
+            room,
+            failed: false,
+        };
+        let ended = run(rt.alloc(), &mut source, &mut sink);
+        let wanted = if room < 307 {
+            Err(RunFault::Write)
+        } else {
+            Ok(())
+        };
+        assert_eq!(rt; ended, wanted);
+        assert!(rt;
+            Some(sink.bytes.as_slice()) == answers().get(..room),
+            "{room}"
+        );
+    }
+    Ok(())
+}
+
+// A reader of a host that hands out one line a read. One of its reads fails, once: the next one would work.
+#[derive(Drop)]
+struct FailsOnceReader {
+    rest: &'static [u8],
+    reads: usize,
+    fails_at: usize,
+    kind: ErrorKind,
+}
+
+impl Read for FailsOnceReader {
+    fn read(&mut self, buf: &mut [u8]) -> io::Result<usize> {
+        let number = self.reads;
+        self.reads = number.wrapping_add(1);
+        if number == self.fails_at {
+            return Err(self.kind.into());
+        }
+        let count = buf.len().min(line_len(self.rest));
+        buf[..count].copy_from_slice(&self.rest[..count]);
+        self.rest = &self.rest[count..];
+        Ok(count)
+    }
+}
+
+// How a run over a reader of a host ends, whether the source has failed, and the sink.
+fn run_over_reader(
+    alloc: Global,
+    reader: &mut FailsOnceReader,
+) -> (Result<(), RunFault>, bool, MemorySink) {
+    let mut source = HostSource::new(reader);
+    let mut sink = MemorySink::new(alloc);
+    let ended = run(alloc, &mut source, &mut sink);
+    (ended, source.has_failed(), sink)
+}
+
+// The first error of a reader ends the run, an interrupted read too: it is not asked again. The sixth read finds the
+// end.
+#[test]
+fn a_read_of_a_host_fails_once(rt: HostRuntime) {
+    for kind in [ErrorKind::Interrupted, ErrorKind::Other] {
+        for fails_at in 0..8usize {
+            let mut reader = FailsOnceReader {
+                rest: script(),
+                reads: 0,
+                fails_at,
+                kind,
+            };
+            let (ended, has_failed, sink) = run_over_reader(rt.alloc(), &mut reader);
+            assert_eq!(rt; has_failed, fails_at <= 5);
+            assert_eq!(rt; reader.reads, fails_at.min(5) + 1);
+            if has_failed {
+                assert_eq!(rt; ended, Err(RunFault::Read));
+                let end = ends()[fails_at.min(4)];
+                assert!(rt; Some(sink.bytes()) == answers().get(..end), "{fails_at}");
+            } else {
+                assert_eq!(rt; ended, Ok(()));
+                assert!(rt; sink.bytes() == answers());
+            }
+        }
+    }
+}
+
+// What goes wrong with a writer.
+#[derive(Clone, Copy)]
+enum Trouble {
+    Write(ErrorKind),
+    TakesNothing,
+    Flush(ErrorKind),
+}
+
+// A writer of a host that takes seven bytes a write. One of its writes or flushes goes wrong, once.
+#[derive(Drop)]
+struct FailsOnceWriter {
+    taken: Vec<u8>,
+    writes: usize,
+    flushes: usize,
+    fails_at: usize,
+    trouble: Trouble,
+}
+
+impl Write for FailsOnceWriter {
+    fn write(&mut self, buf: &[u8]) -> io::Result<usize> {
+        let number = self.writes;
+        self.writes = number.wrapping_add(1);
+        match self.trouble {
+            Trouble::Write(kind) if number == self.fails_at => return Err(kind.into()),
+            Trouble::TakesNothing if number == self.fails_at => return Ok(0),
+            _ => {}
+        }
+        let count = buf.len().min(7);
+        match self.taken.extend_from_slice(&buf[..count]) {
+            Ok(()) => Ok(count),
+            Err(_) => Err(ErrorKind::OutOfMemory.into()),
+        }
+    }
+
+    fn flush(&mut self) -> io::Result<()> {
+        let number = self.flushes;
+        self.flushes = number.wrapping_add(1);
+        match self.trouble {
+            Trouble::Flush(kind) if number == self.fails_at => Err(kind.into()),
+            _ => Ok(()),
+        }
+    }
+}
+
+// How a run over a writer of a host ends, and whether the sink has failed.
+fn run_over_writer(
+    alloc: Global,
+    writer: &mut FailsOnceWriter,
+) -> Result<(Result<(), RunFault>, bool), AllocError> {
+    let mut source = MemorySource::new(script().to_vec(alloc)?);
+    let mut sink = HostSink::new(writer);
+    let ended = run(alloc, &mut source, &mut sink);
+    Ok((ended, sink.has_failed()))
+}
+
+// The writes of seven bytes: 40 for the answers to the ended lines, and 5 for the last.
+const WRITES: usize = 45;
+
+// The first write or flush that goes wrong ends the run, an interrupted one too: neither is tried again. Each write is
+// flushed. What a write took whose flush failed stays taken.
+#[test]
+fn a_write_of_a_host_fails_once(rt: HostRuntime) -> Result<(), Fail> {
+    for trouble in [
+        Trouble::Write(ErrorKind::Interrupted),
+        Trouble::Write(ErrorKind::Other),
+        Trouble::TakesNothing,
+        Trouble::Flush(ErrorKind::Interrupted),
+        Trouble::Flush(ErrorKind::Other),
+    ] {
+        for fails_at in 0..WRITES + 2 {
+            let mut writer = FailsOnceWriter {
+                taken: Vec::new(rt.alloc()),
+                writes: 0,
+                flushes: 0,
+                fails_at,
+                trouble,
+            };
+            let (ended, has_failed) = run_over_writer(rt.alloc(), &mut writer)?;
+            let taken = writer.taken.as_slice();
+            assert_eq!(rt; has_failed, fails_at < WRITES);
+            assert_eq!(rt; writer.writes, WRITES.min(fails_at + 1));
+            if has_failed {
+                assert_eq!(rt; ended, Err(RunFault::Write));
+                assert!(rt; answers().starts_with(taken), "{fails_at}");
+                let is_flush = matches!(trouble, Trouble::Flush(_));
+                assert_eq!(rt; writer.flushes, fails_at + if is_flush { 1 } else { 0 });
+            } else {
+                assert_eq!(rt; ended, Ok(()));
+                assert!(rt; taken == answers());
+                assert_eq!(rt; writer.flushes, WRITES);
+            }
+        }
+    }
+    Ok(())
+}

@@ -1,0 +1,304 @@
+//! Each call on one entry that allocates. With ample memory a row has to pass. `tools/refusals.py` runs it with each growth
+//! refused in turn too: then it ends as out of memory, once it has shown that what the refused call was lent is as it was.
+
+use super::context::{
+    Call, are_lent, builder, collects, context, error_lines, gives_the_first, is_as_made, json,
+    lent_errors, no_memory_at_the_root, root_site,
+};
+use crate::{ScriptedBuilder, ScriptedEngine, check_named, compiled};
+use serde_json::Value;
+use std::alloc::{AllocError, Global};
+use std::test::Fail;
+use strkw_keywords::{Checks, Context, Keyword, NamedFormat, Uses, Validate, Validator};
+use strkw_report::{CompileError, Draft, Site};
+
+// A draft, a keyword, a schema object, and where it is refused with ample memory.
+const ENTRIES_AND_PLACES: [(Draft, Keyword, &str, Option<&str>); 15] = [
+    (
+        Draft::Draft7,
+        Keyword::ContentMediaType,
+        r#"{"contentMediaType":"application/json","contentEncoding":"base64"}"#,
+        None,
+    ),
+    (
+        Draft::Draft7,
+        Keyword::ContentMediaType,
+        r#"{"contentMediaType":["a"]}"#,
+        Some("/a/contentMediaType"),
+    ),
+    (
+        Draft::Draft7,
+        Keyword::ContentEncoding,
+        r#"{"contentEncoding":"base64"}"#,
+        None,
+    ),
+    (
+        Draft::Draft202012,
+        Keyword::ContentMediaType,
+        r#"{"contentMediaType":"a/b"}"#,
+        None,
+    ),
+    (
+        Draft::Draft202012,
+        Keyword::ContentEncoding,
+        r#"{"contentEncoding":"x"}"#,
+        None,
+    ),
+    (
+        Draft::Draft202012,
+        Keyword::ContentSchema,
+        r#"{"contentMediaType":"a/b","contentSchema":{"a":["b"]}}"#,
+        None,
+    ),
+    (
+        Draft::Draft202012,
+        Keyword::ContentSchema,
+        r#"{"contentMediaType":"a/b","contentSchema":1.5}"#,
+        Some("/a/contentSchema"),
+    ),
+    (Draft::Draft7, Keyword::Format, r#"{"format":"date"}"#, None),
+    (
+        Draft::Draft7,
+        Keyword::Format,
+        r#"{"format":"custom"}"#,
+        Some("/a/format"),
+    ),
+    (
+        Draft::Draft202012,
+        Keyword::Format,
+        r#"{"format":"custom"}"#,
+        None,
+    ),
+    (
+        Draft::Draft7,
+        Keyword::MinLength,
+        r#"{"minLength":1,"maxLength":2}"#,
+        None,
+    ),
+    (
+        Draft::Draft7,
+        Keyword::MaxLength,
+        r#"{"maxLength":-1}"#,
+        Some("/a/maxLength"),
+    ),
+    (
+        Draft::Draft7,
+        Keyword::Pattern,
+        r#"{"pattern":"^(c|b|a)$"}"#,
+        None,
+    ),
+    (Draft::Draft7, Keyword::Pattern, r#"{"pattern":"a+"}"#, None),
+    (
+        Draft::Draft7,
+        Keyword::Pattern,
+        r#"{"pattern":"b+"}"#,
+        Some("/a/pattern"),
+    ),
+];
+
+// What is compiled of an entry. A refusal as out of memory stands at the root, and leaves the context and the schema
+// object as they were; it is an error here.
+fn outcome_of(
+    alloc: Global,
+    ctx: &Context<'_, ScriptedBuilder<'static>>,
+    keyword: Keyword,
+    schema: &str,
+) -> Result<Result<Validator<ScriptedEngine<'static>>, CompileError>, Fail> {
+    let (schema, before, draft) = (json(alloc, schema)?, json(alloc, schema)?, ctx.draft);
+    let object = schema.as_object().ok_or("no object")?;
+    let outcome = compiled(alloc, ctx, keyword, object).ok_or("it adds nothing")?;
+    if schema != before || !is_as_made(alloc, ctx, draft) {
+        return Err(Fail::new("something lent was changed"));
+    }
+    if let Err(refusal) = &outcome {
+        no_memory_at_the_root(refusal)?;
+    }
+    Ok(outcome)
+}
+
+#[test]
+fn compile_functions_under_refusal(rt: HostRuntime) -> Result<(), Fail> {
+    let alloc = rt.alloc();
+    let builder = builder();
+    let formats = [NamedFormat {
+        name: String::from_str(alloc, "even")?,
+        check: Box::new(alloc, check_named("even"))?,
+    }];
+    for (draft, keyword, schema, place) in ENTRIES_AND_PLACES {
+        let ctx = context(alloc, draft, &builder, &formats)?;
+        match outcome_of(alloc, &ctx, keyword, schema)? {
+            Ok(_validator) => assert!(rt; place.is_none(), "{schema}"),
+            Err(refusal) => { assert!(rt; Some(refusal.location.as_str()) == place, "{schema}") }
+        }
+    }
+    Ok(())
+}
+
+// A draft, a keyword, a schema object, a text, the lines of its errors, and whether a test of it takes no memory.
+const ENTRIES_AND_LINES: [(Draft, Keyword, &str, &str, &str, bool); 11] = [
+    (
+        Draft::Draft7,
+        Keyword::ContentMediaType,
+        r#"{"contentMediaType":"application/json"}"#,
+        "[{}]",
+        "",
+        false,
+    ),
+    (
+        Draft::Draft7,
+        Keyword::ContentMediaType,
+        r#"{"contentMediaType":"application/json","contentEncoding":"base64"}"#,
+        "ezp9Cg==",
+        "/a/contentMediaType: \"ezp9Cg==\" is not compliant with \"application/json\" media type\n",
+        false,
+    ),
+    (
+        Draft::Draft7,
+        Keyword::ContentEncoding,
+        r#"{"contentEncoding":"base32"}"#,
+        "MZXW6YQ=",
+        "",
+        false,
+    ),
+    (
+        Draft::Draft202012,
+        Keyword::ContentSchema,
+        r#"{"contentMediaType":"a/b","contentSchema":{"a":["b"]}}"#,
+        "x",
+        "",
+        true,
+    ),
+    (
+        Draft::Draft7,
+        Keyword::Format,
+        r#"{"format":"date"}"#,
+        "x",
+        "/a/format: \"x\" is not a \"date\"\n",
+        true,
+    ),
+    (
+        Draft::Draft7,
+        Keyword::Format,
+        r#"{"format":"even"}"#,
+        "abc",
+        "/a/format: \"abc\" is not a \"even\"\n",
+        false,
+    ),
+    (
+        Draft::Draft7,
+        Keyword::MinLength,
+        r#"{"minLength":5,"maxLength":3}"#,
+        "abcd",
+        "/a/minLength: \"abcd\" is shorter than 5 characters\n/a/maxLength: \"abcd\" is longer than 3 characters\n",
+        true,
+    ),
+    (
+        Draft::Draft7,
+        Keyword::MaxLength,
+        r#"{"maxLength":3}"#,
+        "abcd",
+        "/a/maxLength: \"abcd\" is longer than 3 characters\n",
+        true,
+    ),
+    (
+        Draft::Draft7,
+        Keyword::Pattern,
+        r#"{"pattern":"^(c|b|a)$"}"#,
+        "d",
+        "/a/pattern: \"d\" does not match \"^(c|b|a)$\"\n",
+        true,
+    ),
+    (
+        Draft::Draft7,
+        Keyword::Pattern,
+        r#"{"pattern":"a+"}"#,
+        "x",
+        "/a/pattern: \"x\" does not match \"a+\"\n",
+        false,
+    ),
+    (
+        Draft::Draft7,
+        Keyword::Pattern,
+        r#"{"pattern":"a+"}"#,
+        "aa",
+        "",
+        false,
+    ),
+];
+
+// Whether a call answers as it is to; out of memory, by its own name, is an error here where the call may be refused.
+fn answers(
+    alloc: Global,
+    call: Call,
+    validator: &Validator<ScriptedEngine<'static>>,
+    checks: &Checks,
+    (node, site): (&Value, &Site),
+    wanted: &str,
+) -> Result<bool, AllocError> {
+    if !validator.uses(checks) {
+        return Ok(false);
+    }
+    match call {
+        Call::IsValid => match validator.is_valid(alloc, node, checks) {
+            Ok(is_valid) => Ok(is_valid == wanted.is_empty()),
+            Err(AllocError) if validator.takes_no_memory() => Ok(false),
+            Err(AllocError) => Err(AllocError),
+        },
+        Call::Validate => {
+            gives_the_first(alloc, validator.validate(alloc, node, site, checks), wanted)
+        }
+        Call::CollectErrors => {
+            let mut errors = lent_errors(alloc)?;
+            let collected = validator.collect_errors(alloc, node, site, checks, &mut errors);
+            collects(alloc, collected, &errors, wanted)
+        }
+        Call::Evaluate => {
+            let found = validator.evaluate(alloc, node, site, checks)?;
+            Ok(error_lines(alloc, &found.errors)?.as_str() == wanted)
+        }
+    }
+}
+
+// Asks of each entry whether a call answers as it is to. What the call was lent is as it was, whatever it answered.
+fn asked_of_entries(alloc: Global, call: Call) -> Result<(), Fail> {
+    let builder = builder();
+    let formats = [NamedFormat {
+        name: String::from_str(alloc, "even")?,
+        check: Box::new(alloc, check_named("even"))?,
+    }];
+    for (draft, keyword, schema, text, wanted, is_quiet) in ENTRIES_AND_LINES {
+        let ctx = context(alloc, draft, &builder, &formats)?;
+        let Ok(validator) = outcome_of(alloc, &ctx, keyword, schema)? else {
+            return Err(Fail::new(schema));
+        };
+        let (node, site) = (Value::try_from_str(alloc, text)?, root_site(alloc));
+        let answer = answers(alloc, call, &validator, &ctx.checks, (&node, &site), wanted);
+        let is_as_lent = are_lent(&node, text, &site)
+            && is_as_made(alloc, &ctx, draft)
+            && validator.takes_no_memory() == is_quiet;
+        if !is_as_lent || !answer? {
+            return Err(Fail::new(schema));
+        }
+    }
+    Ok(())
+}
+
+#[test]
+fn is_valid_of_entries_under_refusal(rt: HostRuntime) -> Result<(), Fail> {
+    asked_of_entries(rt.alloc(), Call::IsValid)
+}
+
+#[test]
+fn validate_of_entries_under_refusal(rt: HostRuntime) -> Result<(), Fail> {
+    asked_of_entries(rt.alloc(), Call::Validate)
+}
+
+#[test]
+fn collect_errors_of_entries_under_refusal(rt: HostRuntime) -> Result<(), Fail> {
+    asked_of_entries(rt.alloc(), Call::CollectErrors)
+}
+
+#[test]
+fn evaluate_of_entries_under_refusal(rt: HostRuntime) -> Result<(), Fail> {
+    asked_of_entries(rt.alloc(), Call::Evaluate)
+}

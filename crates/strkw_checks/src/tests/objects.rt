@@ -1,0 +1,276 @@
+//! Each call on a whole schema object that allocates, and `run`. With ample memory a row has to pass. `tools/refusals.py`
+//! runs it with each growth refused in turn too: then it ends as out of memory, once it has shown that what the refused
+//! call was lent is as it was.
+
+use super::context::{
+    Call, are_lent, builder, collects, context, error_lines, gives_the_first, is_as_made, json,
+    lent_errors, no_memory_at_the_root, root_site,
+};
+use super::devices::{answers, ends, script};
+use crate::{ScriptedBuilder, ScriptedEngine, check_named};
+use serde_json::Value;
+use std::alloc::{AllocError, Global};
+use std::test::Fail;
+use strkw_cli::{
+    MemorySink, MemorySource, Note, RunFault, Sink, StringKeywords, compile_strings, run,
+};
+use strkw_keywords::{Checks, Context, NamedFormat};
+use strkw_report::{CompileError, Draft, Site};
+
+type Keywords = StringKeywords<ScriptedEngine<'static>>;
+
+// What a schema object is compiled to. A refusal as out of memory stands at the root, and leaves the context and the
+// object as they were; it is an error here.
+fn outcome_of(
+    alloc: Global,
+    ctx: &Context<'_, ScriptedBuilder<'static>>,
+    schema: &str,
+) -> Result<Result<Keywords, CompileError>, Fail> {
+    let (schema, before, draft) = (json(alloc, schema)?, json(alloc, schema)?, ctx.draft);
+    let outcome = compile_strings(alloc, ctx, schema.as_object().ok_or("no object")?);
+    if schema != before || !is_as_made(alloc, ctx, draft) {
+        return Err(Fail::new("something lent was changed"));
+    }
+    if let Err(refusal) = &outcome {
+        no_memory_at_the_root(refusal)?;
+    }
+    Ok(outcome)
+}
+
+// A schema object, and where it is refused with ample memory.
+fn schemas_and_places() -> [(&'static str, Option<&'static str>); 9] {
+    [
+        (
+            r#"{"minLength":1,"maxLength":2,"format":"date","pattern":"^(a|b)$"}"#,
+            None,
+        ),
+        (
+            r#"{"contentMediaType":"application/json","contentEncoding":"base64"}"#,
+            None,
+        ),
+        (r#"{"contentEncoding":["a"]}"#, Some("/a/contentEncoding")),
+        (r#"{"format":["a"]}"#, Some("/a/format")),
+        (r#"{"format":1.5}"#, Some("/a/format")),
+        (r#"{"format":"custom"}"#, Some("/a/format")),
+        (r#"{"minLength":1,"maxLength":-1}"#, Some("/a/maxLength")),
+        (r#"{"pattern":5}"#, Some("/a/pattern")),
+        (r#"{"pattern":"b+"}"#, Some("/a/pattern")),
+    ]
+}
+
+#[test]
+fn compile_strings_under_refusal(rt: HostRuntime) -> Result<(), Fail> {
+    let alloc = rt.alloc();
+    let builder = builder();
+    let formats = [NamedFormat {
+        name: String::from_str(alloc, "even")?,
+        check: Box::new(alloc, check_named("even"))?,
+    }];
+    for (schema, place) in schemas_and_places() {
+        let ctx = context(alloc, Draft::Draft7, &builder, &formats)?;
+        match outcome_of(alloc, &ctx, schema)? {
+            Ok(_keywords) => assert!(rt; place.is_none(), "{schema}"),
+            Err(refusal) => {
+                assert!(rt; Some(refusal.location.as_str()) == place, "{schema}");
+            }
+        }
+    }
+    Ok(())
+}
+
+// Testing a text by these takes no memory: wherever the compilation had enough, there is an answer.
+#[test]
+fn is_valid_without_memory_under_refusal(rt: HostRuntime) -> Result<(), Fail> {
+    let alloc = rt.alloc();
+    let builder = builder();
+    let formats = [NamedFormat {
+        name: String::from_str(alloc, "even")?,
+        check: Box::new(alloc, check_named("even"))?,
+    }];
+    for (text, valid) in [("a:", true), ("b:", false), ("", false)] {
+        let ctx = context(alloc, Draft::Draft7, &builder, &formats)?;
+        let schema = r#"{"format":"uri","minLength":1,"pattern":"^a"}"#;
+        let Ok(keywords) = outcome_of(alloc, &ctx, schema)? else {
+            return Err(Fail::new("refused"));
+        };
+        let node = Value::try_from_str(alloc, text)?;
+        assert!(rt; keywords.takes_no_memory() && keywords.uses(&ctx.checks));
+        if keywords.uses(&ctx.checks) {
+            assert_eq!(rt;
+                keywords.is_valid(alloc, &node, &ctx.checks),
+                Ok(valid),
+                "{text}"
+            );
+        }
+    }
+    Ok(())
+}
+
+const JSON_IN_BASE64: &str =
+    r#"{"contentMediaType":"application/json","contentEncoding":"base64","minLength":2}"#;
+
+const FOUR_ERRORS: &str = r#"{"minLength":5,"maxLength":3,"format":"date","pattern":"^x"}"#;
+
+const FOUR_NOTES: &str =
+    r#"{"minLength":5,"contentMediaType":"a","contentEncoding":"b","contentSchema":[1],"format":"c"}"#;
+
+// A draft, a schema object, a text, and the lines of its errors and of its notes.
+const OBJECTS: [(Draft, &str, &str, &str, &str); 7] = [
+    (Draft::Draft7, JSON_IN_BASE64, "e30=", "", ""),
+    (
+        Draft::Draft7,
+        JSON_IN_BASE64,
+        "ezp9Cg==",
+        "/a/contentMediaType: \"ezp9Cg==\" is not compliant with \"application/json\" media type\n",
+        "",
+    ),
+    (
+        Draft::Draft7,
+        JSON_IN_BASE64,
+        "//4=",
+        "/a/contentEncoding: \"//4=\" does not decode to UTF-8 text\n",
+        "",
+    ),
+    (
+        Draft::Draft7,
+        JSON_IN_BASE64,
+        "x",
+        "/a/contentEncoding: \"x\" is not compliant with \"base64\" content encoding\n/a/minLength: \"x\" is shorter than 2 characters\n",
+        "",
+    ),
+    (
+        Draft::Draft7,
+        FOUR_ERRORS,
+        "abcd",
+        "/a/format: \"abcd\" is not a \"date\"\n/a/minLength: \"abcd\" is shorter than 5 characters\n/a/maxLength: \"abcd\" is longer than 3 characters\n/a/pattern: \"abcd\" does not match \"^x\"\n",
+        "/a/format: \"date\"\n",
+    ),
+    (
+        Draft::Draft7,
+        r#"{"format":"even"}"#,
+        "abc",
+        "/a/format: \"abc\" is not a \"even\"\n",
+        "/a/format: \"even\"\n",
+    ),
+    (
+        Draft::Draft201909,
+        FOUR_NOTES,
+        "abcd",
+        "/a/minLength: \"abcd\" is shorter than 5 characters\n",
+        "/a/contentMediaType: \"a\"\n/a/contentEncoding: \"b\"\n/a/contentSchema: [1]\n/a/format: \"c\"\n",
+    ),
+];
+
+// The place and the value of each note.
+fn note_lines(alloc: Global, notes: &[Note]) -> Result<String, AllocError> {
+    let mut lines = String::new(alloc);
+    for note in notes {
+        let (place, value) = (note.schema_path.as_str(), note.value.to_string(alloc)?);
+        let line = format!(in alloc; "{place}: {value}\n")?;
+        lines.push_str(&line)?;
+    }
+    Ok(lines)
+}
+
+// Whether a call answers as it is to; out of memory, by its own name, is an error here.
+fn answers_so(
+    alloc: Global,
+    call: Call,
+    keywords: &Keywords,
+    checks: &Checks,
+    (node, site): (&Value, &Site),
+    (wanted, notes): (&str, &str),
+) -> Result<bool, AllocError> {
+    if !keywords.uses(checks) {
+        return Ok(false);
+    }
+    match call {
+        Call::IsValid => Ok(keywords.is_valid(alloc, node, checks)? == wanted.is_empty()),
+        Call::Validate => {
+            gives_the_first(alloc, keywords.validate(alloc, node, site, checks), wanted)
+        }
+        Call::CollectErrors => {
+            let mut errors = lent_errors(alloc)?;
+            let collected = keywords.collect_errors(alloc, node, site, checks, &mut errors);
+            collects(alloc, collected, &errors, wanted)
+        }
+        Call::Evaluate => {
+            let found = keywords.evaluate(alloc, node, site, checks)?;
+            Ok(
+                error_lines(alloc, &found.errors)?.as_str() == wanted
+                    && note_lines(alloc, &found.notes)?.as_str() == notes,
+            )
+        }
+    }
+}
+
+// Asks of each object whether a call answers as it is to. What the call was lent is as it was, whatever it answered.
+fn asked_of_objects(alloc: Global, call: Call) -> Result<(), Fail> {
+    let builder = builder();
+    let formats = [NamedFormat {
+        name: String::from_str(alloc, "even")?,
+        check: Box::new(alloc, check_named("even"))?,
+    }];
+    for (draft, schema, text, errors, notes) in OBJECTS {
+        let ctx = context(alloc, draft, &builder, &formats)?;
+        let Ok(keywords) = outcome_of(alloc, &ctx, schema)? else {
+            return Err(Fail::new(schema));
+        };
+        let (node, site) = (Value::try_from_str(alloc, text)?, root_site(alloc));
+        let lent = (&node, &site);
+        let answer = answers_so(alloc, call, &keywords, &ctx.checks, lent, (errors, notes));
+        if !are_lent(&node, text, &site) || !is_as_made(alloc, &ctx, draft) || !answer? {
+            return Err(Fail::new(schema));
+        }
+    }
+    Ok(())
+}
+
+#[test]
+fn is_valid_of_objects_under_refusal(rt: HostRuntime) -> Result<(), Fail> {
+    asked_of_objects(rt.alloc(), Call::IsValid)
+}
+
+#[test]
+fn validate_of_objects_under_refusal(rt: HostRuntime) -> Result<(), Fail> {
+    asked_of_objects(rt.alloc(), Call::Validate)
+}
+
+#[test]
+fn collect_errors_of_objects_under_refusal(rt: HostRuntime) -> Result<(), Fail> {
+    asked_of_objects(rt.alloc(), Call::CollectErrors)
+}
+
+#[test]
+fn evaluate_of_objects_under_refusal(rt: HostRuntime) -> Result<(), Fail> {
+    asked_of_objects(rt.alloc(), Call::Evaluate)
+}
+
+// What was written is a beginning of the answers: all of them where the run ended well, whole ones where there was
+// no memory for the next. The fault is one of writing only where the sink itself was refused its growth.
+#[test]
+fn run_under_refusal(rt: HostRuntime) -> Result<(), Fail> {
+    let mut source = MemorySource::new(script().to_vec(rt.alloc())?);
+    let mut sink = MemorySink::new(rt.alloc());
+    let ended = run(rt.alloc(), &mut source, &mut sink);
+    let bytes = sink.bytes();
+    assert!(rt; answers().starts_with(bytes));
+    match ended {
+        Ok(()) => {
+            assert!(rt; bytes == answers());
+            Ok(())
+        }
+        Err(RunFault::Memory) => {
+            assert!(rt; !sink.has_failed());
+            // The last request has no line feed: it is not answered before a fault.
+            let is_whole = ends()[..5].iter().any(|end| *end == bytes.len());
+            assert!(rt; is_whole);
+            Err(AllocError.into())
+        }
+        Err(RunFault::Write) => {
+            assert!(rt; sink.has_failed());
+            Err(AllocError.into())
+        }
+        Err(_) => Err(Fail::new("another fault")),
+    }
+}

@@ -1,0 +1,52 @@
+-- It cannot be that a line has no answer, or an input no output.
+use Rattle.std.proofs.Common.{◌≡◌, ◌++◌, inl, inr, ℕ, List, [], ◌∷◌, Bool, true, false, Option, Some, None, refl, codes, option_and_then}
+use Rattle.serde_json.specs.Data.{Data}
+use Rattle.serde_json.specs.Find.{as_str}
+use Rattle.serde_json.specs.Read.{read as read_text}
+use Rattle.strkw_report.specs.Refusals.{Refusal}
+use Rattle.strkw_keywords.specs.Laws.{ErrorsAreThere}
+use Rattle.strkw_keywords.specs.Folding.{FoldsToFalse}
+use Rattle.strkw_keywords.specs.Meanings.{no_lists}
+use Rattle.strkw_keywords.proofs.Entries.{first_refusal_exists, notes_exist}
+use Rattle.strkw_cli.specs.Request.{Request, IsReading, request_in}
+use Rattle.strkw_cli.specs.Printed.{TellsFold, refused_line, verdict_lines, note_lines}
+use Rattle.strkw_cli.specs.Lines.{lines}
+use Rattle.strkw_cli.specs.Answer.{settings_for, root_site, AnswersBy, Answers, IsAnswer, AreAnswers, IsOutput}
+
+told_there : (asked : Bool) (P : Type 0) → ((told : List ℕ) → TellsFold asked P told → ⊥) → ⊥
+told_there false P none = none [] refl
+told_there true P none = none (codes "fold false\n") (inr ((λ p. none (codes "fold true\n") (inl (p, refl))), refl))
+
+by_there : ErrorsAreThere → (why : Option Refusal) (r : Request) → ((answer : List ℕ) → AnswersBy why r answer → ⊥) → ⊥
+by_there errors (Some why) r none = none (refused_line why ++ codes "end\n") refl
+by_there errors None r none =
+    let (notes, noted) = notes_exist (settings_for r) r.schema (as_str r.instance) in
+    told_there r.fold (FoldsToFalse (settings_for r) r.schema) (λ told tells.
+    errors (settings_for r) r.schema no_lists root_site (as_str r.instance) (λ es are.
+    none (told ++ (verdict_lines es ++ note_lines notes ++ codes "end\n")) (told, es, notes, tells, are, noted, refl)))
+
+answers_there : ErrorsAreThere → (r : Option Request) → ((answer : List ℕ) → Answers r answer → ⊥) → ⊥
+answers_there errors None none = none (codes "bad request\nend\n") refl
+answers_there errors (Some r) none =
+    let (first, is) = first_refusal_exists (settings_for r) r.schema in
+    by_there errors first r (λ answer by. none answer (first, is, by))
+
+reading_by : (line : List ℕ) (o : Option Data) → read_text line ≡ o → ((value : Option Data) → IsReading line value → ⊥) → ⊥
+reading_by line None e none = none None (λ utf8. e)
+reading_by line (Some d) e none = none None (λ utf8. absurd (none (Some d) (utf8, e)))
+
+pub answer_there : ErrorsAreThere → (line : List ℕ) → ((answer : List ℕ) → IsAnswer line answer → ⊥) → ⊥
+answer_there errors line none =
+    reading_by line (read_text line) refl (λ value is.
+    answers_there errors (option_and_then request_in value) (λ answer by. none answer (record { value = value; is_reading = is; answers = by })))
+
+abbrev pub AnswersAreThere : Type 0
+AnswersAreThere = (line : List ℕ) → ((answer : List ℕ) → IsAnswer line answer → ⊥) → ⊥
+
+lines_there : AnswersAreThere → (xs : List (List ℕ)) → ((out : List ℕ) → AreAnswers xs out → ⊥) → ⊥
+lines_there one [] none = none [] refl
+lines_there one (line ∷ more) none =
+    one line (λ first is. lines_there one more (λ rest are. none (first ++ rest) (first, rest, is, are, refl)))
+
+pub output_there : AnswersAreThere → (input : List ℕ) → ((output : List ℕ) → IsOutput input output → ⊥) → ⊥
+output_there one input none = lines_there one (lines input) none

@@ -1,5 +1,0 @@
-use Rattle.strkw_cli.proofs.Entries.{AreEntries-unique}
-use Rattle.strkw_cli.proofs.laws.entries_are_determined.Goals as goal
-
-pub returns : goal.returns
-returns c = AreEntries-unique

@@ -1,0 +1,149 @@
+//! What a validator is beside its test of a text: where it stands, what it notes, which rows it keeps.
+
+ghost use Rattle.std.specs.Prelude.{◌≡◌, ◌↔◌, List, ℕ, None, Some, true, false, IfOk, IsTrue};
+ghost use Rattle.strkw_keywords.specs.Lists.{lists_of};
+ghost use Rattle.strkw_keywords.specs.Meanings.{row_names, codec_names};
+ghost use Rattle.strkw_keywords.specs.Remarks.{remark_of};
+ghost use Rattle.strkw_keywords.specs.Parts.{noted_remark, IsFirst, RowsAreFirst};
+
+use crate::checks::{Checks, ContentCodec, Format, MediaTypeCheck};
+use crate::keyword::Keyword;
+use crate::note::{Note, note_of_text, note_of_value};
+use crate::origin::Origin;
+use serde_json::Value;
+use std::alloc::{AllocError, Global};
+use strkw_report::Location;
+
+/// What a validator is, beside its test of a text.
+#[derive(Clone, Copy)]
+pub struct Parts<'a> {
+    /// Where its schema object stands.
+    pub origin: &'a Origin,
+    /// What it notes of every text, if it notes anything.
+    pub noted: Option<Noted<'a>>,
+    /// The row of the caller's formats on which it rests, if it rests on one.
+    pub format: Option<RowRef<'a>>,
+    /// The row of the caller's media types, if there is one.
+    pub media_type: Option<RowRef<'a>>,
+    /// The row of the caller's codecs, if there is one.
+    pub codec: Option<RowRef<'a>>,
+    /// Whether its test of a text takes no memory.
+    pub is_quiet: bool,
+}
+
+/// What is noted, and the keyword that notes it.
+#[derive(Clone, Copy)]
+pub enum Noted<'a> {
+    /// A name.
+    Text(Keyword, &'a str),
+    /// A value.
+    Value(Keyword, &'a Value),
+}
+
+/// The position of a row, and the name that it had at compile.
+#[derive(Clone, Copy)]
+pub struct RowRef<'a> {
+    /// Its position.
+    pub position: usize,
+    /// Its name.
+    pub name: &'a str,
+}
+
+impl Parts<'_> {
+    // Whether the rows on which the validator rests are the first of their names.
+    pub(crate) fn rows_are_first(&self, checks: &Checks) -> bool
+        ensures { IsTrue result ↔ RowsAreFirst self.now (lists_of admits accepted encoded decoding checks.now) }
+    {
+        is_first_format(self.format, checks)
+            && is_first_media_type(self.media_type, checks)
+            && is_first_codec(self.codec, checks)
+    }
+}
+
+impl<'a> Parts<'a> {
+    // Those of a validator that notes nothing, rests on no row and takes no memory.
+    pub(crate) fn plain(origin: &'a Origin) -> Parts<'a>
+        ensures { result ≡ record { origin = origin.entry; noted = None; format = None; media_type = None; codec = None; is_quiet = true } }
+    {
+        Parts {
+            origin,
+            noted: None,
+            format: None,
+            media_type: None,
+            codec: None,
+            is_quiet: true,
+        }
+    }
+
+    // Those of a validator that only notes.
+    pub(crate) fn noting(origin: &'a Origin, noted: Noted<'a>) -> Parts<'a>
+        ensures { result ≡ record { origin = origin.entry; noted = Some noted.entry; format = None; media_type = None; codec = None; is_quiet = true } }
+    {
+        Parts {
+            origin,
+            noted: Some(noted),
+            format: None,
+            media_type: None,
+            codec: None,
+            is_quiet: true,
+        }
+    }
+
+    // Those of a validator that may need memory and rests on these rows of content.
+    pub(crate) fn of_content(
+        origin: &'a Origin,
+        media_type: Option<RowRef<'a>>,
+        codec: Option<RowRef<'a>>,
+    ) -> Parts<'a>
+        ensures { result ≡ record { origin = origin.entry; noted = None; format = None; media_type = media_type.entry; codec = codec.entry; is_quiet = false } }
+    {
+        Parts {
+            origin,
+            noted: None,
+            format: None,
+            media_type,
+            codec,
+            is_quiet: false,
+        }
+    }
+}
+
+impl Noted<'_> {
+    pub(crate) fn note(self, alloc: Global, location: &Location) -> Result<Note, AllocError>
+        ensures { IfOk result (λ n. Some (remark_of n) ≡ noted_remark location.now (Some self.entry)) }
+    {
+        match self {
+            Noted::Text(keyword, text) => note_of_text(alloc, location, keyword, text),
+            Noted::Value(keyword, value) => note_of_value(location, keyword, value),
+        }
+    }
+}
+
+// ---- whether a row is the first of its name
+
+fn is_first_format(row: Option<RowRef>, checks: &Checks) -> bool
+    ensures { IsTrue result ↔ IsFirst row.entry (row_names (lists_of admits accepted encoded decoding checks.now).formats) }
+{
+    match row {
+        None => true,
+        Some(row) => checks.format_named(row.name) == Some(row.position),
+    }
+}
+
+fn is_first_media_type(row: Option<RowRef>, checks: &Checks) -> bool
+    ensures { IsTrue result ↔ IsFirst row.entry (row_names (lists_of admits accepted encoded decoding checks.now).media_types) }
+{
+    match row {
+        None => true,
+        Some(row) => checks.media_type_named(row.name) == Some(row.position),
+    }
+}
+
+fn is_first_codec(row: Option<RowRef>, checks: &Checks) -> bool
+    ensures { IsTrue result ↔ IsFirst row.entry (codec_names (lists_of admits accepted encoded decoding checks.now).codecs) }
+{
+    match row {
+        None => true,
+        Some(row) => checks.codec_named(row.name) == Some(row.position),
+    }
+}

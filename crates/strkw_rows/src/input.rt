@@ -1,0 +1,56 @@
+//! An input of requests, and what `run` writes.
+
+use serde_json::Value;
+use std::alloc::{AllocError, Global};
+use strkw_cli::{MemorySink, MemorySource, run};
+
+// The most bytes of an output that are printed whole.
+const MOST: usize = 2000;
+
+// Of a longer one so many are.
+const FRONT: usize = 60;
+
+// Appends a part: a text, a byte by its number, or a text and how many times it stands there.
+fn push_part(part: &Value, input: &mut Vec<u8>) -> Result<(), AllocError> {
+    if let Some(text) = part.as_str() {
+        return input.extend_from_slice(text.as_bytes());
+    }
+    if let Some(byte) = part.as_u64() {
+        input.push(u8::try_from(byte).unwrap_or(0))?;
+        return Ok(());
+    }
+    let text = part.get(0).and_then(Value::as_str).unwrap_or("");
+    for _ in 0..part.get(1).and_then(Value::as_u64).unwrap_or(0) {
+        input.extend_from_slice(text.as_bytes())?;
+    }
+    Ok(())
+}
+
+/// Appends how a run ends on an input that is given by its parts, and what is written; of a long output its beginning.
+pub fn push_output(alloc: Global, parts: &[Value], out: &mut String) -> Result<(), AllocError> {
+    let mut input = Vec::new(alloc);
+    for part in parts {
+        push_part(part, &mut input)?;
+    }
+    let mut source = MemorySource::new(input);
+    let mut sink = MemorySink::new(alloc);
+    match run(alloc, &mut source, &mut sink) {
+        Ok(()) => {}
+        Err(fault) => out.push_str(fault.text())?,
+    }
+    push_bytes(alloc, sink.bytes(), out)
+}
+
+fn push_bytes(alloc: Global, bytes: &[u8], out: &mut String) -> Result<(), AllocError> {
+    let Ok(text) = str::from_utf8(bytes) else {
+        return out.push_str("  no UTF-8\n");
+    };
+    match text.get(..FRONT) {
+        Some(front) if text.len() > MOST => {
+            let (front, count) = (front, text.len());
+            let line = format!(in alloc; "{front}.. of {count} bytes\n")?;
+            out.push_str(&line)
+        }
+        _ => out.push_str(text),
+    }
+}

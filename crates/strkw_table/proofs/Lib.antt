@@ -1,0 +1,3 @@
+mod RowLemmas
+mod ColumnLemmas
+mod MessageLemmas

@@ -1,0 +1,36 @@
+-- What is said of a field by the schema object of its column.
+use Rattle.std.proofs.Common.{◌≡◌, ◌++◌, ◌∙◌, ℕ, List, [], length, refl, sym, ap, map, append-nil}
+use Rattle.std.proofs.lemmas.List.{length-map}
+use Rattle.std.specs.Prelude.{Option, Some, None, string_bytes}
+use Rattle.std.specs.List.{concat, flat_map}
+use Rattle.strkw_report.specs.Kinds.{Report}
+use Rattle.strkw_pattern.specs.declared.engine.Outcome.{Outcome}
+use Rattle.strkw_keywords.specs.Meanings.{no_lists}
+use Rattle.strkw_keywords.specs.Errors.{NodeReports}
+use Rattle.strkw_cli.specs.declared.strings.StringKeywords.{StringKeywords}
+use Rattle.strkw_cli.specs.Compiled.{keywords_assertions}
+use Rattle.strkw_cli.specs.Answer.{root_site}
+use Rattle.strkw_table.specs.declared.schema_column.SchemaColumn.{SchemaColumn}
+use Rattle.strkw_table.specs.Plan.{message}
+use Rattle.strkw_table.specs.Columns.{ColumnMessages}
+use Rattle.strkw_table.proofs.RowLemmas.{concat-map}
+
+-- what is appended for a field: messages, and so many
+abbrev pub Said : {E : Type 0} → (E → List ℕ → Outcome) → SchemaColumn E → ℕ → List ℕ → ℕ → List ℕ → List ℕ → Type 0
+Said outcome column line field count old new = (messages : List (List ℕ)) × ColumnMessages outcome column line field messages × (count ≡ length messages) × (new ≡ old ++ concat messages)
+
+module _ {E : Type 0} (outcome : E → List ℕ → Outcome) (column : SchemaColumn E) (line : ℕ) (field old : List ℕ) where
+  -- nothing of a field whose column has no schema object
+  pub said_nothing : column.keywords ≡ None → Said outcome column line field 0 old old
+  said_nothing e = ([], ([], rw e refl, refl), refl, sym (append-nil old))
+
+  -- and otherwise a message for each of its errors
+  pub said_errors : (k : StringKeywords E) (reports : List Report) (new : List ℕ) → column.keywords ≡ Some k
+      → NodeReports (keywords_assertions outcome k) no_lists root_site (Some field) reports → new ≡ old ++ flat_map (message line (string_bytes column.name)) reports
+      → Said outcome column line field (length reports) old new
+  said_errors k reports new e r grown = (
+    map (message line (string_bytes column.name)) reports,
+    (reports, rw e r, refl),
+    sym (length-map reports (message line (string_bytes column.name))),
+    grown ∙ ap (λ l. old ++ l) (sym (concat-map (message line (string_bytes column.name)) reports)),
+  )

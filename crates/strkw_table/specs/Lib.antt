@@ -1,0 +1,4 @@
+pub mod Rows
+pub mod Plan
+pub mod Columns
+pub mod Borrowed

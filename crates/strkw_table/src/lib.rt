@@ -1,0 +1,16 @@
+//! Checks the fields of a CSV file, whose first record names its columns, by a schema object a column.
+#![tactic(auto)]
+
+mod column;
+mod faults;
+mod messages;
+mod plan;
+mod rows;
+mod schema_column;
+mod table;
+#[cfg(test)]
+mod tests;
+
+pub use faults::TableFault;
+pub use rows::{Checked, Watch};
+pub use table::check_table;
