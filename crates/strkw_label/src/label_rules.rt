@@ -161,7 +161,8 @@ impl Seen {
     fn may_stand_together(self) -> bool
         ensures katakana_dots { IsTrue result → IsTrue self.katakana_dot → IsTrue self.kana_or_han }
         ensures one_digit_set { IsTrue result → IsTrue self.arabic_indic_digit → IsTrue self.extended_digit → ⊥ }
-        ensures both { (IsTrue self.katakana_dot → IsTrue self.kana_or_han) → (IsTrue self.arabic_indic_digit → IsTrue self.extended_digit → ⊥) → IsTrue result }
+        ensures both { (IsTrue self.katakana_dot → IsTrue self.kana_or_han)
+            → (IsTrue self.arabic_indic_digit → IsTrue self.extended_digit → ⊥) → IsTrue result }
     {
         (!self.katakana_dot || self.kana_or_han)
             && !(self.arabic_indic_digit && self.extended_digit)

@@ -46,7 +46,8 @@ pub fn decode_punycode<const CAP: usize>(input: &str) -> Option<ArrayVec<char, C
     requires { length input.now ≤ CAP }
     ensures scalar { IfSome result (λ text. All IsScalar text.items) }
     ensures sound { IfSome result (λ text. SameUpToCase (chars input.now) (spec.punycode text.items)) }
-    ensures complete { (text : List ℕ) → All IsScalar text → length input.now ≤ 59 → SameUpToCase (chars input.now) (spec.punycode text) → IsSomeAnd result (λ t. t.items ≡ text) }
+    ensures complete { (text : List ℕ) → All IsScalar text → length input.now ≤ 59
+        → SameUpToCase (chars input.now) (spec.punycode text) → IsSomeAnd result (λ t. t.items ≡ text) }
 {
     decode_payload(input.as_bytes())
 }
@@ -56,7 +57,8 @@ pub(crate) fn decode_payload<const CAP: usize>(input: &[u8]) -> Option<ArrayVec<
     requires { length input.now ≤ CAP }
     ensures scalar { IfSome result (λ text. All IsScalar text.items) }
     ensures sound { IfSome result (λ text. SameUpToCase input.now (spec.punycode text.items)) }
-    ensures complete { (text : List ℕ) → All IsScalar text → length input.now ≤ 59 → SameUpToCase input.now (spec.punycode text) → IsSomeAnd result (λ t. t.items ≡ text) }
+    ensures complete { (text : List ℕ) → All IsScalar text → length input.now ≤ 59
+        → SameUpToCase input.now (spec.punycode text) → IsSomeAnd result (λ t. t.items ≡ text) }
 {
     let (basic, encoded) = split_at_delimiter(input);
     if !basic.is_ascii() {
@@ -128,8 +130,11 @@ fn adapt(delta: u32, count: u32, first: bool) -> u32
 /// The delta that `digits` begin with and what follows it (RFC 3492 section 3.3); None where there
 /// is none, or where it or a weight passes 32 bits.
 fn read_delta(digits: &[u8], bias: u32) -> Option<(u32, &[u8])>
-    ensures sound { IfSome result (λ r. map to_ascii_lowercase digits.now ≡ map spec.digit_char (spec.digits_of bias r.0) ++ map to_ascii_lowercase r.1.now) }
-    ensures complete { (delta : ℕ) (rest : List ℕ) → delta < index_bound → map to_ascii_lowercase digits.now ≡ map spec.digit_char (spec.digits_of bias delta) ++ rest → IsSomeAnd result (λ r. (r.0 ≡ delta) × (map to_ascii_lowercase r.1.now ≡ rest)) }
+    ensures sound { IfSome result (λ r. map to_ascii_lowercase digits.now
+        ≡ map spec.digit_char (spec.digits_of bias r.0) ++ map to_ascii_lowercase r.1.now) }
+    ensures complete { (delta : ℕ) (rest : List ℕ) → delta < index_bound
+        → map to_ascii_lowercase digits.now ≡ map spec.digit_char (spec.digits_of bias delta) ++ rest
+        → IsSomeAnd result (λ r. (r.0 ≡ delta) × (map to_ascii_lowercase r.1.now ≡ rest)) }
     ensures shorter { IfSome result (λ r. length r.1.now < length digits.now) }
 {
     let mut delta: u32 = 0;
@@ -163,7 +168,8 @@ fn read_insertions<const CAP: usize>(
     ensures paired { length places.new.items ≡ length points.new.items }
     ensures sound { IfSome result (λ _. IsEncoded basic_length encoded.now (pair_up points.new.items places.new.items)) }
     ensures fits { basic_length + length points.new.items ≤ CAP }
-    ensures complete { (xs : List Insertion) → IsEncoded basic_length encoded.now xs → basic_length + length xs < 60 → IsSomeAnd result (λ _. pair_up points.new.items places.new.items ≡ xs) }
+    ensures complete { (xs : List Insertion) → IsEncoded basic_length encoded.now xs → basic_length + length xs < 60
+        → IsSomeAnd result (λ _. pair_up points.new.items places.new.items ≡ xs) }
 {
     let mut rest = encoded;
     let mut bias = INITIAL_BIAS;

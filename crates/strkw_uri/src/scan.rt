@@ -48,7 +48,8 @@ pub(crate) fn strip(text: &str, wanted: u8) -> Option<&str>
 /// What stands before the first such character, which is ASCII, and what follows it.
 pub(crate) fn split_at(text: &str, wanted: char) -> Option<(&str, &str)>
     requires { wanted < 128 }
-    ensures cases { MatchOption result (Without wanted (chars text.now)) (λ x. Without wanted (chars x.0.now) × (chars text.now ≡ chars x.0.now ++ wanted ∷ chars x.1.now)) }
+    ensures cases { MatchOption result (Without wanted (chars text.now))
+        (λ x. Without wanted (chars x.0.now) × (chars text.now ≡ chars x.0.now ++ wanted ∷ chars x.1.now)) }
     ensures shorter { IfSome result (λ x. length x.1.now < length text.now) }
     ensures utf8 { IfSome result (λ x. IsUtf8 x.1.now) }
 {
@@ -94,7 +95,8 @@ impl Class {
 /// What follows one character of the class.
 #[inline]
 pub(crate) fn after_one(text: &str, class: Class) -> Option<&str>
-    ensures cases { MatchOption result (StartsWithNo (OneOf (is_class_char class)) (chars text.now)) (λ rest. StartsWith (OneOf (is_class_char class)) (chars text.now) (chars rest.now)) }
+    ensures cases { MatchOption result (StartsWithNo (OneOf (is_class_char class)) (chars text.now))
+        (λ rest. StartsWith (OneOf (is_class_char class)) (chars text.now) (chars rest.now)) }
     ensures shorter { IfSome result (λ rest. length rest.now < length text.now) }
     ensures utf8 { IfSome result (λ rest. IsUtf8 rest.now) }
 {
@@ -128,7 +130,8 @@ pub(crate) fn skip_class(text: &str, class: Class) -> &str
 /// What follows two hexadecimal digits.
 #[inline]
 pub(crate) fn after_two_hexdigits(text: &str) -> Option<&str>
-    ensures cases { MatchOption result (StartsWithNo (HexDigit ⨾ HexDigit) (chars text.now)) (λ rest. StartsWith (HexDigit ⨾ HexDigit) (chars text.now) (chars rest.now)) }
+    ensures cases { MatchOption result (StartsWithNo (HexDigit ⨾ HexDigit) (chars text.now))
+        (λ rest. StartsWith (HexDigit ⨾ HexDigit) (chars text.now) (chars rest.now)) }
     ensures shorter { IfSome result (λ rest. length rest.now < length text.now) }
     ensures utf8 { IfSome result (λ rest. IsUtf8 rest.now) }
 {

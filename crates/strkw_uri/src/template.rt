@@ -143,7 +143,8 @@ fn after_in_expression(text: &str) -> Option<&str>
 
 /// What follows a character of a literal or an expression.
 fn after_literal_or_expression(text: &str) -> Option<&str>
-    ensures cases { MatchOption result (StartsWithNo LiteralOrExpression (chars text.now)) (λ rest. StartsWith LiteralOrExpression (chars text.now) (chars rest.now)) }
+    ensures cases { MatchOption result (StartsWithNo LiteralOrExpression (chars text.now))
+        (λ rest. StartsWith LiteralOrExpression (chars text.now) (chars rest.now)) }
     ensures shorter { IfSome result (λ rest. length rest.now < length text.now) }
     ensures utf8 { IfSome result (λ rest. IsUtf8 rest.now) }
 {
