@@ -1,4 +1,4 @@
-/* Calls the library from C: every row of a table, and a file of requests against its stored answers.
+/* Calls the library from C: every row of a table, a file of requests against its stored answers, and texts by one schema.
    caller FORMATS REQUESTS ANSWERS; status 0 where all is as it is stored. */
 #include "strkw.h"
 
@@ -102,6 +102,30 @@ static void check_answers(const char *requests_path, const char *answers_path) {
     free(out);
 }
 
+static uint8_t check_dates(uint32_t draft, const char *schema, const size_t *ends, uint8_t *verdicts) {
+    static const uint8_t texts[] = "2024-02-292023-02-29\xFF";
+    return strkw_check(draft, (const uint8_t *)schema, strlen(schema), texts, sizeof texts - 1, ends, 4, verdicts, 4);
+}
+
+/* Four texts: a date, one that is none, bytes that are not UTF-8, and no byte at all. */
+static void check_many(void) {
+    static const char *date = "{\"format\":\"date\"}";
+    static const size_t ends[] = {10, 20, 21, 21};
+    static const size_t falling[] = {10, 9, 21, 21};
+    static const size_t past[] = {10, 20, 21, 22};
+    uint8_t verdicts[] = {7, 7, 7, 7};
+    expect(check_dates(7, date, falling, verdicts) == 2, "ends that fall are status 2");
+    expect(check_dates(7, date, past, verdicts) == 2, "an end past the texts is status 2");
+    expect(check_dates(5, date, ends, verdicts) == 3, "draft 5 is status 3");
+    expect(check_dates(7, "[]", ends, verdicts) == 4, "a schema that is no object is status 4");
+    expect(check_dates(7, "{\"maxLength\":-1}", ends, verdicts) == 5, "a negative limit is status 5");
+    expect(memcmp(verdicts, "\7\7\7\7", 4) == 0, "these leave the verdicts as they were");
+    expect(check_dates(7, date, ends, verdicts) == 0, "draft 7 has dates");
+    expect(memcmp(verdicts, "\1\0\2\0", 4) == 0, "draft 7 checks dates");
+    expect(check_dates(202012, date, ends, verdicts) == 0, "draft 2020-12 has dates");
+    expect(memcmp(verdicts, "\1\1\2\1", 4) == 0, "draft 2020-12 only notes them");
+}
+
 int main(int argc, char **argv) {
     if (argc != 4) return 2;
     size_t rows = check_rows(argv[1]);
@@ -110,6 +134,7 @@ int main(int argc, char **argv) {
     expect(strkw_is_json((const uint8_t *)"\"\xFF\"", 3) == 0, "JSON that is not UTF-8");
     expect(!strkw_is_uri((const uint8_t *)"a:\0b", 4), "a zero byte does not end a text");
     check_answers(argv[2], argv[3]);
+    check_many();
     if (!failed) printf("caller.c: %zu rows\n", rows);
     return failed;
 }

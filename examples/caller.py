@@ -1,5 +1,5 @@
-"""Calls the library from Python: every row of a table, a file of requests against its stored answers, and, where the
-package jsonschema is installed, a schema by its FormatChecker.
+"""Calls the library from Python: every row of a table, also as texts by one schema, a file of requests against its stored
+answers, and, where the package jsonschema is installed, a schema by its FormatChecker.
 
 caller.py FORMATS REQUESTS ANSWERS; status 1 where something is not as it is stored.
 """
@@ -29,6 +29,30 @@ def check_answers(requests, answers):
     check(strkw.answer(b"") == b"", "no request has an answer")
 
 
+def check_refused(draft, schema):
+    try:
+        strkw.check_texts(draft, schema, ["a"])
+    except ValueError:
+        return
+    check(False, f"draft {draft}: {schema} is taken")
+
+
+def check_many(rows):
+    """The rows of each format as texts by one schema object; drafts 2019-09 and 2020-12 only note formats."""
+    for name in strkw.FORMATS + ("hostname-draft4",):
+        texts = [(text, want == "yes") for row, want, text in rows if row == name]
+        schema = {"format": name.removesuffix("-draft4")}
+        found = strkw.check_texts(4 if name == "hostname-draft4" else 7, schema, [text for text, _ in texts])
+        known = name not in ("duration", "uuid")
+        check(found == [want if known else True for _, want in texts], f"draft 7, {name}")
+        check(all(strkw.check_texts(202012, schema, [text for text, _ in texts])), f"draft 2020-12, {name}")
+    check(strkw.check_texts(7, b'{"maxLength":1}', [b"\xff", "\ud800", "", "\u00e9", "ab"]) == [None, None, True, True, False], "texts and bytes")
+    check(strkw.check_texts(7, {}, []) == [], "no text has no verdict")
+    check_refused(5, {})
+    check_refused(7, "[]")
+    check_refused(7, {"maxLength": -1})
+
+
 def check_schemas(rows):
     """Each row of a format as a schema of draft 7; answers how many there were, or None without jsonschema."""
     try:
@@ -46,6 +70,7 @@ def check_schemas(rows):
 def main():
     rows = check_rows(sys.argv[1])
     check_answers(sys.argv[2], sys.argv[3])
+    check_many(rows)
     schemas = check_schemas(rows)
     told = "jsonschema is not installed" if schemas is None else f"{schemas} by jsonschema"
     print(f"caller.py: {len(rows)} rows, {told}")

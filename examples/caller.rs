@@ -1,4 +1,4 @@
-//! Calls the library from Rust: every row of a table, and a file of requests against its stored answers.
+//! Calls the library from Rust: every row of a table, a file of requests against its stored answers, and texts by one schema.
 //! caller FORMATS REQUESTS ANSWERS; it panics where something is not as it is stored.
 
 use std::{env, fs};
@@ -16,6 +16,10 @@ mod strkw {
                 $(fn $format(text: *const u8, count: usize) -> bool;)*
                 $(fn $encoding(text: *const u8, count: usize) -> u8;)*
                 fn strkw_answer(requests: *const u8, count: usize, out: *mut u8, room: usize, written: *mut usize) -> u8;
+                fn strkw_check(
+                    draft: u32, schema: *const u8, schema_count: usize, texts: *const u8, texts_count: usize,
+                    ends: *const usize, ends_count: usize, verdicts: *mut u8, room: usize,
+                ) -> u8;
             }
             const FORMATS: &[(&str, FormatCheck)] = &[$(($name, $format)),*];
             const ENCODINGS: &[(&str, EncodingCheck)] = &[$(($encoding_name, $encoding)),*];
@@ -82,6 +86,20 @@ mod strkw {
             }
         }
     }
+
+    /// The verdicts on texts by a schema object: 1 valid, 0 not valid, 2 not UTF-8; or the status of the library.
+    pub fn check(draft: u32, schema: &[u8], texts: &[&[u8]]) -> Result<Vec<u8>, u8> {
+        let bytes = texts.concat();
+        let ends: Vec<usize> = texts.iter().scan(0, |end, text| { *end += text.len(); Some(*end) }).collect();
+        let mut verdicts = vec![7; ends.len()];
+        let status = unsafe {
+            strkw_check(
+                draft, schema.as_ptr(), schema.len(), bytes.as_ptr(), bytes.len(),
+                ends.as_ptr(), ends.len(), verdicts.as_mut_ptr(), verdicts.len(),
+            )
+        };
+        if status == 0 { Ok(verdicts) } else { Err(status) }
+    }
 }
 
 fn main() {
@@ -100,5 +118,13 @@ fn main() {
     let requests = fs::read(&paths[1]).expect("the requests");
     let answers = fs::read(&paths[2]).expect("the answers");
     assert_eq!(strkw::answer(&requests), Some(answers));
+    let texts: [&[u8]; 4] = [b"2024-02-29", b"2023-02-29", b"\xFF", b""];
+    let date = br#"{"format":"date"}"#;
+    assert_eq!(strkw::check(7, date, &texts), Ok(vec![1, 0, 2, 0]));
+    assert_eq!(strkw::check(202012, date, &texts), Ok(vec![1, 1, 2, 1]));
+    assert_eq!(strkw::check(7, date, &[]), Ok(vec![]));
+    assert_eq!(strkw::check(5, date, &texts), Err(3));
+    assert_eq!(strkw::check(7, b"[]", &texts), Err(4));
+    assert_eq!(strkw::check(7, br#"{"maxLength":-1}"#, &texts), Err(5));
     println!("caller.rs: {rows} rows");
 }

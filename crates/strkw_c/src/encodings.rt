@@ -1,10 +1,10 @@
 //! The five encodings of RFC 4648, and JSON. An answer is 0 for no, 1 for yes, 2 for out of memory.
 
-ghost use Rattle.std.specs.Prelude.{◌≡◌, ◌<◌, MatchResult, if◌then◌else◌};
+ghost use Rattle.std.specs.Prelude.{◌≡◌, MatchResult, if◌then◌else◌};
 ghost use Rattle.std.specs.Str.{IsUtf8};
 ghost use Rattle.strkw_coding.specs.Json.{IsJson};
-ghost use Rattle.strkw_coding.specs.Rfc4648.{IsEncoding};
 ghost use Rattle.strkw_coding.specs.declared.codec.Codec.TheVariants as codec;
+ghost use Rattle.strkw_c.specs.Statuses.{Tells, TellsEncoding};
 
 use std::alloc::{AllocError, Global};
 use strkw_coding::{Codec, is_json};
@@ -27,9 +27,7 @@ fn status_of(answer: Result<bool, AllocError>) -> u8
 
 // Whether the bytes are an encoding.
 fn encoding_status(alloc: Global, codec: Codec, text: &[u8]) -> u8
-    ensures yes { result ≡ 1 → IsUtf8 text.now × IsEncoding codec text.now }
-    ensures no { result ≡ 0 → IsUtf8 text.now × IsEncoding codec text.now → ⊥ }
-    ensures status { result < 3 }
+    ensures { TellsEncoding codec text.now result }
 {
     match str::from_utf8(text) {
         Ok(text) => status_of(codec.is_encoded(alloc, text)),
@@ -40,9 +38,7 @@ fn encoding_status(alloc: Global, codec: Codec, text: &[u8]) -> u8
 /// Whether the bytes are an encoding by base64 (RFC 4648, section 4).
 #[unsafe(no_mangle)]
 pub extern "C" fn strkw_is_base64(alloc: Global, text: &[u8]) -> u8
-    ensures yes { result ≡ 1 → IsUtf8 text.now × IsEncoding codec.Base64 text.now }
-    ensures no { result ≡ 0 → IsUtf8 text.now × IsEncoding codec.Base64 text.now → ⊥ }
-    ensures status { result < 3 }
+    ensures { TellsEncoding codec.Base64 text.now result }
 {
     encoding_status(alloc, Codec::Base64, text)
 }
@@ -50,9 +46,7 @@ pub extern "C" fn strkw_is_base64(alloc: Global, text: &[u8]) -> u8
 /// Whether the bytes are an encoding by base64url (RFC 4648, section 5).
 #[unsafe(no_mangle)]
 pub extern "C" fn strkw_is_base64url(alloc: Global, text: &[u8]) -> u8
-    ensures yes { result ≡ 1 → IsUtf8 text.now × IsEncoding codec.Base64Url text.now }
-    ensures no { result ≡ 0 → IsUtf8 text.now × IsEncoding codec.Base64Url text.now → ⊥ }
-    ensures status { result < 3 }
+    ensures { TellsEncoding codec.Base64Url text.now result }
 {
     encoding_status(alloc, Codec::Base64Url, text)
 }
@@ -60,9 +54,7 @@ pub extern "C" fn strkw_is_base64url(alloc: Global, text: &[u8]) -> u8
 /// Whether the bytes are an encoding by base32 (RFC 4648, section 6).
 #[unsafe(no_mangle)]
 pub extern "C" fn strkw_is_base32(alloc: Global, text: &[u8]) -> u8
-    ensures yes { result ≡ 1 → IsUtf8 text.now × IsEncoding codec.Base32 text.now }
-    ensures no { result ≡ 0 → IsUtf8 text.now × IsEncoding codec.Base32 text.now → ⊥ }
-    ensures status { result < 3 }
+    ensures { TellsEncoding codec.Base32 text.now result }
 {
     encoding_status(alloc, Codec::Base32, text)
 }
@@ -70,9 +62,7 @@ pub extern "C" fn strkw_is_base32(alloc: Global, text: &[u8]) -> u8
 /// Whether the bytes are an encoding by base32hex (RFC 4648, section 7).
 #[unsafe(no_mangle)]
 pub extern "C" fn strkw_is_base32hex(alloc: Global, text: &[u8]) -> u8
-    ensures yes { result ≡ 1 → IsUtf8 text.now × IsEncoding codec.Base32Hex text.now }
-    ensures no { result ≡ 0 → IsUtf8 text.now × IsEncoding codec.Base32Hex text.now → ⊥ }
-    ensures status { result < 3 }
+    ensures { TellsEncoding codec.Base32Hex text.now result }
 {
     encoding_status(alloc, Codec::Base32Hex, text)
 }
@@ -80,9 +70,7 @@ pub extern "C" fn strkw_is_base32hex(alloc: Global, text: &[u8]) -> u8
 /// Whether the bytes are an encoding by base16 (RFC 4648, section 8).
 #[unsafe(no_mangle)]
 pub extern "C" fn strkw_is_base16(alloc: Global, text: &[u8]) -> u8
-    ensures yes { result ≡ 1 → IsUtf8 text.now × IsEncoding codec.Base16 text.now }
-    ensures no { result ≡ 0 → IsUtf8 text.now × IsEncoding codec.Base16 text.now → ⊥ }
-    ensures status { result < 3 }
+    ensures { TellsEncoding codec.Base16 text.now result }
 {
     encoding_status(alloc, Codec::Base16, text)
 }
@@ -90,9 +78,7 @@ pub extern "C" fn strkw_is_base16(alloc: Global, text: &[u8]) -> u8
 /// Whether the bytes are JSON (RFC 8259) that nests 127 deep at most, as `serde_json` reads it.
 #[unsafe(no_mangle)]
 pub extern "C" fn strkw_is_json(alloc: Global, text: &[u8]) -> u8
-    ensures yes { result ≡ 1 → IsUtf8 text.now × IsJson text.now }
-    ensures no { result ≡ 0 → IsUtf8 text.now × IsJson text.now → ⊥ }
-    ensures status { result < 3 }
+    ensures { Tells (IsUtf8 text.now × IsJson text.now) result }
 {
     match str::from_utf8(text) {
         Ok(text) => status_of(is_json(alloc, text)),

@@ -5,6 +5,9 @@
 mod answers;
 mod encodings;
 mod formats;
+mod schemas;
+mod texts;
+mod verdicts;
 
 pub use answers::strkw_answer;
 pub use encodings::{
@@ -17,3 +20,4 @@ pub use formats::{
     strkw_is_json_pointer, strkw_is_relative_json_pointer, strkw_is_time, strkw_is_uri,
     strkw_is_uri_reference, strkw_is_uri_template, strkw_is_uuid,
 };
+pub use verdicts::strkw_check;

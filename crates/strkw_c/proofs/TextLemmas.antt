@@ -1,0 +1,58 @@
+-- The texts that stand in a run of bytes, by their ends.
+use Rattle.std.proofs.Common.{◌≡◌, ◌≤◌, ℕ, ◌+◌, ◌-◌, List, [], ◌∷◌, ◌++◌, length, take, drop, refl, sym, ap, subst, ◌∙◌, arith, append_assoc, length-append, length-take, length-drop, drop-drop, take-append-drop}
+use Rattle.std.specs.Prelude.{⊤}
+use Rattle.std.specs.List.{concat}
+use Rattle.strkw_c.specs.Texts.{ends_from, AreTexts}
+
+-- no end is less than the one before it, or past the count
+abbrev pub Ascend : ℕ → ℕ → List ℕ → Type 0
+Ascend count start [] = ⊤
+Ascend count start (end ∷ ends) = (start ≤ end) × (end ≤ count) × Ascend count end ends
+
+-- the texts from a start up to these ends
+abbrev pub texts_from : List ℕ → ℕ → List ℕ → List (List ℕ)
+texts_from bytes start [] = []
+texts_from bytes start (end ∷ ends) = take (end - start) (drop start bytes) ∷ texts_from bytes end ends
+
+-- what stands behind them
+rest_from : List ℕ → ℕ → List ℕ → List ℕ
+rest_from bytes start [] = drop start bytes
+rest_from bytes start (end ∷ ends) = rest_from bytes end ends
+
+drop-on : (bytes : List ℕ) (start end : ℕ) → start ≤ end → drop (end - start) (drop start bytes) ≡ drop end bytes
+drop-on bytes start end up =
+    let there : start + (end - start) ≡ end = omega (arith, up) in
+    drop-drop (end - start) start bytes ∙ ap (λ n. drop n bytes) there
+
+bytes_joined : (bytes : List ℕ) (start : ℕ) (ends : List ℕ) → Ascend (length bytes) start ends
+    → drop start bytes ≡ concat (texts_from bytes start ends) ++ rest_from bytes start ends
+unfolding rest_from
+bytes_joined bytes start [] up = refl
+bytes_joined bytes start (end ∷ ends) (up, within, more) =
+    let text = take (end - start) (drop start bytes) in
+    sym (take-append-drop (end - start) (drop start bytes)) ∙ ap (λ l. text ++ l) (drop-on bytes start end up ∙ bytes_joined bytes end ends more)
+    ∙ sym (append_assoc text (concat (texts_from bytes end ends)) (rest_from bytes end ends))
+
+ends_met : (bytes : List ℕ) (start : ℕ) (ends : List ℕ) → Ascend (length bytes) start ends → ends ≡ ends_from start (texts_from bytes start ends)
+ends_met bytes start [] up = refl
+ends_met bytes start (end ∷ ends) (up, within, more) =
+    let text = take (end - start) (drop start bytes) in
+    let met : start + length text ≡ end = omega (arith, up, within, length-take (end - start) (drop start bytes), length-drop start bytes) in
+    rw met (ap (λ l. end ∷ l) (ends_met bytes end ends more))
+
+-- at ends that ascend there are texts
+pub are_texts : (bytes : List ℕ) (ends : List ℕ) → Ascend (length bytes) 0 ends → AreTexts bytes ends (texts_from bytes 0 ends)
+are_texts bytes ends up = (rest_from bytes 0 ends, bytes_joined bytes 0 ends up, ends_met bytes 0 ends up)
+
+ascends_from : (count start : ℕ) (texts : List (List ℕ)) → start + length (concat texts) ≤ count → Ascend count start (ends_from start texts)
+ascends_from count start [] within = tt
+ascends_from count start (text ∷ texts) within =
+    let whole : start + length text + length (concat texts) ≤ count = omega (arith, within, length-append text (concat texts)) in
+    (omega arith, omega (arith, whole), ascends_from count (start + length text) texts whole)
+
+-- and where there are texts, their ends ascend
+pub ascends : (bytes : List ℕ) (ends : List ℕ) (texts : List (List ℕ)) → AreTexts bytes ends texts → Ascend (length bytes) 0 ends
+ascends bytes ends texts (rest, joined, e) =
+    let count : length bytes ≡ length (concat texts) + length rest = ap length joined ∙ length-append (concat texts) rest in
+    let within : 0 + length (concat texts) ≤ length bytes = omega (arith, count) in
+    subst (Ascend (length bytes) 0) (sym e) (ascends_from (length bytes) 0 texts within)

@@ -1,0 +1,35 @@
+-- Verdicts by a compiled object are those by its schema object.
+use Rattle.std.proofs.Common.{◌≡◌, ◌≢◌, ◌⊎◌, ◌↔◌, ap, ℕ, List, [], ◌∷◌, inl, inr, Some, None}
+use Rattle.serde_json.specs.Data.{Members}
+use Rattle.strkw_report.specs.Refusals.{reason_of, refusal_of, memory}
+use Rattle.strkw_report.specs.declared.refusal.CompileError.{CompileError}
+use Rattle.strkw_pattern.specs.declared.engine.Outcome.{Outcome}
+use Rattle.strkw_keywords.specs.Compiled.{out_of_memory}
+use Rattle.strkw_keywords.specs.Object.{Settings, FirstRefusal}
+use Rattle.strkw_cli.specs.declared.strings.StringKeywords.{StringKeywords}
+use Rattle.strkw_cli.specs.Compiled.{IsCompiledFrom}
+use Rattle.strkw_c.specs.Verdicts.{IsRefused, IsVerdict, AreVerdicts}
+
+verdict_alike : (P Q : List ℕ → Type 0) → ((text : List ℕ) → P text ↔ Q text) → (text : List ℕ) (verdict : ℕ) → IsVerdict P text verdict → IsVerdict Q text verdict
+verdict_alike P Q same text verdict (inl (is, utf8, valid)) = inl (is, utf8, (same text).0 valid)
+verdict_alike P Q same text verdict (inr (inl (is, utf8, not_valid))) = inr (inl (is, utf8, λ valid. not_valid ((same text).1 valid)))
+verdict_alike P Q same text verdict (inr (inr (is, not_utf8))) = inr (inr (is, not_utf8))
+
+-- what holds of the same texts gives the same verdicts
+pub verdicts_alike : (P Q : List ℕ → Type 0) → ((text : List ℕ) → P text ↔ Q text) → (texts : List (List ℕ)) (verdicts : List ℕ)
+    → AreVerdicts P texts verdicts → AreVerdicts Q texts verdicts
+verdicts_alike P Q same [] [] are = tt
+verdicts_alike P Q same [] (v ∷ vs) are = absurd are
+verdicts_alike P Q same (t ∷ ts) [] are = absurd are
+verdicts_alike P Q same (t ∷ ts) (v ∷ vs) are = (verdict_alike P Q same t v are.0, verdicts_alike P Q same ts vs are.1)
+
+-- an object that is refused, and not for want of memory, has a first refusal
+pub is_refused : (s : Settings) (object : Members) (e : CompileError) → (refusal_of e ≡ out_of_memory) ⊎ FirstRefusal s object (Some (refusal_of e)) → reason_of e.kind ≢ memory
+    → IsRefused s object
+is_refused s object e (inl none) had = absurd (had (ap (λ r. r.reason) none))
+is_refused s object e (inr first) had = (refusal_of e, first)
+
+-- a compiled object is not refused
+pub not_refused : {E : Type 0} (outcome : E → List ℕ → Outcome) (s : Settings) (object : Members) (k : StringKeywords E) → IsCompiledFrom outcome s object k
+    → FirstRefusal s object None
+not_refused outcome s object k of = (of.entries, of.are_entries, of.good)

@@ -1,0 +1,18 @@
+use Rattle.std.proofs.Common.{◌≡◌, [], length, drop, subst, append-nil, ap, arith}
+use Rattle.std.proofs.lemmas.List.{drop_all}
+use Rattle.strkw_c.specs.Verdicts.{Passes, AreVerdicts}
+use Rattle.strkw_c.proofs.TextLemmas.{ascends, are_texts, texts_from}
+use Rattle.strkw_c.proofs.verdicts.verdicts_on.Goals as goal
+
+pub loop-end-init : goal.loop-end-init
+loop-end-init g c = (ap length c.in_ok-made.ensures.items, ascends c.args.texts.now c.args.ends.now c.requires.texts.0 c.requires.texts.1, λ more are. rw c.in_ok-made.ensures.items are)
+
+pub returns-clause-verdicts : goal.returns-clause-verdicts
+returns-clause-verdicts g c =
+    let (count, up, all) = c.loop-end.invariant in
+    let texts = texts_from c.args.texts.now 0 c.args.ends.now in
+    let none : drop c.loop-end.end-index c.args.ends.now ≡ [] = drop_all c.loop-end.end-index c.args.ends.now (omega (arith, c.loop-end-test.false)) in (
+      texts,
+      are_texts c.args.texts.now c.args.ends.now (ascends c.args.texts.now c.args.ends.now c.requires.texts.0 c.requires.texts.1),
+      subst (AreVerdicts (Passes g.E.RegexEngine.outcome c.args.keywords.now) texts) (append-nil c.loop-end.made.items) (all [] (rw none tt)),
+    )

@@ -1,0 +1,145 @@
+//! One schema object, asked of many texts.
+
+ghost use Rattle.std.specs.Prelude.{◌≡◌, ◌↔◌, ◌<◌, ℕ, List, Some, None, IfOk, IfErr, length};
+ghost use Rattle.serde_json.specs.Data.{Members};
+ghost use Rattle.strkw_report.specs.declared.draft.Draft.{Draft};
+ghost use Rattle.strkw_keywords.specs.Meanings.{no_lists};
+ghost use Rattle.strkw_keywords.specs.Errors.{IsInUse};
+ghost use Rattle.strkw_keywords.specs.Object.{FirstRefusal};
+ghost use Rattle.strkw_cli.specs.Request.{draft_numbered};
+ghost use Rattle.strkw_cli.specs.Compiled.{keywords_assertions};
+ghost use Rattle.strkw_c.specs.Texts.{AreTexts, HaveRoom};
+ghost use Rattle.strkw_c.specs.Verdicts.{IsSchema, IsRefused, Fails, IsValid, Passes, IsVerdict, AreVerdicts, settings_for};
+
+use crate::schemas::{Failure, compile, draft_numbered};
+use crate::texts::are_ends;
+use std::alloc::{AllocError, Global};
+use strkw_cli::StringKeywords;
+use strkw_cli::laws::compiled_errors_are_those_of_the_object;
+use strkw_keywords::Checks;
+use strkw_pattern::{LiteralMatcher, RegexEngine};
+use strkw_report::Draft;
+
+const DONE: u8 = 0;
+
+const OUT_OF_MEMORY: u8 = 1;
+
+const NO_TEXTS: u8 = 2;
+
+const NO_DRAFT: u8 = 3;
+
+const NO_SCHEMA: u8 = 4;
+
+const REFUSED: u8 = 5;
+
+const INVALID: u8 = 0;
+
+const VALID: u8 = 1;
+
+const NOT_UTF8: u8 = 2;
+
+/// Checks many texts by one schema object of a draft (4, 6, 7, 201909 or 202012), compiled once with the default options
+/// and for literal patterns alone. The texts stand one after the other at the head of `texts`, and `ends` has the end of
+/// each. Status 0: `verdicts` has a verdict on each text in its order, 1 where it is valid, 0 where it is not, 2 where its
+/// bytes are not UTF-8. After any other status it is as it was.
+///
+/// The others, of which the first that holds is told: 2, an end is less than the one before it or past `texts`, or there are
+/// more or fewer verdicts than ends; 3, the draft is none of the five; 4, `schema` is no JSON object; 5, an entry of it is
+/// refused. 1: out of memory, where neither 2 nor 3 holds.
+#[unsafe(no_mangle)]
+pub extern "C" fn strkw_check(
+    alloc: Global,
+    draft: u32,
+    schema: &[u8],
+    texts: &[u8],
+    ends: &[usize],
+    verdicts: &mut [u8],
+) -> u8
+    ensures status { result < 6 }
+    ensures kept { (result ≡ 0 → ⊥) → verdicts.new ≡ verdicts.old }
+    ensures no_texts { (result ≡ 2) ↔ (HaveRoom texts.now ends.now (length verdicts.old) → ⊥) }
+    ensures no_draft { (result ≡ 3) ↔ (HaveRoom texts.now ends.now (length verdicts.old) × (draft_numbered draft ≡ None)) }
+    ensures no_schema { result ≡ 4 → IsSchema schema.now None }
+    ensures refused { result ≡ 5 → (d : Draft) × (object : Members) × (draft_numbered draft ≡ Some d)
+        × IsSchema schema.now (Some object) × IsRefused (settings_for d) object }
+    ensures done { result ≡ 0 → (d : Draft) × (object : Members) × (list : List (List ℕ)) × (draft_numbered draft ≡ Some d)
+        × IsSchema schema.now (Some object) × FirstRefusal (settings_for d) object None
+        × AreTexts texts.now ends.now list × AreVerdicts (IsValid (settings_for d) object) list verdicts.new }
+{
+    if ends.len() != verdicts.len() || !are_ends(texts, ends) {
+        return NO_TEXTS;
+    }
+    let Some(draft) = draft_numbered(draft) else {
+        return NO_DRAFT;
+    };
+    match check(alloc, draft, schema, texts, ends) {
+        Ok(made) => {
+            verdicts.copy_from_slice(&made);
+            DONE
+        }
+        Err(Failure::Memory) => OUT_OF_MEMORY,
+        Err(Failure::NoSchema) => NO_SCHEMA,
+        Err(Failure::Refused) => REFUSED,
+    }
+}
+
+// The verdicts by a schema object of a draft.
+fn check(
+    alloc: Global,
+    draft: Draft,
+    schema: &[u8],
+    texts: &[u8],
+    ends: &[usize],
+) -> Result<Vec<u8>, Failure>
+    requires { (list : List (List ℕ)) × AreTexts texts.now ends.now list }
+    ensures count { IfOk result (λ made. length made.items ≡ length ends.now) }
+    ensures done { IfOk result (λ made. (object : Members) × (list : List (List ℕ)) × IsSchema schema.now (Some object)
+        × FirstRefusal (settings_for draft) object None
+        × AreTexts texts.now ends.now list × AreVerdicts (IsValid (settings_for draft) object) list made.items) }
+    ensures failed { IfErr result (λ failure. Fails failure (settings_for draft) schema.now) }
+{
+    compiled_errors_are_those_of_the_object::<LiteralMatcher>();
+    let keywords = compile(alloc, draft, schema)?;
+    Ok(verdicts_on(alloc, &keywords, texts, ends)?)
+}
+
+// The verdicts on texts by a compiled object.
+fn verdicts_on<E: RegexEngine>(
+    alloc: Global,
+    keywords: &StringKeywords<E>,
+    texts: &[u8],
+    ends: &[usize],
+) -> Result<Vec<u8>, AllocError>
+    requires in_use { IsInUse (keywords_assertions E.outcome keywords.now) no_lists }
+    requires texts { (list : List (List ℕ)) × AreTexts texts.now ends.now list }
+    ensures count { IfOk result (λ made. length made.items ≡ length ends.now) }
+    ensures verdicts { IfOk result (λ made. (list : List (List ℕ)) × AreTexts texts.now ends.now list
+        × AreVerdicts (Passes E.outcome keywords.now) list made.items) }
+{
+    let mut made = Vec::with_capacity(alloc, ends.len())?;
+    let mut start = 0;
+    for end in ends {
+        made.push(verdict_on(alloc, keywords, &texts[start..*end])?)?;
+        start = *end;
+    }
+    Ok(made)
+}
+
+// The verdict on one text.
+fn verdict_on<E: RegexEngine>(
+    alloc: Global,
+    keywords: &StringKeywords<E>,
+    text: &[u8],
+) -> Result<u8, AllocError>
+    requires { IsInUse (keywords_assertions E.outcome keywords.now) no_lists }
+    ensures { IfOk result (λ verdict. IsVerdict (Passes E.outcome keywords.now) text.now verdict) }
+{
+    let Ok(text) = str::from_utf8(text) else {
+        return Ok(NOT_UTF8);
+    };
+    if keywords.is_valid(alloc, &text, &Checks::none())? {
+        Ok(VALID)
+    } else {
+        Ok(INVALID)
+    }
+}
