@@ -3,9 +3,12 @@ use Rattle.std.proofs.Common.{◌≡◌, ℕ, Bool, true, false, List, ◌∷◌
 use Rattle.std.specs.Prelude.{option_and_then, is_some}
 use Rattle.std.specs.Str.{byte}
 use Rattle.strkw_ecma.specs.Escapes.{Escape}
-use Rattle.strkw_ecma.specs.Classes.{ClassToken, ClassAtom, class_plain, hyphen, class_escaped, class_control, class_set, backspace, Ranges, no_ranges, with_one, with_range, item, range, class_atom_spelling, ranges_spelling, negation_spelling, ending_spelling, IsClassAtom, is_hyphen, is_caret, MayBegin, MayFollow, MayEnd, AreRanges}
+use Rattle.strkw_ecma.specs.Codes.{Code, null_code, letter_code, byte_code, unit_code, pair_code, point_code, code_spelling, IsCode}
+use Rattle.strkw_ecma.specs.CodeReading.{Coding, Coded, fails, goes, makes, coding_next}
+use Rattle.strkw_ecma.specs.Classes.{ClassToken, ClassAtom, class_plain, hyphen, class_escaped, class_control, class_set, backspace, class_coded, Ranges, no_ranges, with_one, with_range, item, range, class_atom_spelling, ranges_spelling, negation_spelling, ending_spelling, IsClassAtom, is_hyphen, is_caret, MayBegin, MayFollow, MayEnd, AreRanges}
 use Rattle.strkw_ecma.specs.Syntax.{Disjunction, bracketed}
-use Rattle.strkw_ecma.specs.Reading.{Open, Level, Last, State, Pending, fresh, one, dashed, Class, Mode, between, class_opened, in_class, with_mode, with_atom, took, ranged, within, on_class_token, on_class_escape, on_class, read_from}
+use Rattle.strkw_ecma.specs.Reading.{Open, Level, Last, State, Pending, fresh, one, dashed, Class, Mode, between, class_opened, in_class, with_mode, with_atom, took, ranged, within, on_class_token, on_class_escape, with_coding, on_class_coding, on_class, read_from}
+use Rattle.strkw_ecma.proofs.CodeReadings.{follow, code_tail, begun, reads_code}
 
 abbrev class_of : Bool → Ranges → Pending → Class
 class_of n r p = record { negated = n; ranges = r; pending = p }
@@ -33,6 +36,32 @@ module _ (outer : List Open) (l : Level) (x : Last) where
   abbrev then : Option State → List ℕ → Option Disjunction
   then o cs = option_and_then (λ t. read_from t cs) o
 
+  -- an escape by a number, from inside a class
+  module _ (n : Bool) (r : Ranges) (p : Pending) where
+    abbrev behind_part : Coding → List ℕ → Option Disjunction
+    behind_part k cs = read_from (with_coding outer l x n r p k) cs
+
+    abbrev behind_whole : Code → List ℕ → Option Disjunction
+    behind_whole d cs = then (within outer l x (took n r p (class_coded d))) cs
+
+    follows : (o : Coded) (cs : List ℕ) → then (on_class_coding outer l x n r p o) cs ≡ follow behind_part behind_whole o cs
+    follows fails cs = refl
+    follows (goes k) cs = refl
+    follows (makes d) cs = refl
+
+    code_begins : (d : Code) (cs : List ℕ)
+        → read_from (at (in_class (class_of n r p))) (byte "\\" ∷ (code_spelling d ++ cs)) ≡ begun behind_part behind_whole d (code_tail d ++ cs)
+    code_begins null_code cs = refl
+    code_begins (letter_code c) cs = refl
+    code_begins (byte_code ds) cs = refl
+    code_begins (unit_code ds) cs = refl
+    code_begins (pair_code ds es) cs = refl
+    code_begins (point_code ds) cs = refl
+
+    reads_class_code : (d : Code) → IsCode d → (cs : List ℕ)
+        → read_from (at (in_class (class_of n r p))) (class_atom_spelling (class_coded d) ++ cs) ≡ behind_whole d cs
+    reads_class_code d h cs = code_begins d cs ∙ reads_code behind_part behind_whole (λ k c cs. follows (coding_next k c) cs) d h cs
+
   -- one atom, from inside a class
   reads_inside : (n : Bool) (r : Ranges) (p : Pending) (y : ClassAtom) → IsClassAtom y → is_hyphen y ≡ false → (cs : List ℕ)
       → read_from (at (in_class (class_of n r p))) (class_atom_spelling y ++ cs) ≡ then (within outer l x (took n r p y)) cs
@@ -42,6 +71,7 @@ module _ (outer : List Open) (l : Level) (x : Last) where
   reads_inside n r p (class_control c) h w cs = ap (λ (k : Escape). then (on_class_escape outer l x n r p c k) cs) h
   reads_inside n r p (class_set c) h w cs = ap (λ (k : Escape). then (on_class_escape outer l x n r p c k) cs) h
   reads_inside n r p backspace h w cs = refl
+  reads_inside n r p (class_coded d) h w cs = reads_class_code n r p d h cs
 
   -- one that may be a `-`: nothing is pending, or an atom and a `-`
   reads_fresh : (n : Bool) (r : Ranges) (y : ClassAtom) → IsClassAtom y → (cs : List ℕ)
@@ -52,6 +82,7 @@ module _ (outer : List Open) (l : Level) (x : Last) where
   reads_fresh n r (class_control c) h cs = reads_inside n r fresh (class_control c) h refl cs
   reads_fresh n r (class_set c) h cs = reads_inside n r fresh (class_set c) h refl cs
   reads_fresh n r backspace h cs = refl
+  reads_fresh n r (class_coded d) h cs = reads_inside n r fresh (class_coded d) h refl cs
 
   reads_dashed : (n : Bool) (r : Ranges) (z y : ClassAtom) → IsClassAtom y → (cs : List ℕ)
       → read_from (at (in_class (class_of n r (dashed z)))) (class_atom_spelling y ++ cs) ≡ then (within outer l x (took n r (dashed z) y)) cs
@@ -61,6 +92,7 @@ module _ (outer : List Open) (l : Level) (x : Last) where
   reads_dashed n r z (class_control c) h cs = reads_inside n r (dashed z) (class_control c) h refl cs
   reads_dashed n r z (class_set c) h cs = reads_inside n r (dashed z) (class_set c) h refl cs
   reads_dashed n r z backspace h cs = refl
+  reads_dashed n r z (class_coded d) h cs = reads_inside n r (dashed z) (class_coded d) h refl cs
 
   -- the first atom of a class that is not negated
   reads_first : (y : ClassAtom) → IsClassAtom y → is_caret y ≡ false → (cs : List ℕ)
@@ -73,6 +105,7 @@ module _ (outer : List Open) (l : Level) (x : Last) where
   reads_first (class_control c) h w cs = ap (λ (k : Escape). then (on_class_escape outer l x false no_ranges fresh c k) cs) h
   reads_first (class_set c) h w cs = ap (λ (k : Escape). then (on_class_escape outer l x false no_ranges fresh c k) cs) h
   reads_first backspace h w cs = refl
+  reads_first (class_coded d) h w cs = reads_inside false no_ranges fresh (class_coded d) h refl cs
 
   reads_start : (n : Bool) (y : ClassAtom) → IsClassAtom y → MayBegin n y → (cs : List ℕ)
       → read_from (at (start n)) (class_atom_spelling y ++ cs) ≡ read_from (at (in_class (class_of n no_ranges (one y)))) cs

@@ -2,11 +2,14 @@
 use Rattle.std.proofs.Common.{◌≡◌, ℕ, Bool, List, [], ◌∷◌, ◌++◌, Option, Some, None, refl, sym, ap, ◌∙◌, append_assoc}
 use Rattle.std.proofs.lemmas.List.{append-nil}
 use Rattle.std.specs.Str.{byte}
-use Rattle.strkw_ecma.specs.Escapes.{Escape, itself, control, set, boundary, no_boundary, unknown}
-use Rattle.strkw_ecma.specs.Classes.{ClassToken, closing_bracket, class_backslash, dash, class_character, ClassAtom, class_plain, hyphen, class_escaped, class_control, class_set, backspace, Ranges, class_atom_spelling, ranges_spelling, negation_spelling}
+use Rattle.strkw_ecma.specs.Escapes.{Escape, itself, control, set, boundary, no_boundary, null, letter, hexadecimal, unicode, unknown}
+use Rattle.strkw_ecma.specs.Codes.{null_code}
+use Rattle.strkw_ecma.specs.CodeReading.{byte_width, two_more, Coding, letter_awaited, unit_opened, digits_of, Coded, fails, goes, makes}
+use Rattle.strkw_ecma.specs.Classes.{ClassToken, closing_bracket, class_backslash, dash, class_character, ClassAtom, class_plain, hyphen, class_escaped, class_control, class_set, backspace, class_coded, Ranges, class_atom_spelling, ranges_spelling, negation_spelling}
 use Rattle.strkw_ecma.specs.Syntax.{Disjunction, Alternative, more, Term, Atom, quantifier_spelling, group_spelling, spelling, alternative_spelling, term_spelling, atom_spelling}
-use Rattle.strkw_ecma.specs.Reading.{Open, Level, Last, none, atom, counted, Pending, fresh, one, dashed, Class, Mode, between, escaping, opening, extending, class_opened, Count, low, high, counting, in_class, class_escaping, State, ended, joined, with_atom, took, took_dash, ranged, class_read, within, on_class_token, on_class_escape}
+use Rattle.strkw_ecma.specs.Reading.{Open, Level, Last, none, atom, counted, Pending, fresh, one, dashed, Class, Mode, between, escaping, opening, extending, class_opened, Count, low, high, counting, in_class, class_escaping, coding, class_coding, State, ended, joined, with_atom, took, took_dash, ranged, class_read, within, on_class_token, on_class_escape, with_coding, on_class_coding}
 use Rattle.strkw_ecma.proofs.Letters.{char_of_letter, char_of_class}
+use Rattle.strkw_ecma.proofs.CodeReadings.{coding_spelling, IsCodedAs}
 
 abbrev pub level_spelling : Option Disjunction → Alternative → List ℕ
 level_spelling None a = alternative_spelling a
@@ -39,9 +42,11 @@ mode_spelling escaping = byte "\\" ∷ []
 mode_spelling opening = byte "(" ∷ []
 mode_spelling extending = byte "(" ∷ byte "?" ∷ []
 mode_spelling (counting n) = count_spelling n
+mode_spelling (coding k) = byte "\\" ∷ coding_spelling k
 mode_spelling class_opened = byte "[" ∷ []
 mode_spelling (in_class k) = class_text k.negated k.ranges k.pending
 mode_spelling (class_escaping k) = class_text k.negated k.ranges k.pending ++ byte "\\" ∷ []
+mode_spelling (class_coding k d) = class_text k.negated k.ranges k.pending ++ byte "\\" ∷ coding_spelling d
 
 -- what a state has read
 abbrev pub spelled : State → List ℕ
@@ -140,13 +145,29 @@ module _ (outer : List Open) (l : Level) where
   class_token_read x n r p c class_character e =
       within_read x (took n r p (class_plain c)) _ (took_read n r p (class_plain c)) _ (sym (append_assoc (before x) (class_text n r p) (c ∷ [])))
 
-  -- behind a backslash, where the atom is spelled with the letter c
+  -- behind a backslash and s, where this and the letter c are spelled so
+  behind : (x : Last) (n : Bool) (r : Ranges) (p : Pending) (s : List ℕ) (c : ℕ) (t : List ℕ) → t ≡ byte "\\" ∷ (s ++ c ∷ [])
+      → before x ++ (class_text n r p ++ t) ≡ (before x ++ (class_text n r p ++ byte "\\" ∷ s)) ++ c ∷ []
+  behind x n r p s c t e =
+      ap (λ z. before x ++ (class_text n r p ++ z)) e
+      ∙ ap (λ z. before x ++ z) (sym (append_assoc (class_text n r p) (byte "\\" ∷ s) (c ∷ [])))
+      ∙ sym (append_assoc (before x) (class_text n r p ++ byte "\\" ∷ s) (c ∷ []))
+
   letter_read : (x : Last) (n : Bool) (r : Ranges) (p : Pending) (c : ℕ) (y : ClassAtom) → class_atom_spelling y ≡ byte "\\" ∷ c ∷ []
       → HasRead (within outer l x (took n r p y)) ((before x ++ (class_text n r p ++ byte "\\" ∷ [])) ++ c ∷ [])
-  letter_read x n r p c y e =
-      within_read x (took n r p y) _ (took_read n r p y) _
-      (ap (λ z. before x ++ (class_text n r p ++ z)) e ∙ ap (λ z. before x ++ z) (sym (append_assoc (class_text n r p) (byte "\\" ∷ []) (c ∷ [])))
-      ∙ sym (append_assoc (before x) (class_text n r p ++ byte "\\" ∷ []) (c ∷ [])))
+  letter_read x n r p c y e = within_read x (took n r p y) _ (took_read n r p y) _ (behind x n r p [] c _ e)
+
+  coding_begun : (x : Last) (n : Bool) (r : Ranges) (p : Pending) (c : ℕ) (k : Coding) → coding_spelling k ≡ c ∷ []
+      → spelled (with_coding outer l x n r p k) ≡ (before x ++ (class_text n r p ++ byte "\\" ∷ [])) ++ c ∷ []
+  coding_begun x n r p c k e = behind x n r p [] c (byte "\\" ∷ coding_spelling k) (ap (λ z. byte "\\" ∷ z) e)
+
+  pub class_coding_read : (x : Last) (n : Bool) (r : Ranges) (p : Pending) (k : Coding) (c : ℕ) (o : Coded) → IsCodedAs o (coding_spelling k ++ c ∷ [])
+      → HasRead (on_class_coding outer l x n r p o) ((before x ++ (class_text n r p ++ byte "\\" ∷ coding_spelling k)) ++ c ∷ [])
+  class_coding_read x n r p k c fails h = tt
+  class_coding_read x n r p k c (goes m) h = behind x n r p (coding_spelling k) c (byte "\\" ∷ coding_spelling m) (ap (λ z. byte "\\" ∷ z) h)
+  class_coding_read x n r p k c (makes d) h =
+      within_read x (took n r p (class_coded d)) _ (took_read n r p (class_coded d)) _
+      (behind x n r p (coding_spelling k) c (class_atom_spelling (class_coded d)) (ap (λ z. byte "\\" ∷ z) h))
 
   pub class_escape_read : (x : Last) (n : Bool) (r : Ranges) (p : Pending) (c : ℕ) (k : Escape) → char_of_letter k c ≡ c
       → HasRead (on_class_escape outer l x n r p c k) ((before x ++ (class_text n r p ++ byte "\\" ∷ [])) ++ c ∷ [])
@@ -155,4 +176,8 @@ module _ (outer : List Open) (l : Level) where
   class_escape_read x n r p c set e = letter_read x n r p c (class_set c) refl
   class_escape_read x n r p c boundary e = letter_read x n r p c backspace (ap (λ z. byte "\\" ∷ z ∷ []) e)
   class_escape_read x n r p c no_boundary e = tt
+  class_escape_read x n r p c null e = letter_read x n r p c (class_coded null_code) (ap (λ z. byte "\\" ∷ z ∷ []) e)
+  class_escape_read x n r p c letter e = coding_begun x n r p c letter_awaited (ap (λ z. z ∷ []) e)
+  class_escape_read x n r p c hexadecimal e = coding_begun x n r p c (digits_of byte_width two_more []) (ap (λ z. z ∷ []) e)
+  class_escape_read x n r p c unicode e = coding_begun x n r p c unit_opened (ap (λ z. z ∷ []) e)
   class_escape_read x n r p c unknown e = tt

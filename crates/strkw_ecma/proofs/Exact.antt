@@ -1,12 +1,14 @@
 -- The laws of a pattern's text.
-use Rattle.std.proofs.Common.{◌≡◌, ◌↔◌, ◌⊎◌, inl, inr, ℕ, zero, suc, Bool, true, false, List, Option, Some, None, IsTrue, refl, sym, ap, subst, ◌∙◌, true≢false, length, leb, if◌then◌else◌, option_map}
+use Rattle.std.proofs.Common.{◌≡◌, ◌↔◌, ◌⊎◌, inl, inr, ℕ, zero, suc, Bool, true, false, List, Option, Some, None, IsTrue, refl, sym, ap, subst, ◌∙◌, true≢false, length, leb, nat_le, ◌≤◌, if◌then◌else◌, option_map}
 use Rattle.std.specs.Prelude.{is_some}
 use Rattle.std.proofs.lemmas.Bool.{leb-true, le-leb}
 use Rattle.strkw_pattern.specs.Matcher.{outcome_of}
 use Rattle.strkw_pattern.specs.declared.engine.Outcome.{Outcome}
 use Rattle.strkw_pattern.specs.declared.engine.Outcome.TheVariants.{Match, NoMatch}
-use Rattle.strkw_ecma.specs.Syntax.{Disjunction, only, either, Alternative, nothing, more, Term, at_start, at_end, at_boundary, at_no_boundary, once, quantified, Atom, plain, escaped, control_escape, set_escape, dot, bracketed, group, max_length}
-use Rattle.strkw_ecma.specs.Reading.{read, read_pattern}
+use Rattle.strkw_ecma.specs.Syntax.{Disjunction, only, either, Alternative, nothing, more, Term, at_start, at_end, at_boundary, at_no_boundary, once, quantified, Atom, plain, escaped, control_escape, set_escape, coded, dot, bracketed, group, max_length}
+use Rattle.strkw_ecma.specs.Reading.{read, read_short, read_pattern, tree_if, small_tree}
+use Rattle.strkw_ecma.specs.Lookahead.{is_apart}
+use Rattle.strkw_ecma.specs.Size.{size, max_nodes}
 use Rattle.strkw_ecma.specs.Meaning.{Found}
 use Rattle.strkw_ecma.specs.Tree.{Pattern, empty, alt}
 use Rattle.strkw_ecma.specs.Marks.{is_clean}
@@ -53,21 +55,33 @@ mutual
   clean_atom (escaped c) = refl
   clean_atom (control_escape c) = refl
   clean_atom (set_escape c) = refl
+  clean_atom (coded d) = refl
   clean_atom dot = refl
   clean_atom (bracketed n r e) = refl
   clean_atom (group g d) = clean d
 
-derived_of : (source : List ℕ) (b : Bool) (o : Option Disjunction) → leb (length source) max_length ≡ b → IsSpelled o source → IsFormed o
-    → IsTrue (is_some (if b then o else None)) → (d : Disjunction) × IsPattern source d
-derived_of source false o e s f h = absurd (true≢false (sym h))
-derived_of source true None e s f h = absurd (true≢false (sym h))
-derived_of source true (Some d) e s f h = (d, record { formed = f; spelled = s; short = leb-true (length source) max_length e })
+small_of : (source : List ℕ) (d : Disjunction) (b : Bool) → nat_le (size (pattern d)) max_nodes ≡ b
+    → (size (pattern d) ≤ max_nodes → IsPattern source d) → IsTrue (is_some (tree_if b d)) → (d : Disjunction) × IsPattern source d
+small_of source d false e p h = absurd (true≢false (sym h))
+small_of source d true e p h = (d, p (leb-true (size (pattern d)) max_nodes e))
+
+derived_of : (source : List ℕ) (a b : Bool) (o : Option Disjunction) → is_apart source ≡ a → leb (length source) max_length ≡ b
+    → IsSpelled o source → IsFormed o
+    → IsTrue (is_some (if a then small_tree (if b then o else None) else None)) → (d : Disjunction) × IsPattern source d
+derived_of source false b o a e s f h = absurd (true≢false (sym h))
+derived_of source true false o a e s f h = absurd (true≢false (sym h))
+derived_of source true true None a e s f h = absurd (true≢false (sym h))
+derived_of source true true (Some d) a e s f h =
+    small_of source d (nat_le (size (pattern d)) max_nodes) refl
+    (λ m. record { formed = f; spelled = s; short = leb-true (length source) max_length e; apart = a; small = m }) h
 
 -- a pattern is read as its tree
 read_is : (source : List ℕ) (d : Disjunction) → IsPattern source d → read_pattern source ≡ Some d
 read_is source d p =
-    ap (λ (b : Bool). if b then read source else None) (le-leb (length source) max_length p.short)
-    ∙ ap read (sym p.spelled) ∙ complete d p.formed
+    ap (λ (b : Bool). if b then small_tree (read_short source) else None) p.apart
+    ∙ ap (λ (b : Bool). small_tree (if b then read source else None)) (le-leb (length source) max_length p.short)
+    ∙ ap (λ (z : List ℕ). small_tree (read z)) (sym p.spelled) ∙ ap small_tree (complete d p.formed)
+    ∙ ap (λ (b : Bool). tree_if b d) (le-leb (size (pattern d)) max_nodes p.small)
 
 tree_or : Disjunction → Option Disjunction → Disjunction
 tree_or e None = e
@@ -99,7 +113,7 @@ decided_of (Some d) text = by_answer _
 
 pub exact : (source : List ℕ) → IsExact source
 exact source = record {
-  derived = derived_of source _ (read source) refl (sound source) (read_formed source);
+  derived = derived_of source (is_apart source) _ (read source) refl refl (sound source) (read_formed source);
   taken = λ d p. ap is_some (read_is source d p);
   one_tree = λ d e p q. same_tree d e (sym (read_is source d p) ∙ read_is source e q);
   decided = decided_of (read_pattern source);

@@ -3,15 +3,18 @@ use Rattle.std.proofs.Common.{◌≡◌, ◌==◌, ℕ, Bool, true, false, List,
 use Rattle.std.specs.Prelude.{option_and_then, option_map, is_some}
 use Rattle.std.proofs.lemmas.Bool.{ltb-true, leb-true}
 use Rattle.std.specs.Str.{byte}
-use Rattle.strkw_ecma.specs.Escapes.{Escape, itself, control, set, boundary, no_boundary, unknown, escape}
-use Rattle.strkw_ecma.specs.Classes.{ClassToken, closing_bracket, class_backslash, dash, class_character, class_token, class_escape, ClassAtom, class_plain, hyphen, class_escaped, class_control, class_set, backspace, Ranges, no_ranges, item, range, IsClassAtom, is_hyphen, is_caret, MayFollow, AreRanges}
+use Rattle.strkw_ecma.specs.Escapes.{Escape, itself, control, set, boundary, no_boundary, null, letter, hexadecimal, unicode, unknown, escape}
+use Rattle.strkw_ecma.specs.Codes.{null_code}
+use Rattle.strkw_ecma.specs.CodeReading.{Coded, fails, goes, makes, coding_next}
+use Rattle.strkw_ecma.specs.Classes.{ClassToken, closing_bracket, class_backslash, dash, class_character, class_token, class_escape, ClassAtom, class_plain, hyphen, class_escaped, class_control, class_set, backspace, class_coded, Ranges, no_ranges, item, range, IsClassAtom, is_hyphen, is_caret, MayFollow, AreRanges}
 use Rattle.strkw_ecma.specs.Syntax.{Disjunction, Alternative, Token, bar, asterisk, plus, question, caret, dollar, opening as opening_token, closing, point, backslash, bracket, brace, character, other, token, Quantifier, zero_or_more, one_or_more, exactly, at_least, from_to, Group, capturing, plain_group, max_nesting}
 use Rattle.strkw_ecma.specs.WellFormed.{IsQuantifier, IsWellFormed, IsAlternative, IsAtom}
 use Rattle.strkw_ecma.specs.Numbers.{number, number_of, are_digits, max_count, IsNumber, CountToken, digit, comma, closing_brace, no_count, count_token}
 use Rattle.strkw_ecma.specs.Size.{size, max_size}
 use Rattle.strkw_ecma.specs.Patterns.{atom_pattern, times, copies}
 use Rattle.strkw_ecma.proofs.Digits.{digits_push, is_digit_of}
-use Rattle.strkw_ecma.specs.Reading.{Open, Level, Last, none, atom, counted, Pending, fresh, one, dashed, Class, Mode, between, escaping, opening, extending, class_opened, Count, low, high, counting, when, with_count, longer, range_read, on_low, on_high, on_count, in_class, class_escaping, is_between, State, with_mode, new_level, ended, joined, closed, with_quantifier, questioned, opened, on_token, on_group, on_extension, on_escape, took, took_dash, ranged, class_read, within, on_class_token, on_class_escape, on_class, next_in, next, at_close, read_from, initial, read}
+use Rattle.strkw_ecma.proofs.CodeReadings.{IsCoding, IsCoded, coding_formed}
+use Rattle.strkw_ecma.specs.Reading.{Open, Level, Last, none, atom, counted, Pending, fresh, one, dashed, Class, Mode, between, escaping, opening, extending, class_opened, Count, low, high, counting, when, with_count, longer, range_read, on_low, on_high, on_count, in_class, class_escaping, coding, class_coding, is_between, State, with_mode, new_level, ended, joined, closed, with_quantifier, questioned, opened, on_token, on_group, on_extension, on_escape, took, took_dash, ranged, class_read, within, on_class_token, on_class_escape, on_coding, on_class_coding, on_class, next_in, next, at_close, read_from, initial, read}
 
 -- of a level within n groups
 abbrev IsEarlier : ℕ → Option Disjunction → Type 0
@@ -49,7 +52,9 @@ IsCount (high ds es) = IsNumber ds × (are_digits es ≡ true) × (number es ≤
 abbrev IsMode : Mode → Type 0
 IsMode (in_class k) = AreRanges k.negated k.ranges × IsPending Any k.negated k.ranges k.pending
 IsMode (class_escaping k) = AreRanges k.negated k.ranges × IsPending NoCaret k.negated k.ranges k.pending
+IsMode (class_coding k d) = (AreRanges k.negated k.ranges × IsPending NoCaret k.negated k.ranges k.pending) × IsCoding d
 IsMode (counting n) = IsCount n
+IsMode (coding k) = IsCoding k
 IsMode m = Unit {0}
 
 abbrev IsState : State → Type 0
@@ -115,7 +120,17 @@ escape_formed outer l x c control e f g h = (f, (g.0, ended_formed (length outer
 escape_formed outer l x c set e f g h = (f, (g.0, ended_formed (length outer) l.current x g.1 h), e, tt)
 escape_formed outer l x c boundary e f g h = (f, (g.0, (ended_formed (length outer) l.current x g.1 h, tt)), tt, tt)
 escape_formed outer l x c no_boundary e f g h = (f, (g.0, (ended_formed (length outer) l.current x g.1 h, tt)), tt, tt)
+escape_formed outer l x c null e f g h = (f, (g.0, ended_formed (length outer) l.current x g.1 h), (tt, refl), tt)
+escape_formed outer l x c letter e f g h = (f, g, h, tt)
+escape_formed outer l x c hexadecimal e f g h = (f, g, h, (tt, refl, refl))
+escape_formed outer l x c unicode e f g h = (f, g, h, tt)
 escape_formed outer l x c unknown e f g h = tt
+
+coded_formed : (outer : List Open) (l : Level) (x : Last) (o : Coded) → IsCoded o
+    → AreLevels outer → IsLevel (length outer) l → IsLast (length outer) x → Makes (on_coding outer l x o)
+coded_formed outer l x fails w f g h = tt
+coded_formed outer l x (goes k) w f g h = (f, g, h, w)
+coded_formed outer l x (makes d) w f g h = (f, (g.0, ended_formed (length outer) l.current x g.1 h), w, tt)
 
 first_formed : (outer : List Open) (l : Level) (x : Last) (c : ℕ) (b : Bool) → nat_lt (length outer) max_nesting ≡ b
     → AreLevels outer → IsLevel (length outer) l → IsLast (length outer) x
@@ -255,7 +270,19 @@ module _ (outer : List Open) (l : Level) (x : Last) (f : AreLevels outer) (g : I
   class_escape_formed n r p c boundary e u v =
       within_formed _ (took_formed NoCaret n r p backspace u v tt (suits NoCaret p backspace refl refl))
   class_escape_formed n r p c no_boundary e u v = tt
+  class_escape_formed n r p c null e u v =
+      within_formed _ (took_formed NoCaret n r p (class_coded null_code) u v (tt, refl) (suits NoCaret p (class_coded null_code) refl refl))
+  class_escape_formed n r p c letter e u v = (f, g, h, ((u, v), tt))
+  class_escape_formed n r p c hexadecimal e u v = (f, g, h, ((u, v), (tt, refl, refl)))
+  class_escape_formed n r p c unicode e u v = (f, g, h, ((u, v), tt))
   class_escape_formed n r p c unknown e u v = tt
+
+  class_coded_formed : (n : Bool) (r : Ranges) (p : Pending) (o : Coded) → IsCoded o → AreRanges n r → IsPending NoCaret n r p
+      → Makes (on_class_coding outer l x n r p o)
+  class_coded_formed n r p fails w u v = tt
+  class_coded_formed n r p (goes k) w u v = (f, g, h, ((u, v), w))
+  class_coded_formed n r p (makes d) w u v =
+      within_formed _ (took_formed NoCaret n r p (class_coded d) u v w (suits NoCaret p (class_coded d) refl refl))
 
   bracket_formed : (c : ℕ) (b : Bool) → (c == byte "^") ≡ b → Makes (on_class outer l x c b)
   bracket_formed c false e = class_token_formed NoCaret false no_ranges fresh c (class_token c) refl tt (λ y w. w) (λ y w. w) e
@@ -267,9 +294,12 @@ module _ (outer : List Open) (l : Level) (x : Last) (f : AreLevels outer) (g : I
   next_formed opening c k = group_formed outer l x c _ f g h
   next_formed extending c k = extension_formed outer l x _ f g h
   next_formed (counting n) c k = counting_formed outer l f g x n c h k
+  next_formed (coding d) c k = coded_formed outer l x (coding_next d c) (coding_formed d c k) f g h
   next_formed class_opened c k = bracket_formed c _ refl
   next_formed (in_class s) c k = class_token_formed Any s.negated s.ranges s.pending c (class_token c) refl k.0 k.1 (λ y w. tt) tt
   next_formed (class_escaping s) c k = class_escape_formed s.negated s.ranges s.pending c (class_escape c) refl k.0 k.1
+  next_formed (class_coding s d) c k =
+      class_coded_formed s.negated s.ranges s.pending (coding_next d c) (coding_formed d c k.1) k.0.0 k.0.1
 
 abbrev pub IsFormed : Option Disjunction → Type 0
 IsFormed None = Unit {0}

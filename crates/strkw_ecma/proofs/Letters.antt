@@ -3,7 +3,7 @@ use Rattle.std.proofs.Common.{◌≡◌, ℕ, Bool, true, false, if◌then◌els
 use Rattle.std.proofs.lemmas.Bool.Decides.{nat_tests}
 use Rattle.std.specs.Str.{byte}
 use Rattle.strkw_text.specs.Characters.{is_one_of}
-use Rattle.strkw_ecma.specs.Escapes.{Escape, itself, control, set, boundary, no_boundary, unknown, escape}
+use Rattle.strkw_ecma.specs.Escapes.{Escape, itself, control, set, boundary, no_boundary, null, letter, hexadecimal, unicode, unknown, escape}
 use Rattle.strkw_ecma.specs.Classes.{ClassToken, closing_bracket, class_backslash, dash, class_character, class_token, class_escape}
 use Rattle.strkw_ecma.specs.Numbers.{CountToken, digit, comma, closing_brace, no_count, is_digit, count_token}
 use Rattle.strkw_ecma.specs.Syntax.{Token, bar, asterisk, plus, question, caret, dollar, opening, closing, point, backslash, bracket, brace, character, other, token}
@@ -49,6 +49,10 @@ char_of_letter no_boundary c = byte "B"
 char_of_letter itself c = c
 char_of_letter control c = c
 char_of_letter set c = c
+char_of_letter null c = byte "0"
+char_of_letter letter c = byte "c"
+char_of_letter hexadecimal c = byte "x"
+char_of_letter unicode c = byte "u"
 char_of_letter unknown c = c
 
 by_letter : (b : Bool) (P : Escape → Type 0) (t u : Escape) → (b ≡ true → P t) → P u → P (if b then t else u)
@@ -59,8 +63,10 @@ pub char_of_escape : (c : ℕ) → char_of_letter (escape c) c ≡ c
 char_of_escape c =
     let P = λ (t : Escape). char_of_letter t c ≡ c in
     by_letter (c == byte "b") P _ _ (same_char c _) (by_letter (c == byte "B") P _ _ (same_char c _)
+    (by_letter (c == byte "0") P _ _ (same_char c _) (by_letter (c == byte "c") P _ _ (same_char c _)
+    (by_letter (c == byte "x") P _ _ (same_char c _) (by_letter (c == byte "u") P _ _ (same_char c _)
     (by_letter (is_one_of (codes "^$\\.*+?()[]{}|/") c) P _ _ (λ _. refl) (by_letter (is_one_of (codes "fnrtv") c) P _ _ (λ _. refl)
-    (by_letter (is_one_of (codes "dDsSwW") c) P _ _ (λ _. refl) refl))))
+    (by_letter (is_one_of (codes "dDsSwW") c) P _ _ (λ _. refl) refl))))))))
 
 abbrev pub char_of_class : ClassToken → ℕ → ℕ
 char_of_class closing_bracket c = byte "]"

@@ -3,6 +3,8 @@ pub mod Search
 pub mod Shapes
 pub mod Letters
 pub mod Digits
+pub mod CodeReadings
+pub mod CodeImages
 pub mod ClassReadings
 pub mod Readings
 pub mod Answers
@@ -15,4 +17,6 @@ pub mod Alike
 pub mod Walks
 pub mod Tables
 pub mod Same
+pub mod Apart
+pub mod Complements
 pub mod Rows

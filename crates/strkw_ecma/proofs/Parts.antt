@@ -5,17 +5,21 @@ use Rattle.std.proofs.lemmas.List.{length-map, at_drop_more, at_drop_all}
 use Rattle.std.proofs.lemmas.Bool.{le-leb, lt-leb}
 use Rattle.strkw_ecma.specs.Tree.{Pattern, empty, cat}
 use Rattle.std.specs.Str.{byte}
-use Rattle.strkw_ecma.specs.Escapes.{Escape, itself, control, set, boundary, no_boundary, unknown, escape}
-use Rattle.strkw_ecma.specs.Classes.{ClassToken, closing_bracket, class_backslash, dash, class_character, class_token, class_escape, ClassAtom, class_plain, hyphen, class_escaped, class_control, class_set, backspace, Ranges, no_ranges, item, range, range_list, ranges_of}
-use Rattle.strkw_ecma.specs.Syntax.{Disjunction, Alternative, Term, at_start, at_end, at_boundary, at_no_boundary, Quantifier, exactly, at_least, from_to, zero_or_more, one_or_more, Group, capturing, plain_group, Atom, plain, escaped, control_escape, set_escape, dot, Token, bar, asterisk, plus, question, caret, dollar, opening as opening_token, closing, point, backslash, bracket, brace, character, other, token, max_nesting, max_length}
+use Rattle.strkw_ecma.specs.Escapes.{Escape, itself, control, set, boundary, no_boundary, null, letter, hexadecimal, unicode, unknown, escape}
+use Rattle.strkw_ecma.specs.Codes.{null_code}
+use Rattle.strkw_ecma.specs.CodeReading.{Coded, fails, goes, makes, coding_next}
+use Rattle.strkw_ecma.specs.Classes.{ClassToken, closing_bracket, class_backslash, dash, class_character, class_token, class_escape, ClassAtom, class_plain, hyphen, class_escaped, class_control, class_set, backspace, class_coded, Ranges, no_ranges, item, range, range_list, ranges_of}
+use Rattle.strkw_ecma.specs.Syntax.{Disjunction, Alternative, Term, at_start, at_end, at_boundary, at_no_boundary, Quantifier, exactly, at_least, from_to, zero_or_more, one_or_more, Group, capturing, plain_group, Atom, plain, escaped, control_escape, set_escape, coded, dot, Token, bar, asterisk, plus, question, caret, dollar, opening as opening_token, closing, point, backslash, bracket, brace, character, other, token, max_nesting, max_length}
 use Rattle.strkw_ecma.specs.Patterns.{pattern, alternative_pattern, term_pattern, atom_pattern, times, copies, quantified_pattern}
 use Rattle.strkw_ecma.specs.Numbers.{number, number_of, max_count, CountToken, digit, comma, closing_brace, no_count, count_token}
-use Rattle.strkw_ecma.specs.Size.{size, max_size}
+use Rattle.strkw_ecma.specs.Size.{size, max_size, max_nodes}
+use Rattle.strkw_ecma.specs.Lookahead.{is_apart}
 use Rattle.strkw_ecma.proofs.Digits.{number_push}
+use Rattle.strkw_ecma.proofs.CodeImages.{coding_image, coded_image, next_coding_image}
 use Rattle.strkw_ecma.specs.Reading as reading
 use Rattle.strkw_ecma.specs.Parts as parts
-use Rattle.strkw_ecma.specs.Reading.{Open, Level, State, with_count, when, longer, range_read, on_low, on_high, on_count, Mode, between, with_mode, opened_within, on_group, on_extension, on_class, on_class_token, on_class_escape, within, next_in, is_between, with_atom, with_term, with_quantifier, questioned, opened, closed, on_token, on_escape, next, read_from, initial, read, read_pattern}
-use Rattle.strkw_ecma.specs.Parts.{Side, Parts, after_count, after_low, after_high, after_high_brace, after_counting, small, value, ended, joined, level_ended, level_so_far, new_level, after_atom, after_term, after_bar, after_opening, after_closing, after_quantifier, after_question, after_escape, after_token, after_group, after_extension, after_class_token, after_class_escape, after_bracket, after_in, after_char, at_close, pattern_from, no_parts}
+use Rattle.strkw_ecma.specs.Reading.{Open, Level, State, with_count, when, longer, range_read, on_low, on_high, on_count, Mode, between, with_mode, opened_within, on_group, on_extension, on_class, on_class_token, on_class_escape, on_coding, on_class_coding, within, next_in, is_between, with_atom, with_term, with_quantifier, questioned, opened, closed, on_token, on_escape, next, read_from, initial, read, read_short, read_pattern, tree_if, small_tree}
+use Rattle.strkw_ecma.specs.Parts.{Side, Parts, after_count, after_low, after_high, after_high_brace, after_counting, small, value, ended, joined, level_ended, level_so_far, new_level, after_atom, after_term, after_bar, after_opening, after_closing, after_quantifier, after_question, after_escape, after_token, after_group, after_extension, after_class_token, after_class_escape, after_coding, after_class_coding, after_bracket, after_in, after_char, at_close, pattern_from, no_parts, pattern_if, small_pattern}
 
 abbrev side : Level → Side
 side l = record { earlier = option_map pattern l.earlier; current = alternative_pattern l.current }
@@ -46,9 +50,11 @@ mode_image reading.escaping = parts.escaping
 mode_image reading.opening = parts.opening
 mode_image reading.extending = parts.extending
 mode_image (reading.counting n) = parts.counting (count_image n)
+mode_image (reading.coding k) = parts.coding (coding_image k)
 mode_image reading.class_opened = parts.class_opened
 mode_image (reading.in_class k) = parts.in_class (class_image k)
 mode_image (reading.class_escaping k) = parts.class_escaping (class_image k)
+mode_image (reading.class_coding k d) = parts.class_coding (class_image k) (coding_image d)
 
 abbrev image : State → Parts
 image s = record { outer = map around s.outer; level = side s.level; last = last_image s.last; mode = mode_image s.mode }
@@ -116,7 +122,16 @@ module _ (outer : List Open) (l : Level) (x : reading.Last) where
   escape_image c set = ap Some (atom_image (set_escape c))
   escape_image c boundary = ap Some (term_image at_boundary)
   escape_image c no_boundary = ap Some (term_image at_no_boundary)
+  escape_image c null = ap Some (atom_image (coded null_code))
+  escape_image c letter = refl
+  escape_image c hexadecimal = refl
+  escape_image c unicode = refl
   escape_image c unknown = refl
+
+  coded_state_image : (o : Coded) → option_map image (on_coding outer l x o) ≡ after_coding (image (state outer l x)) (coded_image o)
+  coded_state_image fails = refl
+  coded_state_image (goes k) = refl
+  coded_state_image (makes d) = ap Some (atom_image (coded d))
 
 quantifier_image : (outer : List Open) (l : Level) (x : reading.Last) (q : Quantifier)
     → option_map image (with_quantifier outer l x q) ≡ after_quantifier (image (state outer l x)) (last_image x) (times q)
@@ -294,7 +309,18 @@ module _ (outer : List Open) (l : Level) (x : reading.Last) where
   class_escape_image k c set = taken_image k (class_set c)
   class_escape_image k c boundary = taken_image k backspace
   class_escape_image k c no_boundary = refl
+  class_escape_image k c null = taken_image k (class_coded null_code)
+  class_escape_image k c letter = refl
+  class_escape_image k c hexadecimal = refl
+  class_escape_image k c unicode = refl
   class_escape_image k c unknown = refl
+
+  class_coded_image : (k : reading.Class) (o : Coded)
+      → option_map image (on_class_coding outer l x k.negated k.ranges k.pending o)
+      ≡ after_class_coding (image (state outer l x)) (class_image k) (coded_image o)
+  class_coded_image k fails = refl
+  class_coded_image k (goes d) = refl
+  class_coded_image k (makes d) = taken_image k (class_coded d)
 
   abbrev first_class : reading.Class
   first_class = record { negated = false; ranges = no_ranges; pending = reading.fresh }
@@ -309,9 +335,13 @@ module _ (outer : List Open) (l : Level) (x : reading.Last) where
   next_image reading.opening c = group_image outer l x c (c == byte "?")
   next_image reading.extending c = extension_image outer l x (c == byte ":")
   next_image (reading.counting n) c = counting_image outer l x n c
+  next_image (reading.coding k) c =
+      coded_state_image outer l x (coding_next k c) ∙ ap (after_coding (image (state outer l x))) (next_coding_image k c)
   next_image reading.class_opened c = bracket_image c (c == byte "^")
   next_image (reading.in_class k) c = class_token_image k c (class_token c)
   next_image (reading.class_escaping k) c = class_escape_image k c (class_escape c)
+  next_image (reading.class_coding k d) c =
+      class_coded_image k (coding_next d c) ∙ ap (after_class_coding (image (state outer l x)) (class_image k)) (next_coding_image d c)
 
 close_image : (outer : List Open) (l : Level) (x : reading.Last) (b : Bool)
     → option_map pattern (reading.at_close outer l x b) ≡ at_close (map around outer) (side l) (last_image x) b
@@ -328,6 +358,8 @@ same_between (reading.counting n) = refl
 same_between reading.class_opened = refl
 same_between (reading.in_class k) = refl
 same_between (reading.class_escaping k) = refl
+same_between (reading.coding k) = refl
+same_between (reading.class_coding k d) = refl
 
 one_more : (cs : List ℕ) → ((t : State) → option_map pattern (read_from t cs) ≡ pattern_from (image t) cs) → (o : Option State)
     → option_map pattern (option_and_then (λ t. read_from t cs) o) ≡ option_and_then (λ t. pattern_from t cs) (option_map image o)
@@ -362,17 +394,35 @@ module _ (s : Parts) (text : List ℕ) (k c : ℕ) (h : k < length text) (e : c 
       ap (λ (m : ℕ). pattern_from t (drop m text)) is
       ∙ ap (option_and_then (λ r. pattern_from r (drop (k + 1) text))) a ∙ sym (after_turn s text k c h e) ∙ w
 
-  pub stops : None ≡ after_char s c → None ≡ option_map pattern (read_pattern text)
+  pub stops : None ≡ after_char s c → None ≡ option_map pattern (read_short text)
   stops a =
       let none : pattern_from no_parts text ≡ None =
       sym w ∙ after_turn s text k c h e ∙ ap (option_and_then (λ r. pattern_from r (drop (k + 1) text))) (sym a) in
       none_within (nat_le (length text) max_length) (read text) (from_image text initial ∙ none)
 
-pub too_long : (text : List ℕ) → max_length < length text → None ≡ option_map pattern (read_pattern text)
+pub too_long : (text : List ℕ) → max_length < length text → None ≡ option_map pattern (read_short text)
 too_long text h = ap (λ (b : Bool). option_map pattern (if b then read text else None)) (sym (lt-leb (length text) max_length h))
 
 pub whole : (s : Parts) (text : List ℕ) (k : ℕ) → length text ≤ k → length text ≤ max_length → IsOnWay s text k
-    → at_close s.outer s.level s.last (parts.is_between s.mode) ≡ option_map pattern (read_pattern text)
+    → at_close s.outer s.level s.last (parts.is_between s.mode) ≡ option_map pattern (read_short text)
 whole s text k h short w =
     sym (at_drop_all (pattern_from s) text k h) ∙ w ∙ sym (from_image text initial)
     ∙ ap (λ (b : Bool). option_map pattern (if b then read text else None)) (sym (le-leb (length text) max_length short))
+
+-- what is not too large
+tree_image : (b : Bool) (d : Disjunction) → option_map pattern (tree_if b d) ≡ pattern_if b (pattern d)
+tree_image false d = refl
+tree_image true d = refl
+
+small_image : (o : Option Disjunction) → option_map pattern (small_tree o) ≡ small_pattern (option_map pattern o)
+small_image None = refl
+small_image (Some d) = tree_image (nat_le (size (pattern d)) max_nodes) d
+
+pub read_whole : (text : List ℕ) (o p : Option Pattern) → true ≡ is_apart text → o ≡ option_map pattern (read_short text) → p ≡ small_pattern o
+    → p ≡ option_map pattern (read_pattern text)
+read_whole text o p a e f =
+    f ∙ ap small_pattern e ∙ sym (small_image (read_short text))
+    ∙ ap (λ (b : Bool). option_map pattern (if b then small_tree (read_short text) else None)) a
+
+pub not_apart : (text : List ℕ) → false ≡ is_apart text → None ≡ option_map pattern (read_pattern text)
+not_apart text a = ap (λ (b : Bool). option_map pattern (if b then small_tree (read_short text) else None)) a

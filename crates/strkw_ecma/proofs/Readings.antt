@@ -6,14 +6,17 @@ use Rattle.std.proofs.lemmas.Bool.{lt-ltb, le-leb}
 use Rattle.std.specs.Str.{byte}
 use Rattle.strkw_ecma.proofs.Letters.{same_char}
 use Rattle.strkw_ecma.specs.Escapes.{Escape, itself, control, set, escape}
-use Rattle.strkw_ecma.specs.Syntax.{Disjunction, only, either, Alternative, nothing, more, Term, at_start, at_end, at_boundary, at_no_boundary, once, quantified, Quantifier, zero_or_more, one_or_more, zero_or_one, exactly, at_least, from_to, greedy, lazy, Atom, plain, escaped, control_escape, set_escape, dot, bracketed, group, Group, capturing, plain_group, Token, character, token, quantifier_spelling, group_spelling, greed_spelling, spelling, alternative_spelling, term_spelling, atom_spelling, max_nesting}
+use Rattle.strkw_ecma.specs.Codes.{Code, null_code, letter_code, byte_code, unit_code, pair_code, point_code, code_spelling, IsCode}
+use Rattle.strkw_ecma.specs.CodeReading.{Coding, Coded, fails, goes, makes, coding_next}
+use Rattle.strkw_ecma.specs.Syntax.{Disjunction, only, either, Alternative, nothing, more, Term, at_start, at_end, at_boundary, at_no_boundary, once, quantified, Quantifier, zero_or_more, one_or_more, zero_or_one, exactly, at_least, from_to, greedy, lazy, Atom, plain, escaped, control_escape, set_escape, coded, dot, bracketed, group, Group, capturing, plain_group, Token, character, token, quantifier_spelling, group_spelling, greed_spelling, spelling, alternative_spelling, term_spelling, atom_spelling, max_nesting}
 use Rattle.strkw_ecma.specs.WellFormed.{IsQuantifier, IsWellFormed, IsAlternative, IsTerm, IsAtom}
 use Rattle.strkw_ecma.specs.Numbers.{number, number_of, IsNumber}
 use Rattle.strkw_ecma.specs.Size.{size, max_size}
 use Rattle.strkw_ecma.specs.Patterns.{atom_pattern, times, copies}
 use Rattle.strkw_ecma.proofs.Digits.{reads_digits}
-use Rattle.strkw_ecma.specs.Reading.{Open, Level, Last, none, atom, counted, State, between, opening, low, high, counting, with_mode, with_quantifier, with_count, range_read, on_low, on_high, when, ended, joined, with_atom, opened, on_token, on_group, on_escape, next, at_close, read_from, read}
+use Rattle.strkw_ecma.specs.Reading.{Open, Level, Last, none, atom, counted, State, between, opening, low, high, counting, with_mode, with_quantifier, with_count, range_read, on_low, on_high, when, ended, joined, with_atom, opened, on_token, on_group, on_escape, coding, on_coding, next, at_close, read_from, read}
 use Rattle.strkw_ecma.proofs.ClassReadings.{reads_class}
+use Rattle.strkw_ecma.proofs.CodeReadings.{follow, code_tail, begun, reads_code}
 
 abbrev state : List Open → Option Disjunction → Alternative → Last → State
 state outer e a x = record { outer = outer; level = record { earlier = e; current = a }; last = x; mode = between }
@@ -29,6 +32,33 @@ escape_next outer l x c k h = ap (on_escape outer l x c) h
 
 regroup : (a b c cs : List ℕ) → ((a ++ b) ++ c) ++ cs ≡ a ++ (b ++ (c ++ cs))
 regroup a b c cs = append_assoc (a ++ b) c cs ∙ append_assoc a b (c ++ cs)
+
+-- an escape by a number
+module _ (outer : List Open) (e : Option Disjunction) (a : Alternative) (x : Last) where
+  abbrev behind_part : Coding → List ℕ → Option Disjunction
+  behind_part k cs = read_from (with_mode outer (record { earlier = e; current = a }) x (coding k)) cs
+
+  abbrev behind_whole : Code → List ℕ → Option Disjunction
+  behind_whole d cs = read_from (with_atom outer (record { earlier = e; current = a }) x (coded d)) cs
+
+  follows : (o : Coded) (cs : List ℕ)
+      → option_and_then (λ t. read_from t cs) (on_coding outer (record { earlier = e; current = a }) x o) ≡ follow behind_part behind_whole o cs
+  follows fails cs = refl
+  follows (goes k) cs = refl
+  follows (makes d) cs = refl
+
+  code_begins : (d : Code) (cs : List ℕ)
+      → read_from (state outer e a x) (byte "\\" ∷ (code_spelling d ++ cs)) ≡ begun behind_part behind_whole d (code_tail d ++ cs)
+  code_begins null_code cs = refl
+  code_begins (letter_code c) cs = refl
+  code_begins (byte_code ds) cs = refl
+  code_begins (unit_code ds) cs = refl
+  code_begins (pair_code ds es) cs = refl
+  code_begins (point_code ds) cs = refl
+
+  reads_coded : (d : Code) → IsCode d → (cs : List ℕ)
+      → read_from (state outer e a x) (atom_spelling (coded d) ++ cs) ≡ behind_whole d cs
+  reads_coded d h cs = code_begins d cs ∙ reads_code behind_part behind_whole (λ k c cs. follows (coding_next k c) cs) d h cs
 
 -- a count that is whole
 counts : (outer : List Open) (l : Level) (p : Atom) (q : Quantifier) (cs : List ℕ) → copies (times q) * size (atom_pattern p) ≤ max_size
@@ -135,6 +165,7 @@ mutual
   begins_atom (escaped c) n h cs = refl
   begins_atom (control_escape c) n h cs = refl
   begins_atom (set_escape c) n h cs = refl
+  begins_atom (coded d) n h cs = refl
   begins_atom dot n h cs = refl
   begins_atom (bracketed false r e) n h cs = refl
   begins_atom (bracketed true r e) n h cs = refl
@@ -229,6 +260,7 @@ mutual
       ap (option_and_then (λ t. read_from t cs)) (escape_next outer (record { earlier = e; current = a }) x c control h)
   reads_atom (set_escape c) outer h e a x cs =
       ap (option_and_then (λ t. read_from t cs)) (escape_next outer (record { earlier = e; current = a }) x c set h)
+  reads_atom (coded d) outer h e a x cs = reads_coded outer e a x d h cs
   reads_atom dot outer h e a x cs = refl
   reads_atom (bracketed n r w) outer h e a x cs = reads_class outer (record { earlier = e; current = a }) x n r w h.0 h.1 cs
   reads_atom (group g d) outer h e a x cs =

@@ -1,16 +1,15 @@
 -- Entries and rows of a table, one by one.
 use Rattle.std.proofs.Common.{◌≡◌, ◌⊎◌, ℕ, ◌+◌, ◌<◌, ◌==◌, Bool, true, false, List, Option, Some, None, slice_get, sym, ap, subst, ◌∙◌, ⊎_elim, arith}
 use Rattle.strkw_ecma.specs.Tree.{Pattern}
-use Rattle.strkw_ecma.specs.Meaning.{is_word, is_edge}
 use Rattle.strkw_ecma.specs.Marks.{leaves, step}
 use Rattle.strkw_ecma.specs.Shape.{pattern_of}
-use Rattle.strkw_ecma.specs.Table.{found, IsEntry, IsRow}
+use Rattle.strkw_ecma.specs.Table.{found, IsBehind, IsEntry, IsRow}
 use Rattle.strkw_ecma.specs.declared.states.State.{State}
 
 -- of a state whose marks are p, and q behind the character
 pub entry_is : (states : List State) (s : State) (c entry : ℕ) (p q : Pattern) (f : Bool) → p ≡ pattern_of s.tree
     → f ≡ leaves s.last (Some c) p true → q ≡ step s.last (Some c) p true → (entry == found) ≡ f
-    → (f ≡ false → (t : State) × (slice_get states entry ≡ Some t) × (pattern_of t.tree ≡ q) × (is_word t.last ≡ is_word (Some c)) × (is_edge t.last ≡ false))
+    → (f ≡ false → IsBehind states entry q c)
     → IsEntry states s c entry
 entry_is states s c entry p q f same left marks is next =
     let left_is : f ≡ leaves s.last (Some c) (pattern_of s.tree) true = left ∙ ap (λ (r : Pattern). leaves s.last (Some c) r true) same in

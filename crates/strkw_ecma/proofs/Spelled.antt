@@ -3,15 +3,18 @@ use Rattle.std.proofs.Common.{◌≡◌, ℕ, Bool, true, false, List, [], ◌�
 use Rattle.std.specs.Prelude.{option_and_then, option_map, is_some, nat_le, ◌*◌}
 use Rattle.std.proofs.lemmas.List.{append-nil}
 use Rattle.std.specs.Str.{byte}
-use Rattle.strkw_ecma.specs.Escapes.{Escape, itself, control, set, boundary, no_boundary, unknown, escape}
+use Rattle.strkw_ecma.specs.Escapes.{Escape, itself, control, set, boundary, no_boundary, null, letter, hexadecimal, unicode, unknown, escape}
+use Rattle.strkw_ecma.specs.Codes.{null_code}
+use Rattle.strkw_ecma.specs.CodeReading.{Coding, Coded, fails, goes, makes, coding_next}
 use Rattle.strkw_ecma.specs.Classes.{class_token, class_escape, no_ranges}
-use Rattle.strkw_ecma.specs.Syntax.{Disjunction, Term, at_start, at_end, at_boundary, at_no_boundary, quantified, Quantifier, zero_or_more, one_or_more, zero_or_one, exactly, at_least, from_to, lazy, Group, capturing, plain_group, plain, escaped, control_escape, set_escape, dot, group, Token, bar, asterisk, plus, question, caret, dollar, opening as opening_token, closing, point, backslash, bracket, brace, character, other, token, quantifier_spelling, group_spelling, spelling, term_spelling, atom_spelling}
-use Rattle.strkw_ecma.specs.Reading.{Open, Level, Last, none, atom, counted, fresh, Mode, between, escaping, opening, extending, class_opened, Count, low, high, counting, when, with_count, longer, on_low, on_high, on_count, range_read, in_class, class_escaping, is_between, State, ended, level_ended, new_level, with_term, with_mode, closed, with_quantifier, questioned, opened, opened_within, on_token, on_group, on_extension, on_escape, on_class, next, next_in, at_close, read_from, initial, read}
+use Rattle.strkw_ecma.specs.Syntax.{Disjunction, Term, at_start, at_end, at_boundary, at_no_boundary, quantified, Quantifier, zero_or_more, one_or_more, zero_or_one, exactly, at_least, from_to, lazy, Group, capturing, plain_group, plain, escaped, control_escape, set_escape, coded, dot, group, Token, bar, asterisk, plus, question, caret, dollar, opening as opening_token, closing, point, backslash, bracket, brace, character, other, token, quantifier_spelling, group_spelling, spelling, term_spelling, atom_spelling}
+use Rattle.strkw_ecma.specs.Reading.{Open, Level, Last, none, atom, counted, fresh, Mode, between, escaping, opening, extending, class_opened, Count, low, high, counting, when, with_count, longer, on_low, on_high, on_count, range_read, in_class, class_escaping, coding, class_coding, on_coding, is_between, State, ended, level_ended, new_level, with_term, with_mode, closed, with_quantifier, questioned, opened, opened_within, on_token, on_group, on_extension, on_escape, on_class, next, next_in, at_close, read_from, initial, read}
 use Rattle.strkw_ecma.specs.Numbers.{number, number_of, max_count, CountToken, digit, comma, closing_brace, no_count, count_token}
 use Rattle.strkw_ecma.specs.Size.{size, max_size}
 use Rattle.strkw_ecma.specs.Patterns.{atom_pattern, times, copies}
 use Rattle.strkw_ecma.proofs.Letters.{char_of_count, char_of_count_token, same_char, char_of, char_of_token, char_of_letter, char_of_escape, char_of_class_token, char_of_class_escape}
-use Rattle.strkw_ecma.proofs.ClassSpelled.{level_spelling, last_spelling, outer_spelling, spelled, HasRead, joined_spelling, more_spelling, before, whole, atom_read, class_token_read, class_escape_read}
+use Rattle.strkw_ecma.proofs.ClassSpelled.{level_spelling, last_spelling, outer_spelling, spelled, HasRead, joined_spelling, more_spelling, before, whole, atom_read, class_token_read, class_escape_read, class_coding_read}
+use Rattle.strkw_ecma.proofs.CodeReadings.{coding_spelling, IsCodedAs, coding_as}
 
 module _ (outer : List Open) (l : Level) where
   abbrev level_text : List ℕ
@@ -99,7 +102,25 @@ escape_read outer l x c boundary e =
 escape_read outer l x c no_boundary e =
     term_read outer l x at_no_boundary ∙ sym (append_assoc (before outer l x) (byte "\\" ∷ []) (byte "B" ∷ []))
     ∙ ap (λ z. (before outer l x ++ byte "\\" ∷ []) ++ z ∷ []) e
+escape_read outer l x c null e =
+    atom_read outer l x (coded null_code) ∙ sym (append_assoc (before outer l x) (byte "\\" ∷ []) (byte "0" ∷ []))
+    ∙ ap (λ z. (before outer l x ++ byte "\\" ∷ []) ++ z ∷ []) e
+escape_read outer l x c letter e =
+    sym (append_assoc (before outer l x) (byte "\\" ∷ []) (byte "c" ∷ [])) ∙ ap (λ z. (before outer l x ++ byte "\\" ∷ []) ++ z ∷ []) e
+escape_read outer l x c hexadecimal e =
+    sym (append_assoc (before outer l x) (byte "\\" ∷ []) (byte "x" ∷ [])) ∙ ap (λ z. (before outer l x ++ byte "\\" ∷ []) ++ z ∷ []) e
+escape_read outer l x c unicode e =
+    sym (append_assoc (before outer l x) (byte "\\" ∷ []) (byte "u" ∷ [])) ∙ ap (λ z. (before outer l x ++ byte "\\" ∷ []) ++ z ∷ []) e
 escape_read outer l x c unknown e = tt
+
+coding_read : (outer : List Open) (l : Level) (x : Last) (k : Coding) (c : ℕ) (o : Coded) → IsCodedAs o (coding_spelling k ++ c ∷ [])
+    → HasRead (on_coding outer l x o) ((before outer l x ++ byte "\\" ∷ coding_spelling k) ++ c ∷ [])
+coding_read outer l x k c fails h = tt
+coding_read outer l x k c (goes m) h =
+    ap (λ z. before outer l x ++ byte "\\" ∷ z) h ∙ sym (append_assoc (before outer l x) (byte "\\" ∷ coding_spelling k) (c ∷ []))
+coding_read outer l x k c (makes d) h =
+    atom_read outer l x (coded d) ∙ ap (λ z. before outer l x ++ byte "\\" ∷ z) h
+    ∙ sym (append_assoc (before outer l x) (byte "\\" ∷ coding_spelling k) (c ∷ []))
 
 -- behind `(`: the group is open, and the character is read within it
 first_read : (outer : List Open) (l : Level) (x : Last) (c : ℕ) (b : Bool)
@@ -201,11 +222,14 @@ next_read outer l x escaping c = escape_read outer l x c (escape c) (char_of_esc
 next_read outer l x opening c = group_read outer l x c _ refl
 next_read outer l x extending c = extension_read outer l x c _ refl
 next_read outer l x (counting n) c = counting_read outer l x n c
+next_read outer l x (coding k) c = coding_read outer l x k c (coding_next k c) (coding_as k c)
 next_read outer l x class_opened c = bracket_read outer l x c _ refl
 next_read outer l x (in_class k) c =
     class_token_read outer l x k.negated k.ranges k.pending c (class_token c) (char_of_class_token c)
 next_read outer l x (class_escaping k) c =
     class_escape_read outer l x k.negated k.ranges k.pending c (class_escape c) (char_of_class_escape c)
+next_read outer l x (class_coding k d) c =
+    class_coding_read outer l x k.negated k.ranges k.pending d c (coding_next d c) (coding_as d c)
 
 -- the tree that was made is spelled so
 abbrev pub IsSpelled : Option Disjunction → List ℕ → Type 0
@@ -221,6 +245,8 @@ at_close_read [] l x (counting n) = tt
 at_close_read [] l x class_opened = tt
 at_close_read [] l x (in_class k) = tt
 at_close_read [] l x (class_escaping k) = tt
+at_close_read [] l x (coding k) = tt
+at_close_read [] l x (class_coding k d) = tt
 at_close_read (o ∷ outer) l x m = tt
 
 one_more : (s : State) (c : ℕ) (cs : List ℕ) → ((t : State) → IsSpelled (read_from t cs) (spelled t ++ cs))

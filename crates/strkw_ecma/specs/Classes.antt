@@ -4,6 +4,7 @@
 use Rattle.std.specs.Prelude.{◌≡◌, ℕ, nat_le, Bool, true, false, List, [], ◌∷◌, ◌++◌, Option, Some, None, is_some, if◌then◌else◌, ◌==◌}
 use Rattle.std.specs.Str.{byte}
 use Rattle.strkw_ecma.specs.Escapes.{Escape, itself, control, set, escape}
+use Rattle.strkw_ecma.specs.Codes.{Code, code_spelling, code_value, IsCode}
 use Rattle.strkw_ecma.specs.Sets.{control_char, set_ranges}
 
 -- what a character is in a class
@@ -27,6 +28,7 @@ pub data ClassAtom : Type 0 where
   class_control : ℕ → ClassAtom
   class_set : ℕ → ClassAtom
   backspace : ClassAtom
+  class_coded : Code → ClassAtom
 
 -- ClassContents: nothing, or what stands before its last atom or range
 pub data Ranges : Type 0 where
@@ -46,6 +48,7 @@ item (class_escaped c) = char c
 item (class_control c) = char (control_char c)
 item (class_set c) = set_item c
 item backspace = char 8
+item (class_coded k) = char (code_value k)
 
 abbrev pub item_ranges : Item → List (ℕ × ℕ)
 item_ranges (char c) = (c, c) ∷ []
@@ -79,6 +82,7 @@ class_atom_spelling (class_escaped c) = byte "\\" ∷ c ∷ []
 class_atom_spelling (class_control c) = byte "\\" ∷ c ∷ []
 class_atom_spelling (class_set c) = byte "\\" ∷ c ∷ []
 class_atom_spelling backspace = byte "\\" ∷ byte "b" ∷ []
+class_atom_spelling (class_coded k) = byte "\\" ∷ code_spelling k
 
 abbrev pub ranges_spelling : Ranges → List ℕ
 ranges_spelling no_ranges = []
@@ -100,6 +104,7 @@ IsClassAtom (class_escaped c) = class_escape c ≡ itself
 IsClassAtom (class_control c) = class_escape c ≡ control
 IsClassAtom (class_set c) = class_escape c ≡ set
 IsClassAtom backspace = Unit {0}
+IsClassAtom (class_coded k) = IsCode k
 
 abbrev pub is_hyphen : ClassAtom → Bool
 is_hyphen hyphen = true

@@ -3,13 +3,15 @@ use Rattle.std.specs.Prelude.{ℕ, codes, if◌then◌else◌, ◌==◌}
 use Rattle.std.specs.Str.{byte}
 use Rattle.strkw_text.specs.Characters.{is_one_of}
 
--- a SyntaxCharacter or `/`, which IdentityEscape takes; one of ControlEscape; one of CharacterClassEscape; or an assertion's
--- letter
+-- a SyntaxCharacter or `/`, which IdentityEscape takes; one of ControlEscape; one of CharacterClassEscape; an assertion's
+-- letter; or the letter of an escape by a number
 pub data Escape : Type 0 where
-  itself control set boundary no_boundary unknown : Escape
+  itself control set boundary no_boundary null letter hexadecimal unicode unknown : Escape
 
 abbrev pub escape : ℕ → Escape
 escape c =
     if c == byte "b" then boundary else if c == byte "B" then no_boundary
+    else if c == byte "0" then null else if c == byte "c" then letter
+    else if c == byte "x" then hexadecimal else if c == byte "u" then unicode
     else if is_one_of (codes "^$\\.*+?()[]{}|/") c then itself else if is_one_of (codes "fnrtv") c then control
     else if is_one_of (codes "dDsSwW") c then set else unknown

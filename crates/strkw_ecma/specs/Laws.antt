@@ -1,17 +1,28 @@
 -- The grammar and the meaning of a pattern's text, with no reader and no marks in them.
-use Rattle.std.specs.Prelude.{◌≡◌, ◌↔◌, ◌⊎◌, ℕ, ◌≤◌, IsTrue, List, length}
+use Rattle.std.specs.Prelude.{◌≡◌, ◌↔◌, ◌⊎◌, ℕ, ◌≤◌, true, not, IsTrue, List, length}
 use Rattle.strkw_pattern.specs.declared.engine.Outcome.TheVariants.{Match, NoMatch}
 use Rattle.strkw_ecma.specs.Syntax.{Disjunction, spelling, max_length}
 use Rattle.strkw_ecma.specs.WellFormed.{IsWellFormed}
+use Rattle.strkw_ecma.specs.Tree.{in_ranges}
+use Rattle.strkw_ecma.specs.Codes.{max_code_point}
+use Rattle.strkw_ecma.specs.Lookahead.{is_apart}
+use Rattle.strkw_ecma.specs.Size.{size, max_nodes}
 use Rattle.strkw_ecma.specs.Meaning.{Found}
 use Rattle.strkw_ecma.specs.Patterns.{pattern}
 use Rattle.strkw_ecma.specs.Outcomes.{takes_pattern, pattern_outcome}
+
+-- each character is in one of the two
+abbrev pub AreComplements : List (ℕ × ℕ) → List (ℕ × ℕ) → Type 0
+AreComplements rs ss = (c : ℕ) → c ≤ max_code_point → in_ranges ss c ≡ not (in_ranges rs c)
 
 -- the text is a pattern, and this is its tree
 pub record IsPattern (source : List ℕ) (d : Disjunction) : Type 0 where
   pub formed : IsWellFormed 0 d
   pub spelled : spelling d ≡ source
   pub short : length source ≤ max_length
+  -- behind no `\0` a decimal digit stands
+  pub apart : is_apart source ≡ true
+  pub small : size (pattern d) ≤ max_nodes
 
 -- what is taken is a pattern, each pattern is taken, it has one tree, and it comes to a match exactly where that is found, and
 -- to none elsewhere

@@ -6,8 +6,12 @@ pub mod Shape
 pub mod Numbers
 pub mod Size
 pub mod Escapes
+pub mod Lookahead
+pub mod Codes
 pub mod Classes
 pub mod Syntax
+pub mod CodeReading
+pub mod CodeParts
 pub mod Reading
 pub mod Patterns
 pub mod WellFormed

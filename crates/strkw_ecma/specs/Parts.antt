@@ -3,14 +3,17 @@ use Rattle.std.specs.Prelude.{ℕ, ◌+◌, ◌*◌, ◌-◌, nat_le, nat_lt, �
 use Rattle.std.specs.Prelude.{option_and_then}
 use Rattle.std.specs.Str.{byte}
 use Rattle.strkw_ecma.specs.Tree.{Pattern, empty, class, look, cat, alt, start, end, boundary, no_boundary}
-use Rattle.strkw_ecma.specs.Escapes.{Escape, itself, control, set, boundary as boundary_letter, no_boundary as no_boundary_letter, unknown, escape}
+use Rattle.strkw_ecma.specs.Escapes.{Escape, itself, control, set, boundary as boundary_letter, no_boundary as no_boundary_letter, null, letter, hexadecimal, unicode, unknown, escape}
+use Rattle.strkw_ecma.specs.CodeReading.{two_more}
+use Rattle.strkw_ecma.specs.CodeParts.{byte_width, Coding, letter_awaited, unit_opened, digits_of, Coded, fails, goes, makes, coding_of, coding_next}
 use Rattle.strkw_ecma.specs.Classes.{ClassToken, closing_bracket, class_backslash, dash, class_character, class_token, class_escape, Item, char, set_item, item_ranges, range}
 use Rattle.strkw_ecma.specs.Syntax.{Token, bar, asterisk, plus, question, caret, dollar, opening as opening_token, closing, point, backslash, bracket, brace, character, other, token, max_nesting}
 use Rattle.strkw_ecma.specs.Patterns.{one_char, Times, any_times, some_times, once_at_most, exact_times, least_times, range_times, quantified_pattern, copies}
 use Rattle.strkw_ecma.specs.Numbers.{max_count, CountToken, digit, comma, closing_brace, no_count, count_token}
-use Rattle.strkw_ecma.specs.Size.{size, max_size}
+use Rattle.strkw_ecma.specs.Size.{size, max_size, max_nodes}
 use Rattle.strkw_ecma.specs.Sets.{line_ends, set_of, is_negative, control_char}
 use Rattle.strkw_ecma.specs.Shape.{pattern_of}
+use Rattle.strkw_ecma.specs.Lookahead.{Front, neither, backslash as after_backslash, null as after_null}
 use Rattle.strkw_ecma.specs.declared.reader.Level.{Level}
 use Rattle.strkw_ecma.specs.declared.reader.Reader.{Reader}
 use Rattle.strkw_ecma.specs.declared.reader.Last.{Last as CodeLast}
@@ -28,6 +31,8 @@ use Rattle.strkw_ecma.specs.declared.tokens.CountToken.{CountToken as CodeCountT
 use Rattle.strkw_ecma.specs.declared.tokens.CountToken.TheVariants as count_code
 use Rattle.strkw_ecma.specs.declared.counts.Quantifier.{Quantifier as CodeQuantifier}
 use Rattle.strkw_ecma.specs.declared.counts.Quantifier.TheVariants as quantifier
+use Rattle.strkw_ecma.specs.declared.lookahead.Front.{Front as CodeFront}
+use Rattle.strkw_ecma.specs.declared.lookahead.Front.TheVariants as code_front
 use Rattle.strkw_ecma.specs.declared.tokens.Escape.{Escape as CodeEscape}
 use Rattle.strkw_ecma.specs.declared.tokens.Escape.TheVariants as escaped
 use Rattle.strkw_ecma.specs.declared.tokens.Token.{Token as CodeToken}
@@ -65,8 +70,10 @@ pub data Count : Type 0 where
 pub data Mode : Type 0 where
   between escaping opening extending class_opened : Mode
   counting : Count → Mode
+  coding : Coding → Mode
   in_class : Class → Mode
   class_escaping : Class → Mode
+  class_coding : Class → Coding → Mode
 
 abbrev pub is_between : Mode → Bool
 is_between between = true
@@ -110,9 +117,11 @@ mode_of mode.Escaping = escaping
 mode_of mode.Opening = opening
 mode_of mode.Extending = extending
 mode_of (mode.Counting n) = counting (count_of n)
+mode_of (mode.Coding k) = coding (coding_of k)
 mode_of mode.ClassOpened = class_opened
 mode_of (mode.Class k) = in_class (class_of k)
 mode_of (mode.ClassEscaping k) = class_escaping (class_of k)
+mode_of (mode.ClassCoding k d) = class_coding (class_of k) (coding_of d)
 
 abbrev pub parts_of : Reader → Parts
 parts_of r = record { outer = reverse (map side_of r.outer.items); level = side_of r.level; last = last_of r.last; mode = mode_of r.mode }
@@ -145,6 +154,10 @@ escape_of escaped.Control = control
 escape_of escaped.Set = set
 escape_of escaped.Boundary = boundary_letter
 escape_of escaped.NoBoundary = no_boundary_letter
+escape_of escaped.Null = null
+escape_of escaped.Letter = letter
+escape_of escaped.Hexadecimal = hexadecimal
+escape_of escaped.Unicode = unicode
 escape_of escaped.Unknown = unknown
 
 abbrev pub quantifier_of : CodeQuantifier → Times
@@ -160,6 +173,11 @@ count_token_of count_code.Digit = digit
 count_token_of count_code.Comma = comma
 count_token_of count_code.Closing = closing_brace
 count_token_of count_code.Other = no_count
+
+abbrev pub front_of : CodeFront → Front
+front_of code_front.Neither = neither
+front_of code_front.Backslash = after_backslash
+front_of code_front.Null = after_null
 
 -- the parts after what was read next
 abbrev pub ended : Pattern → Last → Pattern
@@ -232,7 +250,16 @@ after_escape s c control = Some (after_atom s (one_char (control_char c)))
 after_escape s c set = Some (after_atom s (class false (is_negative c) (set_of c)))
 after_escape s c boundary_letter = Some (after_term s (look boundary))
 after_escape s c no_boundary_letter = Some (after_term s (look no_boundary))
+after_escape s c null = Some (after_atom s (one_char 0))
+after_escape s c letter = Some (with_mode s (coding letter_awaited))
+after_escape s c hexadecimal = Some (with_mode s (coding (digits_of byte_width two_more 0)))
+after_escape s c unicode = Some (with_mode s (coding unit_opened))
 after_escape s c unknown = None
+
+abbrev pub after_coding : Parts → Coded → Option Parts
+after_coding s fails = None
+after_coding s (goes k) = Some (with_mode s (coding k))
+after_coding s (makes c) = Some (after_atom s (one_char c))
 
 abbrev pub after_token : Parts → ℕ → Token → Option Parts
 after_token s c bar = Some (after_bar s)
@@ -293,7 +320,16 @@ after_class_escape s k c control = within s (took k.negated k.ranges k.pending (
 after_class_escape s k c set = within s (took k.negated k.ranges k.pending (set_item c))
 after_class_escape s k c boundary_letter = within s (took k.negated k.ranges k.pending (char 8))
 after_class_escape s k c no_boundary_letter = None
+after_class_escape s k c null = within s (took k.negated k.ranges k.pending (char 0))
+after_class_escape s k c letter = Some (with_mode s (class_coding k letter_awaited))
+after_class_escape s k c hexadecimal = Some (with_mode s (class_coding k (digits_of byte_width two_more 0)))
+after_class_escape s k c unicode = Some (with_mode s (class_coding k unit_opened))
 after_class_escape s k c unknown = None
+
+abbrev pub after_class_coding : Parts → Class → Coded → Option Parts
+after_class_coding s k fails = None
+after_class_coding s k (goes d) = Some (with_mode s (class_coding k d))
+after_class_coding s k (makes c) = within s (took k.negated k.ranges k.pending (char c))
 
 abbrev pub new_class : Bool → Class
 new_class n = record { negated = n; ranges = []; pending = fresh }
@@ -356,9 +392,11 @@ after_in s escaping c = after_escape s c (escape c)
 after_in s opening c = after_group s c (c == byte "?")
 after_in s extending c = after_extension s (c == byte ":")
 after_in s (counting n) c = after_counting s n c
+after_in s (coding k) c = after_coding s (coding_next k c)
 after_in s class_opened c = after_bracket s c (c == byte "^")
 after_in s (in_class k) c = after_class_token s k c (class_token c)
 after_in s (class_escaping k) c = after_class_escape s k c (class_escape c)
+after_in s (class_coding k d) c = after_class_coding s k (coding_next d c)
 
 abbrev pub after_char : Parts → ℕ → Option Parts
 after_char s c = after_in (with_mode s between) s.mode c
@@ -372,6 +410,15 @@ at_close (o ∷ outer) l x b = None
 abbrev pub pattern_from : Parts → List ℕ → Option Pattern
 pattern_from s [] = at_close s.outer s.level s.last (is_between s.mode)
 pattern_from s (c ∷ cs) = option_and_then (λ t. pattern_from t cs) (after_char s c)
+
+-- what is not too large
+abbrev pub pattern_if : Bool → Pattern → Option Pattern
+pattern_if false p = None
+pattern_if true p = Some p
+
+abbrev pub small_pattern : Option Pattern → Option Pattern
+small_pattern None = None
+small_pattern (Some p) = pattern_if (nat_le (size p) max_nodes) p
 
 abbrev pub no_parts : Parts
 no_parts = record { outer = []; level = new_level; last = none; mode = between }

@@ -1,12 +1,15 @@
 -- How a pattern is read, character by character: what has been read so far is kept as parts of trees.
 use Rattle.std.specs.Prelude.{ℕ, ◌*◌, ◌++◌, is_some, nat_lt, nat_le, ◌==◌, length, Bool, true, false, List, [], ◌∷◌, Option, Some, None, if◌then◌else◌, option_map, option_and_then}
 use Rattle.std.specs.Str.{byte}
-use Rattle.strkw_ecma.specs.Escapes.{Escape, itself, control, set, boundary, no_boundary, unknown, escape}
-use Rattle.strkw_ecma.specs.Classes.{ClassToken, closing_bracket, class_backslash, dash, class_character, class_token, class_escape, ClassAtom, class_plain, hyphen, class_escaped, class_control, class_set, backspace, Ranges, no_ranges, with_one, with_range, item, range}
+use Rattle.strkw_ecma.specs.Escapes.{Escape, itself, control, set, boundary, no_boundary, null, letter, hexadecimal, unicode, unknown, escape}
+use Rattle.strkw_ecma.specs.Codes.{null_code}
+use Rattle.strkw_ecma.specs.CodeReading.{byte_width, two_more, Coding, letter_awaited, unit_opened, digits_of, Coded, fails, goes, makes, coding_next}
+use Rattle.strkw_ecma.specs.Classes.{ClassToken, closing_bracket, class_backslash, dash, class_character, class_token, class_escape, ClassAtom, class_plain, hyphen, class_escaped, class_control, class_set, backspace, class_coded, Ranges, no_ranges, with_one, with_range, item, range}
 use Rattle.strkw_ecma.specs.Numbers.{number, number_of, max_count, CountToken, digit, comma, closing_brace, no_count, count_token}
-use Rattle.strkw_ecma.specs.Size.{size, max_size}
-use Rattle.strkw_ecma.specs.Patterns.{atom_pattern, times, copies}
-use Rattle.strkw_ecma.specs.Syntax.{Disjunction, only, either, Alternative, nothing, more, Term, at_start, at_end, at_boundary, at_no_boundary, once, quantified, Quantifier, zero_or_more, one_or_more, zero_or_one, exactly, at_least, from_to, greedy, lazy, Group, capturing, plain_group, Atom, plain, escaped, control_escape, set_escape, dot, bracketed, group, Token, bar, asterisk, plus, question, caret, dollar, opening as opening_token, closing, point, backslash, bracket, brace, character, other, token, max_nesting, max_length}
+use Rattle.strkw_ecma.specs.Size.{size, max_size, max_nodes}
+use Rattle.strkw_ecma.specs.Lookahead.{is_apart}
+use Rattle.strkw_ecma.specs.Patterns.{pattern, atom_pattern, times, copies}
+use Rattle.strkw_ecma.specs.Syntax.{Disjunction, only, either, Alternative, nothing, more, Term, at_start, at_end, at_boundary, at_no_boundary, once, quantified, Quantifier, zero_or_more, one_or_more, zero_or_one, exactly, at_least, from_to, greedy, lazy, Group, capturing, plain_group, Atom, plain, escaped, control_escape, set_escape, coded, dot, bracketed, group, Token, bar, asterisk, plus, question, caret, dollar, opening as opening_token, closing, point, backslash, bracket, brace, character, other, token, max_nesting, max_length}
 
 -- the alternatives before the one that is read, and the terms of that one
 pub record Level : Type 0 where
@@ -41,12 +44,15 @@ pub data Count : Type 0 where
   low : List ℕ → Count
   high : List ℕ → List ℕ → Count
 
--- what has just been read: a whole atom or term; `\`; `(`; `(?`; `[`; a part of a count, of a class, and there `\`
+-- what has just been read: a whole atom or term; `\`; `(`; `(?`; `[`; a part of a count, of an escape by a number, of a class,
+-- and there `\`, and a part of such an escape
 pub data Mode : Type 0 where
   between escaping opening extending class_opened : Mode
   counting : Count → Mode
+  coding : Coding → Mode
   in_class : Class → Mode
   class_escaping : Class → Mode
+  class_coding : Class → Coding → Mode
 
 abbrev pub is_between : Mode → Bool
 is_between between = true
@@ -130,7 +136,16 @@ on_escape outer l x c control = Some (with_atom outer l x (control_escape c))
 on_escape outer l x c set = Some (with_atom outer l x (set_escape c))
 on_escape outer l x c boundary = Some (with_term outer l x at_boundary)
 on_escape outer l x c no_boundary = Some (with_term outer l x at_no_boundary)
+on_escape outer l x c null = Some (with_atom outer l x (coded null_code))
+on_escape outer l x c letter = Some (with_mode outer l x (coding letter_awaited))
+on_escape outer l x c hexadecimal = Some (with_mode outer l x (coding (digits_of byte_width two_more [])))
+on_escape outer l x c unicode = Some (with_mode outer l x (coding unit_opened))
 on_escape outer l x c unknown = None
+
+abbrev pub on_coding : List Open → Level → Last → Coded → Option State
+on_coding outer l x fails = None
+on_coding outer l x (goes k) = Some (with_mode outer l x (coding k))
+on_coding outer l x (makes d) = Some (with_atom outer l x (coded d))
 
 -- behind `(`
 abbrev pub on_group : List Open → Level → Last → ℕ → Bool → Option State
@@ -173,13 +188,25 @@ on_class_token outer l x n r p c class_backslash =
 on_class_token outer l x n r p c dash = within outer l x (took_dash n r p)
 on_class_token outer l x n r p c class_character = within outer l x (took n r p (class_plain c))
 
+abbrev pub with_coding : List Open → Level → Last → Bool → Ranges → Pending → Coding → State
+with_coding outer l x n r p k = with_mode outer l x (class_coding (record { negated = n; ranges = r; pending = p }) k)
+
 abbrev pub on_class_escape : List Open → Level → Last → Bool → Ranges → Pending → ℕ → Escape → Option State
 on_class_escape outer l x n r p c itself = within outer l x (took n r p (class_escaped c))
 on_class_escape outer l x n r p c control = within outer l x (took n r p (class_control c))
 on_class_escape outer l x n r p c set = within outer l x (took n r p (class_set c))
 on_class_escape outer l x n r p c boundary = within outer l x (took n r p backspace)
 on_class_escape outer l x n r p c no_boundary = None
+on_class_escape outer l x n r p c null = within outer l x (took n r p (class_coded null_code))
+on_class_escape outer l x n r p c letter = Some (with_coding outer l x n r p letter_awaited)
+on_class_escape outer l x n r p c hexadecimal = Some (with_coding outer l x n r p (digits_of byte_width two_more []))
+on_class_escape outer l x n r p c unicode = Some (with_coding outer l x n r p unit_opened)
 on_class_escape outer l x n r p c unknown = None
+
+abbrev pub on_class_coding : List Open → Level → Last → Bool → Ranges → Pending → Coded → Option State
+on_class_coding outer l x n r p fails = None
+on_class_coding outer l x n r p (goes k) = Some (with_coding outer l x n r p k)
+on_class_coding outer l x n r p (makes d) = within outer l x (took n r p (class_coded d))
 
 -- behind `[`
 abbrev pub on_class : List Open → Level → Last → ℕ → Bool → Option State
@@ -231,9 +258,11 @@ next_in outer l x escaping c = on_escape outer l x c (escape c)
 next_in outer l x opening c = on_group outer l x c (c == byte "?")
 next_in outer l x extending c = on_extension outer l x (c == byte ":")
 next_in outer l x (counting n) c = on_count outer l x n c
+next_in outer l x (coding k) c = on_coding outer l x (coding_next k c)
 next_in outer l x class_opened c = on_class outer l x c (c == byte "^")
 next_in outer l x (in_class k) c = on_class_token outer l x k.negated k.ranges k.pending c (class_token c)
 next_in outer l x (class_escaping k) c = on_class_escape outer l x k.negated k.ranges k.pending c (class_escape c)
+next_in outer l x (class_coding k d) c = on_class_coding outer l x k.negated k.ranges k.pending (coding_next d c)
 
 abbrev pub next : State → ℕ → Option State
 next s c = next_in s.outer s.level s.last s.mode c
@@ -254,6 +283,18 @@ initial = record { outer = []; level = new_level; last = none; mode = between }
 abbrev pub read : List ℕ → Option Disjunction
 read = read_from initial
 
+abbrev pub read_short : List ℕ → Option Disjunction
+read_short source = if nat_le (length source) max_length then read source else None
+
+-- the tree that is not too large
+abbrev pub tree_if : Bool → Disjunction → Option Disjunction
+tree_if false d = None
+tree_if true d = Some d
+
+abbrev pub small_tree : Option Disjunction → Option Disjunction
+small_tree None = None
+small_tree (Some d) = tree_if (nat_le (size (pattern d)) max_nodes) d
+
 -- the tree of a pattern, where the text is one
 abbrev pub read_pattern : List ℕ → Option Disjunction
-read_pattern source = if nat_le (length source) max_length then read source else None
+read_pattern source = if is_apart source then small_tree (read_short source) else None

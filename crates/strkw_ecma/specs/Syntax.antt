@@ -1,9 +1,10 @@
 -- The syntax, after `Pattern` of ECMA-262 2024, section 22.2.1, in Unicode mode: the part of it with alternatives, terms one
 -- after another, `^`, `$`, `\b`, `\B`, quantifiers, groups, classes, the dot, characters, and escapes of one
--- letter. A pattern is a tree of its rules, and a text is a pattern where some tree is spelled so.
+-- letter or by a number. A pattern is a tree of its rules, and a text is a pattern where some tree is spelled so.
 use Rattle.std.specs.Prelude.{ℕ, Bool, List, [], ◌∷◌, ◌++◌, codes, if◌then◌else◌, ◌==◌}
 use Rattle.std.specs.Str.{byte}
 use Rattle.strkw_text.specs.Characters.{is_one_of}
+use Rattle.strkw_ecma.specs.Codes.{Code, code_spelling}
 use Rattle.strkw_ecma.specs.Classes.{Ranges, ranges_spelling, negation_spelling, ending_spelling}
 
 -- what a character is in a pattern
@@ -63,6 +64,7 @@ mutual
     escaped : ℕ → Atom
     control_escape : ℕ → Atom
     set_escape : ℕ → Atom
+    coded : Code → Atom
     dot : Atom
     -- negated or not, and whether a `-` stands before the closing bracket
     bracketed : Bool → Ranges → Bool → Atom
@@ -107,6 +109,7 @@ abbrev mutual
   atom_spelling (escaped c) = byte "\\" ∷ c ∷ []
   atom_spelling (control_escape c) = byte "\\" ∷ c ∷ []
   atom_spelling (set_escape c) = byte "\\" ∷ c ∷ []
+  atom_spelling (coded k) = byte "\\" ∷ code_spelling k
   atom_spelling dot = byte "." ∷ []
   atom_spelling (bracketed n r e) = (negation_spelling n ++ ranges_spelling r) ++ ending_spelling e
   atom_spelling (group g d) = (group_spelling g ++ spelling d) ++ byte ")" ∷ []

@@ -5,6 +5,7 @@ use Rattle.strkw_ecma.specs.Tree.{Pattern, empty, class, look, cat, alt, star, p
 use Rattle.strkw_ecma.specs.Meaning.{is_word, is_edge}
 use Rattle.strkw_ecma.specs.Sets.{word_characters}
 use Rattle.strkw_ecma.specs.Marks.{leaves, step}
+use Rattle.strkw_ecma.specs.Search.{search_from}
 use Rattle.strkw_ecma.specs.Shape.{pattern_of}
 use Rattle.strkw_ecma.specs.declared.states.State.{State}
 
@@ -47,12 +48,20 @@ covers firsts (alt p q) = covers firsts p && covers firsts q
 covers firsts (star p) = covers firsts p
 covers firsts (plus p) = covers firsts p
 
+-- the state with this number has these marks, and stands behind a character like c
+abbrev pub IsBehind : List State → ℕ → Pattern → ℕ → Type 0
+IsBehind states entry p c =
+    (t : State) × (slice_get states entry ≡ Some t) × (pattern_of t.tree ≡ p) × (is_word t.last ≡ is_word (Some c)) × (is_edge t.last ≡ false)
+
 -- the entry is right for a state of the search and the next character
 pub record IsEntry (states : List State) (s : State) (c : ℕ) (entry : ℕ) : Type 0 where
   pub finds : (entry == found) ≡ leaves s.last (Some c) (pattern_of s.tree) true
   pub goes : leaves s.last (Some c) (pattern_of s.tree) true ≡ false
-      → (t : State) × (slice_get states entry ≡ Some t) × (pattern_of t.tree ≡ step s.last (Some c) (pattern_of s.tree) true)
-      × (is_word t.last ≡ is_word (Some c)) × (is_edge t.last ≡ false)
+      → IsBehind states entry (step s.last (Some c) (pattern_of s.tree) true) c
+
+-- the search by this table is that of the pattern
+abbrev pub Searches : List ℕ → List ℕ → Pattern → Type 0
+Searches firsts entries p = (text : List ℕ) → walk firsts entries 0 text ≡ search_from p None text
 
 -- the row is right for a state, and for the first character of each class
 pub record IsRow (firsts entries : List ℕ) (states : List State) (s : State) (row : ℕ) : Type 0 where

@@ -1,11 +1,11 @@
 //! Quantifiers: how often they repeat, and the trees that they make.
 
-ghost use Rattle.std.specs.Prelude.{◌≡◌, ◌+◌, ◌*◌, nat_le, IfOk};
+ghost use Rattle.std.specs.Prelude.{◌≡◌, ◌+◌, ◌*◌, nat_le, IfOk, option_map};
 ghost use Rattle.strkw_ecma.specs.Tree.{empty, cat, alt};
 ghost use Rattle.strkw_ecma.specs.Patterns.{quantified_pattern, copies, repeated as spec_repeated};
 ghost use Rattle.strkw_ecma.specs.Shape.{pattern_of};
 ghost use Rattle.strkw_ecma.specs.Size.{size as spec_size, capped as spec_capped, max_size};
-ghost use Rattle.strkw_ecma.specs.Parts.{quantifier_of, with_digit as spec_with_digit};
+ghost use Rattle.strkw_ecma.specs.Parts.{quantifier_of, with_digit as spec_with_digit, small_pattern};
 
 use crate::tree::Tree;
 use std::alloc::{AllocError, Global};
@@ -14,6 +14,9 @@ use std::alloc::{AllocError, Global};
 const MAX_COUNT: u32 = 1000;
 
 const MAX_SIZE: u32 = 2000;
+
+// The most nodes that a whole pattern has.
+const MAX_NODES: u32 = 20_000;
 
 // What has been read of a count: its first number, where it has digits yet, or both.
 #[derive(Clone, Copy)]
@@ -61,17 +64,17 @@ fn repeated(alloc: Global, body: &Tree, count: u32) -> Result<Tree, AllocError>
 fn capped(one: u32, other: u32) -> u32
     ensures { result ≡ spec_capped (one + other + 1) }
 {
-    if one >= MAX_SIZE || other >= MAX_SIZE {
-        return MAX_SIZE;
+    if one > MAX_NODES || other > MAX_NODES {
+        return MAX_NODES + 1;
     }
-    if one + other + 1 <= MAX_SIZE {
+    if one + other + 1 <= MAX_NODES {
         one + other + 1
     } else {
-        MAX_SIZE
+        MAX_NODES + 1
     }
 }
 
-// How many nodes it has, counted up to the most that may be.
+// How many nodes it has, counted up to one more than may be.
 #[cycle(size)]
 fn size(tree: &Tree) -> u32
     ensures { result ≡ spec_size (pattern_of tree.now) }
@@ -81,6 +84,22 @@ fn size(tree: &Tree) -> u32
         Tree::Or(one, other) => capped(size(one), size(other)),
         Tree::Star(body) | Tree::Plus(body) => capped(size(body), 0),
         _ => 1,
+    }
+}
+
+// The tree, where it has no more nodes than may be.
+pub(crate) fn if_small(tree: Option<Tree>) -> Option<Tree>
+    ensures { option_map pattern_of result ≡ small_pattern (option_map pattern_of tree) }
+{
+    match tree {
+        Some(tree) => {
+            if size(&tree) <= MAX_NODES {
+                Some(tree)
+            } else {
+                None
+            }
+        }
+        None => None,
     }
 }
 

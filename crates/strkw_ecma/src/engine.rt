@@ -1,8 +1,7 @@
 //! The engine, and what builds it.
 
-ghost use Rattle.std.specs.Prelude.{◌≡◌, ℕ, List, true, Some, None};
-ghost use Rattle.strkw_ecma.specs.Search.{search_from};
-ghost use Rattle.strkw_ecma.specs.Table.{walk};
+ghost use Rattle.std.specs.Prelude.{◌≡◌, true, Some};
+ghost use Rattle.strkw_ecma.specs.Table.{Searches};
 ghost use Rattle.strkw_ecma.specs.declared.table.Table.{Table};
 ghost use Rattle.strkw_ecma.specs.Marks.{is_clean};
 ghost use Rattle.strkw_ecma.specs.Shape.{pattern_of};
@@ -22,7 +21,7 @@ pub struct EcmaMatcher {
     tree: Tree,
     table: Option<Table>,
     ghost clean: { is_clean (pattern_of tree) ≡ true },
-    ghost exact: { (t : Table) → table ≡ Some t → (text : List ℕ) → walk t.firsts.items t.entries.items 0 text ≡ search_from (pattern_of tree) None text },
+    ghost exact: { (t : Table) → table ≡ Some t → Searches t.firsts.items t.entries.items (pattern_of tree) },
 }
 
 impl RegexEngine for EcmaMatcher {
@@ -48,10 +47,13 @@ impl RegexEngine for EcmaMatcher {
 /// - behind an atom `*`, `+`, `?`, `{n}`, `{n,}` or `{n,m}`, and a `?` behind that, which changes no answer;
 /// - `.`; a character that is none of `^ $ \ . * + ? ( ) [ ] { } |`; `\` before one of those or `/`; `\f \n \r \t \v`;
 ///   `\d \D \s \S \w \W`;
+/// - `\0` where no decimal digit follows; `\c` and a letter; `\x` and two digits of base 16; `\u` and four, or two of these for
+///   a leading and a trailing surrogate; `\u{ }` with digits up to 10FFFF, of no surrogate;
 /// - classes with `[ ]` and `[^ ]`, of characters, ranges and those escapes, with `\-`, and `\b` for the backspace.
 ///
 /// Any other text is not taken, nor is a pattern with groups more than 250 deep, with more than 2,000 characters, with a count
-/// above 1,000, or with a counted term of which more than 2,000 nodes would come: its copies, each with the nodes of its tree.
+/// above 1,000, with a counted term of which more than 2,000 nodes would come (its copies, each with the nodes of its tree), or
+/// of which more than 20,000 would come as a whole.
 ///
 /// A match is a search for the pattern in the text (section 22.2.7.2), with no flag but `u`: characters are Unicode scalar
 /// values; `^` and `$` stand for the two ends of the text, `.` for each character but U+000A, U+000D, U+2028 and U+2029,

@@ -1,11 +1,19 @@
 //! Laws of the definitions, as functions with empty bodies.
 
 ghost use Rattle.std.specs.Prelude.{ℕ, List};
-ghost use Rattle.strkw_ecma.specs.Laws.{IsExact};
+ghost use Rattle.strkw_ecma.specs.Laws.{AreComplements, IsExact};
+ghost use Rattle.strkw_ecma.specs.Sets.{digits, non_digits, white_space, non_white_space, word_characters, non_word_characters};
 
 /// What `takes` and `outcome` of `EcmaPatterns` come to, said by the grammar and the meaning: for every text, it is taken
 /// exactly where some tree of the grammar is spelled so, it has one tree at most, its outcome on each text is a match or no
 /// match, and it is a match exactly where the pattern of the tree is found there.
 pub fn patterns_are_exact()
     ensures { (source : List ℕ) → IsExact source }
+{}
+
+/// In a class `\D`, `\S` and `\W` are the characters outside `\d`, `\s` and `\w`.
+pub fn negative_sets_are_complements()
+    ensures digits { AreComplements digits non_digits }
+    ensures white_space { AreComplements white_space non_white_space }
+    ensures words { AreComplements word_characters non_word_characters }
 {}

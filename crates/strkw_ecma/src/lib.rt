@@ -4,9 +4,11 @@
 #![tactic(auto)]
 
 mod classes;
+mod codes;
 mod counts;
 mod engine;
 pub mod laws;
+mod lookahead;
 mod making;
 mod marks;
 mod reader;

@@ -1,9 +1,8 @@
 //! How the table of a pattern is made: from the state at the beginning of a text on, by each class of characters.
 
-ghost use Rattle.std.specs.Prelude.{◌≡◌, ◌<◌, ℕ, List, length, get_or, IfOk, MatchOption, None};
-ghost use Rattle.strkw_ecma.specs.Search.{search_from};
+ghost use Rattle.std.specs.Prelude.{◌≡◌, ◌<◌, ℕ, List, length, get_or, IfOk, MatchOption};
 ghost use Rattle.strkw_ecma.specs.Shape.{pattern_of};
-ghost use Rattle.strkw_ecma.specs.Table.{class_of as spec_class_of, stride, walk};
+ghost use Rattle.strkw_ecma.specs.Table.{class_of as spec_class_of, stride, Searches};
 
 use crate::marks::{leaves_tree, step_tree};
 use crate::sets::WORD_CHARACTERS;
@@ -157,7 +156,7 @@ fn table_if_right(
     states: &[State],
     tree: &Tree,
 ) -> Result<Option<Table>, AllocError>
-    ensures { IfOk result (λ made. MatchOption made Unit (λ t. (text : List ℕ) → walk t.firsts.items t.entries.items 0 text ≡ search_from (pattern_of tree.now) None text)) }
+    ensures { IfOk result (λ made. MatchOption made Unit (λ t. Searches t.firsts.items t.entries.items (pattern_of tree.now))) }
 {
     if !is_table(alloc, &firsts, &entries, states, tree)? {
         return Ok(None);
@@ -172,7 +171,7 @@ fn table_if_right(
 
 /// The table of a pattern, where it has few enough states and classes of characters.
 pub(crate) fn table_of(alloc: Global, tree: &Tree) -> Result<Option<Table>, AllocError>
-    ensures { IfOk result (λ made. MatchOption made Unit (λ t. (text : List ℕ) → walk t.firsts.items t.entries.items 0 text ≡ search_from (pattern_of tree.now) None text)) }
+    ensures { IfOk result (λ made. MatchOption made Unit (λ t. Searches t.firsts.items t.entries.items (pattern_of tree.now))) }
 {
     if nodes(tree) > MOST_NODES {
         return Ok(None);

@@ -7,13 +7,16 @@ ghost use Rattle.strkw_ecma.specs.Shape.{pattern_of};
 ghost use Rattle.strkw_ecma.specs.Syntax.{token as spec_token};
 ghost use Rattle.strkw_ecma.specs.Escapes.{escape as spec_escape};
 ghost use Rattle.strkw_ecma.specs.Classes.{class_token as spec_class_token, class_escape as spec_class_escape};
-ghost use Rattle.strkw_ecma.specs.Reading.{read_pattern};
+ghost use Rattle.strkw_ecma.specs.Reading.{read_pattern, read_short as spec_read_short};
 ghost use Rattle.strkw_ecma.specs.Parts.{parts_of, quantifier_of, last_of, class_of, mode_of, ended as spec_ended, joined as spec_joined, level_ended, side_of, after_atom, after_term, after_bar, opened_within, after_closing, after_quantifier, after_question, after_escape, after_token, after_group, after_extension, within, after_class_token, after_class_escape, after_bracket, after_in, after_char, with_mode, at_close, no_parts, is_between};
 
+mod coding;
 mod counting;
 
 use crate::classes::{ClassReader, Item};
-use crate::counts::{Count, Quantifier, then};
+use crate::codes::{Coding, Wanted, Width};
+use crate::counts::{Count, Quantifier, if_small, then};
+use crate::lookahead::is_apart;
 use crate::sets::{control_char, dot, one_char, set};
 use crate::tokens::{ClassToken, Escape, Token};
 use crate::tree::Tree;
@@ -39,7 +42,8 @@ struct Level {
     current: Tree,
 }
 
-// What has just been read: a whole atom or term; a backslash; `(`; `(?`; `[`; a part of a class, and there a backslash.
+// What has just been read: a whole atom or term; a backslash; `(`; `(?`; a part of a count, of an escape by a number; `[`; a
+// part of a class, and there a backslash, and a part of such an escape.
 #[derive(Drop)]
 enum Mode {
     Between,
@@ -47,9 +51,11 @@ enum Mode {
     Opening,
     Extending,
     Counting(Count),
+    Coding(Coding),
     ClassOpened,
     Class(ClassReader),
     ClassEscaping(ClassReader),
+    ClassCoding(ClassReader, Coding),
 }
 
 // What has been read: the groups that are open, the innermost last; the level within them; its last term; and what is under
@@ -277,6 +283,13 @@ impl Reader {
             Escape::Itself => one_char(alloc, c)?,
             Escape::Control => one_char(alloc, control_char(c))?,
             Escape::Set => set(alloc, c)?,
+            Escape::Null => one_char(alloc, '\0')?,
+            Escape::Letter => return Ok(Some(self.with_mode(Mode::Coding(Coding::Letter)))),
+            Escape::Hexadecimal => {
+                let coding = Coding::Digits(Width::Byte, Wanted::Two, 0);
+                return Ok(Some(self.with_mode(Mode::Coding(coding))));
+            }
+            Escape::Unicode => return Ok(Some(self.with_mode(Mode::Coding(Coding::UnitOpened)))),
             Escape::Unknown => return Ok(None),
         };
         Ok(Some(self.with_atom(alloc, atom)?))
@@ -386,6 +399,17 @@ impl Reader {
             Escape::Control => Item::Char(control_char(c)),
             Escape::Set => Item::Set(c),
             Escape::Boundary => Item::Char('\u{8}'),
+            Escape::Null => Item::Char('\0'),
+            Escape::Letter => {
+                return Ok(Some(self.with_mode(Mode::ClassCoding(class, Coding::Letter))));
+            }
+            Escape::Hexadecimal => {
+                let coding = Coding::Digits(Width::Byte, Wanted::Two, 0);
+                return Ok(Some(self.with_mode(Mode::ClassCoding(class, coding))));
+            }
+            Escape::Unicode => {
+                return Ok(Some(self.with_mode(Mode::ClassCoding(class, Coding::UnitOpened))));
+            }
             Escape::NoBoundary | Escape::Unknown => return Ok(None),
         };
         let class = class.with_item(item)?;
@@ -430,6 +454,8 @@ impl Reader {
             Mode::ClassOpened => so_far.in_bracket(alloc, c),
             Mode::Class(class) => so_far.class_plain(alloc, class, c),
             Mode::ClassEscaping(class) => so_far.class_escaped(class, c),
+            Mode::Coding(coding) => so_far.coded(alloc, coding.next(c)),
+            Mode::ClassCoding(class, coding) => so_far.class_coded(class, coding.next(c)),
         }
     }
 
@@ -454,8 +480,18 @@ impl Reader {
 }
 
 // The tree of a pattern, and `None` where the text is none.
+#[tactic(auto, using(crate::proofs::Parts::read_whole, crate::proofs::Parts::not_apart))]
 pub(crate) fn read(alloc: Global, source: &str) -> Result<Option<Tree>, AllocError>
     ensures { IfOk result (λ t. option_map pattern_of t ≡ option_map pattern (read_pattern (chars source.now))) }
+{
+    if !is_apart(source) {
+        return Ok(None);
+    }
+    Ok(if_small(read_short(alloc, source)?))
+}
+
+fn read_short(alloc: Global, source: &str) -> Result<Option<Tree>, AllocError>
+    ensures { IfOk result (λ t. option_map pattern_of t ≡ option_map pattern (spec_read_short (chars source.now))) }
 {
     let mut reader = Reader::new(alloc);
     let mut count = 0;

@@ -3,7 +3,7 @@
 ghost use Rattle.std.specs.Prelude.{◌≡◌, ◌==◌, ◌≤◌, ◌<◌, ℕ, suc, List, length, true, false, IsTrue, IfOk, None, Some, get_or, slice_get};
 ghost use Rattle.strkw_ecma.specs.Meaning.{is_word as spec_is_word, is_edge as spec_is_edge};
 ghost use Rattle.strkw_ecma.specs.Shape.{pattern_of};
-ghost use Rattle.strkw_ecma.specs.Table.{class_of as spec_class_of, entry_at as spec_entry_at, found, has, covers as spec_covers, covers_ranges as spec_covers_ranges, stride, IsEntry, IsRow, IsTable};
+ghost use Rattle.strkw_ecma.specs.Table.{class_of as spec_class_of, entry_at as spec_entry_at, found, has, covers as spec_covers, covers_ranges as spec_covers_ranges, stride, IsBehind, IsEntry, IsRow, IsTable};
 
 use crate::marks::{is_word, leaves_tree, step_tree};
 use crate::sets::WORD_CHARACTERS;
@@ -125,7 +125,7 @@ fn are_numbered(firsts: &[char]) -> bool
 // Whether an entry says that the pattern is found, or else names the state of these marks behind a character.
 fn leads_to(states: &[State], entry: u8, is_found: bool, after: &Tree, c: char) -> bool
     ensures finds { IsTrue result → (entry == found) ≡ is_found }
-    ensures state { IsTrue result → is_found ≡ false → (t : State) × (slice_get states.now entry ≡ Some t) × (pattern_of t.tree ≡ pattern_of after.now) × (spec_is_word t.last ≡ spec_is_word (Some c)) × (spec_is_edge t.last ≡ false) }
+    ensures state { IsTrue result → is_found ≡ false → IsBehind states.now entry (pattern_of after.now) c }
 {
     if is_found {
         return entry == FOUND;

@@ -2,7 +2,9 @@
 
 mod rows;
 
-use self::rows::{CLASSES_1, CLASSES_2, CLASSES_3, CLASSES_4, COUNTS_1, COUNTS_2};
+use self::rows::{
+    CLASSES_1, CLASSES_2, CLASSES_3, CLASSES_4, CODES_1, CODES_2, CODES_3, COUNTS_1, COUNTS_2,
+};
 use crate::EcmaPatterns;
 use std::alloc::{AllocError, Global};
 use std::test::Fail;
@@ -321,13 +323,44 @@ const NO_PATTERNS_3: [&str; 34] = [
     "a{b}",
 ];
 
+const NO_PATTERNS_4: [&str; 33] = [
+    "\\01",
+    "\\00",
+    "\\09",
+    "[\\01]",
+    "[\\0-\\01]",
+    "a\\01",
+    "\\c",
+    "\\c1",
+    "\\c\\",
+    "\\c\u{E9}",
+    "\\x4",
+    "\\x4g",
+    "\\xg4",
+    "\\u4",
+    "\\u004",
+    "\\u004g",
+    "\\u{",
+    "\\u{}",
+    "\\u{41",
+    "\\u{110000}",
+    "\\u{g}",
+    "\\u{4 1}",
+    "\\u{-1}",
+    "[\\c]",
+    "[\\x4]",
+    "[\\u{110000}]",
+    "[\\u{42}-\\u{41}]",
+    "[\\cB-\\cA]",
+    "[\\x41-\\x40]",
+    "\\1",
+    "[\\c1]",
+    "\\u{FFFFFFFFFF}",
+    "[\\u00]",
+];
+
 // Patterns of ECMA-262 that are not taken here.
-const NOT_TAKEN_1: [&str; 16] = [
-    "\\0",
-    "\\cA",
-    "\\x41",
-    "\\u0041",
-    "\\u{41}",
+const NOT_TAKEN_1: [&str; 20] = [
     "\\p{Lu}",
     "\\P{Lu}",
     "(?<n>a)",
@@ -336,9 +369,18 @@ const NOT_TAKEN_1: [&str; 16] = [
     "(?<=a)",
     "(?<!a)",
     "(a)\\1",
-    "[\\x41]",
     "a{1001}",
     "(?:a{50}){50}",
+    "\\uD83D",
+    "\\uDE00",
+    "\\uD83Da",
+    "\\uD83D\\u0041",
+    "\\uDE00\\uD83D",
+    "[\\uD83D]",
+    "[\\uD83D-\\uDE00]",
+    "\\u{D83D}",
+    "\\uD83D\\x41",
+    "\\uD83D\\u{DE00}",
 ];
 
 #[test]
@@ -359,6 +401,9 @@ fn patterns_are_found(rt: HostRuntime) -> Result<(), Fail> {
         &CLASSES_4[..],
         &COUNTS_1[..],
         &COUNTS_2[..],
+        &CODES_1[..],
+        &CODES_2[..],
+        &CODES_3[..],
     ] {
         for (pattern, text, want) in rows {
             assert_eq!(rt;
@@ -385,6 +430,7 @@ fn other_texts_are_not_taken(rt: HostRuntime) {
         &NO_PATTERNS_1[..],
         &NO_PATTERNS_2[..],
         &NO_PATTERNS_3[..],
+        &NO_PATTERNS_4[..],
         &NOT_TAKEN_1[..],
     ] {
         for pattern in rows {
@@ -428,6 +474,14 @@ fn limits_are_exact(rt: HostRuntime) -> Result<(), Fail> {
     );
     assert!(rt; is_refused(alloc, "é".repeat(alloc, 2001)?.as_str()));
     assert!(rt; is_refused(alloc, "(".repeat(alloc, 3000)?.as_str()));
+    let counted = "a{1000}".repeat(alloc, 9)?;
+    let largest = format!(in alloc; "{counted}b+{}", "b".repeat(alloc, 989)?)?;
+    assert_eq!(rt;
+        ask(alloc, &EcmaPatterns, largest.as_str(), ""),
+        Ok(Ok(false))
+    );
+    let too_large = format!(in alloc; "{counted}{}", "b".repeat(alloc, 991)?)?;
+    assert!(rt; is_refused(alloc, too_large.as_str()));
     Ok(())
 }
 
@@ -437,15 +491,15 @@ fn limits_are_exact(rt: HostRuntime) -> Result<(), Fail> {
 fn patterns_under_refusal(rt: HostRuntime) -> Result<(), Fail> {
     let alloc = rt.alloc();
     for (pattern, text, matched) in [
-        ("^(a|b)*\\.c$", "ab.c", true),
-        ("^((a+?)b|.)*$", "aab\n", false),
-        ("^\\S\\d?\\b\\t", "a1\t", true),
+        ("^(a|b)*\\x2Ec", "ab.c", true),
+        ("(a+?|.)*$", "ab", true),
+        ("\\S\\d?\\b", "a1", true),
         ("", "", true),
     ] {
         let engine = EcmaPatterns.build(alloc, pattern)?;
         assert_eq!(rt; engine.is_match(alloc, text)?, matched, "{pattern}");
     }
-    for pattern in ["(a+|b?", "a**", "\\w\\s{2"] {
+    for pattern in ["(a+|b?", "a**", "\\w[\\cA-\\cB\\s]{2"] {
         match EcmaPatterns.build(alloc, pattern) {
             Ok(_engine) => return Err(Fail::from(pattern)),
             Err(BuildRefusal::Memory) => return Err(Fail::from(BuildRefusal::Memory)),

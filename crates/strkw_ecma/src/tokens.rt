@@ -57,6 +57,10 @@ pub(crate) enum Escape {
     Set,
     Boundary,
     NoBoundary,
+    Null,
+    Letter,
+    Hexadecimal,
+    Unicode,
     Unknown,
 }
 
@@ -67,6 +71,10 @@ impl Escape {
         match c {
             'b' => Escape::Boundary,
             'B' => Escape::NoBoundary,
+            '0' => Escape::Null,
+            'c' => Escape::Letter,
+            'x' => Escape::Hexadecimal,
+            'u' => Escape::Unicode,
             '^'
             | '$'
             | '\\'

@@ -3,7 +3,7 @@ use Rattle.std.specs.Str.{chars}
 use Rattle.strkw_ecma.specs.Syntax.{max_length}
 use Rattle.strkw_ecma.specs.Parts.{parts_of}
 use Rattle.strkw_ecma.proofs.Parts.{IsOnWay}
-use Rattle.strkw_ecma.proofs.reader.read.Given as goal
+use Rattle.strkw_ecma.proofs.reader.read_short.Given as goal
 
 abbrev pub invariant-loop-c : goal.invariant-loop-c
 invariant-loop-c l = record {

@@ -5,7 +5,7 @@ use Rattle.std.proofs.lemmas.List.{length_push}
 use Rattle.std.proofs.lemmas.Iterator.Consumers.{YieldsList-turn, YieldsList-end}
 use Rattle.strkw_ecma.specs.Parts.{parts_of, after_char}
 use Rattle.strkw_ecma.proofs.Parts.{goes_on, stops, too_long, whole}
-use Rattle.strkw_ecma.proofs.reader.read.Goals as goal
+use Rattle.strkw_ecma.proofs.reader.read_short.Goals as goal
 
 pub returns-then-count-eq-MAX_LENGTH : goal.returns-then-count-eq-MAX_LENGTH
 returns-then-count-eq-MAX_LENGTH c =

@@ -1,0 +1,320 @@
+-- Escapes by a number: each is read from its spelling, and what is read is spelled so and gives a character.
+use Rattle.std.proofs.Common.{◌≡◌, ℕ, ◌+◌, ◌*◌, ◌≤◌, ◌==◌, Bool, true, false, List, [], ◌∷◌, ◌++◌, Option, None, length, refl, sym, ap, subst, ◌∙◌, true≢false, append_assoc, arith}
+use Rattle.std.proofs.lemmas.List.{append-nil, length_push}
+use Rattle.std.proofs.lemmas.Bool.{le-leb}
+use Rattle.std.proofs.lemmas.Bool.Decides.{nat_tests}
+use Rattle.std.specs.Char.{digit_value, is_ascii_alphabetic}
+use Rattle.std.specs.Str.{byte}
+use Rattle.strkw_ecma.specs.Codes.{Code, null_code, letter_code, byte_code, unit_code, pair_code, point_code, is_hex_digit, are_hex_digits, hex_number_from, hex_number, max_code_point, is_lead, is_trail, is_scalar, has_digits, code_spelling, code_value, AreDigits, AreCodeDigits, IsCode}
+use Rattle.strkw_ecma.specs.CodeReading.{Width, byte_width, unit_width, trail_width, Wanted, one_more, two_more, three_more, four_more, Coding, letter_awaited, unit_opened, digits_of, lead_read, lead_escaped, point_opened, Coded, fails, goes, makes, coded_if, made, with_lead, all_read, digit_read, is_next_digit, on_digit, on_unit, on_point, coding_next}
+use Rattle.strkw_ecma.specs.Syntax.{Disjunction}
+use Rattle.strkw_ecma.proofs.Steps.{and_true, and_left, and_right}
+use Rattle.strkw_ecma.proofs.Letters.{same_char}
+
+-- what has been read, behind the backslash
+abbrev width_spelling : Width → List ℕ → List ℕ
+width_spelling byte_width ds = byte "x" ∷ ds
+width_spelling unit_width ds = byte "u" ∷ ds
+width_spelling (trail_width ds) es = byte "u" ∷ (ds ++ byte "\\" ∷ byte "u" ∷ es)
+
+abbrev pub coding_spelling : Coding → List ℕ
+coding_spelling letter_awaited = byte "c" ∷ []
+coding_spelling unit_opened = byte "u" ∷ []
+coding_spelling (digits_of w n ds) = width_spelling w ds
+coding_spelling (lead_read ds) = byte "u" ∷ ds
+coding_spelling (lead_escaped ds) = byte "u" ∷ (ds ++ byte "\\" ∷ [])
+coding_spelling (point_opened ds) = byte "u" ∷ byte "{" ∷ ds
+
+abbrev pub IsCodedAs : Coded → List ℕ → Type 0
+IsCodedAs fails t = Unit {0}
+IsCodedAs (goes k) t = coding_spelling k ≡ t
+IsCodedAs (makes d) t = code_spelling d ≡ t
+
+if_as : (b : Bool) (k : Coded) (t : List ℕ) → (b ≡ true → IsCodedAs k t) → IsCodedAs (coded_if b k) t
+if_as false k t h = tt
+if_as true k t h = h refl
+
+made_as : (d : Code) (t : List ℕ) → code_spelling d ≡ t → IsCodedAs (made d) t
+made_as d t h = if_as (is_scalar (code_value d)) (makes d) t (λ _. h)
+
+lead_as : (ds : List ℕ) (b : Bool) (t : List ℕ) → byte "u" ∷ ds ≡ t → IsCodedAs (with_lead ds b) t
+lead_as ds false t h = made_as (unit_code ds) t h
+lead_as ds true t h = h
+
+all_read_as : (w : Width) (ds t : List ℕ) → width_spelling w ds ≡ t → IsCodedAs (all_read w ds) t
+all_read_as byte_width ds t h = made_as (byte_code ds) t h
+all_read_as unit_width ds t h = lead_as ds (is_lead (hex_number ds)) t h
+all_read_as (trail_width ds) es t h = if_as (is_trail (hex_number es)) (made (pair_code ds es)) t (λ _. made_as (pair_code ds es) t h)
+
+digit_read_as : (w : Width) (n : Wanted) (ds t : List ℕ) → width_spelling w ds ≡ t → IsCodedAs (digit_read w n ds) t
+digit_read_as w one_more ds t h = all_read_as w ds t h
+digit_read_as w two_more ds t h = h
+digit_read_as w three_more ds t h = h
+digit_read_as w four_more ds t h = h
+
+width_push : (w : Width) (ds : List ℕ) (c : ℕ) → width_spelling w (ds ++ c ∷ []) ≡ width_spelling w ds ++ c ∷ []
+width_push byte_width ds c = refl
+width_push unit_width ds c = refl
+width_push (trail_width ds) es c = ap (λ z. byte "u" ∷ z) (sym (append_assoc ds (byte "\\" ∷ byte "u" ∷ es) (c ∷ [])))
+
+on_digit_as : (w : Width) (n : Wanted) (ds : List ℕ) (c : ℕ) → IsCodedAs (on_digit w n ds c) (width_spelling w ds ++ c ∷ [])
+on_digit_as w n ds c =
+    if_as (is_next_digit ds c) (digit_read w n (ds ++ c ∷ [])) _ (λ _. digit_read_as w n (ds ++ c ∷ []) _ (width_push w ds c))
+
+unit_as : (c : ℕ) (b : Bool) → (c == byte "{") ≡ b → IsCodedAs (on_unit c b) (byte "u" ∷ c ∷ [])
+unit_as c false e = on_digit_as unit_width four_more [] c
+unit_as c true e = ap (λ z. byte "u" ∷ z ∷ []) (same_char c (byte "{") e)
+
+point_as : (ds : List ℕ) (c : ℕ) (b : Bool) → (c == byte "}") ≡ b → IsCodedAs (on_point ds c b) (byte "u" ∷ byte "{" ∷ (ds ++ c ∷ []))
+point_as ds c false e = if_as (is_next_digit ds c) (goes (point_opened (ds ++ c ∷ []))) _ (λ _. refl)
+point_as ds c true e =
+    if_as (has_digits ds) (made (point_code ds)) _
+    (λ _. made_as (point_code ds) _ (ap (λ z. byte "u" ∷ byte "{" ∷ (ds ++ z ∷ [])) (same_char c (byte "}") e)))
+
+pub coding_as : (k : Coding) (c : ℕ) → IsCodedAs (coding_next k c) (coding_spelling k ++ c ∷ [])
+coding_as letter_awaited c = if_as (is_ascii_alphabetic c) (made (letter_code c)) _ (λ _. made_as (letter_code c) _ refl)
+coding_as unit_opened c = unit_as c (c == byte "{") refl
+coding_as (digits_of w n ds) c = on_digit_as w n ds c
+coding_as (lead_read ds) c =
+    if_as (c == byte "\\") (goes (lead_escaped ds)) _ (λ e. ap (λ z. byte "u" ∷ (ds ++ z ∷ [])) (same_char c (byte "\\") e))
+coding_as (lead_escaped ds) c =
+    if_as (c == byte "u") (goes (digits_of (trail_width ds) four_more [])) _
+    (λ e. ap (λ z. byte "u" ∷ (ds ++ byte "\\" ∷ z ∷ [])) (same_char c (byte "u") e)
+    ∙ ap (λ z. byte "u" ∷ z) (sym (append_assoc ds (byte "\\" ∷ []) (c ∷ []))))
+coding_as (point_opened ds) c = point_as ds c (c == byte "}") refl
+
+-- what may have been read
+abbrev width_count : Width → ℕ
+width_count byte_width = 2
+width_count unit_width = 4
+width_count (trail_width ds) = 4
+
+abbrev wanted_count : Wanted → ℕ
+wanted_count one_more = 1
+wanted_count two_more = 2
+wanted_count three_more = 3
+wanted_count four_more = 4
+
+abbrev IsLead : List ℕ → Type 0
+IsLead ds = AreDigits 4 ds × (is_lead (hex_number ds) ≡ true)
+
+abbrev IsWidth : Width → Type 0
+IsWidth byte_width = Unit {0}
+IsWidth unit_width = Unit {0}
+IsWidth (trail_width ds) = IsLead ds
+
+abbrev pub IsCoding : Coding → Type 0
+IsCoding letter_awaited = Unit {0}
+IsCoding unit_opened = Unit {0}
+IsCoding (digits_of w n ds) = IsWidth w × (are_hex_digits ds ≡ true) × (length ds + wanted_count n ≡ width_count w)
+IsCoding (lead_read ds) = IsLead ds
+IsCoding (lead_escaped ds) = IsLead ds
+IsCoding (point_opened ds) = are_hex_digits ds ≡ true
+
+abbrev pub IsCoded : Coded → Type 0
+IsCoded fails = Unit {0}
+IsCoded (goes k) = IsCoding k
+IsCoded (makes d) = IsCode d
+
+if_formed : (b : Bool) (k : Coded) → (b ≡ true → IsCoded k) → IsCoded (coded_if b k)
+if_formed false k h = tt
+if_formed true k h = h refl
+
+made_formed : (d : Code) → AreCodeDigits d → IsCoded (made d)
+made_formed d h = if_formed (is_scalar (code_value d)) (makes d) (λ e. (h, e))
+
+lead_formed : (ds : List ℕ) (b : Bool) → is_lead (hex_number ds) ≡ b → AreDigits 4 ds → IsCoded (with_lead ds b)
+lead_formed ds false e h = made_formed (unit_code ds) h
+lead_formed ds true e h = (h, e)
+
+all_read_formed : (w : Width) (ds : List ℕ) → IsWidth w → AreDigits (width_count w) ds → IsCoded (all_read w ds)
+all_read_formed byte_width ds v h = made_formed (byte_code ds) h
+all_read_formed unit_width ds v h = lead_formed ds _ refl h
+all_read_formed (trail_width ds) es v h =
+    if_formed (is_trail (hex_number es)) (made (pair_code ds es)) (λ e. made_formed (pair_code ds es) (v, h, e))
+
+digit_read_formed : (w : Width) (n : Wanted) (ds : List ℕ) → IsWidth w → are_hex_digits ds ≡ true
+    → length ds + wanted_count n ≡ width_count w + 1 → IsCoded (digit_read w n ds)
+digit_read_formed w one_more ds v h e = all_read_formed w ds v (h, omega (arith, e))
+digit_read_formed w two_more ds v h e = (v, h, omega (arith, e))
+digit_read_formed w three_more ds v h e = (v, h, omega (arith, e))
+digit_read_formed w four_more ds v h e = (v, h, omega (arith, e))
+
+hex_push_digit : (ds : List ℕ) (c : ℕ) → are_hex_digits ds ≡ true → is_hex_digit c ≡ true → are_hex_digits (ds ++ c ∷ []) ≡ true
+hex_push_digit [] c h e = and_true _ _ e refl
+hex_push_digit (d ∷ ds) c h e = and_true _ _ (and_left (is_hex_digit d) _ h) (hex_push_digit ds c (and_right (is_hex_digit d) _ h) e)
+
+on_digit_formed : (w : Width) (n : Wanted) (ds : List ℕ) (c : ℕ) → IsWidth w → are_hex_digits ds ≡ true
+    → length ds + wanted_count n ≡ width_count w → IsCoded (on_digit w n ds c)
+on_digit_formed w n ds c v h e =
+    if_formed (is_next_digit ds c) (digit_read w n (ds ++ c ∷ []))
+    (λ t. digit_read_formed w n (ds ++ c ∷ []) v (hex_push_digit ds c h (and_left (is_hex_digit c) _ t)) (omega (arith, length_push ds c, e)))
+
+unit_formed : (c : ℕ) (b : Bool) → IsCoded (on_unit c b)
+unit_formed c false = on_digit_formed unit_width four_more [] c tt refl refl
+unit_formed c true = refl
+
+point_formed : (ds : List ℕ) (c : ℕ) (b : Bool) → are_hex_digits ds ≡ true → IsCoded (on_point ds c b)
+point_formed ds c false h =
+    if_formed (is_next_digit ds c) (goes (point_opened (ds ++ c ∷ []))) (λ t. hex_push_digit ds c h (and_left (is_hex_digit c) _ t))
+point_formed ds c true h = if_formed (has_digits ds) (made (point_code ds)) (λ t. made_formed (point_code ds) (h, t))
+
+pub coding_formed : (k : Coding) (c : ℕ) → IsCoding k → IsCoded (coding_next k c)
+coding_formed letter_awaited c h = if_formed (is_ascii_alphabetic c) (made (letter_code c)) (λ e. made_formed (letter_code c) e)
+coding_formed unit_opened c h = unit_formed c (c == byte "{")
+coding_formed (digits_of w n ds) c h = on_digit_formed w n ds c h.0 h.1 h.2
+coding_formed (lead_read ds) c h = if_formed (c == byte "\\") (goes (lead_escaped ds)) (λ e. h)
+coding_formed (lead_escaped ds) c h =
+    if_formed (c == byte "u") (goes (digits_of (trail_width ds) four_more [])) (λ e. (h, refl, refl))
+coding_formed (point_opened ds) c h = point_formed ds c (c == byte "}") h
+
+-- numbers
+hex_append : (v : ℕ) (ds es : List ℕ) → hex_number_from v (ds ++ es) ≡ hex_number_from (hex_number_from v ds) es
+hex_append v [] es = refl
+hex_append v (d ∷ ds) es = hex_append (v * 16 + digit_value d) ds es
+
+hex_grows : (v : ℕ) (ds : List ℕ) → v ≤ hex_number_from v ds
+hex_grows v [] = omega arith
+hex_grows v (d ∷ ds) =
+    let next : v * 16 + digit_value d ≤ hex_number_from v (d ∷ ds) = hex_grows (v * 16 + digit_value d) ds in
+    smaller v (digit_value d) _ next
+  where
+    smaller : (v d n : ℕ) → v * 16 + d ≤ n → v ≤ n
+    smaller v d n h = omega (arith, h)
+
+front_small : (ds es : List ℕ) → hex_number (ds ++ es) ≤ max_code_point → hex_number ds ≤ max_code_point
+front_small ds es h =
+    let whole : hex_number (ds ++ es) ≡ hex_number_from (hex_number ds) es = hex_append 0 ds es in
+    omega (arith, whole, hex_grows (hex_number ds) es, h)
+
+scalar_small : (n : ℕ) → is_scalar n ≡ true → n ≤ max_code_point
+scalar_small n h = grind (arith, nat_tests)
+
+lead_small : (n : ℕ) → is_lead n ≡ true → n ≤ max_code_point
+lead_small n h = grind (arith, nat_tests)
+
+trail_small : (n : ℕ) → is_trail n ≡ true → n ≤ max_code_point
+trail_small n h = grind (arith, nat_tests)
+
+no_lead : (n : ℕ) (b : Bool) → is_lead n ≡ b → is_scalar n ≡ true → b ≡ false
+no_lead n false e h = refl
+no_lead n true e h = grind (arith, nat_tests)
+
+hex_is_not : (c d : ℕ) (b : Bool) → (c == d) ≡ b → is_hex_digit c ≡ true → is_hex_digit d ≡ false → b ≡ false
+hex_is_not c d false e h w = refl
+hex_is_not c d true e h w = absurd (true≢false (sym h ∙ sym (ap is_hex_digit (same_char c d e)) ∙ w))
+
+-- the rest of a pattern that is read, behind a part of an escape and behind a whole one
+abbrev pub Behind : Type 0 → Type 0
+Behind A = A → List ℕ → Option Disjunction
+
+abbrev pub follow : Behind Coding → Behind Code → Behind Coded
+follow F G fails cs = None
+follow F G (goes k) cs = F k cs
+follow F G (makes d) cs = G d cs
+
+-- behind the letter of an escape
+abbrev pub code_tail : Code → List ℕ
+code_tail null_code = []
+code_tail (letter_code c) = c ∷ []
+code_tail (byte_code ds) = ds
+code_tail (unit_code ds) = ds
+code_tail (pair_code ds es) = ds ++ byte "\\" ∷ byte "u" ∷ es
+code_tail (point_code ds) = byte "{" ∷ (ds ++ byte "}" ∷ [])
+
+abbrev pub begun : Behind Coding → Behind Code → Behind Code
+begun F G null_code cs = G null_code cs
+begun F G (letter_code c) cs = F letter_awaited cs
+begun F G (byte_code ds) cs = F (digits_of byte_width two_more []) cs
+begun F G (unit_code ds) cs = F unit_opened cs
+begun F G (pair_code ds es) cs = F unit_opened cs
+begun F G (point_code ds) cs = F unit_opened cs
+
+no_digits : (n : Wanted) → 0 ≡ wanted_count n → ⊥
+no_digits one_more e = omega (arith, e)
+no_digits two_more e = omega (arith, e)
+no_digits three_more e = omega (arith, e)
+no_digits four_more e = omega (arith, e)
+
+module _ (F : Behind Coding) (G : Behind Code) (turn : (k : Coding) (c : ℕ) (cs : List ℕ) → F k (c ∷ cs) ≡ follow F G (coding_next k c) cs) where
+  made_follows : (d : Code) → is_scalar (code_value d) ≡ true → (cs : List ℕ) → follow F G (made d) cs ≡ G d cs
+  made_follows d h cs = ap (λ (b : Bool). follow F G (coded_if b (makes d)) cs) h
+
+  one_digit : (w : Width) (n : Wanted) (ds : List ℕ) (d : ℕ) (cs : List ℕ) → is_hex_digit d ≡ true → hex_number (ds ++ d ∷ []) ≤ max_code_point
+      → F (digits_of w n ds) (d ∷ cs) ≡ follow F G (digit_read w n (ds ++ d ∷ [])) cs
+  one_digit w n ds d cs h m =
+      turn (digits_of w n ds) d cs
+      ∙ ap (λ (b : Bool). follow F G (coded_if b (digit_read w n (ds ++ d ∷ []))) cs) (and_true _ _ h (le-leb (hex_number (ds ++ d ∷ [])) max_code_point m))
+
+  shifted : (ds : List ℕ) (d : ℕ) (es : List ℕ) → hex_number (ds ++ d ∷ es) ≤ max_code_point → hex_number ((ds ++ d ∷ []) ++ es) ≤ max_code_point
+  shifted ds d es m = subst (λ (z : List ℕ). hex_number z ≤ max_code_point) (sym (append_assoc ds (d ∷ []) es)) m
+
+  joins : (w : Width) (n : Wanted) (ds : List ℕ) (d : ℕ) (es cs : List ℕ) → is_hex_digit d ≡ true → hex_number (ds ++ d ∷ es) ≤ max_code_point
+      → follow F G (digit_read w n (ds ++ d ∷ [])) (es ++ cs) ≡ follow F G (all_read w ((ds ++ d ∷ []) ++ es)) cs
+      → F (digits_of w n ds) (d ∷ (es ++ cs)) ≡ follow F G (all_read w (ds ++ d ∷ es)) cs
+  joins w n ds d es cs h m rest =
+      one_digit w n ds d (es ++ cs) h (front_small (ds ++ d ∷ []) es (shifted ds d es m)) ∙ rest
+      ∙ ap (λ (z : List ℕ). follow F G (all_read w z) cs) (append_assoc ds (d ∷ []) es)
+
+  reads_digits : (w : Width) (n : Wanted) (ds es : List ℕ) → are_hex_digits es ≡ true → length es ≡ wanted_count n
+      → hex_number (ds ++ es) ≤ max_code_point → (cs : List ℕ) → F (digits_of w n ds) (es ++ cs) ≡ follow F G (all_read w (ds ++ es)) cs
+  reads_digits w n ds [] h e m cs = absurd (no_digits n e)
+  reads_digits w one_more ds (d ∷ []) h e m cs = one_digit w one_more ds d cs (and_left (is_hex_digit d) _ h) m
+  reads_digits w one_more ds (d ∷ f ∷ fs) h e m cs = absurd (omega (arith, e))
+  reads_digits w two_more ds (d ∷ es) h e m cs =
+      joins w two_more ds d es cs (and_left (is_hex_digit d) _ h) m
+      (reads_digits w one_more (ds ++ d ∷ []) es (and_right (is_hex_digit d) _ h) (omega (arith, e)) (shifted ds d es m) cs)
+  reads_digits w three_more ds (d ∷ es) h e m cs =
+      joins w three_more ds d es cs (and_left (is_hex_digit d) _ h) m
+      (reads_digits w two_more (ds ++ d ∷ []) es (and_right (is_hex_digit d) _ h) (omega (arith, e)) (shifted ds d es m) cs)
+  reads_digits w four_more ds (d ∷ es) h e m cs =
+      joins w four_more ds d es cs (and_left (is_hex_digit d) _ h) m
+      (reads_digits w three_more (ds ++ d ∷ []) es (and_right (is_hex_digit d) _ h) (omega (arith, e)) (shifted ds d es m) cs)
+
+  -- behind `\u` the first digit is no brace
+  opens : (ds : List ℕ) → AreDigits 4 ds → (cs : List ℕ) → F unit_opened (ds ++ cs) ≡ F (digits_of unit_width four_more []) (ds ++ cs)
+  opens [] h cs = absurd (no_digits four_more h.1)
+  opens (d ∷ ds) h cs =
+      turn unit_opened d (ds ++ cs)
+      ∙ ap (λ (b : Bool). follow F G (on_unit d b) (ds ++ cs)) (hex_is_not d (byte "{") (d == byte "{") refl (and_left (is_hex_digit d) _ h.0) refl)
+      ∙ sym (turn (digits_of unit_width four_more []) d (ds ++ cs))
+
+  reads_point : (ds es : List ℕ) → are_hex_digits es ≡ true → hex_number (ds ++ es) ≤ max_code_point → (cs : List ℕ)
+      → F (point_opened ds) (es ++ cs) ≡ F (point_opened (ds ++ es)) cs
+  reads_point ds [] h m cs = ap (λ (z : List ℕ). F (point_opened z) cs) (sym (append-nil ds))
+  reads_point ds (d ∷ es) h m cs =
+      let hex = and_left (is_hex_digit d) _ h in
+      let small = front_small (ds ++ d ∷ []) es (shifted ds d es m) in
+      turn (point_opened ds) d (es ++ cs)
+      ∙ ap (λ (b : Bool). follow F G (on_point ds d b) (es ++ cs)) (hex_is_not d (byte "}") (d == byte "}") refl hex refl)
+      ∙ ap (λ (b : Bool). follow F G (coded_if b (goes (point_opened (ds ++ d ∷ [])))) (es ++ cs))
+      (and_true _ _ hex (le-leb (hex_number (ds ++ d ∷ [])) max_code_point small))
+      ∙ reads_point (ds ++ d ∷ []) es (and_right (is_hex_digit d) _ h) (shifted ds d es m) cs
+      ∙ ap (λ (z : List ℕ). F (point_opened z) cs) (append_assoc ds (d ∷ []) es)
+
+  -- of four digits
+  reads_unit : (ds : List ℕ) → AreDigits 4 ds → hex_number ds ≤ max_code_point → (b : Bool) → is_lead (hex_number ds) ≡ b → (cs : List ℕ)
+      → F unit_opened (ds ++ cs) ≡ follow F G (with_lead ds b) cs
+  reads_unit ds h m b e cs =
+      opens ds h cs ∙ reads_digits unit_width four_more [] ds h.0 h.1 m cs ∙ ap (λ (b : Bool). follow F G (with_lead ds b) cs) e
+
+  pub reads_code : (d : Code) → IsCode d → (cs : List ℕ) → begun F G d (code_tail d ++ cs) ≡ G d cs
+  reads_code null_code h cs = refl
+  reads_code (letter_code c) h cs =
+      turn letter_awaited c cs ∙ ap (λ (b : Bool). follow F G (coded_if b (made (letter_code c))) cs) h.0 ∙ made_follows (letter_code c) h.1 cs
+  reads_code (byte_code ds) h cs =
+      reads_digits byte_width two_more [] ds h.0.0 h.0.1 (scalar_small (hex_number ds) h.1) cs ∙ made_follows (byte_code ds) h.1 cs
+  reads_code (unit_code ds) h cs =
+      reads_unit ds h.0 (scalar_small (hex_number ds) h.1) false (no_lead (hex_number ds) (is_lead (hex_number ds)) refl h.1) cs
+      ∙ made_follows (unit_code ds) h.1 cs
+  reads_code (pair_code ds es) h cs =
+      let rest = byte "\\" ∷ byte "u" ∷ (es ++ cs) in
+      ap (F unit_opened) (append_assoc ds (byte "\\" ∷ byte "u" ∷ es) cs)
+      ∙ reads_unit ds h.0.0.0 (lead_small (hex_number ds) h.0.0.1) true h.0.0.1 rest
+      ∙ turn (lead_read ds) (byte "\\") (byte "u" ∷ (es ++ cs)) ∙ turn (lead_escaped ds) (byte "u") (es ++ cs)
+      ∙ reads_digits (trail_width ds) four_more [] es h.0.1.0 h.0.1.1 (trail_small (hex_number es) h.0.2) cs
+      ∙ ap (λ (b : Bool). follow F G (coded_if b (made (pair_code ds es))) cs) h.0.2 ∙ made_follows (pair_code ds es) h.1 cs
+  reads_code (point_code ds) h cs =
+      turn unit_opened (byte "{") ((ds ++ byte "}" ∷ []) ++ cs) ∙ ap (F (point_opened [])) (append_assoc ds (byte "}" ∷ []) cs)
+      ∙ reads_point [] ds h.0.0 (scalar_small (hex_number ds) h.1) (byte "}" ∷ cs) ∙ turn (point_opened ds) (byte "}") cs
+      ∙ ap (λ (b : Bool). follow F G (coded_if b (made (point_code ds))) cs) h.0.1 ∙ made_follows (point_code ds) h.1 cs

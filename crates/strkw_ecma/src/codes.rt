@@ -1,0 +1,156 @@
+//! Escapes that give a character by a number, read character by character behind their letter.
+
+ghost use Rattle.std.specs.Prelude.{◌≡◌};
+ghost use Rattle.strkw_ecma.specs.CodeParts.{width_of, wanted_of, coding_of, coded_of, made as spec_made, pair_value as spec_pair_value, all_read as spec_all_read, digit_read as spec_digit_read, with_hex_digit as spec_with_hex_digit, digit_or_none, point_digit, value_or_zero, coding_next};
+
+const MAX_CODE_POINT: u32 = 0x10FFFF;
+
+// What a number of so many digits is: that of `\x`, of `\u`, or of `\u` behind a leading surrogate.
+#[derive(Clone, Copy)]
+pub(crate) enum Width {
+    Byte,
+    Unit,
+    Trail(u16),
+}
+
+// How many digits are still to come.
+#[derive(Clone, Copy)]
+pub(crate) enum Wanted {
+    One,
+    Two,
+    Three,
+    Four,
+}
+
+// What has been read: `\c`; `\u`; digits, as the number that they make; a leading surrogate; that and a backslash; `\u{` and
+// digits.
+#[derive(Clone, Copy)]
+pub(crate) enum Coding {
+    Letter,
+    UnitOpened,
+    Digits(Width, Wanted, u32),
+    Lead(u16),
+    LeadEscaped(u16),
+    PointOpened(Option<u32>),
+}
+
+// What comes of one more character.
+#[derive(Clone, Copy)]
+pub(crate) enum Coded {
+    Fails,
+    Goes(Coding),
+    Makes(char),
+}
+
+// The character with this number, where a text can have it.
+fn made(number: u32) -> Coded
+    ensures { coded_of result ≡ spec_made number }
+{
+    match char::from_u32(number) {
+        Some(c) => Coded::Makes(c),
+        None => Coded::Fails,
+    }
+}
+
+// Of a leading and a trailing surrogate.
+fn pair(lead: u16, trail: u16) -> u32
+    ensures { result ≡ spec_pair_value lead trail }
+{
+    u32::from(lead.saturating_sub(0xD800)) * 0x400
+        + u32::from(trail.saturating_sub(0xDC00))
+        + 0x10000
+}
+
+// The number with one more digit, where that is none above the greatest.
+fn with_hex_digit(number: u32, c: char) -> Option<u32>
+    ensures { result ≡ spec_with_hex_digit number c }
+{
+    let digit = c.to_digit(16)?;
+    if number > MAX_CODE_POINT {
+        return None;
+    }
+    let longer = number * 16 + digit;
+    if longer <= MAX_CODE_POINT {
+        Some(longer)
+    } else {
+        None
+    }
+}
+
+impl Width {
+    // Where no digit is still to come.
+    fn all_read(self, number: u32) -> Coded
+        ensures { coded_of result ≡ spec_all_read (width_of self) number }
+    {
+        match self {
+            Width::Byte => made(number),
+            Width::Unit => {
+                if 0xD800 <= number && number <= 0xDBFF {
+                    Coded::Goes(Coding::Lead(number as u16))
+                } else {
+                    made(number)
+                }
+            }
+            Width::Trail(lead) => {
+                if 0xDC00 <= number && number <= 0xDFFF {
+                    made(pair(lead, number as u16))
+                } else {
+                    Coded::Fails
+                }
+            }
+        }
+    }
+
+    // Behind one more digit.
+    fn digit_read(self, wanted: Wanted, number: u32) -> Coded
+        ensures { coded_of result ≡ spec_digit_read (width_of self) (wanted_of wanted) number }
+    {
+        match wanted {
+            Wanted::One => self.all_read(number),
+            Wanted::Two => Coded::Goes(Coding::Digits(self, Wanted::One, number)),
+            Wanted::Three => Coded::Goes(Coding::Digits(self, Wanted::Two, number)),
+            Wanted::Four => Coded::Goes(Coding::Digits(self, Wanted::Three, number)),
+        }
+    }
+
+    fn on_digit(self, wanted: Wanted, number: u32, c: char) -> Coded
+        ensures { coded_of result ≡ digit_or_none (width_of self) (wanted_of wanted) (spec_with_hex_digit number c) }
+    {
+        match with_hex_digit(number, c) {
+            Some(longer) => self.digit_read(wanted, longer),
+            None => Coded::Fails,
+        }
+    }
+}
+
+fn on_point_digit(number: Option<u32>, c: char) -> Coded
+    ensures { coded_of result ≡ point_digit (spec_with_hex_digit (value_or_zero number) c) }
+{
+    match with_hex_digit(number.unwrap_or(0), c) {
+        Some(longer) => Coded::Goes(Coding::PointOpened(Some(longer))),
+        None => Coded::Fails,
+    }
+}
+
+impl Coding {
+    // After one more character.
+    pub(crate) fn next(self, c: char) -> Coded
+        ensures { coded_of result ≡ coding_next (coding_of self) c }
+    {
+        match self {
+            Coding::Letter if c.is_ascii_alphabetic() => made(u32::from(c) % 32),
+            Coding::UnitOpened if c == '{' => Coded::Goes(Coding::PointOpened(None)),
+            Coding::UnitOpened => Width::Unit.on_digit(Wanted::Four, 0, c),
+            Coding::Digits(width, wanted, number) => width.on_digit(wanted, number, c),
+            Coding::Lead(lead) if c == '\\' => Coded::Goes(Coding::LeadEscaped(lead)),
+            Coding::LeadEscaped(lead) if c == 'u' => Coded::Goes(Coding::Digits(
+                Width::Trail(lead),
+                Wanted::Four,
+                0,
+            )),
+            Coding::PointOpened(number) if c != '}' => on_point_digit(number, c),
+            Coding::PointOpened(Some(number)) => made(number),
+            _ => Coded::Fails,
+        }
+    }
+}

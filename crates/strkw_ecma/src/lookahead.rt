@@ -1,0 +1,49 @@
+//! Whether behind no `\0` of a pattern a decimal digit stands.
+
+ghost use Rattle.std.specs.Prelude.{◌≡◌};
+ghost use Rattle.std.specs.Str.{chars};
+ghost use Rattle.strkw_ecma.specs.Lookahead.{after as spec_after, may_precede as spec_may_precede, is_apart as spec_is_apart};
+ghost use Rattle.strkw_ecma.specs.Parts.{front_of};
+
+// What stands before a character: a backslash that begins an escape, `\0`, or neither.
+#[derive(Clone, Copy)]
+enum Front {
+    Neither,
+    Backslash,
+    Null,
+}
+
+impl Front {
+    fn after(self, c: char) -> Front
+        ensures { front_of result ≡ spec_after (front_of self) c }
+    {
+        match self {
+            Front::Backslash if c == '0' => Front::Null,
+            Front::Backslash => Front::Neither,
+            _ if c == '\\' => Front::Backslash,
+            _ => Front::Neither,
+        }
+    }
+
+    fn may_precede(self, c: char) -> bool
+        ensures { result ≡ spec_may_precede (front_of self) c }
+    {
+        match self {
+            Front::Null => !matches!(c, '0'..='9'),
+            _ => true,
+        }
+    }
+}
+
+pub(crate) fn is_apart(source: &str) -> bool
+    ensures { result ≡ spec_is_apart (chars source.now) }
+{
+    let mut front = Front::Neither;
+    for c in source.chars() {
+        if !front.may_precede(c) {
+            return false;
+        }
+        front = front.after(c);
+    }
+    true
+}

@@ -1,0 +1,44 @@
+//! How an escape by a number is read, in a pattern and in a class.
+
+ghost use Rattle.std.specs.Prelude.{◌≡◌, IfOk, option_map};
+ghost use Rattle.strkw_ecma.specs.CodeParts.{coded_of};
+ghost use Rattle.strkw_ecma.specs.Parts.{parts_of, class_of, after_coding, after_class_coding};
+
+use super::{Mode, Reader};
+use crate::classes::{ClassReader, Item};
+use crate::codes::Coded;
+use crate::sets::one_char;
+use std::alloc::{AllocError, Global};
+
+impl Reader {
+    pub(super) fn coded(self, alloc: Global, coded: Coded) -> Result<Option<Reader>, AllocError>
+        ensures { IfOk result (λ r. option_map parts_of r ≡ after_coding (parts_of self) (coded_of coded)) }
+    {
+        match coded {
+            Coded::Fails => Ok(None),
+            Coded::Goes(coding) => Ok(Some(self.with_mode(Mode::Coding(coding)))),
+            Coded::Makes(c) => {
+                let atom = one_char(alloc, c)?;
+                Ok(Some(self.with_atom(alloc, atom)?))
+            }
+        }
+    }
+
+    pub(super) fn class_coded(
+        self,
+        class: ClassReader,
+        coded: Coded,
+    ) -> Result<Option<Reader>, AllocError>
+        ensures { IfOk result (λ r. option_map parts_of r
+            ≡ after_class_coding (parts_of self) (class_of class) (coded_of coded)) }
+    {
+        match coded {
+            Coded::Fails => Ok(None),
+            Coded::Goes(coding) => Ok(Some(self.with_mode(Mode::ClassCoding(class, coding)))),
+            Coded::Makes(c) => {
+                let class = class.with_item(Item::Char(c))?;
+                Ok(self.with_class(class))
+            }
+        }
+    }
+}
