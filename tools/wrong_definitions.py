@@ -1,18 +1,18 @@
 #!/usr/bin/env python3
-"""Shows that each stored wrong definition is noticed by the tests or by the check.
+"""Shows that each stored wrong definition is noticed by the rows or by the check.
 
     python3 tools/wrong_definitions.py [CRATE ..]      all crates that have a folder in tools/wrong_definitions, or those named
 
 A proof holds a program to its definitions, and nothing of it holds the definitions to their standards. So each file
 tools/wrong_definitions/CRATE/NAME.edit changes a definition, the code and the tables of proofs together, and every crate
-is to refuse that: by a test, whose expected values come from the standard, or else by the check, whose laws say the
-standard's own spelling.
+is to refuse that: by a row of crates/strkw_cases, whose expected values come from the standard, or else by the check,
+whose laws say the standard's own spelling.
 
 A file has lines 'file: PATH', the path within the crate, each with pairs of lines 'old: TEXT' and 'new: TEXT' behind it;
 each old text stands in that file exactly once, and \\n is the end of a line in both. The edits are applied to a scratch
 copy, one after the other. What checks of the crates have kept is copied with them; without it the first check of each
-crate takes minutes. Not part of the gate: some 15 seconds for what a test notices, a minute or more for what the check
-does.
+crate takes minutes. Not part of the gate: some 50 seconds for what a row notices, a minute or more beside that for
+what the check does.
 """
 import re
 import shutil
@@ -23,8 +23,9 @@ from pathlib import Path
 
 TOP = Path(__file__).resolve().parent.parent
 STORED = TOP / "tools" / "wrong_definitions"
-FAILED_TEST = re.compile(r"^test (\S+) \.\.\. FAILED$", re.MULTILINE)
-PASSED_TESTS = re.compile(r"^test result: ok\. [1-9]\d* passed", re.MULTILINE)
+CASES = "strkw_cases"
+WRONG_ROW = re.compile(r"^(.+): \d+ WRONG of \d+$", re.MULTILINE)
+COUNTS = re.compile(r"^\d+ rows, [1-9]\d* answers, (\d+) of them wrong$", re.MULTILINE)
 NOT_PROVED = re.compile(r"^fn (\S+): no proof: (?!it calls)|^(?:\./)?(proofs/\S+?):.*error", re.MULTILINE)
 NOT_READ = re.compile(r"^(?:\./)?(?:src|specs)/\S+: error.*$", re.MULTILINE)
 SECONDS_FOR_A_RUN = 1800
@@ -34,11 +35,11 @@ class Broken(Exception):
     """A stored edit that cannot be judged: its text is not there, or what it makes does not compile."""
 
 
-def lines_below(name):
-    """The lines of crates.txt of a crate and of those that it stands on, by their names."""
+def lines_below(*names):
+    """The lines of crates.txt of crates and of those that they stand on, by their names."""
     lines = [line.split("#")[0].strip() for line in (TOP / "crates.txt").read_text().splitlines()]
     by_name = {line.split(":")[0].split()[0]: line for line in lines if line}
-    found, open_names = {}, [name]
+    found, open_names = {}, [*names]
     while open_names:
         crate = open_names.pop()
         if crate in by_name and crate not in found:
@@ -48,8 +49,8 @@ def lines_below(name):
 
 
 def scratch_copy(folder, crate):
-    """A copy of what a crate needs, with what its checks have kept. Answers the crate's folder there."""
-    lines = lines_below(crate)
+    """A copy of what a crate and the rows need, with what checks have kept. Answers the crate's folder there."""
+    lines = lines_below(crate, CASES)
     shutil.copy2(TOP / "HANDLES", folder)
     (folder / "crates.txt").write_text("".join(f"{line}\n" for line in lines.values()))
     for name in lines:
@@ -96,20 +97,21 @@ def undo(before):
         file.write_text(text)
 
 
-def output_of(words, crate):
-    ran = subprocess.run(words, cwd=crate, stdin=subprocess.DEVNULL, stdout=subprocess.PIPE, stderr=subprocess.STDOUT,
+def output_of(words, crate, given=""):
+    ran = subprocess.run(words, cwd=crate, input=given, stdout=subprocess.PIPE, stderr=subprocess.STDOUT,
                          text=True, errors="replace", timeout=SECONDS_FOR_A_RUN)
     return ran.returncode, ran.stdout
 
 
 def noticed_by(crate):
     """What notices the wrong definition that stands in a crate, or None where nothing does."""
-    _, said = output_of(["rt", "try", "--test"], crate)
-    failed = FAILED_TEST.findall(said)
-    if failed:
-        return "the tests: " + ", ".join(name.removeprefix("tests::") for name in failed)
-    if not PASSED_TESTS.search(said):
-        raise Broken("its tests do not run: " + " ".join(said.split())[-300:])
+    cases = crate.parent / CASES
+    _, said = output_of(["rt", "try"], cases, (cases / "stdin").read_text())
+    counts = COUNTS.search(said)
+    if not counts:
+        raise Broken("the rows are not answered: " + " ".join(said.split())[-300:])
+    if counts[1] != "0":
+        return "the rows: " + ", ".join(sorted(set(WRONG_ROW.findall(said))))
     status, said = output_of(["rt", "check"], crate)
     if status == 0:
         return None

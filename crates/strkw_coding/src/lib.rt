@@ -12,8 +12,6 @@ mod media_type;
 mod radix16;
 mod radix32;
 mod radix64;
-#[cfg(test)]
-mod tests;
 
 pub use codec::{Codec, DecodeError};
 pub use encodings::{

@@ -8,8 +8,6 @@ mod host_name;
 mod label_rules;
 pub mod laws;
 mod punycode;
-#[cfg(test)]
-mod tests;
 
 pub use host_name::is_valid_hostname;
 pub use label_rules::validate_unicode_label;

@@ -6,8 +6,6 @@
 mod addresses;
 mod host_name;
 pub mod laws;
-#[cfg(test)]
-mod tests;
 mod uuid;
 
 pub use addresses::{is_valid_ipv4, is_valid_ipv6};

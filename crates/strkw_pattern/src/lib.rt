@@ -8,8 +8,6 @@ pub mod laws;
 mod literal;
 mod matcher;
 mod no_patterns;
-#[cfg(test)]
-mod tests;
 mod whitespace;
 
 pub use engine::{BuildRefusal, EngineBuilder, EngineFailure, Outcome, RegexEngine};

@@ -13,8 +13,6 @@ mod location;
 mod node;
 mod quoted;
 mod refusal;
-#[cfg(test)]
-mod tests;
 mod text_node;
 
 pub use draft::Draft;

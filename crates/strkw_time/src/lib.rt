@@ -9,8 +9,6 @@ mod digits;
 mod duration;
 pub mod laws;
 mod readers;
-#[cfg(test)]
-mod tests;
 mod time;
 
 pub use date::is_valid_date;

@@ -16,8 +16,6 @@ mod scan;
 mod scheme;
 mod tail;
 mod template;
-#[cfg(test)]
-mod tests;
 mod uri;
 
 pub use pointer::{is_valid_json_pointer, is_valid_relative_json_pointer};

@@ -1,10 +1,14 @@
-//! Each call that allocates, by name. With ample memory a row has to pass. `tools/refusals.py` runs it with each growth
-//! refused in turn too: then it ends with the error of the call that was refused, by that error's own name.
+//! The calls of encodings and of patterns that allocate, by name. With ample memory a row has to pass.
+//! `tools/refusals.py` runs it with each growth refused in turn too: then it ends with the error of the call that was
+//! refused, by that error's own name.
 
-use super::decode_by_name;
-use crate::*;
 use std::alloc::{AllocError, Global};
 use std::test::Fail;
+use strkw_coding::{
+    BuiltinMediaType, Codec, DecodeError, from_base16, from_base32, from_base32hex, from_base64,
+    from_base64url, is_base16, is_base32, is_base32hex, is_base64, is_base64url, is_json,
+};
+use strkw_pattern::{LiteralMatcher, PatternOptimization, RegexEngine, analyze_pattern};
 
 // What a text encodes.
 #[derive(Clone, Copy)]
@@ -55,6 +59,16 @@ fn check_by_name(codec: Codec, alloc: Global, text: &str) -> Result<bool, AllocE
     }
 }
 
+fn decode_by_name(codec: Codec, alloc: Global, text: &str) -> Result<Option<String>, DecodeError> {
+    match codec {
+        Codec::Base64 => from_base64(alloc, text),
+        Codec::Base64Url => from_base64url(alloc, text),
+        Codec::Base32 => from_base32(alloc, text),
+        Codec::Base32Hex => from_base32hex(alloc, text),
+        Codec::Base16 => from_base16(alloc, text),
+    }
+}
+
 #[test]
 fn checks_under_refusal(rt: HostRuntime) -> Result<(), Fail> {
     let alloc = rt.alloc();
@@ -96,6 +110,61 @@ fn decoders_under_refusal(rt: HostRuntime) -> Result<(), Fail> {
             "{text}"
         );
         assert!(rt; answers(codec.decode(alloc, text), encoded)?, "{text}");
+    }
+    Ok(())
+}
+
+// The matcher of a literal pattern, as a caller makes it.
+fn matcher_of(found: PatternOptimization) -> LiteralMatcher {
+    match found {
+        PatternOptimization::Prefix(literal) => LiteralMatcher::Prefix { literal },
+        PatternOptimization::Exact(exact) => LiteralMatcher::Exact { exact },
+        PatternOptimization::Alternation(alternatives) => LiteralMatcher::Alternation {
+            alternatives,
+        },
+        PatternOptimization::NoWhitespace => LiteralMatcher::NoWhitespace,
+    }
+}
+
+// A pattern, what it is analyzed as, a text that matches it if it is literal, and one that does not.
+const PATTERNS: [(&str, &str, &str, &str); 7] = [
+    (
+        "^(get|put|post)$",
+        r#"Some(Alternation(["get", "post", "put"]))"#,
+        "put",
+        "patch",
+    ),
+    (
+        "^(b|a|b)$",
+        r#"Some(Alternation(["a", "b", "b"]))"#,
+        "a",
+        "ab",
+    ),
+    ("^\\$ref$", r#"Some(Exact("$ref"))"#, "$ref", "$refs"),
+    (
+        "^a long prefix, longer than what a short text takes",
+        r#"Some(Prefix("a long prefix, longer than what a short text takes"))"#,
+        "a long prefix, longer than what a short text takes and more",
+        "a long prefix",
+    ),
+    ("^\\S*$", "Some(NoWhitespace)", "", " "),
+    ("^(a|b|c^)$", "None", "", ""),
+    ("^a+", "None", "", ""),
+];
+
+// Where the analysis had memory, its matcher answers: it takes none.
+#[test]
+fn analyze_pattern_under_refusal(rt: HostRuntime) -> Result<(), Fail> {
+    let alloc = rt.alloc();
+    for (pattern, want, matched, unmatched) in PATTERNS {
+        let found = analyze_pattern(alloc, pattern)?;
+        assert_eq!(rt; format!(in alloc; "{found:?}")?.as_str(), want, "{pattern}");
+        let Some(found) = found else {
+            continue;
+        };
+        let matcher = matcher_of(found);
+        assert_eq!(rt; matcher.is_match(alloc, matched), Ok(true), "{pattern}");
+        assert_eq!(rt; matcher.is_match(alloc, unmatched), Ok(false), "{pattern}");
     }
     Ok(())
 }

@@ -1,19 +1,14 @@
-use crate::{
-    CompileError, CompileErrorKind, Draft, ErrorKind, EvaluationResult, Location, Node, Site,
-    ValidationError, char_count, error_at, holds_fraction,
-};
+//! Errors, refusals and places: their texts, with each growth refused too. A refused call is asked again, once it has shown
+//! that what it was lent is as it was.
+
+use super::context::root_site;
 use serde_json::{Error, Value};
 use std::alloc::{AllocError, Global};
 use std::test::Fail;
-
-fn root_site(alloc: Global) -> Site {
-    Site {
-        evaluation: Location::root(alloc),
-        instance: Location::root(alloc),
-    }
-}
-
-// ---- texts
+use strkw_report::{
+    CompileError, CompileErrorKind, ErrorKind, EvaluationResult, Location, Site, ValidationError,
+    error_at,
+};
 
 // An error's kind, with a borrowed name.
 #[derive(Clone, Copy)]
@@ -245,8 +240,6 @@ fn texts_of_refusals_under_refusal(rt: HostRuntime) -> Result<(), Fail> {
     Ok(())
 }
 
-// ---- places
-
 // The segments of a place, and its pointer; the first ten are those of RFC 6901, section 5.
 const PLACES: [(&[&str], &str); 16] = [
     (&[], ""),
@@ -287,8 +280,6 @@ fn pointers_of_places_under_refusal(rt: HostRuntime) -> Result<(), Fail> {
     Ok(())
 }
 
-// ---- errors
-
 // An error of an item of an array, with an absolute prefix.
 fn error_of_an_item(alloc: Global) -> Result<ValidationError, AllocError> {
     let evaluation = Location::root(alloc).join("a/b")?;
@@ -309,7 +300,7 @@ fn error_of_an_item(alloc: Global) -> Result<ValidationError, AllocError> {
 }
 
 #[test]
-fn fields_of_an_error_under_refusal(rt: HostRuntime) -> Result<(), Fail> {
+fn fields_of_a_result_under_refusal(rt: HostRuntime) -> Result<(), Fail> {
     let error = error_of_an_item(rt.alloc())?;
     assert!(rt; matches!(error.kind, ErrorKind::MinLength { limit: 20 }));
     assert_eq!(rt; error.instance.as_str(), Some("secretvalue"));
@@ -318,111 +309,12 @@ fn fields_of_an_error_under_refusal(rt: HostRuntime) -> Result<(), Fail> {
     assert_eq!(rt; error.instance_path.as_str(), "/0");
     let absolute = error.absolute.as_ref().map(String::as_str);
     assert_eq!(rt; absolute, Some("https://example.com/s.json#/minLength"));
-    Ok(())
-}
-
-#[test]
-fn result_of_an_evaluation(rt: HostRuntime) -> Result<(), Fail> {
     let result = EvaluationResult {
         errors: Vec::new(rt.alloc()),
         annotation: Some(Value::try_from_str(rt.alloc(), "date")?),
     };
     assert!(rt; result.errors.is_empty());
-    assert_eq!(rt;
-        result.annotation.as_ref().and_then(Value::as_str),
-        Some("date")
-    );
-    Ok(())
-}
-
-// ---- nodes
-
-// A JSON text, and the text that it is with its number of characters, or none.
-const NODES: [(&str, Option<(&str, u64)>); 10] = [
-    ("\"abcd\"", Some(("abcd", 4))),
-    ("\"\"", Some(("", 0))),
-    ("\"héllo\"", Some(("héllo", 5))),
-    ("\"aé€𝄞\"", Some(("aé€𝄞", 4))),
-    ("\"\\ud834\\udd1e\"", Some(("𝄞", 1))),
-    ("5", None),
-    ("null", None),
-    ("true", None),
-    ("[\"a\"]", None),
-    ("{\"a\":\"a\"}", None),
-];
-
-fn text_and_length<N: Node>(node: &N) -> (Option<&str>, Option<u64>) {
-    (node.as_text(), node.text_length())
-}
-
-#[test]
-fn nodes_of_values(rt: HostRuntime) -> Result<(), Fail> {
-    for (json, want) in NODES {
-        let value = Value::from_str(rt.alloc(), json)?;
-        let (text, length) = text_and_length(&value);
-        assert_eq!(rt; text, want.map(|it| it.0), "{json}");
-        assert_eq!(rt; length, want.map(|it| it.1), "{json}");
-    }
-    assert_eq!(rt; char_count("héllo"), 5);
-    Ok(())
-}
-
-#[test]
-fn nodes_of_plain_texts(rt: HostRuntime) {
-    for (text, length) in [("", 0), ("abc", 3), ("héllo", 5), ("\u{10FFFF}\"", 2)] {
-        assert_eq!(rt;
-            text_and_length(&text),
-            (Some(text), Some(length)),
-            "{text:?}"
-        );
-    }
-}
-
-// A JSON text, and whether it holds a number that is kept neither as a `u64` nor as an `i64`.
-const FRACTIONS: [(&str, bool); 13] = [
-    ("1.5", true),
-    ("2.0", true),
-    ("2e0", true),
-    ("-0", true),
-    ("18446744073709551615", false),
-    ("18446744073709551616", true),
-    ("-9223372036854775808", false),
-    ("-9223372036854775809", true),
-    ("\"1.5\"", false),
-    ("{\"1.5\":[null,true,{}]}", false),
-    ("[1,[2,[3,[]]]]", false),
-    ("{\"a\":[1,{\"b\":1.5}]}", true),
-    ("[[[0.5],1],2]", true),
-];
-
-#[test]
-fn fractions(rt: HostRuntime) -> Result<(), Fail> {
-    for (json, want) in FRACTIONS {
-        let value = Value::from_str(rt.alloc(), json)?;
-        assert_eq!(rt; holds_fraction(&value), want, "{json}");
-    }
-    Ok(())
-}
-
-// ---- drafts
-
-const DRAFTS: [Draft; 5] = [
-    Draft::Draft4,
-    Draft::Draft6,
-    Draft::Draft7,
-    Draft::Draft201909,
-    Draft::Draft202012,
-];
-
-#[test]
-fn order_of_drafts(rt: HostRuntime) -> Result<(), Fail> {
-    for (i, a) in DRAFTS.iter().enumerate() {
-        for (j, b) in DRAFTS.iter().enumerate() {
-            assert_eq!(rt; *a == *b, i == j);
-            assert_eq!(rt; *a < *b, i < j);
-            assert!(rt; a.cmp(b) == i.cmp(&j));
-        }
-        assert!(rt; a.clone()? == *a);
-    }
+    let annotation = result.annotation.as_ref().and_then(Value::as_str);
+    assert_eq!(rt; annotation, Some("date"));
     Ok(())
 }

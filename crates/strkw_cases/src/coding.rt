@@ -1,0 +1,155 @@
+//! Encodings and the media type: checks and decoders, by name and by variant, and their names.
+
+use crate::row::{found_at, items, text, text_at};
+use crate::tally::Tally;
+use serde_json::Value;
+use std::alloc::{AllocError, Global};
+use strkw_coding::{
+    BuiltinMediaType, Codec, DecodeError, from_base16, from_base32, from_base32hex, from_base64,
+    from_base64url, is_base16, is_base32, is_base32hex, is_base64, is_base64url, is_json,
+};
+
+// An answer that two calls agree on.
+fn agreed(one: bool, other: bool) -> Option<bool> {
+    if one == other { Some(one) } else { None }
+}
+
+// What the check of an encoding says, by its name.
+fn check(alloc: Global, of: &str, text: &str) -> Result<bool, AllocError> {
+    match of {
+        "base64" => is_base64(alloc, text),
+        "base64url" => is_base64url(alloc, text),
+        "base32" => is_base32(alloc, text),
+        "base32hex" => is_base32hex(alloc, text),
+        _ => is_base16(alloc, text),
+    }
+}
+
+/// Whether a text is an encoding; `None` where the name is unknown, or the two checks disagree.
+pub fn is_encoded(alloc: Global, of: &str, text: &str) -> Result<Option<bool>, AllocError> {
+    let Some(codec) = Codec::by_name(of) else {
+        return Ok(None);
+    };
+    Ok(agreed(check(alloc, of, text)?, codec.is_encoded(alloc, text)?))
+}
+
+/// Whether a text is JSON; `None` where the two checks disagree.
+pub fn is_media(alloc: Global, text: &str) -> Result<Option<bool>, AllocError> {
+    Ok(agreed(
+        is_json(alloc, text)?,
+        BuiltinMediaType::Json.accepts(alloc, text)?,
+    ))
+}
+
+// What the decoder of an encoding answers, by its name.
+fn decode(alloc: Global, of: &str, text: &str) -> Result<Option<String>, DecodeError> {
+    match of {
+        "base64" => from_base64(alloc, text),
+        "base64url" => from_base64url(alloc, text),
+        "base32" => from_base32(alloc, text),
+        "base32hex" => from_base32hex(alloc, text),
+        _ => from_base16(alloc, text),
+    }
+}
+
+// The value of a digit, 16 for what is none.
+fn value(digit: u8) -> u8 {
+    match digit {
+        b'0'..=b'9' => digit - b'0',
+        b'a'..=b'f' => digit - b'a' + 10,
+        _ => 16,
+    }
+}
+
+// The bytes that are written in hexadecimal.
+fn bytes_of(alloc: Global, digits: &str) -> Result<Vec<u8>, AllocError> {
+    let mut bytes = Vec::new(alloc);
+    for pair in digits.as_bytes().chunks(2) {
+        if let [high, low] = pair {
+            bytes.push(value(*high).wrapping_mul(16).wrapping_add(value(*low)))?;
+        }
+    }
+    Ok(bytes)
+}
+
+// Whether this is what is decoded to these bytes, or to nothing where there are none.
+fn is_decoded(found: &Result<Option<String>, DecodeError>, bytes: Option<&[u8]>) -> bool {
+    match (found, bytes) {
+        (Ok(Some(text)), Some(bytes)) => text.as_bytes() == bytes,
+        (Err(DecodeError::NotUtf8), Some(bytes)) => str::from_utf8(bytes).is_err(),
+        (Ok(None), None) => true,
+        _ => false,
+    }
+}
+
+/// The encodings of a row: the checks and the decoders are asked.
+pub fn ask_decoded(alloc: Global, row: &Value, tally: &mut Tally) -> Result<(), AllocError> {
+    let of = text(row, "of");
+    let Some(codec) = Codec::by_name(of) else {
+        return Ok(());
+    };
+    for pair in items(row, "rows") {
+        let (text, digits) = (text_at(pair, 0), found_at(pair, 1));
+        let checked = is_encoded(alloc, of, text)? == Some(digits.is_some());
+        tally.count(alloc, checked, text, "checked otherwise")?;
+        let all = bytes_of(alloc, digits.unwrap_or(""))?;
+        let bytes = if digits.is_some() {
+            Some(all.as_slice())
+        } else {
+            None
+        };
+        let decoded = is_decoded(&decode(alloc, of, text), bytes);
+        tally.count(alloc, decoded, text, "decoded otherwise")?;
+        let decoded = is_decoded(&codec.decode(alloc, text), bytes);
+        tally.count(alloc, decoded, text, "decoded otherwise by its variant")?;
+    }
+    Ok(())
+}
+
+// The variant of a name, and the name of that variant.
+fn named(
+    alloc: Global,
+    of: &str,
+    name: &str,
+) -> Result<Option<(String, &'static str)>, AllocError> {
+    if of == "media types" {
+        return match BuiltinMediaType::by_name(name) {
+            Some(found) => Ok(Some((format!(in alloc; "{found:?}")?, found.as_str()))),
+            None => Ok(None),
+        };
+    }
+    match Codec::by_name(name) {
+        Some(found) => Ok(Some((format!(in alloc; "{found:?}")?, found.as_str()))),
+        None => Ok(None),
+    }
+}
+
+/// The names of a row.
+pub fn ask_names(alloc: Global, row: &Value, tally: &mut Tally) -> Result<(), AllocError> {
+    for pair in items(row, "rows") {
+        let (name, variant) = (text_at(pair, 0), found_at(pair, 1));
+        let is_expected = match (named(alloc, text(row, "of"), name)?, variant) {
+            (Some((found, its_name)), Some(variant)) => {
+                found.as_str() == variant && its_name == name
+            }
+            (None, None) => true,
+            _ => false,
+        };
+        tally.count(alloc, is_expected, name, "another variant")?;
+    }
+    Ok(())
+}
+
+/// The texts of the errors of decoders.
+pub fn ask_errors(alloc: Global, row: &Value, tally: &mut Tally) -> Result<(), AllocError> {
+    let texts = items(row, "texts");
+    for (error, text) in [DecodeError::NotUtf8, DecodeError::Memory]
+        .iter()
+        .zip(texts)
+    {
+        let shown = error.to_string(alloc)?;
+        let is_expected = text.as_str() == Some(shown.as_str());
+        tally.count(alloc, is_expected, &shown, "another text")?;
+    }
+    Ok(())
+}

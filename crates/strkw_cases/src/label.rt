@@ -1,0 +1,77 @@
+//! The rules of labels, and what payloads decode to.
+
+use crate::row::{items, number, text_at};
+use crate::tally::Tally;
+use serde_json::Value;
+use std::alloc::{AllocError, Global};
+use strkw_label::{decode_punycode, validate_unicode_label};
+
+/// Whether a text is admitted as a label.
+pub fn admits(alloc: Global, text: &str) -> Result<bool, AllocError> {
+    let mut label = Vec::new(alloc);
+    for character in text.chars() {
+        label.push(character)?;
+    }
+    Ok(validate_unicode_label(&label))
+}
+
+// Whether a character is in one of the ranges, each a text of its ends.
+fn lies_in(character: char, ranges: &[Value]) -> bool {
+    for range in ranges {
+        let ends = range.as_str().unwrap_or("");
+        if let (Some(low), Some(high)) = (ends.chars().next(), ends.chars().last()) {
+            if low <= character && character <= high {
+                return true;
+            }
+        }
+    }
+    false
+}
+
+/// Each character below a bound, at each place of the row.
+pub fn ask_characters(alloc: Global, row: &Value, tally: &mut Tally) -> Result<(), AllocError> {
+    for place in items(row, "places") {
+        let (before, after) = (text_at(place, 0), text_at(place, 1));
+        for point in 0..number(row, "below") {
+            let found = u32::try_from(point).ok().and_then(char::from_u32);
+            if let Some(character) = found {
+                let label = format!(in alloc; "{before}{character}{after}")?;
+                let (is_expected, answer) = if admits(alloc, &label)? {
+                    (lies_in(character, items(row, "possible")), "admitted")
+                } else {
+                    (!lies_in(character, items(row, "settled")), "refused")
+                };
+                tally.count(alloc, is_expected, &label, answer)?;
+            }
+        }
+    }
+    Ok(())
+}
+
+// Whether a payload, of which none here is longer than 96 bytes, encodes the text, or nothing where there is none.
+fn encodes(payload: &str, text: Option<&str>) -> bool {
+    if payload.len() > 96 {
+        return false;
+    }
+    match (decode_punycode::<96>(payload), text) {
+        (Some(decoded), Some(text)) => decoded.as_slice().iter().copied().eq(text.chars()),
+        (None, None) => true,
+        _ => false,
+    }
+}
+
+/// The payloads of a row.
+pub fn ask_payloads(alloc: Global, row: &Value, tally: &mut Tally) -> Result<(), AllocError> {
+    for row in items(row, "rows") {
+        let payloads = row.as_array().map_or(&[] as &[Value], Vec::as_slice);
+        let Some((last, payloads)) = payloads.split_last() else {
+            continue;
+        };
+        for payload in payloads {
+            let payload = payload.as_str().unwrap_or("");
+            let is_expected = encodes(payload, last.as_str());
+            tally.count(alloc, is_expected, payload, "another text")?;
+        }
+    }
+    Ok(())
+}

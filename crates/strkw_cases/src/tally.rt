@@ -1,0 +1,64 @@
+//! How many answers came, and which of them are wrong.
+
+use std::alloc::{AllocError, Global};
+
+// The most wrong answers of a row that are shown.
+const MOST: u64 = 5;
+
+/// What was asked so far.
+#[derive(Drop)]
+pub struct Tally {
+    pub asked: u64,
+    pub wrong: u64,
+    shown: String,
+}
+
+impl Tally {
+    /// Nothing was asked.
+    pub fn new(alloc: Global) -> Tally {
+        Tally {
+            asked: 0,
+            wrong: 0,
+            shown: String::new(alloc),
+        }
+    }
+
+    /// Counts an answer on a text, and shows a wrong one.
+    pub fn count(
+        &mut self,
+        alloc: Global,
+        is_expected: bool,
+        text: &str,
+        answer: &str,
+    ) -> Result<(), AllocError> {
+        self.asked = self.asked.wrapping_add(1);
+        if is_expected {
+            return Ok(());
+        }
+        self.wrong = self.wrong.wrapping_add(1);
+        if self.wrong > MOST {
+            return Ok(());
+        }
+        let line = format!(in alloc; "  WRONG: {text:?}: {answer}\n")?;
+        self.shown.push_str(&line)
+    }
+
+    /// Adds the counts of another.
+    pub fn add(&mut self, other: &Tally) {
+        self.asked = self.asked.wrapping_add(other.asked);
+        self.wrong = self.wrong.wrapping_add(other.wrong);
+    }
+
+    /// The lines of a row. One that asked nothing is wrong.
+    pub fn told(&mut self, alloc: Global, what: &str, of: &str) -> Result<String, AllocError> {
+        if self.asked == 0 {
+            self.count(alloc, false, of, "nothing is asked")?;
+        }
+        let (asked, wrong, shown) = (self.asked, self.wrong, &self.shown);
+        let space = if of.is_empty() { "" } else { " of " };
+        if wrong == 0 {
+            return format!(in alloc; "{what}{space}{of}: {asked} as expected\n");
+        }
+        format!(in alloc; "{what}{space}{of}: {wrong} WRONG of {asked}\n{shown}")
+    }
+}
