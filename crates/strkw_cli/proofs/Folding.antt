@@ -13,7 +13,7 @@ use Rattle.strkw_keywords.specs.Lengths.{IsEmpty, interval, OutsideIsAnError}
 use Rattle.strkw_keywords.specs.Folding.{FoldsToFalse, RefusesTexts, AcceptAlike, FoldedRefuseTexts}
 use Rattle.strkw_keywords.specs.declared.validator.Validator.{Validator}
 use Rattle.strkw_keywords.specs.Validators.{assertions_of, assertions_in}
-use Rattle.strkw_keywords.proofs.Lengths.{interval_append, ends_in_common, empty_by_numbers}
+use Rattle.strkw_keywords.proofs.Intervals.{interval_append, ends_in_common, empty_by_numbers}
 use Rattle.strkw_keywords.proofs.Entries.{entries_exist}
 use Rattle.strkw_cli.proofs.Many.{in_more}
 

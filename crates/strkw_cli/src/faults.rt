@@ -5,6 +5,8 @@ ghost use Rattle.strkw_cli.specs.declared.faults.RunFault.TheVariants.{Memory};
 ghost use Rattle.strkw_cli.specs.Faults.{fault_text};
 
 use std::alloc::AllocError;
+use std::error::Error;
+use std::fmt;
 
 /// Why a run ended before it had answered all of its input.
 #[derive(Clone, Copy, Debug, PartialEq, Eq)]
@@ -41,3 +43,16 @@ impl From<AllocError> for RunFault {
         Self::Memory
     }
 }
+
+/// What `RunFault::text` gives.
+impl fmt::Display for RunFault {
+    ghost use Rattle.std.specs.Prelude.{Some};
+
+    ghost output = { λ fault. Some (fault_text fault) };
+
+    fn fmt<W: fmt::Write>(&self, f: &mut fmt::Formatter<W>) -> fmt::Result {
+        f.write_str(self.text())
+    }
+}
+
+impl Error for RunFault {}

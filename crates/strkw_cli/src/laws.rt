@@ -1,6 +1,6 @@
 //! Laws of the definitions. Each is a fact that a caller gains by the call; the calls do nothing.
 
-ghost use Rattle.std.specs.Prelude.{◌≡◌, ◌↔◌, List, [], ℕ, Option, None, Some, true, false};
+ghost use Rattle.std.specs.Prelude.{◌≡◌, ◌↔◌, List, [], ℕ, Option, None, Some, false};
 ghost use Rattle.serde_json.specs.Data.{Members};
 ghost use Rattle.strkw_report.specs.Kinds.{Report};
 ghost use Rattle.strkw_report.specs.Refusals.{Refusal, prints_float};

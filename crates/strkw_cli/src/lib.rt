@@ -6,7 +6,6 @@
 mod answering;
 mod compile;
 mod devices;
-mod fault_text;
 mod faults;
 mod host_devices;
 pub mod laws;

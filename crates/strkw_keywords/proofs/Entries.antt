@@ -1,10 +1,10 @@
 -- A schema object has entries, and no others.
-use Rattle.std.proofs.Common.{◌≡◌, ◌⊎◌, ℕ, List, [], ◌∷◌, false, Option, Some, None, refl, sym, ap, ◌∙◌, subst, inl, inr, MatchOption}
+use Rattle.std.proofs.Common.{◌≡◌, ◌⊎◌, ℕ, List, [], ◌∷◌, Option, Some, None, refl, sym, ap, ◌∙◌, subst, inl, inr, MatchOption}
 use Rattle.std.proofs.Math.Path.{fun_ext}
 use Rattle.std.specs.List.{AllByRecursion}
 use Rattle.std.specs.Str.{chars}
 use Rattle.serde_json.specs.Data.{Data, Members}
-use Rattle.serde_json.specs.Find.{as_str, get_member}
+use Rattle.serde_json.specs.Find.{as_str}
 use Rattle.strkw_pattern.specs.declared.engine.Outcome.{Outcome}
 use Rattle.strkw_pattern.specs.declared.engine.Outcome.TheVariants as outcome
 use Rattle.strkw_pattern.specs.Literal.{Literal}
@@ -17,13 +17,8 @@ use Rattle.strkw_keywords.specs.declared.keyword.Keyword.{Keyword}
 use Rattle.strkw_keywords.specs.declared.keyword.Keyword.TheVariants.{ContentMediaType, ContentEncoding, ContentSchema, Format, MinLength, MaxLength, Pattern}
 use Rattle.strkw_report.specs.Refusals.{Refusal}
 use Rattle.strkw_keywords.specs.Remarks.{Remark}
-use Rattle.strkw_keywords.specs.Keywords.{keyword_name}
 use Rattle.strkw_keywords.specs.Demands.{compares}
-use Rattle.strkw_keywords.specs.Object.{Settings, Entry, nothing, malformed, gives, no_string, is_overridden, value_at, engine_entry, content_rule, media_type_entry, encoding_entry, schema_entry, format_entry, min_entry, max_entry, IsPatternEntry, IsPatternValue, IsEntryAt, Keyed, keywords, AreEntriesOf, AreEntries, FirstRefusal, refusal, Notes, remarked, remarks_on}
-
--- the value at a keyword that is not overridden
-pub kept_value : (s : Settings) (ms : Members) (k : Keyword) (d : Data) → get_member (keyword_name k) ms ≡ Some d → is_overridden s.options k ≡ false → value_at s.options k ms ≡ Some d
-kept_value s ms k d present kept = rw kept present
+use Rattle.strkw_keywords.specs.Object.{Settings, Entry, nothing, malformed, gives, no_string, value_at, engine_entry, content_rule, media_type_entry, encoding_entry, schema_entry, format_entry, min_entry, max_entry, IsPatternEntry, IsPatternValue, IsEntryAt, Keyed, keywords, AreEntriesOf, AreEntries, FirstRefusal, refusal, Notes, remarked, remarks_on}
 
 -- ---- there are some
 
@@ -39,7 +34,7 @@ text_entry_exists : (s : Settings) (d : Data) (o : Option (List ℕ)) → (e : E
 text_entry_exists s d None = (malformed Pattern (no_string d), refl)
 text_entry_exists s d (Some p) = pattern_entry_exists s p
 
-pattern_exists : (s : Settings) (o : Option Data) → (e : Entry) × MatchOption o (e ≡ nothing) (λ d. IsPatternValue s d e)
+pub pattern_exists : (s : Settings) (o : Option Data) → (e : Entry) × MatchOption o (e ≡ nothing) (λ d. IsPatternValue s d e)
 pattern_exists s None = (nothing, refl)
 pattern_exists s (Some d) = text_entry_exists s d (as_str d)
 

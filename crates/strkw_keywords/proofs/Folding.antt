@@ -20,7 +20,7 @@ use Rattle.strkw_keywords.specs.Object.{Settings, Entry, nothing, malformed, giv
 use Rattle.strkw_keywords.specs.Lengths.{any_length, common, window_at, interval, OutsideIsAnError}
 use Rattle.strkw_keywords.specs.Folding.{IsInInterval, IntervalIsLeft, FoldedRefuseTexts, OthersAcceptSomeText}
 use Rattle.strkw_keywords.proofs.Entries.{of_value}
-use Rattle.strkw_keywords.proofs.Lengths.{inside_any, inside_common, common_any, any_common, interval_append, empty_or_least, below_is_empty, inside_is_no_error, text_of_length}
+use Rattle.strkw_keywords.proofs.Intervals.{inside_any, inside_common, common_any, any_common, interval_append, empty_or_least, below_is_empty, inside_is_no_error, text_of_length}
 
 -- the lengths that an entry leaves; an object's place is no matter
 abbrev left_by : Place → Entry → Window

@@ -9,7 +9,7 @@ pub mod InUse
 pub mod FirstRow
 pub mod BuiltinNames
 pub mod Existence
-pub mod Lengths
+pub mod Intervals
 pub mod Folding
 pub mod First
 pub mod Entries

@@ -1,6 +1,6 @@
 -- What compile functions answer.
 use Rattle.std.specs.Prelude.{◌≡◌, ◌⊎◌, ℕ, List, [], ◌∷◌, Option, Some, None, Result, Ok, Err, if◌then◌else◌}
-use Rattle.serde_json.specs.Data.{Members}
+use Rattle.serde_json.specs.Data.{Data, Members}
 use Rattle.strkw_report.specs.Paths.{below}
 use Rattle.strkw_report.specs.Refusals.{memory, Refusal, reason_of, refusal_of}
 use Rattle.strkw_report.specs.declared.refusal.CompileError.{CompileError}
@@ -9,9 +9,9 @@ use Rattle.strkw_keywords.specs.declared.compile.Refused.{Refused}
 use Rattle.strkw_keywords.specs.declared.compile.Refused.TheVariants.{Malformed, Memory}
 use Rattle.strkw_keywords.specs.declared.validator.Validator.{Validator}
 use Rattle.strkw_keywords.specs.Keywords.{keyword_name}
-use Rattle.strkw_keywords.specs.declared.keyword.Keyword.TheVariants.{MinLength, MaxLength}
+use Rattle.strkw_keywords.specs.declared.keyword.Keyword.TheVariants.{MinLength, MaxLength, Pattern}
 use Rattle.strkw_keywords.specs.declared.options.Options.{Options}
-use Rattle.strkw_keywords.specs.Object.{Settings, Entry, Keyed, AreEntriesOf, share, is_fused, least_entry, greatest_entry, refusal, asserted, remarked}
+use Rattle.strkw_keywords.specs.Object.{Settings, Entry, Keyed, AreEntriesOf, share, is_fused, least_entry, greatest_entry, IsPatternValue, refusal, asserted, remarked}
 use Rattle.strkw_keywords.specs.declared.keyword.Keyword.{Keyword}
 use Rattle.strkw_keywords.specs.Places.{Place}
 use Rattle.strkw_keywords.specs.Validators.{place_of, assertions_of, remark_made, listed_remark}
@@ -59,6 +59,12 @@ IsBuiltCase outcome place es (Err r) = (r ≡ Memory) ⊎ (refusal place es ≡ 
 
 pub record IsBuilt {E : Type 0} (outcome : E → List ℕ → Outcome) (place : Place) (es : List Keyed) (result : Result (Option (Validator E)) Refused) : Type 0 where
   pub answer : IsBuiltCase outcome place es result
+
+-- the same of a pattern, whose value tells which entry it is
+pub record IsPatternBuilt {E : Type 0} (outcome : E → List ℕ → Outcome) (s : Settings) (d : Data) (result : Result (Option (Validator E)) Refused) : Type 0 where
+  pub entry : Entry
+  pub is_entry : IsPatternValue s d entry
+  pub answer : IsBuilt outcome s.place (alone Pattern entry) result
 
 -- the same of a keyword, for the entries for which its validator is to stand
 pub record IsBuiltAt {E : Type 0} (outcome : E → List ℕ → Outcome) (s : Settings) (ms : Members) (k : Keyword) (result : Result (Option (Validator E)) Refused) : Type 0 where

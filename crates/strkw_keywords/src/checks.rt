@@ -1,6 +1,6 @@
 //! The caller's own checks: the traits that they implement, their rows, and the first row of a name.
 
-ghost use Rattle.std.specs.Prelude.{◌≡◌, ◌↔◌, List, ℕ, Bool, Some, None, IfOk, IfErr, MatchOption, IsTrue, string_bytes};
+ghost use Rattle.std.specs.Prelude.{◌≡◌, ◌↔◌, List, ℕ, Bool, IfOk, IfErr, MatchOption, IsTrue, string_bytes};
 ghost use Rattle.std.specs.List.{position_from};
 ghost use Rattle.std.specs.Str.{chars, bytes_eq};
 ghost use Rattle.strkw_keywords.specs.Meanings.{no_encoding, no_text, decoded, row_names, codec_names, first_named};

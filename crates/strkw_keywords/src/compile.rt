@@ -7,12 +7,12 @@ ghost use Rattle.strkw_report.specs.Paths.{below};
 ghost use Rattle.strkw_report.specs.Refusals.{refusal_of};
 ghost use Rattle.strkw_keywords.specs.Keywords.{keyword_name};
 ghost use Rattle.strkw_keywords.specs.Places.{Place};
-ghost use Rattle.strkw_keywords.specs.Object.{Keyed, no_string};
+ghost use Rattle.strkw_keywords.specs.Object.{Keyed, no_string, value_at};
 ghost use Rattle.strkw_keywords.specs.Settings.{place_in};
 ghost use Rattle.strkw_keywords.specs.Compiled.{out_of_memory, refused_at, IsBuilt, IsCompiled};
 
 use crate::keyword::Keyword;
-use crate::options::Context;
+use crate::options::{Context, Options};
 use crate::origin::Origin;
 use crate::validator::Validator;
 use serde_json::{Map, Value};
@@ -47,6 +47,20 @@ pub fn member<'v>(map: &'v Map<String, Value>, name: &str) -> Option<&'v Value>
     ensures { option_map (λ x. view x.now) result ≡ get_member name.now (members_view map.now.entries) }
 {
     map.get(name)
+}
+
+// The value at a keyword, unless the keyword is left out.
+pub(crate) fn value_at<'v>(
+    options: &Options,
+    object: &'v Map<String, Value>,
+    keyword: Keyword,
+) -> Option<&'v Value>
+    ensures { option_map (λ v. view v.now) result ≡ value_at options.now keyword (members_view object.now.entries) }
+{
+    if options.is_overridden(keyword) {
+        return None;
+    }
+    member(object, keyword.as_str())
 }
 
 // The refusal of a value that is no string.

@@ -2,7 +2,6 @@
 ghost use Rattle.std.specs.Prelude.{◌≡◌, ◌↔◌, IfOk, IsTrue};
 ghost use Rattle.std.specs.Str.{chars};
 ghost use Rattle.strkw_keywords.specs.Lists.{lists_of};
-ghost use Rattle.strkw_keywords.specs.Meanings.{row_names, codec_names};
 ghost use Rattle.strkw_keywords.specs.Choices.{choice_of, chosen_media_type_name, chosen_codec_name};
 ghost use Rattle.strkw_keywords.specs.Demands.{IsOfMediaType, IsEncoded, Decodes, CodecDecodes, RowDecodes};
 ghost use Rattle.strkw_keywords.specs.Decodings.{decoded_of};
@@ -18,9 +17,15 @@ pub use annotations::{
     ContentEncodingAnnotationValidator, ContentMediaTypeAnnotationValidator,
     ContentSchemaAnnotationValidator,
 };
+// `.._annotation` are the same calls, by names that tell what they make from draft 2019-09 on.
 pub use build::{
-    compile_content_encoding, compile_content_encoding_annotation,
-    compile_content_schema_annotation, compile_media_type, compile_media_type_annotation,
+    compile_content_encoding, compile_content_encoding as compile_content_encoding_annotation,
+    compile_content_schema_annotation, compile_media_type,
+    compile_media_type as compile_media_type_annotation,
+};
+pub(crate) use build::{
+    build_encoding, build_encoding_annotation, build_media_type, build_media_type_annotation,
+    build_schema_annotation,
 };
 pub use checks::{
     ContentEncodingValidator, ContentMediaTypeAndEncodingValidator, ContentMediaTypeValidator,

@@ -1,20 +1,24 @@
 //! One entry of a schema object.
 
-ghost use Rattle.std.specs.Prelude.{◌≡◌, Some, false, IfSome, option_map};
+ghost use Rattle.std.specs.Prelude.{◌≡◌, Some};
 ghost use Rattle.serde_json.specs.View.{view, members_view};
-ghost use Rattle.serde_json.specs.Find.{get_member};
-ghost use Rattle.strkw_keywords.specs.Keywords.{keyword_name};
 ghost use Rattle.strkw_keywords.specs.Settings.{settings_of};
 ghost use Rattle.strkw_keywords.specs.Rules.{rule_of};
-ghost use Rattle.strkw_keywords.specs.Object.{is_overridden, value_at, content_rule};
-ghost use Rattle.strkw_keywords.specs.Compiled.{IsCompiledAt};
+ghost use Rattle.strkw_keywords.specs.Object.{value_at, content_rule};
+ghost use Rattle.strkw_keywords.specs.Compiled.{IsBuiltAt, IsCompiledAt};
 
 use crate::checks::{ContentCodec, Format, MediaTypeCheck};
-use crate::compile::member;
+use crate::compile::{Refused, located, value_at};
+use crate::content::{
+    build_encoding, build_encoding_annotation, build_media_type, build_media_type_annotation,
+    build_schema_annotation,
+};
+use crate::format::build_format;
 use crate::keyword::Keyword;
-use crate::options::{Context, Options};
+use crate::lengths::{build_max, build_min};
+use crate::options::Context;
+use crate::pattern::build_pattern;
 use crate::validator::Validator;
-use crate::{content, format, max_length, min_length, pattern};
 use serde_json::{Map, Value};
 use std::alloc::Global;
 use strkw_pattern::EngineBuilder;
@@ -35,30 +39,60 @@ pub fn compile_entry<B: EngineBuilder>(
         (members_view object.now.entries) keyword result }
 {
     let value = value_at(&ctx.options, object, keyword)?;
+    compile_value(alloc, ctx, object, value, keyword)
+}
+
+// The same, given the value.
+pub(crate) fn compile_value<B: EngineBuilder>(
+    alloc: Global,
+    ctx: &Context<'_, B>,
+    object: &Map<String, Value>,
+    value: &Value,
+    keyword: Keyword,
+) -> Option<Result<Validator<B::Engine>, CompileError>>
+    requires { value_at ctx.now.options keyword (members_view object.now.entries) ≡ Some (view value.now) }
+    ensures { IsCompiledAt B.Engine.outcome (settings_of B.takes B.outcome admits accepted encoded decoding ctx.now)
+        (members_view object.now.entries) keyword result }
+{
+    located(
+        alloc,
+        &ctx.location,
+        build(alloc, ctx, object, value, keyword),
+    )
+}
+
+// The same, before a refusal has its place.
+fn build<B: EngineBuilder>(
+    alloc: Global,
+    ctx: &Context<'_, B>,
+    object: &Map<String, Value>,
+    value: &Value,
+    keyword: Keyword,
+) -> Result<Option<Validator<B::Engine>>, Refused>
+    requires { value_at ctx.now.options keyword (members_view object.now.entries) ≡ Some (view value.now) }
+    ensures { IsBuiltAt B.Engine.outcome (settings_of B.takes B.outcome admits accepted encoded decoding ctx.now)
+        (members_view object.now.entries) keyword result }
+{
     match keyword {
         Keyword::ContentMediaType => match content_rule(ctx.draft) {
-            ContentRule::Ignored => None,
-            ContentRule::Checked => content::compile_media_type(alloc, ctx, object, value),
-            ContentRule::Noted => content::compile_media_type_annotation(alloc, ctx, object, value),
+            ContentRule::Ignored => Ok(None),
+            ContentRule::Checked => build_media_type(alloc, ctx, object, value),
+            ContentRule::Noted => build_media_type_annotation(alloc, ctx, value),
         },
         Keyword::ContentEncoding => match content_rule(ctx.draft) {
-            ContentRule::Ignored => None,
-            ContentRule::Checked => content::compile_content_encoding(alloc, ctx, object, value),
-            ContentRule::Noted => {
-                content::compile_content_encoding_annotation(alloc, ctx, object, value)
-            }
+            ContentRule::Ignored => Ok(None),
+            ContentRule::Checked => build_encoding(alloc, ctx, object, value),
+            ContentRule::Noted => build_encoding_annotation(alloc, ctx, value),
         },
         Keyword::ContentSchema => match content_rule(ctx.draft) {
-            ContentRule::Ignored => None,
-            ContentRule::Checked => None,
-            ContentRule::Noted => {
-                content::compile_content_schema_annotation(alloc, ctx, object, value)
-            }
+            ContentRule::Ignored => Ok(None),
+            ContentRule::Checked => Ok(None),
+            ContentRule::Noted => build_schema_annotation(ctx, object, value),
         },
-        Keyword::Format => format::compile(alloc, ctx, object, value),
-        Keyword::MinLength => min_length::compile(alloc, ctx, object, value),
-        Keyword::MaxLength => max_length::compile(alloc, ctx, object, value),
-        Keyword::Pattern => pattern::compile(alloc, ctx, object, value),
+        Keyword::Format => build_format(alloc, ctx, value),
+        Keyword::MinLength => build_min(ctx, object, value),
+        Keyword::MaxLength => build_max(ctx, object, value),
+        Keyword::Pattern => build_pattern(alloc, ctx, value),
     }
 }
 
@@ -79,20 +113,4 @@ fn content_rule(draft: Draft) -> ContentRule
         Draft::Draft6 | Draft::Draft7 => ContentRule::Checked,
         Draft::Draft201909 | Draft::Draft202012 => ContentRule::Noted,
     }
-}
-
-// The value at a keyword, unless the keyword is left out.
-fn value_at<'v>(
-    options: &Options,
-    object: &'v Map<String, Value>,
-    keyword: Keyword,
-) -> Option<&'v Value>
-    ensures exact { option_map (λ v. view v.now) result ≡ value_at options.now keyword (members_view object.now.entries) }
-    ensures present { IfSome result (λ v. get_member (keyword_name keyword) (members_view object.now.entries) ≡ Some (view v.now)) }
-    ensures kept { IfSome result (λ _. is_overridden options.now keyword ≡ false) }
-{
-    if options.is_overridden(keyword) {
-        return None;
-    }
-    member(object, keyword.as_str())
 }

@@ -1,6 +1,6 @@
 //! The validators of `format`.
 
-ghost use Rattle.std.specs.Prelude.{◌≡◌, [], ◌∷◌, Some, None, IfOk, option_map, string_bytes};
+ghost use Rattle.std.specs.Prelude.{◌≡◌, [], ◌∷◌, Some, IfOk, option_map, string_bytes};
 ghost use Rattle.serde_json.specs.Data.{string};
 ghost use Rattle.strkw_keywords.specs.Lists.{lists_of};
 ghost use Rattle.strkw_keywords.specs.Meanings.{no_lists, builtin, row};
@@ -20,6 +20,7 @@ use crate::keyword::Keyword;
 use crate::origin::Origin;
 use crate::parts::{Noted, Parts, RowRef};
 use crate::validate::{Uses, Validate};
+pub(crate) use build::build_format;
 pub use build::compile;
 use std::alloc::Global;
 use strkw_report::Node;
@@ -43,7 +44,7 @@ impl FormatValidator {
     }
 
     // The lengths that it leaves to a text.
-    #[tactic(auto, using(crate::proofs::Lengths::bounds_unwrapped))]
+    #[tactic(auto, using(crate::proofs::Intervals::bounds_unwrapped))]
     pub(crate) fn interval(&self) -> (u64, u64)
         ensures { result ≡ bounds (window_left (is_format (builtin self.now.format))) }
     {
@@ -103,15 +104,13 @@ impl Uses for CustomFormatValidator {
 
     fn parts(&self) -> Parts<'_> {
         Parts {
-            origin: &self.origin,
             noted: Some(Noted::Text(Keyword::Format, self.name.as_str())),
             format: Some(RowRef {
                 position: self.position,
                 name: self.name.as_str(),
             }),
-            media_type: None,
-            codec: None,
             is_quiet: false,
+            ..Parts::plain(&self.origin)
         }
     }
 }

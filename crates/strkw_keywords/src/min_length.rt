@@ -1,108 +1,38 @@
-//! The validators of `minLength`, and of both lengths at once.
+//! The entry `minLength`.
 
-ghost use Rattle.std.specs.Prelude.{◌≡◌, ℕ, List, [], ◌∷◌, Some, None, option_map, length};
-ghost use Rattle.std.specs.Str.{chars};
-ghost use Rattle.strkw_keywords.specs.Demands.{at_least, at_most, HasFinding};
-ghost use Rattle.strkw_keywords.specs.Meanings.{no_lists};
-ghost use Rattle.strkw_keywords.specs.Findings.{finding_of};
-ghost use Rattle.strkw_keywords.specs.Formats.{bounds};
-ghost use Rattle.strkw_keywords.specs.Lengths.{window_left, common};
+ghost use Rattle.std.specs.Prelude.{◌≡◌, Some};
+ghost use Rattle.serde_json.specs.View.{view, members_view};
+ghost use Rattle.strkw_keywords.specs.Settings.{settings_of};
+ghost use Rattle.strkw_keywords.specs.Object.{value_at};
+ghost use Rattle.strkw_keywords.specs.Compiled.{IsCompiledAt};
 
-mod build;
-
-use crate::checks::Checks;
-use crate::findings::{FindingRef, Findings, Found};
-use crate::max_length::too_long;
-use crate::origin::Origin;
-use crate::parts::Parts;
-use crate::validate::{Uses, Validate};
-pub use build::compile;
-pub(crate) use build::{limit_in, limit_of};
+use crate::checks::{ContentCodec, Format, MediaTypeCheck};
+use crate::entry::compile_value;
+use crate::keyword::Keyword;
+pub use crate::lengths::{LengthRangeValidator, MinLengthValidator};
+use crate::options::Context;
+use crate::validator::Validator;
+use serde_json::{Map, Value};
 use std::alloc::Global;
-use strkw_report::Node;
+use strkw_pattern::EngineBuilder;
+use strkw_report::CompileError;
 
-/// Demands that a text has so many characters or more (2020-12, section 6.3.2).
-#[derive(Drop)]
-pub struct MinLengthValidator {
-    pub(crate) origin: Origin,
-    pub(crate) limit: u64,
-}
-
-// The finding on a node with this number of characters.
-fn too_short(limit: u64, characters: Option<u64>) -> Option<FindingRef<'static>>
-    ensures { (text : List ℕ) → characters ≡ Some (length (chars text))
-        → HasFinding (at_least limit) no_lists text (option_map finding_of result) }
+/// The validator of the entry `minLength` (2020-12, section 6.3.2). It is a `LengthRangeValidator`, which stands for
+/// `maxLength` too, where the limit of `maxLength` is there, good and not overridden.
+///
+/// `value` is the parent's value at `minLength`, which is not overridden. The answer is never `None`.
+///
+/// Refusals: `Size` at that keyword for a value that is no whole number from 0 to 18446744073709551615; `Memory`, at
+/// the root, where it is out of memory.
+pub fn compile<B: EngineBuilder>(
+    alloc: Global,
+    ctx: &Context<'_, B>,
+    parent: &Map<String, Value>,
+    value: &Value,
+) -> Option<Result<Validator<B::Engine>, CompileError>>
+    requires { value_at ctx.now.options Keyword.MinLength (members_view parent.now.entries) ≡ Some (view value.now) }
+    ensures { IsCompiledAt B.Engine.outcome (settings_of B.takes B.outcome admits accepted encoded decoding ctx.now)
+        (members_view parent.now.entries) Keyword.MinLength result }
 {
-    if characters? < limit {
-        Some(FindingRef::MinLength(limit))
-    } else {
-        None
-    }
-}
-
-impl MinLengthValidator {
-    // The lengths that it leaves to a text.
-    pub(crate) fn interval(&self) -> (u64, u64)
-        ensures { result ≡ bounds (window_left (at_least self.now.limit)) }
-    {
-        (self.limit, u64::MAX)
-    }
-}
-
-impl Uses for MinLengthValidator {
-    ghost place = { λ v. v.origin };
-
-    ghost demands = { λ v. at_least v.limit ∷ [] };
-
-    ghost remark = { λ _. None };
-
-    fn parts(&self) -> Parts<'_> {
-        Parts::plain(&self.origin)
-    }
-}
-
-impl<N: Node> Validate<N> for MinLengthValidator {
-    fn findings(&self, _alloc: Global, node: &N, _text: &str, _checks: &Checks) -> Found<'_> {
-        Ok(Findings::one(too_short(self.limit, node.text_length())))
-    }
-}
-
-/// Demands that the number of characters of a text is from a least to a greatest one, both inclusive, and counts them
-/// once. The error of `minLength` comes first.
-#[derive(Drop)]
-pub struct LengthRangeValidator {
-    pub(crate) origin: Origin,
-    pub(crate) min: u64,
-    pub(crate) max: u64,
-}
-
-impl LengthRangeValidator {
-    // The lengths that it leaves to a text.
-    pub(crate) fn interval(&self) -> (u64, u64)
-        ensures { result ≡ bounds (common (window_left (at_least self.now.min)) (window_left (at_most self.now.max))) }
-    {
-        (self.min, self.max)
-    }
-}
-
-impl Uses for LengthRangeValidator {
-    ghost place = { λ v. v.origin };
-
-    ghost demands = { λ v. at_least v.min ∷ at_most v.max ∷ [] };
-
-    ghost remark = { λ _. None };
-
-    fn parts(&self) -> Parts<'_> {
-        Parts::plain(&self.origin)
-    }
-}
-
-impl<N: Node> Validate<N> for LengthRangeValidator {
-    fn findings(&self, _alloc: Global, node: &N, _text: &str, _checks: &Checks) -> Found<'_> {
-        let length = node.text_length();
-        Ok(Findings {
-            first: too_short(self.min, length),
-            second: too_long(self.max, length),
-        })
-    }
+    compile_value(alloc, ctx, parent, value, Keyword::MinLength)
 }

@@ -1,10 +1,13 @@
 //! What a schema object is compiled under.
 
-ghost use Rattle.std.specs.Prelude.{◌≡◌};
+ghost use Rattle.std.specs.Prelude.{◌≡◌, None, []};
+ghost use Rattle.strkw_keywords.specs.Lists.{lists_of};
+ghost use Rattle.strkw_keywords.specs.Meanings.{no_lists};
 ghost use Rattle.strkw_keywords.specs.Object.{default_options, is_on, is_overridden, has_codec, codec_place};
 
-use crate::checks::Checks;
+use crate::checks::{Checks, ContentCodec, Format, MediaTypeCheck};
 use crate::keyword::Keyword;
+use std::alloc::Global;
 use strkw_coding::Codec;
 use strkw_report::{Draft, Location};
 
@@ -58,6 +61,42 @@ pub struct Context<'a, B> {
     pub checks: Checks<'a>,
     /// What builds the engines of patterns that are not literal.
     pub builder: &'a B,
+}
+
+impl Checks<'static> {
+    /// No rows: nothing is known but what is built in.
+    pub fn none() -> Checks<'static>
+        ensures { lists_of admits accepted encoded decoding result ≡ no_lists }
+    {
+        Checks {
+            formats: &[],
+            media_types: &[],
+            codecs: &[],
+        }
+    }
+}
+
+impl<'a, B> Context<'a, B> {
+    /// A schema object of this draft that is a whole document: it stands at the root, its errors have no absolute
+    /// location, the options are `Options::default()`, and there are no checks but the built-in ones. What is to be
+    /// otherwise is set in its fields. It takes no memory, and keeps the allocator.
+    pub fn new(alloc: Global, draft: Draft, builder: &'a B) -> Context<'a, B>
+        ensures draft { result.draft ≡ draft }
+        ensures location { result.location ≡ [] }
+        ensures absolute { result.absolute ≡ None }
+        ensures options { result.options ≡ default_options }
+        ensures checks { lists_of admits accepted encoded decoding result.checks ≡ no_lists }
+        ensures builder { result.builder.now ≡ builder.now }
+    {
+        Context {
+            draft,
+            location: Location::root(alloc),
+            absolute: None,
+            options: Options::default(),
+            checks: Checks::none(),
+            builder,
+        }
+    }
 }
 
 impl Options {

@@ -1,6 +1,6 @@
 //! What a validator is beside its test of a text: where it stands, what it notes, which rows it keeps.
 
-ghost use Rattle.std.specs.Prelude.{◌≡◌, ◌↔◌, List, ℕ, None, Some, true, false, IfOk, IsTrue};
+ghost use Rattle.std.specs.Prelude.{◌≡◌, ◌↔◌, None, Some, true, false, IfOk, IsTrue};
 ghost use Rattle.strkw_keywords.specs.Lists.{lists_of};
 ghost use Rattle.strkw_keywords.specs.Meanings.{row_names, codec_names};
 ghost use Rattle.strkw_keywords.specs.Remarks.{remark_of};
@@ -80,12 +80,8 @@ impl<'a> Parts<'a> {
         ensures { result ≡ record { origin = origin.entry; noted = Some noted.entry; format = None; media_type = None; codec = None; is_quiet = true } }
     {
         Parts {
-            origin,
             noted: Some(noted),
-            format: None,
-            media_type: None,
-            codec: None,
-            is_quiet: true,
+            ..Parts::plain(origin)
         }
     }
 
@@ -98,12 +94,10 @@ impl<'a> Parts<'a> {
         ensures { result ≡ record { origin = origin.entry; noted = None; format = None; media_type = media_type.entry; codec = codec.entry; is_quiet = false } }
     {
         Parts {
-            origin,
-            noted: None,
-            format: None,
             media_type,
             codec,
             is_quiet: false,
+            ..Parts::plain(origin)
         }
     }
 }

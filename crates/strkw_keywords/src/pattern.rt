@@ -1,6 +1,6 @@
 //! The validators of `pattern`: four of literals, and one of engines.
 
-ghost use Rattle.std.specs.Prelude.{◌≡◌, [], ◌∷◌, Some, None, IfOk, option_map, string_bytes};
+ghost use Rattle.std.specs.Prelude.{◌≡◌, [], ◌∷◌, None, IfOk, option_map, string_bytes};
 ghost use Rattle.strkw_pattern.specs.Matcher.{literal_outcome, outcome_of};
 ghost use Rattle.strkw_keywords.specs.Meanings.{no_lists};
 ghost use Rattle.strkw_keywords.specs.LiteralKinds.{kind_of, prefix, exact, alternation, no_whitespace};
@@ -15,6 +15,7 @@ use crate::findings::{FindingRef, Findings, Found, FoundOne};
 use crate::origin::Origin;
 use crate::parts::Parts;
 use crate::validate::{Uses, Validate};
+pub(crate) use build::build_pattern;
 pub use build::compile;
 use std::alloc::{AllocError, Global};
 use strkw_pattern::{EngineFailure, LiteralMatcher, RegexEngine};

@@ -1,6 +1,6 @@
 //! What every validator answers. An implementor gives two methods, `parts` and `findings`; the others rest on them.
 
-ghost use Rattle.std.specs.Prelude.{◌≡◌, ◌↔◌, List, [], true, Option, Some, None, IfOk, IsOk, OnOk, OnErr, IsTrue, option_map};
+ghost use Rattle.std.specs.Prelude.{◌≡◌, ◌↔◌, List, [], true, Option, Some, IfOk, IsOk, OnOk, OnErr, IsTrue, option_map};
 ghost use Rattle.serde_json.specs.View.{view};
 ghost use Rattle.strkw_report.specs.declared.error.Site.{Site};
 ghost use Rattle.strkw_keywords.specs.Lists.{lists_of};
@@ -19,6 +19,8 @@ use crate::note::Note;
 use crate::origin::Origin;
 use crate::parts::Parts;
 use std::alloc::{AllocError, Global};
+use std::error::Error;
+use std::fmt;
 use strkw_coding::laws::encodes_once;
 use strkw_report::{EvaluationResult, Node, Site, ValidationError};
 
@@ -40,6 +42,18 @@ impl From<AllocError> for Fault {
         Fault::Memory
     }
 }
+
+/// The text of the error, as `ValidationError::text` gives it, or `out of memory`.
+impl fmt::Display for Fault {
+    fn fmt<W: fmt::Write>(&self, f: &mut fmt::Formatter<W>) -> fmt::Result {
+        match self {
+            Fault::Invalid(error) => write!(f, "{error}"),
+            Fault::Memory => f.write_str("out of memory"),
+        }
+    }
+}
+
+impl Error for Fault {}
 
 /// What a validator demands and notes, and on which of the caller's rows it rests.
 pub trait Uses {

@@ -13,8 +13,7 @@ use crate::content::{
 };
 use crate::findings::Found;
 use crate::format::{AnnotationOnlyFormatValidator, CustomFormatValidator, FormatValidator};
-use crate::max_length::MaxLengthValidator;
-use crate::min_length::{LengthRangeValidator, MinLengthValidator};
+use crate::lengths::{LengthRangeValidator, MaxLengthValidator, MinLengthValidator};
 use crate::parts::Parts;
 use crate::pattern::{
     AlternationPatternValidator, ExactPatternValidator, NoWhitespacePatternValidator,
@@ -68,7 +67,7 @@ impl<E: RegexEngine> Validator<E> {
     /// The least and the greatest number of characters that it leaves to a text, both inclusive: by its limits, or by the
     /// window of its built-in format. An open end is `u64::MAX`, and a validator that bounds no length answers
     /// `(0, u64::MAX)`. The first is above the second where no length is left.
-    #[tactic(auto, using(crate::proofs::Lengths::common_any))]
+    #[tactic(auto, using(crate::proofs::Intervals::common_any))]
     pub fn interval(&self) -> (u64, u64)
         ensures { result ≡ bounds (interval (assertions_of E.outcome self.now)) }
     {

@@ -1,22 +1,22 @@
 //! The entries of content, where they are checked and where they are noted.
 
-ghost use Rattle.std.specs.Prelude.{◌≡◌, Some, false, IfOk, option_map};
+ghost use Rattle.std.specs.Prelude.{◌≡◌, Some, IfOk, option_map};
 ghost use Rattle.serde_json.specs.View.{view, members_view};
-ghost use Rattle.serde_json.specs.Find.{get_member};
-ghost use Rattle.strkw_keywords.specs.Keywords.{keyword_name};
+ghost use Rattle.serde_json.specs.Find.{as_str};
 ghost use Rattle.strkw_keywords.specs.Settings.{place_in, settings_of};
-ghost use Rattle.strkw_keywords.specs.Object.{is_overridden, content_rule, checked, noted, media_type_entry, encoding_entry, schema_entry, codec_named, known_media_type, known_codec};
+ghost use Rattle.strkw_keywords.specs.Object.{value_at, checked, noted, noted_text, media_type_entry, encoding_entry, schema_entry, codec_named, known_media_type, known_codec};
 ghost use Rattle.strkw_keywords.specs.Compiled.{alone, IsBuilt, IsCompiledAt};
 ghost use Rattle.strkw_keywords.specs.Choices.{choice_of};
 ghost use Rattle.strkw_keywords.specs.Lists.{lists_of};
 
 use crate::checks::{Choice, ContentCodec, Format, MediaTypeCheck};
-use crate::compile::{Refused, located, member, no_string, origin_of};
+use crate::compile::{Refused, member, no_string, origin_of};
 use crate::content::{
     ContentEncodingAnnotationValidator, ContentEncodingValidator,
     ContentMediaTypeAndEncodingValidator, ContentMediaTypeAnnotationValidator,
     ContentMediaTypeValidator, ContentSchemaAnnotationValidator,
 };
+use crate::entry::compile_value;
 use crate::keyword::Keyword;
 use crate::options::Context;
 use crate::validator::Validator;
@@ -70,18 +70,12 @@ fn codec_known<B>(
         }));
     }
     match codec_named(name) {
-        Some(codec) => {
-            if ctx.options.has_codec(codec) {
-                Ok(Some(Choice::Builtin(codec)))
-            } else {
-                Ok(None)
-            }
-        }
-        None => Ok(None),
+        Some(codec) if ctx.options.has_codec(codec) => Ok(Some(Choice::Builtin(codec))),
+        _ => Ok(None),
     }
 }
 
-fn build_media_type<B: EngineBuilder>(
+pub(crate) fn build_media_type<B: EngineBuilder>(
     alloc: Global,
     ctx: &Context<'_, B>,
     parent: &Map<String, Value>,
@@ -119,37 +113,31 @@ fn build_media_type<B: EngineBuilder>(
     }
 }
 
-/// The validator of the entry `contentMediaType` in drafts 6 and 7 (draft 7, section 8.4). Beside a key
-/// `contentEncoding`, overridden or not, it demands that a text encodes one of the media type.
+/// The validator of the entry `contentMediaType`, by the draft of the context. In drafts 6 and 7 (draft 7, section 8.4)
+/// it demands that a text is of the media type or, beside a key `contentEncoding`, overridden or not, that it encodes
+/// one. From draft 2019-09 on it notes the value (2020-12, section 8.4).
 ///
-/// `value` is the parent's value at `contentMediaType`, which is not overridden, and the draft is 6 or 7. `None` means
-/// that the entry adds nothing: the media type is unknown, and then `contentEncoding` is not looked at, or the codec
-/// is.
+/// `value` is the parent's value at `contentMediaType`, which is not overridden. `None` means that the entry adds
+/// nothing. So it is in draft 4; in drafts 6 and 7 where the media type is unknown, and then `contentEncoding` is not
+/// looked at, or the codec is; later, where the value is no string.
 ///
-/// Refusals: `NotString` at that keyword for a value that is no string, or `FractionalNumber` in its place where that
-/// value holds a number that is no whole number of 64 bits, and the same of `contentEncoding`, at that keyword, where
-/// the media type is known; `Memory`, at the root, where it is out of memory.
+/// Refusals, in drafts 6 and 7: `NotString` at that keyword for a value that is no string, or `FractionalNumber` in its
+/// place where that value holds a number that is no whole number of 64 bits, and the same of `contentEncoding`, at that
+/// keyword, where the media type is known. In all drafts: `Memory`, at the root, where it is out of memory.
 pub fn compile_media_type<B: EngineBuilder>(
     alloc: Global,
     ctx: &Context<'_, B>,
     parent: &Map<String, Value>,
     value: &Value,
 ) -> Option<Result<Validator<B::Engine>, CompileError>>
-    requires present { get_member (keyword_name Keyword.ContentMediaType) (members_view parent.now.entries) ≡ Some (view value.now) }
-    requires draft { content_rule ctx.now.draft ≡ checked }
-    requires kept { is_overridden ctx.now.options Keyword.ContentMediaType ≡ false }
-    ensures { IsCompiledAt B.Engine.outcome
-        (settings_of B.takes B.outcome admits accepted encoded decoding ctx.now) (members_view parent.now.entries)
-        Keyword.ContentMediaType result }
+    requires { value_at ctx.now.options Keyword.ContentMediaType (members_view parent.now.entries) ≡ Some (view value.now) }
+    ensures { IsCompiledAt B.Engine.outcome (settings_of B.takes B.outcome admits accepted encoded decoding ctx.now)
+        (members_view parent.now.entries) Keyword.ContentMediaType result }
 {
-    located(
-        alloc,
-        &ctx.location,
-        build_media_type(alloc, ctx, parent, value),
-    )
+    compile_value(alloc, ctx, parent, value, Keyword::ContentMediaType)
 }
 
-fn build_encoding<B: EngineBuilder>(
+pub(crate) fn build_encoding<B: EngineBuilder>(
     alloc: Global,
     ctx: &Context<'_, B>,
     parent: &Map<String, Value>,
@@ -174,42 +162,34 @@ fn build_encoding<B: EngineBuilder>(
     }
 }
 
-/// The validator of the entry `contentEncoding` in drafts 6 and 7 (draft 7, section 8.3).
+/// The validator of the entry `contentEncoding`, by the draft of the context. In drafts 6 and 7 (draft 7, section 8.3)
+/// it demands that a text is an encoding. From draft 2019-09 on it notes the value (2020-12, section 8.3).
 ///
-/// `value` is the parent's value at `contentEncoding`, which is not overridden, and the draft is 6 or 7. `None` means
-/// that the entry adds nothing: there is a key `contentMediaType`, overridden or not, or the codec is unknown.
+/// `value` is the parent's value at `contentEncoding`, which is not overridden. `None` means that the entry adds
+/// nothing. So it is in draft 4; in drafts 6 and 7 where there is a key `contentMediaType`, overridden or not, or the
+/// codec is unknown; later, where the value is no string.
 ///
-/// Refusals: `NotString` at that keyword for a value that is no string, or `FractionalNumber` in its place where that
-/// value holds a number that is no whole number of 64 bits; `Memory`, at the root, where it is out of memory.
+/// Refusals: as of `compile_media_type`, but none of another keyword.
 pub fn compile_content_encoding<B: EngineBuilder>(
     alloc: Global,
     ctx: &Context<'_, B>,
     parent: &Map<String, Value>,
     value: &Value,
 ) -> Option<Result<Validator<B::Engine>, CompileError>>
-    requires present { get_member (keyword_name Keyword.ContentEncoding) (members_view parent.now.entries) ≡ Some (view value.now) }
-    requires draft { content_rule ctx.now.draft ≡ checked }
-    requires kept { is_overridden ctx.now.options Keyword.ContentEncoding ≡ false }
-    ensures { IsCompiledAt B.Engine.outcome
-        (settings_of B.takes B.outcome admits accepted encoded decoding ctx.now) (members_view parent.now.entries)
-        Keyword.ContentEncoding result }
+    requires { value_at ctx.now.options Keyword.ContentEncoding (members_view parent.now.entries) ≡ Some (view value.now) }
+    ensures { IsCompiledAt B.Engine.outcome (settings_of B.takes B.outcome admits accepted encoded decoding ctx.now)
+        (members_view parent.now.entries) Keyword.ContentEncoding result }
 {
-    located(
-        alloc,
-        &ctx.location,
-        build_encoding(alloc, ctx, parent, value),
-    )
+    compile_value(alloc, ctx, parent, value, Keyword::ContentEncoding)
 }
 
-fn build_media_type_annotation<B: EngineBuilder>(
+pub(crate) fn build_media_type_annotation<B: EngineBuilder>(
     alloc: Global,
     ctx: &Context<'_, B>,
-    _parent: &Map<String, Value>,
     value: &Value,
 ) -> Result<Option<Validator<B::Engine>>, Refused>
-    ensures { IsBuilt B.Engine.outcome (place_in ctx.now) (alone Keyword.ContentMediaType
-        (media_type_entry noted (settings_of B.takes B.outcome admits accepted encoded decoding ctx.now) (members_view _parent.now.entries)
-        (view value.now))) result }
+    ensures { IsBuilt B.Engine.outcome (place_in ctx.now)
+        (alone Keyword.ContentMediaType (noted_text (view value.now) (as_str (view value.now)))) result }
 {
     let Some(text) = value.as_str() else {
         return Ok(None);
@@ -220,40 +200,13 @@ fn build_media_type_annotation<B: EngineBuilder>(
     })))
 }
 
-/// The validator of the entry `contentMediaType` from draft 2019-09 on, which notes its value (2020-12, section 8.4).
-///
-/// `value` is the parent's value at `contentMediaType`, which is not overridden, and the draft is 2019-09 or 2020-12.
-/// `None` means that the entry adds nothing: the value is no string. The only refusal is `Memory`, at the root, where
-/// it is out of memory.
-pub fn compile_media_type_annotation<B: EngineBuilder>(
+pub(crate) fn build_encoding_annotation<B: EngineBuilder>(
     alloc: Global,
     ctx: &Context<'_, B>,
-    parent: &Map<String, Value>,
-    value: &Value,
-) -> Option<Result<Validator<B::Engine>, CompileError>>
-    requires present { get_member (keyword_name Keyword.ContentMediaType) (members_view parent.now.entries) ≡ Some (view value.now) }
-    requires draft { content_rule ctx.now.draft ≡ noted }
-    requires kept { is_overridden ctx.now.options Keyword.ContentMediaType ≡ false }
-    ensures { IsCompiledAt B.Engine.outcome
-        (settings_of B.takes B.outcome admits accepted encoded decoding ctx.now) (members_view parent.now.entries)
-        Keyword.ContentMediaType result }
-{
-    located(
-        alloc,
-        &ctx.location,
-        build_media_type_annotation(alloc, ctx, parent, value),
-    )
-}
-
-fn build_encoding_annotation<B: EngineBuilder>(
-    alloc: Global,
-    ctx: &Context<'_, B>,
-    _parent: &Map<String, Value>,
     value: &Value,
 ) -> Result<Option<Validator<B::Engine>>, Refused>
-    ensures { IsBuilt B.Engine.outcome (place_in ctx.now) (alone Keyword.ContentEncoding
-        (encoding_entry noted (settings_of B.takes B.outcome admits accepted encoded decoding ctx.now) (members_view _parent.now.entries)
-        (view value.now))) result }
+    ensures { IsBuilt B.Engine.outcome (place_in ctx.now)
+        (alone Keyword.ContentEncoding (noted_text (view value.now) (as_str (view value.now)))) result }
 {
     let Some(text) = value.as_str() else {
         return Ok(None);
@@ -264,33 +217,7 @@ fn build_encoding_annotation<B: EngineBuilder>(
     })))
 }
 
-/// The validator of the entry `contentEncoding` from draft 2019-09 on, which notes its value (2020-12, section 8.3).
-///
-/// `value` is the parent's value at `contentEncoding`, which is not overridden, and the draft is 2019-09 or 2020-12.
-/// `None` means that the entry adds nothing: the value is no string. The only refusal is `Memory`, at the root, where
-/// it is out of memory.
-pub fn compile_content_encoding_annotation<B: EngineBuilder>(
-    alloc: Global,
-    ctx: &Context<'_, B>,
-    parent: &Map<String, Value>,
-    value: &Value,
-) -> Option<Result<Validator<B::Engine>, CompileError>>
-    requires present { get_member (keyword_name Keyword.ContentEncoding) (members_view parent.now.entries) ≡ Some (view value.now) }
-    requires draft { content_rule ctx.now.draft ≡ noted }
-    requires kept { is_overridden ctx.now.options Keyword.ContentEncoding ≡ false }
-    ensures { IsCompiledAt B.Engine.outcome
-        (settings_of B.takes B.outcome admits accepted encoded decoding ctx.now) (members_view parent.now.entries)
-        Keyword.ContentEncoding result }
-{
-    located(
-        alloc,
-        &ctx.location,
-        build_encoding_annotation(alloc, ctx, parent, value),
-    )
-}
-
-fn build_schema_annotation<B: EngineBuilder>(
-    alloc: Global,
+pub(crate) fn build_schema_annotation<B: EngineBuilder>(
     ctx: &Context<'_, B>,
     parent: &Map<String, Value>,
     value: &Value,
@@ -313,10 +240,10 @@ fn build_schema_annotation<B: EngineBuilder>(
     })))
 }
 
-/// The validator of the entry `contentSchema` from draft 2019-09 on, which notes its value (2020-12, section 8.5).
+/// The validator of the entry `contentSchema`, which notes its value from draft 2019-09 on (2020-12, section 8.5).
 ///
-/// `value` is the parent's value at `contentSchema`, which is not overridden, and the draft is 2019-09 or 2020-12.
-/// `None` means that the entry adds nothing: there is no key `contentMediaType`.
+/// `value` is the parent's value at `contentSchema`, which is not overridden. `None` means that the entry adds nothing:
+/// the draft is an earlier one, or there is no key `contentMediaType`.
 ///
 /// Refusals: `FractionalNumber` at `contentSchema`, where the noted value holds a number that is no whole number of 64
 /// bits; `Memory`, at the root, where it is out of memory.
@@ -326,16 +253,9 @@ pub fn compile_content_schema_annotation<B: EngineBuilder>(
     parent: &Map<String, Value>,
     value: &Value,
 ) -> Option<Result<Validator<B::Engine>, CompileError>>
-    requires present { get_member (keyword_name Keyword.ContentSchema) (members_view parent.now.entries) ≡ Some (view value.now) }
-    requires draft { content_rule ctx.now.draft ≡ noted }
-    requires kept { is_overridden ctx.now.options Keyword.ContentSchema ≡ false }
-    ensures { IsCompiledAt B.Engine.outcome
-        (settings_of B.takes B.outcome admits accepted encoded decoding ctx.now) (members_view parent.now.entries)
-        Keyword.ContentSchema result }
+    requires { value_at ctx.now.options Keyword.ContentSchema (members_view parent.now.entries) ≡ Some (view value.now) }
+    ensures { IsCompiledAt B.Engine.outcome (settings_of B.takes B.outcome admits accepted encoded decoding ctx.now)
+        (members_view parent.now.entries) Keyword.ContentSchema result }
 {
-    located(
-        alloc,
-        &ctx.location,
-        build_schema_annotation(alloc, ctx, parent, value),
-    )
+    compile_value(alloc, ctx, parent, value, Keyword::ContentSchema)
 }

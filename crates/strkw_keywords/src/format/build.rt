@@ -1,16 +1,15 @@
 //! The entry `format`.
 
-ghost use Rattle.std.specs.Prelude.{◌≡◌, Some, false};
+ghost use Rattle.std.specs.Prelude.{◌≡◌, Some};
 ghost use Rattle.serde_json.specs.View.{view, members_view};
-ghost use Rattle.serde_json.specs.Find.{get_member};
-ghost use Rattle.strkw_keywords.specs.Keywords.{keyword_name};
 ghost use Rattle.strkw_keywords.specs.Settings.{place_in, settings_of};
-ghost use Rattle.strkw_keywords.specs.Object.{is_overridden, format_entry, checks_formats, checks_formats_itself, ignores_unknown};
+ghost use Rattle.strkw_keywords.specs.Object.{value_at, format_entry, checks_formats, checks_formats_itself, ignores_unknown};
 ghost use Rattle.strkw_keywords.specs.Compiled.{alone, IsBuilt, IsCompiledAt};
 
 use crate::builtin::builtin_format;
 use crate::checks::{ContentCodec, Format, MediaTypeCheck};
-use crate::compile::{Refused, located, no_string, origin_of};
+use crate::compile::{Refused, no_string, origin_of};
+use crate::entry::compile_value;
 use crate::format::{AnnotationOnlyFormatValidator, CustomFormatValidator, FormatValidator};
 use crate::keyword::Keyword;
 use crate::options::{Context, Options};
@@ -20,7 +19,7 @@ use std::alloc::Global;
 use strkw_pattern::EngineBuilder;
 use strkw_report::{CompileError, CompileErrorKind, Draft};
 
-fn build<B: EngineBuilder>(
+pub(crate) fn build_format<B: EngineBuilder>(
     alloc: Global,
     ctx: &Context<'_, B>,
     value: &Value,
@@ -81,13 +80,11 @@ pub fn compile<B: EngineBuilder>(
     parent: &Map<String, Value>,
     value: &Value,
 ) -> Option<Result<Validator<B::Engine>, CompileError>>
-    requires present { get_member (keyword_name Keyword.Format) (members_view parent.now.entries) ≡ Some (view value.now) }
-    requires kept { is_overridden ctx.now.options Keyword.Format ≡ false }
-    ensures { IsCompiledAt B.Engine.outcome
-        (settings_of B.takes B.outcome admits accepted encoded decoding ctx.now) (members_view parent.now.entries)
-        Keyword.Format result }
+    requires { value_at ctx.now.options Keyword.Format (members_view parent.now.entries) ≡ Some (view value.now) }
+    ensures { IsCompiledAt B.Engine.outcome (settings_of B.takes B.outcome admits accepted encoded decoding ctx.now)
+        (members_view parent.now.entries) Keyword.Format result }
 {
-    located(alloc, &ctx.location, build(alloc, ctx, value))
+    compile_value(alloc, ctx, parent, value, Keyword::Format)
 }
 
 // Whether formats are checked, or only noted.

@@ -1,18 +1,17 @@
 //! The entry `pattern`.
 
-ghost use Rattle.std.specs.Prelude.{◌≡◌, false, Some, None, [], ◌∷◌, string_bytes};
+ghost use Rattle.std.specs.Prelude.{◌≡◌, Some, None, [], ◌∷◌, string_bytes};
 ghost use Rattle.serde_json.specs.View.{view, members_view};
-ghost use Rattle.serde_json.specs.Find.{get_member};
 ghost use Rattle.strkw_pattern.specs.Matcher.{literal_outcome, matcher_of};
-ghost use Rattle.strkw_keywords.specs.Keywords.{keyword_name};
 ghost use Rattle.strkw_keywords.specs.Settings.{settings_of};
 ghost use Rattle.strkw_keywords.specs.Demands.{compares};
 ghost use Rattle.strkw_keywords.specs.Validators.{place_of, demands_of, remark_made};
-ghost use Rattle.strkw_keywords.specs.Compiled.{IsBuiltAt, IsCompiledAt};
-ghost use Rattle.strkw_keywords.specs.Object.{is_overridden};
+ghost use Rattle.strkw_keywords.specs.Compiled.{IsPatternBuilt, IsCompiledAt};
+ghost use Rattle.strkw_keywords.specs.Object.{value_at};
 
 use crate::checks::{ContentCodec, Format, MediaTypeCheck};
-use crate::compile::{Refused, located, no_string, origin_of};
+use crate::compile::{Refused, no_string, origin_of};
+use crate::entry::compile_value;
 use crate::keyword::Keyword;
 use crate::options::Context;
 use crate::origin::Origin;
@@ -29,16 +28,13 @@ use strkw_pattern::{
 };
 use strkw_report::{CompileError, CompileErrorKind};
 
-fn build<B: EngineBuilder>(
+pub(crate) fn build_pattern<B: EngineBuilder>(
     alloc: Global,
     ctx: &Context<'_, B>,
-    _parent: &Map<String, Value>,
     value: &Value,
 ) -> Result<Option<Validator<B::Engine>>, Refused>
-    requires present { get_member (keyword_name Keyword.Pattern) (members_view _parent.now.entries) ≡ Some (view value.now) }
-    requires kept { is_overridden ctx.now.options Keyword.Pattern ≡ false }
-    ensures { IsBuiltAt B.Engine.outcome (settings_of B.takes B.outcome admits accepted encoded decoding ctx.now)
-        (members_view _parent.now.entries) Keyword.Pattern result }
+    ensures { IsPatternBuilt B.Engine.outcome (settings_of B.takes B.outcome admits accepted encoded decoding ctx.now)
+        (view value.now) result }
 {
     matcher_answers_search();
     let Some(text) = value.as_str() else {
@@ -77,12 +73,11 @@ pub fn compile<B: EngineBuilder>(
     parent: &Map<String, Value>,
     value: &Value,
 ) -> Option<Result<Validator<B::Engine>, CompileError>>
-    requires present { get_member (keyword_name Keyword.Pattern) (members_view parent.now.entries) ≡ Some (view value.now) }
-    requires kept { is_overridden ctx.now.options Keyword.Pattern ≡ false }
+    requires { value_at ctx.now.options Keyword.Pattern (members_view parent.now.entries) ≡ Some (view value.now) }
     ensures { IsCompiledAt B.Engine.outcome (settings_of B.takes B.outcome admits accepted encoded decoding ctx.now)
         (members_view parent.now.entries) Keyword.Pattern result }
 {
-    located(alloc, &ctx.location, build(alloc, ctx, parent, value))
+    compile_value(alloc, ctx, parent, value, Keyword::Pattern)
 }
 
 fn literal_validator<E: RegexEngine>(

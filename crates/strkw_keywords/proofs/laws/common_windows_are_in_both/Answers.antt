@@ -1,4 +1,4 @@
-use Rattle.strkw_keywords.proofs.Lengths.{inside_common}
+use Rattle.strkw_keywords.proofs.Intervals.{inside_common}
 use Rattle.strkw_keywords.proofs.laws.common_windows_are_in_both.Goals as goal
 
 pub returns : goal.returns

@@ -1,4 +1,4 @@
-use Rattle.strkw_keywords.proofs.Lengths.{outside_is_an_error}
+use Rattle.strkw_keywords.proofs.Intervals.{outside_is_an_error}
 use Rattle.strkw_keywords.proofs.laws.lengths_outside_are_errors.Goals as goal
 
 pub returns : goal.returns

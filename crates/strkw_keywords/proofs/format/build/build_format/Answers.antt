@@ -2,7 +2,7 @@ use Rattle.std.proofs.Common.{rules}
 use Rattle.serde_json.specs.View.{view}
 use Rattle.strkw_keywords.specs.Settings.{settings_of}
 use Rattle.strkw_keywords.proofs.BuiltinNames.{builtin_stands}
-use Rattle.strkw_keywords.proofs.format.build.build.Goals as goal
+use Rattle.strkw_keywords.proofs.format.build.build_format.Goals as goal
 
 pub returns-in_ok-origin_of-in-Some-builtin_format : goal.returns-in_ok-origin_of-in-Some-builtin_format
 returns-in_ok-origin_of-in-Some-builtin_format g c =
