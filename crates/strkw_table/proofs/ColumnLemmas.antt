@@ -13,7 +13,7 @@ use Rattle.strkw_cli.specs.Compiled.{IsCompiledFrom, keywords_assertions}
 use Rattle.strkw_cli.specs.Answer.{root_site}
 use Rattle.strkw_table.specs.declared.schema_column.SchemaColumn.{SchemaColumn}
 use Rattle.strkw_table.specs.Rows.{OfField, OfFirst, OfRecords}
-use Rattle.strkw_table.specs.Plan.{FieldErrors, MessagesOf, message, schema_named}
+use Rattle.strkw_table.specs.Plan.{FieldErrors, MessagesOf, field_place, message, schema_named}
 use Rattle.strkw_table.specs.Columns.{AreColumns, ColumnMessages, CompiledErrors, IsColumn, IsCompiledFor, IsUsable}
 
 -- the names up to a place, and the name at it
@@ -107,7 +107,7 @@ module _ {E : Type 0} (outcome : E → List ℕ → Outcome) (s : Settings) (sch
       → ColumnMessages outcome column line field messages → MessagesOf s schemas name line field messages
   column_messages name column line field messages p q =
       let (reports, errors, e) = q in
-      (reports, compiled_errors (schema_named schemas name) column.keywords field reports p.1 errors, e ∙ ap (λ n. map (message line n) reports) p.0)
+      (reports, compiled_errors (schema_named schemas name) column.keywords field reports p.1 errors, e ∙ ap (λ n. map (message (field_place line n)) reports) p.0)
 
   -- each of the columns may be asked, since it was compiled where no check is registered
   pub columns_usable : ((schema : Members) (k : StringKeywords E) → IsCompiledFrom outcome s schema k → IsInUse (keywords_assertions outcome k) no_lists)

@@ -1,3 +1,4 @@
-mod RowLemmas
+pub mod RowLemmas
 mod ColumnLemmas
 mod MessageLemmas
+mod InstanceLemmas

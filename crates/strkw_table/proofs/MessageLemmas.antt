@@ -1,6 +1,6 @@
 -- What is said of a field by the schema object of its column.
 use Rattle.std.proofs.Common.{◌≡◌, ◌++◌, ◌∙◌, ℕ, List, [], length, refl, sym, ap, map, append-nil}
-use Rattle.std.proofs.lemmas.List.{length-map}
+use Rattle.std.proofs.lemmas.List.{length-map, nil_from_length}
 use Rattle.std.specs.Prelude.{Option, Some, None, string_bytes}
 use Rattle.std.specs.List.{concat, flat_map}
 use Rattle.strkw_report.specs.Kinds.{Report}
@@ -11,7 +11,7 @@ use Rattle.strkw_cli.specs.declared.strings.StringKeywords.{StringKeywords}
 use Rattle.strkw_cli.specs.Compiled.{keywords_assertions}
 use Rattle.strkw_cli.specs.Answer.{root_site}
 use Rattle.strkw_table.specs.declared.schema_column.SchemaColumn.{SchemaColumn}
-use Rattle.strkw_table.specs.Plan.{message}
+use Rattle.strkw_table.specs.Plan.{field_place, message}
 use Rattle.strkw_table.specs.Columns.{ColumnMessages}
 use Rattle.strkw_table.proofs.RowLemmas.{concat-map}
 
@@ -24,13 +24,18 @@ module _ {E : Type 0} (outcome : E → List ℕ → Outcome) (column : SchemaCol
   pub said_nothing : column.keywords ≡ None → Said outcome column line field 0 old old
   said_nothing e = ([], ([], rw e refl, refl), refl, sym (append-nil old))
 
+  -- nor of one that has no error
+  pub said_no_error : (k : StringKeywords E) (reports : List Report) → column.keywords ≡ Some k → NodeReports (keywords_assertions outcome k) no_lists root_site (Some field) reports
+      → length reports ≡ 0 → Said outcome column line field 0 old old
+  said_no_error k reports e r none = ([], (reports, rw e r, sym (ap (map (message (field_place line (string_bytes column.name)))) (nil_from_length reports none))), refl, sym (append-nil old))
+
   -- and otherwise a message for each of its errors
   pub said_errors : (k : StringKeywords E) (reports : List Report) (new : List ℕ) → column.keywords ≡ Some k
-      → NodeReports (keywords_assertions outcome k) no_lists root_site (Some field) reports → new ≡ old ++ flat_map (message line (string_bytes column.name)) reports
+      → NodeReports (keywords_assertions outcome k) no_lists root_site (Some field) reports → new ≡ old ++ flat_map (message (field_place line (string_bytes column.name))) reports
       → Said outcome column line field (length reports) old new
   said_errors k reports new e r grown = (
-    map (message line (string_bytes column.name)) reports,
+    map (message (field_place line (string_bytes column.name))) reports,
     (reports, rw e r, refl),
-    sym (length-map reports (message line (string_bytes column.name))),
-    grown ∙ ap (λ l. old ++ l) (sym (concat-map (message line (string_bytes column.name)) reports)),
+    sym (length-map reports (message (field_place line (string_bytes column.name)))),
+    grown ∙ ap (λ l. old ++ l) (sym (concat-map (message (field_place line (string_bytes column.name))) reports)),
   )

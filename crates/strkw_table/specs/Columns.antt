@@ -10,7 +10,7 @@ use Rattle.strkw_cli.specs.declared.strings.StringKeywords.{StringKeywords}
 use Rattle.strkw_cli.specs.Compiled.{IsCompiledFrom, keywords_assertions}
 use Rattle.strkw_cli.specs.Answer.{root_site}
 use Rattle.strkw_table.specs.declared.schema_column.SchemaColumn.{SchemaColumn}
-use Rattle.strkw_table.specs.Plan.{message, schema_named}
+use Rattle.strkw_table.specs.Plan.{field_place, message, schema_named}
 
 -- what a compiled object reports of a field
 abbrev pub CompiledErrors : {E : Type 0} → (E → List ℕ → Outcome) → Option (StringKeywords E) → List ℕ → List Report → Type 0
@@ -20,7 +20,7 @@ CompiledErrors outcome (Some k) field reports = NodeReports (keywords_assertions
 -- the messages about a field of a column, by what was compiled for it
 abbrev pub ColumnMessages : {E : Type 0} → (E → List ℕ → Outcome) → SchemaColumn E → ℕ → List ℕ → List (List ℕ) → Type 0
 ColumnMessages outcome column line field messages = (reports : List Report) × CompiledErrors outcome column.keywords field reports
-    × (messages ≡ map (message line (string_bytes column.name)) reports)
+    × (messages ≡ map (message (field_place line (string_bytes column.name))) reports)
 
 -- a column may be asked: no registered check is used in what was compiled for it
 abbrev pub IsUsable : {E : Type 0} → (E → List ℕ → Outcome) → SchemaColumn E → Type 0

@@ -1,24 +1,56 @@
-//! Why a check ended before the end of its file.
+//! Why a check ended before the end of its file, and why a plan is refused.
 
 use csv::{Error, ErrorKind};
 use std::alloc::AllocError;
 use std::fmt;
 use strkw_report::CompileError;
 
-/// Why a check ended before the end of its file.
+/// Why a plan is refused.
 #[derive(Debug, Drop)]
-pub enum TableFault {
-    /// The plan is no object with `draft` (4, 6, 7, 201909 or 202012) and `columns`, an object.
-    Plan,
-    /// The schema of this column is no object.
-    Schema(String),
-    /// The schema object of a column is refused.
+pub enum PlanFault {
+    /// It is no object with `draft` (4, 6, 7, 201909 or 202012) and the member of this name, an object.
+    NoPlan(&'static str),
+    /// The schema of this name is no object.
+    NoObject(String),
+    /// A schema object is refused.
     Refused {
-        /// The name of the column.
-        column: String,
+        /// The name of the schema.
+        name: String,
         /// Why, and at which keyword.
         refusal: CompileError,
     },
+    /// A growth was refused.
+    Memory,
+}
+
+impl From<AllocError> for PlanFault {
+    fn from(_e: AllocError) -> PlanFault {
+        PlanFault::Memory
+    }
+}
+
+impl fmt::Display for PlanFault {
+    fn fmt<W: fmt::Write>(&self, f: &mut fmt::Formatter<W>) -> fmt::Result {
+        match self {
+            PlanFault::NoPlan(schemas) => write!(
+                f,
+                "the plan is to be an object with `draft` (4, 6, 7, 201909 or 202012) and `{schemas}`, an object"
+            ),
+            PlanFault::NoObject(name) => write!(f, "the schema of `{name}` is no object"),
+            PlanFault::Refused { name, refusal } => {
+                let place = &refusal.location;
+                write!(f, "the schema of `{name}` is refused at {place}: {refusal}")
+            }
+            PlanFault::Memory => f.write_str("out of memory"),
+        }
+    }
+}
+
+/// Why a check ended before the end of its file.
+#[derive(Debug, Drop)]
+pub enum TableFault {
+    /// The plan is refused.
+    Plan(PlanFault),
     /// The file has no column of this name.
     Missing(String),
     /// The file has no first record.
@@ -39,6 +71,15 @@ impl From<AllocError> for TableFault {
     }
 }
 
+impl From<PlanFault> for TableFault {
+    fn from(e: PlanFault) -> TableFault {
+        match e {
+            PlanFault::Memory => TableFault::Memory,
+            _ => TableFault::Plan(e),
+        }
+    }
+}
+
 impl From<Error> for TableFault {
     fn from(e: Error) -> TableFault {
         match e.kind() {
@@ -51,19 +92,7 @@ impl From<Error> for TableFault {
 impl fmt::Display for TableFault {
     fn fmt<W: fmt::Write>(&self, f: &mut fmt::Formatter<W>) -> fmt::Result {
         match self {
-            TableFault::Plan => f.write_str(
-                "the columns are to be an object with `draft` (4, 6, 7, 201909 or 202012) and `columns`, an object",
-            ),
-            TableFault::Schema(column) => {
-                write!(f, "the schema of the column `{column}` is no object")
-            }
-            TableFault::Refused { column, refusal } => {
-                let place = &refusal.location;
-                write!(
-                    f,
-                    "the schema of the column `{column}` is refused at {place}: {refusal}"
-                )
-            }
+            TableFault::Plan(e) => write!(f, "{e}"),
             TableFault::Missing(column) => write!(f, "the file has no column `{column}`"),
             TableFault::NoHeader => f.write_str("the file has no first record"),
             TableFault::Record(e) => write!(f, "{e}"),

@@ -1,17 +1,18 @@
-//! What a file is checked by, and the columns that are compiled from it.
+//! What a file is checked by, and what is compiled from it.
 
 ghost use Rattle.std.specs.Prelude.{◌≡◌, ◌↔◌, ℕ, List, Option, Some, None, IfOk, OnOk, IsTrue, option_map};
+ghost use Rattle.serde_json.specs.Find.{as_object};
 ghost use Rattle.serde_json.specs.View.{view, members_view};
 ghost use Rattle.csv.specs.Records.{fields_of};
 ghost use Rattle.strkw_keywords.specs.Meanings.{no_lists};
 ghost use Rattle.strkw_keywords.specs.Errors.{IsInUse};
-ghost use Rattle.strkw_cli.specs.Compiled.{IsCompiledFrom, keywords_assertions};
+ghost use Rattle.strkw_cli.specs.Compiled.{keywords_assertions};
 ghost use Rattle.strkw_cli.specs.Request.{draft_in, draft_numbered};
 ghost use Rattle.strkw_table.specs.Borrowed.{plan_view};
-ghost use Rattle.strkw_table.specs.Plan.{plan_in, schema_named, column_settings, IsNamed, AreNamed};
-ghost use Rattle.strkw_table.specs.Columns.{AreColumns, IsColumn};
+ghost use Rattle.strkw_table.specs.Plan.{plan_in, schema_named, plan_settings, IsNamed, AreNamed};
+ghost use Rattle.strkw_table.specs.Columns.{AreColumns, IsColumn, IsCompiledFor};
 
-use crate::faults::TableFault;
+use crate::faults::{PlanFault, TableFault};
 use crate::schema_column::SchemaColumn;
 use csv::StringRecord;
 use serde_json::{Map, Value};
@@ -23,8 +24,10 @@ use strkw_report::{CompileError, CompileErrorKind, Draft};
 
 /// A plan, inside its JSON value.
 #[derive(Drop)]
-pub(crate) struct Plan<'a> {
+pub struct Plan<'a> {
+    /// The draft of its schema objects.
     pub draft: Draft,
+    /// Its schemas, by the names of what they check.
     pub schemas: &'a Map<String, Value>,
 }
 
@@ -47,13 +50,13 @@ fn draft_in(value: &Value) -> Option<Draft>
     draft_numbered(value.as_u64()?)
 }
 
-/// The plan that a value is.
-pub(crate) fn plan_in(value: &Value) -> Option<Plan<'_>>
-    ensures { option_map plan_view result ≡ plan_in (view value.now) }
+/// The plan that a value is: `{"draft": .., NAME: {NAME: SCHEMA, ..}}`, where the name of the member is given.
+pub fn plan_in<'v>(value: &'v Value, name: &str) -> Option<Plan<'v>>
+    ensures { option_map plan_view result ≡ plan_in name.now (view value.now) }
 {
     let members = value.as_object()?;
     let draft = draft_in(member(members, "draft")?)?;
-    let schemas = member(members, "columns")?.as_object()?;
+    let schemas = member(members, name)?.as_object()?;
     Some(Plan { draft, schemas })
 }
 
@@ -95,7 +98,7 @@ pub(crate) fn compile_columns<B: EngineBuilder>(
     plan: &Plan<'_>,
     names: &StringRecord,
 ) -> Result<Vec<SchemaColumn<B::Engine>>, TableFault>
-    ensures { IfOk result (λ columns. AreColumns B.Engine.outcome (column_settings (B.takes builder.now) (B.outcome builder.now) plan.now.draft)
+    ensures { IfOk result (λ columns. AreColumns B.Engine.outcome (plan_settings (B.takes builder.now) (B.outcome builder.now) plan.now.draft)
         (members_view plan.now.schemas.now.entries) (fields_of names.now) columns.items) }
 {
     let mut columns = Vec::new(alloc);
@@ -119,17 +122,12 @@ fn compile_column<B: EngineBuilder>(
     plan: &Plan<'_>,
     name: &str,
 ) -> Result<SchemaColumn<B::Engine>, TableFault>
-    ensures { IfOk result (λ column. IsColumn B.Engine.outcome (column_settings (B.takes builder.now) (B.outcome builder.now) plan.now.draft)
+    ensures { IfOk result (λ column. IsColumn B.Engine.outcome (plan_settings (B.takes builder.now) (B.outcome builder.now) plan.now.draft)
         (members_view plan.now.schemas.now.entries) name.now column) }
 {
     let keywords = match member(plan.schemas, name) {
         None => None,
-        Some(schema) => {
-            let Some(schema) = schema.as_object() else {
-                return Err(TableFault::Schema(String::from_str(alloc, name)?));
-            };
-            Some(compile_schema(alloc, builder, plan.draft, name, schema)?)
-        }
+        Some(schema) => Some(compile_schema(alloc, builder, plan.draft, name, schema)?),
     };
     Ok(SchemaColumn {
         name: String::from_str(alloc, name)?,
@@ -137,17 +135,23 @@ fn compile_column<B: EngineBuilder>(
     })
 }
 
-fn compile_schema<B: EngineBuilder>(
+/// What the schema of a name in a plan is compiled to. Formats are checked in each draft, and an unknown one is refused.
+///
+/// Errors: `NoObject`, `Refused`, and `Memory` where a growth was refused.
+pub(crate) fn compile_schema<B: EngineBuilder>(
     alloc: Global,
     builder: &B,
     draft: Draft,
     name: &str,
-    schema: &Map<String, Value>,
-) -> Result<StringKeywords<B::Engine>, TableFault>
-    ensures compiled { IfOk result (λ k. IsCompiledFrom B.Engine.outcome (column_settings (B.takes builder.now) (B.outcome builder.now) draft)
-        (members_view schema.now.entries) k) }
+    schema: &Value,
+) -> Result<StringKeywords<B::Engine>, PlanFault>
+    ensures compiled { IfOk result (λ k. IsCompiledFor B.Engine.outcome (plan_settings (B.takes builder.now) (B.outcome builder.now) draft)
+        (as_object (view schema.now)) (Some k)) }
     ensures in_use { IfOk result (λ k. IsInUse (keywords_assertions B.Engine.outcome k) no_lists) }
 {
+    let Some(schema) = schema.as_object() else {
+        return Err(PlanFault::NoObject(String::from_str(alloc, name)?));
+    };
     let mut options = Options::default();
     options.validate_formats = Some(true);
     options.ignore_unknown_formats = false;
@@ -155,12 +159,14 @@ fn compile_schema<B: EngineBuilder>(
     ctx.options = options;
     match compile_strings(alloc, &ctx, schema) {
         Ok(keywords) => Ok(keywords),
-        Err(CompileError {
-            kind: CompileErrorKind::Memory,
-            ..
-        }) => Err(TableFault::Memory),
-        Err(refusal) => Err(TableFault::Refused {
-            column: String::from_str(alloc, name)?,
+        Err(
+            CompileError {
+                kind: CompileErrorKind::Memory,
+                ..
+            },
+        ) => Err(PlanFault::Memory),
+        Err(refusal) => Err(PlanFault::Refused {
+            name: String::from_str(alloc, name)?,
             refusal,
         }),
     }

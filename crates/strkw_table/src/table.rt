@@ -1,15 +1,15 @@
 //! A whole file.
 
-ghost use Rattle.std.specs.Prelude.{◌≡◌, ◌∷◌, ℕ, List, Some, length, IfOk};
+ghost use Rattle.std.specs.Prelude.{◌≡◌, ◌∷◌, ℕ, List, Some, length, IfOk, codes};
 ghost use Rattle.std.specs.List.{concat};
 ghost use Rattle.std.specs.Io.KnownBytes.{Appends};
 ghost use Rattle.serde_json.specs.View.{view};
 ghost use Rattle.csv.specs.Reading.{AreRecords, default_config, strip_bom};
 ghost use Rattle.csv.specs.declared.parser.State.TheVariants as st;
 ghost use Rattle.strkw_table.specs.Rows.{OfRecords};
-ghost use Rattle.strkw_table.specs.Plan.{Plan, plan_in, column_settings, MessagesOf, AreNamed};
+ghost use Rattle.strkw_table.specs.Plan.{Plan, plan_in, plan_settings, MessagesOf, AreNamed};
 
-use crate::faults::TableFault;
+use crate::faults::{PlanFault, TableFault};
 use crate::plan::{compile_columns, plan_in, require_named};
 use crate::rows::{Checked, Watch, check_rows};
 use csv::{ReaderBuilder, StringRecord};
@@ -27,7 +27,7 @@ use strkw_pattern::EngineBuilder;
 /// last, and in each field in the order of the keywords. Formats are checked in each draft, and an unknown one is refused.
 /// A column that the plan does not name is not checked.
 ///
-/// Errors: as `TableFault` says. `Plan`, `Schema`, `Refused`, `Missing` and `NoHeader` come before the first line; after
+/// Errors: as `TableFault` says. `Plan`, `Missing` and `NoHeader` come before the first line; after
 /// `Record` there are the lines of the records before it.
 pub fn check_table<B: EngineBuilder, R: Read + Drop, W: Write, P: Watch>(
     alloc: Global,
@@ -39,16 +39,16 @@ pub fn check_table<B: EngineBuilder, R: Read + Drop, W: Write, P: Watch>(
 ) -> Result<Checked, TableFault>
     ensures { (text : List ℕ) → R.remaining file ≡ Some text
         → IfOk result (λ c. (p : Plan) × (names : List (List ℕ)) × (records : List (List (List ℕ))) × (messages : List (List ℕ))
-        × (plan_in (view plan.now) ≡ Some p)
+        × (plan_in (codes "columns") (view plan.now) ≡ Some p)
         × AreNamed names p.schemas
         × AreRecords default_config st.StartRecord (strip_bom text) (names ∷ records)
-        × OfRecords (MessagesOf (column_settings (B.takes builder.now) (B.outcome builder.now) p.draft) p.schemas) names records messages
+        × OfRecords (MessagesOf (plan_settings (B.takes builder.now) (B.outcome builder.now) p.draft) p.schemas) names records messages
         × Appends (W.contents writer.old) (W.contents writer.new) (concat messages)
         × (c.records ≡ length records) × (c.errors ≡ length messages)) }
 {
     lists_of_compile_are_in_use::<B::Engine>();
-    let Some(plan) = plan_in(plan) else {
-        return Err(TableFault::Plan);
+    let Some(plan) = plan_in(plan, "columns") else {
+        return Err(TableFault::Plan(PlanFault::NoPlan("columns")));
     };
     let mut reader = ReaderBuilder::new()
         .has_headers(false)

@@ -42,32 +42,32 @@ const ROWS: [(&str, &str, &str); 15] = [
     (
         "[]",
         "a\n",
-        "the columns are to be an object with `draft` (4, 6, 7, 201909 or 202012) and `columns`, an object",
+        "the plan is to be an object with `draft` (4, 6, 7, 201909 or 202012) and `columns`, an object",
     ),
     (
         "{\"draft\":5,\"columns\":{}}",
         "a\n",
-        "the columns are to be an object with `draft` (4, 6, 7, 201909 or 202012) and `columns`, an object",
+        "the plan is to be an object with `draft` (4, 6, 7, 201909 or 202012) and `columns`, an object",
     ),
     (
         "{\"draft\":7,\"columns\":[]}",
         "a\n",
-        "the columns are to be an object with `draft` (4, 6, 7, 201909 or 202012) and `columns`, an object",
+        "the plan is to be an object with `draft` (4, 6, 7, 201909 or 202012) and `columns`, an object",
     ),
     (
         "{\"draft\":7}",
         "a\n",
-        "the columns are to be an object with `draft` (4, 6, 7, 201909 or 202012) and `columns`, an object",
+        "the plan is to be an object with `draft` (4, 6, 7, 201909 or 202012) and `columns`, an object",
     ),
     (
         "{\"draft\":7,\"columns\":{\"a\":true}}",
         "a\n",
-        "the schema of the column `a` is no object",
+        "the schema of `a` is no object",
     ),
     (
         "{\"draft\":7,\"columns\":{\"a\":{\"format\":\"color\"}}}",
         "a\n",
-        "the schema of the column `a` is refused at /format: Unknown format: 'color'. Adjust configuration to ignore unrecognized formats",
+        "the schema of `a` is refused at /format: Unknown format: 'color'. Adjust configuration to ignore unrecognized formats",
     ),
     (
         "{\"draft\":201909,\"columns\":{\"a\":{\"format\":\"uuid\"}}}",

@@ -7,7 +7,7 @@ use Rattle.csv.specs.declared.reader.Trim.TheVariants as trim
 use Rattle.csv.proofs.ReadFacts.{rows-more}
 use Rattle.strkw_table.specs.Borrowed.{plan_view}
 use Rattle.strkw_table.specs.Columns.{ColumnMessages}
-use Rattle.strkw_table.specs.Plan.{MessagesOf, column_settings}
+use Rattle.strkw_table.specs.Plan.{MessagesOf, plan_settings}
 use Rattle.strkw_table.proofs.RowLemmas.{if_ok-map, no_record_yet, under_header}
 use Rattle.strkw_table.proofs.ColumnLemmas.{are_columns-length, column_fields, columns_usable, of_records-along}
 use Rattle.strkw_table.proofs.table.check_table.Goals as goal
@@ -15,7 +15,7 @@ use Rattle.strkw_table.proofs.table.check_table.Goals as goal
 pub check_rows-requires-clause-usable : goal.check_rows-requires-clause-usable
 check_rows-requires-clause-usable g c place column e =
     let outcome = g.B.Engine.RegexEngine.outcome in
-    let s = column_settings (g.B.EngineBuilder.takes c.args.builder.now) (g.B.EngineBuilder.outcome c.args.builder.now) c.in-Some.plan.draft in
+    let s = plan_settings (g.B.EngineBuilder.takes c.args.builder.now) (g.B.EngineBuilder.outcome c.args.builder.now) c.in-Some.plan.draft in
     let schemas = members_view c.in-Some.plan.schemas.now.entries in
     columns_usable outcome s schemas (λ schema k of. c.lists_of_compile_are_in_use.ensures s schema k of) (fields_of c.read_record.new.row) c.in_ok-columns.columns.items c.in_ok-columns.ensures place column
     (rw c.deref.ensures.value at e)
@@ -24,7 +24,7 @@ pub returns : goal.returns
 returns g c text source =
     let outcome = g.B.Engine.RegexEngine.outcome in
     let plan = plan_view c.in-Some.plan in
-    let s = column_settings (g.B.EngineBuilder.takes c.args.builder.now) (g.B.EngineBuilder.outcome c.args.builder.now) plan.draft in
+    let s = plan_settings (g.B.EngineBuilder.takes c.args.builder.now) (g.B.EngineBuilder.outcome c.args.builder.now) plan.draft in
     let names = fields_of c.read_record.new.row in
     let columns = c.in_ok-columns.columns.items in
     let fr = c.from_reader-reader.ensures in

@@ -1,0 +1,11 @@
+//! Checks the values of a JSON document, as of a configuration file, by a schema object for each of some places.
+#![tactic(auto)]
+
+mod document;
+mod faults;
+mod place;
+#[cfg(test)]
+mod tests;
+
+pub use document::check_document;
+pub use faults::DocumentFault;
