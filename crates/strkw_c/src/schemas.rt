@@ -6,7 +6,7 @@ ghost use Rattle.serde_json.specs.View.{view, members_view};
 ghost use Rattle.strkw_pattern.specs.Matcher.{literal_outcome};
 ghost use Rattle.strkw_keywords.specs.Meanings.{no_lists};
 ghost use Rattle.strkw_keywords.specs.Errors.{IsInUse};
-ghost use Rattle.strkw_cli.specs.Request.{draft_numbered, IsReading};
+ghost use Rattle.strkw_cli.specs.Request.{IsReading};
 ghost use Rattle.strkw_cli.specs.Compiled.{IsCompiledFrom, keywords_assertions};
 ghost use Rattle.strkw_c.specs.declared.schemas.Failure.TheVariants.{Memory, Refused};
 ghost use Rattle.strkw_c.specs.Verdicts.{IsSchema, IsRefused, Fails, settings_for};
@@ -35,20 +35,6 @@ impl From<AllocError> for Failure {
     fn from(_: AllocError) -> Failure {
         Failure::Memory
     }
-}
-
-/// The draft of a number: 4, 6, 7, 201909 or 202012.
-pub(crate) fn draft_numbered(number: u32) -> Option<Draft>
-    ensures { result ≡ draft_numbered number }
-{
-    Some(match number {
-        4 => Draft::Draft4,
-        6 => Draft::Draft6,
-        7 => Draft::Draft7,
-        201909 => Draft::Draft201909,
-        202012 => Draft::Draft202012,
-        _ => return None,
-    })
 }
 
 /// The compiled object of a schema that is given by its bytes. Nothing is set, and only literal patterns are taken.

@@ -11,11 +11,11 @@ ghost use Rattle.strkw_cli.specs.Compiled.{keywords_assertions};
 ghost use Rattle.strkw_c.specs.Texts.{AreTexts, HaveRoom};
 ghost use Rattle.strkw_c.specs.Verdicts.{IsSchema, IsRefused, Fails, IsValid, Passes, IsVerdict, AreVerdicts, settings_for};
 
-use crate::schemas::{Failure, compile, draft_numbered};
+use crate::schemas::{Failure, compile};
 use crate::texts::are_ends;
 use std::alloc::{AllocError, Global};
-use strkw_cli::StringKeywords;
 use strkw_cli::laws::compiled_errors_are_those_of_the_object;
+use strkw_cli::{StringKeywords, draft_numbered};
 use strkw_keywords::Checks;
 use strkw_pattern::{LiteralMatcher, RegexEngine};
 use strkw_report::Draft;
@@ -69,7 +69,7 @@ pub extern "C" fn strkw_check(
     if ends.len() != verdicts.len() || !are_ends(texts, ends) {
         return NO_TEXTS;
     }
-    let Some(draft) = draft_numbered(draft) else {
+    let Some(draft) = draft_numbered(u64::from(draft)) else {
         return NO_DRAFT;
     };
     match check(alloc, draft, schema, texts, ends) {

@@ -37,7 +37,8 @@ pub fn read_line(alloc: Global, line: &[u8]) -> Result<Option<Value>, AllocError
     }
 }
 
-fn draft_numbered(number: u64) -> Option<Draft>
+/// The draft of a number: 4, 6, 7, 201909 or 202012.
+pub fn draft_numbered(number: u64) -> Option<Draft>
     ensures { result ≡ draft_numbered number }
 {
     match number {
@@ -50,7 +51,8 @@ fn draft_numbered(number: u64) -> Option<Draft>
     }
 }
 
-fn draft_in(value: &Value) -> Option<Draft>
+/// The draft whose number a value is.
+pub fn draft_in(value: &Value) -> Option<Draft>
     ensures { result ≡ draft_in (view value.now) }
 {
     draft_numbered(value.as_u64()?)

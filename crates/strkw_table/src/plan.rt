@@ -7,7 +7,6 @@ ghost use Rattle.csv.specs.Records.{fields_of};
 ghost use Rattle.strkw_keywords.specs.Meanings.{no_lists};
 ghost use Rattle.strkw_keywords.specs.Errors.{IsInUse};
 ghost use Rattle.strkw_cli.specs.Compiled.{keywords_assertions};
-ghost use Rattle.strkw_cli.specs.Request.{draft_in, draft_numbered};
 ghost use Rattle.strkw_table.specs.Borrowed.{plan_view};
 ghost use Rattle.strkw_table.specs.Plan.{plan_in, schema_named, plan_settings, IsNamed, AreNamed};
 ghost use Rattle.strkw_table.specs.Columns.{AreColumns, IsColumn, IsCompiledFor};
@@ -17,7 +16,7 @@ use crate::schema_column::SchemaColumn;
 use csv::StringRecord;
 use serde_json::{Map, Value};
 use std::alloc::Global;
-use strkw_cli::{StringKeywords, compile_strings};
+use strkw_cli::{StringKeywords, compile_strings, draft_in};
 use strkw_keywords::{Context, Options, member};
 use strkw_pattern::EngineBuilder;
 use strkw_report::{CompileError, CompileErrorKind, Draft};
@@ -29,25 +28,6 @@ pub struct Plan<'a> {
     pub draft: Draft,
     /// Its schemas, by the names of what they check.
     pub schemas: &'a Map<String, Value>,
-}
-
-fn draft_numbered(number: u64) -> Option<Draft>
-    ensures { result ≡ draft_numbered number }
-{
-    match number {
-        4 => Some(Draft::Draft4),
-        6 => Some(Draft::Draft6),
-        7 => Some(Draft::Draft7),
-        201909 => Some(Draft::Draft201909),
-        202012 => Some(Draft::Draft202012),
-        _ => None,
-    }
-}
-
-fn draft_in(value: &Value) -> Option<Draft>
-    ensures { result ≡ draft_in (view value.now) }
-{
-    draft_numbered(value.as_u64()?)
 }
 
 /// The plan that a value is: `{"draft": .., NAME: {NAME: SCHEMA, ..}}`, where the name of the member is given.
