@@ -11,8 +11,7 @@ whose laws say the standard's own spelling.
 A file has lines 'file: PATH', the path within the crate, each with pairs of lines 'old: TEXT' and 'new: TEXT' behind it;
 each old text stands in that file exactly once, and \\n is the end of a line in both. The edits are applied to a scratch
 copy, one after the other. What checks of the crates have kept is copied with them; without it the first check of each
-crate takes minutes. Not part of the gate: some 50 seconds for what a row notices, a minute or more beside that for
-what the check does.
+crate takes minutes. Not part of the gate: a minute or more for each.
 """
 import re
 import shutil
@@ -29,6 +28,7 @@ COUNTS = re.compile(r"^\d+ rows, [1-9]\d* answers, (\d+) of them wrong$", re.MUL
 NOT_PROVED = re.compile(r"^fn (\S+): no proof: (?!it calls)|^(?:\./)?(proofs/\S+?):.*error", re.MULTILINE)
 NOT_READ = re.compile(r"^(?:\./)?(?:src|specs)/\S+: error.*$", re.MULTILINE)
 SECONDS_FOR_A_RUN = 1800
+SECONDS_FOR_ROWS = 600
 
 
 class Broken(Exception):
@@ -103,10 +103,15 @@ def output_of(words, crate, given=""):
     return ran.returncode, ran.stdout
 
 
+def rows_of(crate):
+    """The rows of a crate: those from the comment that is its name to the next crate's."""
+    parts = re.split(r"^# (strkw_\w+)\n", (crate.parent / CASES / "stdin").read_text(), flags=re.MULTILINE)
+    return dict(zip(parts[1::2], parts[2::2]))[crate.name]
+
+
 def noticed_by(crate):
     """What notices the wrong definition that stands in a crate, or None where nothing does."""
-    cases = crate.parent / CASES
-    _, said = output_of(["rt", "try"], cases, (cases / "stdin").read_text())
+    _, said = output_of(["rt", "try", "--seconds", str(SECONDS_FOR_ROWS)], crate.parent / CASES, rows_of(crate))
     counts = COUNTS.search(said)
     if not counts:
         raise Broken("the rows are not answered: " + " ".join(said.split())[-300:])
