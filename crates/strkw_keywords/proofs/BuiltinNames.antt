@@ -46,8 +46,8 @@ named_so draft name f h = (passes draft name f h).0
 -- a format of a draft is found by its name
 known_found : (draft : Draft) (f : BuiltinFormat) → is_known f draft ≡ true → builtin_named draft (format_name f) ≡ Some f
 unfolding builtin_named
-known_found draft Date h = refl
-known_found draft DateTime h = refl
+known_found draft Date h = rw h refl
+known_found draft DateTime h = rw h refl
 known_found draft Duration h = rw h refl
 known_found draft Hostname h = rw h refl
 known_found Draft4 HostnameDraft4 h = refl
@@ -55,14 +55,14 @@ known_found Draft6 HostnameDraft4 h = refl
 known_found Draft7 HostnameDraft4 h = absurd (cc)
 known_found Draft201909 HostnameDraft4 h = absurd (cc)
 known_found Draft202012 HostnameDraft4 h = absurd (cc)
-known_found draft Ipv4 h = refl
-known_found draft Ipv6 h = refl
+known_found draft Ipv4 h = rw h refl
+known_found draft Ipv6 h = rw h refl
 known_found draft Iri h = rw h refl
 known_found draft IriReference h = rw h refl
 known_found draft JsonPointer h = rw h refl
 known_found draft RelativeJsonPointer h = rw h refl
-known_found draft Time h = refl
-known_found draft Uri h = refl
+known_found draft Time h = rw h refl
+known_found draft Uri h = rw h refl
 known_found draft UriReference h = rw h refl
 known_found draft UriTemplate h = rw h refl
 known_found draft Uuid h = rw h refl

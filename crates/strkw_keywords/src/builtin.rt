@@ -1,7 +1,7 @@
 //! The formats that are checked without a registered check.
 ghost use Rattle.std.specs.Prelude.{◌≡◌, ◌↔◌, IsTrue, option_map};
 ghost use Rattle.std.specs.Str.{chars};
-ghost use Rattle.strkw_keywords.specs.Formats.{IsOfBuiltin, format_name, is_known, window_of, bounds, example_of, window_texts_of, builtin_named};
+ghost use Rattle.strkw_keywords.specs.Formats.{IsOfBuiltin, format_name, is_known, window_of, bounds, example_of, window_texts_of, format_row, builtin_named};
 
 use strkw_label::is_valid_hostname;
 use strkw_net::{is_valid_hostname_rfc1034, is_valid_ipv4, is_valid_ipv6, is_valid_uuid};
@@ -55,6 +55,19 @@ pub enum BuiltinFormat {
     Uuid,
 }
 
+// What is told of a format beside its grammar: its name in a schema, the first draft that has it and the last, a text of it, and,
+// for the formats that tell them, the ends of its lengths, with a text of least length, and one of greatest where that end
+// is closed.
+#[derive(Clone, Copy)]
+struct FormatRow {
+    name: &'static str,
+    first: Draft,
+    last: Draft,
+    example: &'static str,
+    window: Option<(u64, u64)>,
+    window_texts: Option<(&'static str, Option<&'static str>)>,
+}
+
 impl BuiltinFormat {
     /// Each format once, in order.
     pub const VARIANTS: &'static [BuiltinFormat] = &[
@@ -80,23 +93,7 @@ impl BuiltinFormat {
     pub fn as_str(self) -> &'static str
         ensures { result.now ≡ format_name self }
     {
-        match self {
-            BuiltinFormat::Date => "date",
-            BuiltinFormat::DateTime => "date-time",
-            BuiltinFormat::Duration => "duration",
-            BuiltinFormat::Hostname | BuiltinFormat::HostnameDraft4 => "hostname",
-            BuiltinFormat::Ipv4 => "ipv4",
-            BuiltinFormat::Ipv6 => "ipv6",
-            BuiltinFormat::Iri => "iri",
-            BuiltinFormat::IriReference => "iri-reference",
-            BuiltinFormat::JsonPointer => "json-pointer",
-            BuiltinFormat::RelativeJsonPointer => "relative-json-pointer",
-            BuiltinFormat::Time => "time",
-            BuiltinFormat::Uri => "uri",
-            BuiltinFormat::UriReference => "uri-reference",
-            BuiltinFormat::UriTemplate => "uri-template",
-            BuiltinFormat::Uuid => "uuid",
-        }
+        self.row().name
     }
 
     /// The least and the greatest number of characters of a text of the format, both inclusive.
@@ -105,46 +102,14 @@ impl BuiltinFormat {
     pub fn length_window(self) -> Option<(u64, u64)>
         ensures { result ≡ option_map bounds (window_of self) }
     {
-        match self {
-            BuiltinFormat::Date => Some((10, 10)),
-            BuiltinFormat::DateTime => Some((20, u64::MAX)),
-            BuiltinFormat::Duration => Some((3, u64::MAX)),
-            BuiltinFormat::Hostname | BuiltinFormat::HostnameDraft4 => Some((1, 253)),
-            BuiltinFormat::Ipv4 => Some((7, 15)),
-            BuiltinFormat::Ipv6 => Some((2, 45)),
-            BuiltinFormat::Time => Some((9, u64::MAX)),
-            BuiltinFormat::Uuid => Some((36, 36)),
-            BuiltinFormat::Iri
-            | BuiltinFormat::IriReference
-            | BuiltinFormat::JsonPointer
-            | BuiltinFormat::RelativeJsonPointer
-            | BuiltinFormat::Uri
-            | BuiltinFormat::UriReference
-            | BuiltinFormat::UriTemplate => None,
-        }
+        self.row().window
     }
 
     /// A text of the format.
     pub fn example(self) -> &'static str
         ensures { result.now ≡ example_of self }
     {
-        match self {
-            BuiltinFormat::Date => "2020-01-01",
-            BuiltinFormat::DateTime => "2020-01-01T00:00:00Z",
-            BuiltinFormat::Duration => "P1D",
-            BuiltinFormat::Hostname | BuiltinFormat::HostnameDraft4 => "example.com",
-            BuiltinFormat::Ipv4 => "127.0.0.1",
-            BuiltinFormat::Ipv6 => "::1",
-            BuiltinFormat::Iri
-            | BuiltinFormat::IriReference
-            | BuiltinFormat::Uri
-            | BuiltinFormat::UriReference => "http://example.com",
-            BuiltinFormat::JsonPointer => "/a",
-            BuiltinFormat::RelativeJsonPointer => "0",
-            BuiltinFormat::Time => "00:00:00Z",
-            BuiltinFormat::UriTemplate => "http://example.com/{id}",
-            BuiltinFormat::Uuid => "00000000-0000-4000-8000-000000000000",
-        }
+        self.row().example
     }
 
     /// A text of the least length of `length_window`, and where its upper end is closed one of the greatest.
@@ -154,32 +119,7 @@ impl BuiltinFormat {
         ensures { option_map (λ (shortest, longest). (shortest.now, option_map (λ it. it.now) longest)) result
             ≡ window_texts_of self }
     {
-        match self {
-            BuiltinFormat::Date => Some(("2020-01-01", Some("2020-01-01"))),
-            BuiltinFormat::DateTime => Some(("2020-01-01T00:00:00Z", None)),
-            BuiltinFormat::Duration => Some(("P1D", None)),
-            BuiltinFormat::Hostname | BuiltinFormat::HostnameDraft4 => Some((
-                "a",
-                Some(LONGEST_HOST_NAME),
-            )),
-            BuiltinFormat::Ipv4 => Some(("0.0.0.0", Some("255.255.255.255"))),
-            BuiltinFormat::Ipv6 => Some((
-                "::",
-                Some("0000:0000:0000:0000:0000:0000:255.255.255.255"),
-            )),
-            BuiltinFormat::Time => Some(("00:00:00Z", None)),
-            BuiltinFormat::Uuid => Some((
-                "00000000-0000-4000-8000-000000000000",
-                Some("00000000-0000-4000-8000-000000000000"),
-            )),
-            BuiltinFormat::Iri
-            | BuiltinFormat::IriReference
-            | BuiltinFormat::JsonPointer
-            | BuiltinFormat::RelativeJsonPointer
-            | BuiltinFormat::Uri
-            | BuiltinFormat::UriReference
-            | BuiltinFormat::UriTemplate => None,
-        }
+        self.row().window_texts
     }
 
     /// Whether the format's grammar derives the text.
@@ -210,21 +150,152 @@ impl BuiltinFormat {
     fn is_known_in(self, draft: Draft) -> bool
         ensures { result ≡ is_known self draft }
     {
+        let row = self.row();
+        row.first <= draft && draft <= row.last
+    }
+
+    // The table: a row a format.
+    fn row(self) -> FormatRow
+        ensures name { result.name.now ≡ format_name self }
+        ensures first { result.first ≡ (format_row self).first }
+        ensures last { result.last ≡ (format_row self).last }
+        ensures example { result.example.now ≡ example_of self }
+        ensures window { result.window ≡ option_map bounds (window_of self) }
+        ensures window_texts { option_map (λ (shortest, longest). (shortest.now, option_map (λ it. it.now) longest))
+            result.window_texts ≡ window_texts_of self }
+    {
         match self {
-            BuiltinFormat::Date
-            | BuiltinFormat::DateTime
-            | BuiltinFormat::Ipv4
-            | BuiltinFormat::Ipv6
-            | BuiltinFormat::Time
-            | BuiltinFormat::Uri => true,
-            BuiltinFormat::HostnameDraft4 => draft < Draft::Draft7,
-            BuiltinFormat::JsonPointer | BuiltinFormat::UriReference | BuiltinFormat::UriTemplate =>
-                draft >= Draft::Draft6,
-            BuiltinFormat::Hostname
-            | BuiltinFormat::Iri
-            | BuiltinFormat::IriReference
-            | BuiltinFormat::RelativeJsonPointer => draft >= Draft::Draft7,
-            BuiltinFormat::Duration | BuiltinFormat::Uuid => draft >= Draft::Draft201909,
+            BuiltinFormat::Date => FormatRow {
+                name: "date",
+                first: Draft::Draft4,
+                last: Draft::Draft202012,
+                example: "2020-01-01",
+                window: Some((10, 10)),
+                window_texts: Some(("2020-01-01", Some("2020-01-01"))),
+            },
+            BuiltinFormat::DateTime => FormatRow {
+                name: "date-time",
+                first: Draft::Draft4,
+                last: Draft::Draft202012,
+                example: "2020-01-01T00:00:00Z",
+                window: Some((20, u64::MAX)),
+                window_texts: Some(("2020-01-01T00:00:00Z", None)),
+            },
+            BuiltinFormat::Duration => FormatRow {
+                name: "duration",
+                first: Draft::Draft201909,
+                last: Draft::Draft202012,
+                example: "P1D",
+                window: Some((3, u64::MAX)),
+                window_texts: Some(("P1D", None)),
+            },
+            BuiltinFormat::Hostname => FormatRow {
+                name: "hostname",
+                first: Draft::Draft7,
+                last: Draft::Draft202012,
+                example: "example.com",
+                window: Some((1, 253)),
+                window_texts: Some(("a", Some(LONGEST_HOST_NAME))),
+            },
+            BuiltinFormat::HostnameDraft4 => FormatRow {
+                name: "hostname",
+                first: Draft::Draft4,
+                last: Draft::Draft6,
+                example: "example.com",
+                window: Some((1, 253)),
+                window_texts: Some(("a", Some(LONGEST_HOST_NAME))),
+            },
+            BuiltinFormat::Ipv4 => FormatRow {
+                name: "ipv4",
+                first: Draft::Draft4,
+                last: Draft::Draft202012,
+                example: "127.0.0.1",
+                window: Some((7, 15)),
+                window_texts: Some(("0.0.0.0", Some("255.255.255.255"))),
+            },
+            BuiltinFormat::Ipv6 => FormatRow {
+                name: "ipv6",
+                first: Draft::Draft4,
+                last: Draft::Draft202012,
+                example: "::1",
+                window: Some((2, 45)),
+                window_texts: Some(("::", Some("0000:0000:0000:0000:0000:0000:255.255.255.255"))),
+            },
+            BuiltinFormat::Iri => FormatRow {
+                name: "iri",
+                first: Draft::Draft7,
+                last: Draft::Draft202012,
+                example: "http://example.com",
+                window: None,
+                window_texts: None,
+            },
+            BuiltinFormat::IriReference => FormatRow {
+                name: "iri-reference",
+                first: Draft::Draft7,
+                last: Draft::Draft202012,
+                example: "http://example.com",
+                window: None,
+                window_texts: None,
+            },
+            BuiltinFormat::JsonPointer => FormatRow {
+                name: "json-pointer",
+                first: Draft::Draft6,
+                last: Draft::Draft202012,
+                example: "/a",
+                window: None,
+                window_texts: None,
+            },
+            BuiltinFormat::RelativeJsonPointer => FormatRow {
+                name: "relative-json-pointer",
+                first: Draft::Draft7,
+                last: Draft::Draft202012,
+                example: "0",
+                window: None,
+                window_texts: None,
+            },
+            BuiltinFormat::Time => FormatRow {
+                name: "time",
+                first: Draft::Draft4,
+                last: Draft::Draft202012,
+                example: "00:00:00Z",
+                window: Some((9, u64::MAX)),
+                window_texts: Some(("00:00:00Z", None)),
+            },
+            BuiltinFormat::Uri => FormatRow {
+                name: "uri",
+                first: Draft::Draft4,
+                last: Draft::Draft202012,
+                example: "http://example.com",
+                window: None,
+                window_texts: None,
+            },
+            BuiltinFormat::UriReference => FormatRow {
+                name: "uri-reference",
+                first: Draft::Draft6,
+                last: Draft::Draft202012,
+                example: "http://example.com",
+                window: None,
+                window_texts: None,
+            },
+            BuiltinFormat::UriTemplate => FormatRow {
+                name: "uri-template",
+                first: Draft::Draft6,
+                last: Draft::Draft202012,
+                example: "http://example.com/{id}",
+                window: None,
+                window_texts: None,
+            },
+            BuiltinFormat::Uuid => FormatRow {
+                name: "uuid",
+                first: Draft::Draft201909,
+                last: Draft::Draft202012,
+                example: "00000000-0000-4000-8000-000000000000",
+                window: Some((36, 36)),
+                window_texts: Some((
+                    "00000000-0000-4000-8000-000000000000",
+                    Some("00000000-0000-4000-8000-000000000000"),
+                )),
+            },
         }
     }
 }
