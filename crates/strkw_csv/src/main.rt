@@ -4,7 +4,6 @@
 #![tactic(auto)]
 
 use serde_json::Value;
-use std::alloc::Global;
 use std::process::ExitCode;
 use std::{env, fs, io};
 use strkw_ecma::EcmaPatterns;
@@ -37,30 +36,43 @@ impl Progress<'_> {
     }
 }
 
-// The JSON value of a file, or what is wrong with it.
-fn plan_of(rt: &HostRuntime, alloc: Global, path: &str) -> Option<Value> {
-    let Ok(text) = fs::read_to_string(rt, path) else {
-        let _ = eprintln!(rt; "strkw_csv: `{path}` cannot be read");
-        return None;
-    };
-    match Value::from_str(alloc, text.as_str()) {
-        Ok(plan) => Some(plan),
+// Tells of a fault, and answers its status.
+fn fault(rt: &HostRuntime, text: &str) -> ExitCode {
+    let _ = eprintln!(rt; "strkw_csv: {text}");
+    ExitCode::from(FAULT)
+}
+
+// The JSON value of a file; or the status of a fault, which is told.
+fn plan_of(rt: &HostRuntime, path: &str) -> Result<Value, ExitCode> {
+    let text = match fs::read_to_string(rt, path) {
+        Ok(text) => text,
         Err(e) => {
+            if e.kind() == io::ErrorKind::OutOfMemory {
+                return Err(fault(rt, "out of memory"));
+            }
+            let _ = eprintln!(rt; "strkw_csv: `{path}` cannot be read: {e}");
+            return Err(ExitCode::from(FAULT));
+        }
+    };
+    match Value::from_str(rt.alloc(), text.as_str()) {
+        Ok(plan) => Ok(plan),
+        Err(e) => {
+            if e.is_memory() {
+                return Err(fault(rt, "out of memory"));
+            }
             let _ = eprintln!(rt; "strkw_csv: `{path}` is not JSON: {e}");
-            None
+            Err(ExitCode::from(FAULT))
         }
     }
 }
 
-fn check(rt: &HostRuntime, path: &str, asked: bool) -> ExitCode {
-    let alloc = rt.alloc();
-    let Some(plan) = plan_of(rt, alloc, path) else {
-        return ExitCode::from(FAULT);
-    };
+// How many records and errors there are; or the status of a fault, which is told.
+fn check(rt: &HostRuntime, path: &str, asked: bool) -> Result<Checked, ExitCode> {
+    let plan = plan_of(rt, path)?;
     let mut progress = Progress { rt, asked };
     let mut out = io::writer(rt);
     match check_table(
-        alloc,
+        rt.alloc(),
         &EcmaPatterns,
         &plan,
         rt.reader(),
@@ -71,38 +83,34 @@ fn check(rt: &HostRuntime, path: &str, asked: bool) -> ExitCode {
             if asked {
                 progress.tell(checked);
             }
-            if checked.errors == 0 {
-                ExitCode::SUCCESS
-            } else {
-                ExitCode::FAILURE
-            }
+            Ok(checked)
         }
-        Err(fault) => {
-            let _ = eprintln!(rt; "strkw_csv: {fault}");
-            ExitCode::from(FAULT)
+        Err(e) => {
+            let _ = eprintln!(rt; "strkw_csv: {e}");
+            Err(ExitCode::from(FAULT))
         }
     }
 }
 
 fn main(rt: HostRuntime) -> ExitCode {
     let Ok(words) = env::args(&rt) else {
-        let _ = rt.eprintln("strkw_csv: out of memory");
-        return ExitCode::from(FAULT);
+        return fault(&rt, "out of memory");
     };
     let mut words = words.skip(1);
-    let Some(path) = words.next() else {
+    let (Some(path), option, None) = (words.next(), words.next(), words.next()) else {
         let _ = rt.eprintln(USAGE);
         return ExitCode::from(FAULT);
     };
-    let asked = match words.next() {
-        None => false,
-        Some(word) => {
-            if word.as_str() != "--progress" {
-                let _ = rt.eprintln(USAGE);
-                return ExitCode::from(FAULT);
-            }
-            true
+    let asked = option.is_some();
+    if let Some(word) = option {
+        if word.as_str() != "--progress" {
+            let _ = rt.eprintln(USAGE);
+            return ExitCode::from(FAULT);
         }
-    };
-    check(&rt, path.as_str(), asked)
+    }
+    match check(&rt, path.as_str(), asked) {
+        Ok(checked) if checked.errors == 0 => ExitCode::SUCCESS,
+        Ok(_) => ExitCode::FAILURE,
+        Err(status) => status,
+    }
 }
