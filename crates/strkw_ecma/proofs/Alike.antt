@@ -1,11 +1,14 @@
 -- Characters of one class: a covered pattern does not tell them apart.
-use Rattle.std.proofs.Common.{◌≡◌, ◌⊎◌, ℕ, suc, ◌≤◌, ◌<◌, Bool, true, false, ◌&&◌, ◌||◌, List, [], ◌∷◌, Option, Some, length, refl, sym, ap, ◌∙◌, ⊎_elim, true≢false, if◌then◌else◌, arith, leb, eqb}
-use Rattle.std.proofs.lemmas.Bool.{leb-true, leb-false, le-leb, lt-leb, eqb-true}
+use Rattle.std.proofs.Common.{◌≡◌, ◌⊎◌, ℕ, zero, suc, ◌≤◌, ◌<◌, Bool, true, false, ◌&&◌, ◌||◌, List, [], ◌∷◌, Option, Some, None, length, get_or, refl, sym, ap, ◌∙◌, ⊎_elim, true≢false, if◌then◌else◌, arith, leb, eqb}
+use Rattle.std.proofs.lemmas.Bool.{leb-true, leb-false, le-leb, lt-leb, eqb-true, eq-eqb}
+use Rattle.std.proofs.Math.Utf8.{scalar_cases}
+use Rattle.std.specs.Char.{IsScalar}
 use Rattle.strkw_ecma.specs.Tree.{Look, Pattern, empty, class, look, cat, alt, star, plus, start, end, boundary, no_boundary, in_ranges, differ, is_member}
 use Rattle.strkw_ecma.specs.Meaning.{is_word, is_edge, holds}
 use Rattle.strkw_ecma.specs.Marks.{leaves, step}
-use Rattle.strkw_ecma.specs.Table.{class_of, has, covers_ranges, covers}
-use Rattle.strkw_ecma.proofs.Steps.{and_left, and_right}
+use Rattle.strkw_ecma.specs.Codes.{max_code_point}
+use Rattle.strkw_ecma.specs.Table.{class_of, has, has_if_some, next_char, covers_ranges, covers}
+use Rattle.strkw_ecma.proofs.Steps.{and_left, and_right, or_left, or_right}
 
 one_more : Bool → ℕ → ℕ
 one_more x n = if x then suc n else n
@@ -93,10 +96,34 @@ module _ (b e a d : Option ℕ) (word : is_word b ≡ is_word e) (edge : is_edge
   same_leaves (star p) x = ap (λ (y : Bool). x || y) (same_leaves p false)
   same_leaves (plus p) x = ap (λ (y : Bool). leaves b a p (x || y)) (same_leaves p false) ∙ same_leaves p _
 
-module _ (ts : List ℕ) (c d : ℕ) (same : SameFirsts ts c d) where
-  same_high : (r : ℕ) → has ts (suc r) ≡ true → leb c r ≡ leb d r
+-- the character d is in the class of c, and not below c
+module _ (ts : List ℕ) (c d : ℕ) (same : SameFirsts ts c d) (ordered : c ≤ d) (scalar : IsScalar d) where
+  both_below : (r : ℕ) → d ≤ r → leb c r ≡ leb d r
+  both_below r h = le-leb c r (omega arith) ∙ sym (le-leb d r h)
+
+  -- behind U+D7FF the next character is U+E000
+  over_surrogates : (x : Bool) → leb 0xE000 d ≡ x → leb 0xE000 c ≡ x → leb c 0xD7FF ≡ leb d 0xD7FF
+  over_surrogates true e f =
+      let one : 0xE000 ≤ d = leb-true 0xE000 d e in
+      let other : 0xE000 ≤ c = leb-true 0xE000 c f in
+      lt-leb c 0xD7FF (omega arith) ∙ sym (lt-leb d 0xD7FF (omega arith))
+  over_surrogates false e f =
+      let low : d < 0xE000 = leb-false 0xE000 d e in
+      ⊎_elim (λ h. both_below 0xD7FF (omega arith)) (λ h. absurd (omega (arith, h.0))) (scalar_cases d scalar)
+
+  by_end : (r : ℕ) (x y : Bool) → eqb r max_code_point ≡ x → eqb r 0xD7FF ≡ y
+      → has_if_some ts (if x then None else if y then Some 0xE000 else Some (suc r)) ≡ true → leb c r ≡ leb d r
   unfolding SameFirsts
-  same_high r e = above r c (leb (suc r) d) (same (suc r) e) ∙ sym (above r d (leb (suc r) d) refl)
+  by_end r true y e f h =
+      let last : r ≡ max_code_point = eqb-true r max_code_point e in
+      ⊎_elim (λ h. both_below r (omega arith)) (λ h. both_below r (omega (arith, h.1))) (scalar_cases d scalar)
+  by_end r false true e f h =
+      let before : r ≡ 0xD7FF = eqb-true r 0xD7FF f in
+      rw before (over_surrogates _ refl (same 0xE000 h))
+  by_end r false false e f h = above r c (leb (suc r) d) (same (suc r) h) ∙ sym (above r d (leb (suc r) d) refl)
+
+  same_high : (r : ℕ) → has_if_some ts (next_char r) ≡ true → leb c r ≡ leb d r
+  same_high r h = by_end r _ _ refl refl h
 
   pub same_ranges : (rs : List (ℕ × ℕ)) → covers_ranges ts rs ≡ true → in_ranges rs c ≡ in_ranges rs d
   unfolding SameFirsts
@@ -105,7 +132,7 @@ module _ (ts : List ℕ) (c d : ℕ) (same : SameFirsts ts c d) where
       let here = and_left _ _ h in
       let low : leb r.0 c ≡ leb r.0 d = same r.0 (and_left _ _ here) in
       let high : leb c r.1 ≡ leb d r.1 = same_high r.1 (and_right _ _ here) in
-      let rest = same_ranges rs (and_right (has ts r.0 && has ts (suc r.1)) _ h) in
+      let rest = same_ranges rs (and_right (has ts r.0 && has_if_some ts (next_char r.1)) _ h) in
       rw (low, high, rest) refl
 
   same_member : (n : Bool) (rs : List (ℕ × ℕ)) → covers_ranges ts rs ≡ true → is_member n rs c ≡ is_member n rs d
@@ -153,3 +180,14 @@ class_there t ts c false e false f g rest = rest g
 pub in_some_class : (ts : List ℕ) (c : ℕ) → has ts 0 ≡ true → 0 < class_of ts c
 in_some_class [] c h = absurd (true≢false (sym h))
 in_some_class (t ∷ ts) c h = class_there t ts c (leb t c) refl (eqb t 0) refl h (in_some_class ts c)
+
+-- of the first characters, each is one
+pub has_each : (ts : List ℕ) (k : ℕ) → k < length ts → has ts (get_or ts k 0) ≡ true
+has_each [] k h = absurd (omega arith)
+has_each (t ∷ ts) zero h = or_left _ _ (eq-eqb t t refl)
+has_each (t ∷ ts) (suc k) h = or_right _ _ (has_each ts k (omega arith))
+
+-- no first character is above those of its class
+pub first_below : (ts : List ℕ) (t c : ℕ) → SameFirsts ts t c → has ts t ≡ true → t ≤ c
+unfolding SameFirsts
+first_below ts t c same h = leb-true t c (sym (same t h) ∙ le-leb t t (omega arith))

@@ -1,14 +1,16 @@
 -- A right table gives the answers of the search.
 use Rattle.std.proofs.Common.{◌≡◌, ℕ, suc, ◌-◌, ◌<◌, ◌≤◌, ◌==◌, true, false, List, length, get_or, Option, Some, None, slice_get, refl, sym, ap, subst, ◌∙◌, arith}
+use Rattle.std.proofs.lemmas.Str.{scalars-chars}
+use Rattle.std.specs.Char.{IsScalar}
+use Rattle.std.specs.Str.{chars}
 use Rattle.strkw_ecma.specs.Tree.{Pattern}
 use Rattle.strkw_ecma.specs.Sets.{word_characters}
 use Rattle.strkw_ecma.specs.Meaning.{is_word, is_edge}
 use Rattle.strkw_ecma.specs.Marks.{leaves, step}
-use Rattle.strkw_ecma.specs.Search.{search_from}
 use Rattle.strkw_ecma.specs.Shape.{pattern_of}
-use Rattle.strkw_ecma.specs.Table.{class_of, entry_at, found, walk, covers, IsEntry, IsRow, IsTable}
+use Rattle.strkw_ecma.specs.Table.{class_of, entry_at, found, covers, IsEntry, IsRow, IsTable, Searches}
 use Rattle.strkw_ecma.specs.declared.states.State.{State}
-use Rattle.strkw_ecma.proofs.Alike.{class_most, in_some_class, same_firsts, SameFirsts, same_leaves, same_ranges, same_step, step_covers}
+use Rattle.strkw_ecma.proofs.Alike.{class_most, first_below, has_each, in_some_class, same_firsts, SameFirsts, same_leaves, same_ranges, same_step, step_covers}
 use Rattle.strkw_ecma.proofs.Walks.{walks}
 
 module _ (firsts entries : List ℕ) (states : List State) (p : Pattern) (table : IsTable firsts entries states p) where
@@ -29,7 +31,7 @@ module _ (firsts entries : List ℕ) (states : List State) (p : Pattern) (table 
       (row_of row q b at).ends ∙ same_leaves at.state.last b None None at.word at.edge refl refl (pattern_of at.state.tree) true
       ∙ ap (λ (r : Pattern). leaves b None r true) at.marks
 
-  module _ (row : ℕ) (q : Pattern) (b : Option ℕ) (c : ℕ) (at : At row q b) where
+  module _ (row : ℕ) (q : Pattern) (b : Option ℕ) (c : ℕ) (char : IsScalar c) (at : At row q b) where
     -- the first character of the class
     abbrev first : ℕ
     first = get_or firsts (class_of firsts c - 1) 0
@@ -46,11 +48,14 @@ module _ (firsts entries : List ℕ) (states : List State) (p : Pattern) (table 
     alike : SameFirsts firsts first c
     alike = same_firsts firsts first c (table.numbered _ within ∙ sym class_is)
 
+    below : first ≤ c
+    below = first_below firsts first c alike (has_each firsts _ within)
+
     entry : IsEntry states at.state first (entry_at entries row (class_of firsts c))
     entry = subst (λ (k : ℕ). IsEntry states at.state first (entry_at entries row k)) (sym class_is) ((row_of row q b at).reads _ within)
 
     next_word : is_word (Some first) ≡ is_word (Some c)
-    next_word = same_ranges firsts first c alike word_characters table.words
+    next_word = same_ranges firsts first c alike below char word_characters table.words
 
     left_is : (r : Pattern) → leaves at.state.last (Some first) r true ≡ leaves b (Some c) r true
     left_is r = same_leaves at.state.last b (Some first) (Some c) at.word at.edge next_word refl r true
@@ -61,7 +66,7 @@ module _ (firsts entries : List ℕ) (states : List State) (p : Pattern) (table 
     stepped : step at.state.last (Some first) (pattern_of at.state.tree) true ≡ step b (Some c) q true
     stepped =
         ap (λ (r : Pattern). step at.state.last (Some first) r true) at.marks
-        ∙ same_step firsts first c alike at.state.last b at.word at.edge next_word q true at.covered
+        ∙ same_step firsts first c alike below char at.state.last b at.word at.edge next_word q true at.covered
 
     pub finds : (entry_at entries row (class_of firsts c) == found) ≡ leaves b (Some c) q true
     finds = entry.finds ∙ here
@@ -90,5 +95,5 @@ module _ (firsts entries : List ℕ) (states : List State) (p : Pattern) (table 
         covered = table.covered;
       }
 
-  pub answers : (text : List ℕ) → walk firsts entries 0 text ≡ search_from p None text
-  answers text = walks firsts entries At ends finds goes text 0 p None begins
+  pub answers : Searches firsts entries p
+  answers text utf8 = walks firsts entries At ends finds goes (chars text) 0 p None (scalars-chars text utf8) begins

@@ -1,9 +1,11 @@
 -- A table of the search: a row for marks that it can come to, and in a row a column for the end of the text and one for each
 -- class of characters that the pattern does not tell apart.
-use Rattle.std.specs.Prelude.{◌≡◌, ℕ, suc, ◌+◌, ◌*◌, ◌<◌, ◌==◌, nat_le, Bool, true, false, ◌&&◌, ◌||◌, List, [], ◌∷◌, length, Some, None, get_or, slice_get, if◌then◌else◌}
+use Rattle.std.specs.Prelude.{◌≡◌, ℕ, suc, ◌+◌, ◌*◌, ◌<◌, ◌==◌, nat_le, Bool, true, false, ◌&&◌, ◌||◌, List, [], ◌∷◌, length, Option, Some, None, get_or, slice_get, if◌then◌else◌}
+use Rattle.std.specs.Str.{IsUtf8, chars}
 use Rattle.strkw_ecma.specs.Tree.{Pattern, empty, class, look, cat, alt, star, plus}
 use Rattle.strkw_ecma.specs.Meaning.{is_word, is_edge}
 use Rattle.strkw_ecma.specs.Sets.{word_characters}
+use Rattle.strkw_ecma.specs.Codes.{max_code_point}
 use Rattle.strkw_ecma.specs.Marks.{leaves, step}
 use Rattle.strkw_ecma.specs.Search.{search_from}
 use Rattle.strkw_ecma.specs.Shape.{pattern_of}
@@ -34,10 +36,19 @@ abbrev pub has : List ℕ → ℕ → Bool
 has [] t = false
 has (u ∷ us) t = (u == t) || has us t
 
+-- the next character, where there is one: between U+D7FF and U+E000 stand surrogates alone
+abbrev pub next_char : ℕ → Option ℕ
+next_char c = if c == max_code_point then None else if c == 0xD7FF then Some 0xE000 else Some (suc c)
+
+-- a class begins with the character, if there is one
+abbrev pub has_if_some : List ℕ → Option ℕ → Bool
+has_if_some firsts None = true
+has_if_some firsts (Some c) = has firsts c
+
 -- a class begins with each range, and one behind it
 abbrev pub covers_ranges : List ℕ → List (ℕ × ℕ) → Bool
 covers_ranges firsts [] = true
-covers_ranges firsts (r ∷ rs) = (has firsts r.0 && has firsts (suc r.1)) && covers_ranges firsts rs
+covers_ranges firsts (r ∷ rs) = (has firsts r.0 && has_if_some firsts (next_char r.1)) && covers_ranges firsts rs
 
 abbrev pub covers : List ℕ → Pattern → Bool
 covers firsts empty = true
@@ -59,9 +70,9 @@ pub record IsEntry (states : List State) (s : State) (c : ℕ) (entry : ℕ) : T
   pub goes : leaves s.last (Some c) (pattern_of s.tree) true ≡ false
       → IsBehind states entry (step s.last (Some c) (pattern_of s.tree) true) c
 
--- the search by this table is that of the pattern
+-- in every text the search by this table is that of the pattern
 abbrev pub Searches : List ℕ → List ℕ → Pattern → Type 0
-Searches firsts entries p = (text : List ℕ) → walk firsts entries 0 text ≡ search_from p None text
+Searches firsts entries p = (text : List ℕ) → IsUtf8 text → walk firsts entries 0 (chars text) ≡ search_from p None (chars text)
 
 -- the row is right for a state, and for the first character of each class
 pub record IsRow (firsts entries : List ℕ) (states : List State) (s : State) (row : ℕ) : Type 0 where

@@ -7,7 +7,7 @@ ghost use Rattle.strkw_ecma.specs.Table.{class_of as spec_class_of, stride, Sear
 use crate::marks::{leaves_tree, step_tree};
 use crate::sets::WORD_CHARACTERS;
 use crate::states::{State, is_table};
-use crate::table::{FOUND, STRIDE, Table, class_of};
+use crate::table::{FOUND, STRIDE, Table, class_of, next_char};
 use crate::tree::{CharRange, Tree};
 use std::alloc::{AllocError, Global};
 
@@ -43,7 +43,7 @@ fn add_first(firsts: &mut Vec<char>, c: char) -> Result<(), AllocError> {
 fn add_ranges(firsts: &mut Vec<char>, ranges: &[CharRange]) -> Result<(), AllocError> {
     for range in ranges {
         add_first(firsts, range.0)?;
-        if let Some(after) = char::from_u32(u32::from(range.1) + 1) {
+        if let Some(after) = next_char(range.1) {
             add_first(firsts, after)?;
         }
     }

@@ -3,11 +3,11 @@
 ghost use Rattle.std.specs.Prelude.{◌≡◌, ◌==◌, ◌≤◌, ◌<◌, ℕ, suc, List, length, true, false, IsTrue, IfOk, None, Some, get_or, slice_get};
 ghost use Rattle.strkw_ecma.specs.Meaning.{is_word as spec_is_word, is_edge as spec_is_edge};
 ghost use Rattle.strkw_ecma.specs.Shape.{pattern_of};
-ghost use Rattle.strkw_ecma.specs.Table.{class_of as spec_class_of, entry_at as spec_entry_at, found, has, covers as spec_covers, covers_ranges as spec_covers_ranges, stride, IsBehind, IsEntry, IsRow, IsTable};
+ghost use Rattle.strkw_ecma.specs.Table.{class_of as spec_class_of, entry_at as spec_entry_at, found, has, has_if_some as spec_has_if_some, covers as spec_covers, covers_ranges as spec_covers_ranges, stride, IsBehind, IsEntry, IsRow, IsTable};
 
 use crate::marks::{is_word, leaves_tree, step_tree};
 use crate::sets::WORD_CHARACTERS;
-use crate::table::{FOUND, STRIDE, Table, class_of, entry_at};
+use crate::table::{FOUND, STRIDE, Table, class_of, entry_at, next_char};
 use crate::tree::{CharRange, Tree};
 use std::alloc::{AllocError, Global};
 
@@ -73,15 +73,25 @@ fn is_same(one: &Tree, other: &Tree) -> bool
     }
 }
 
-fn has_first(firsts: &[char], c: u32) -> bool
+fn has_first(firsts: &[char], c: char) -> bool
     ensures { result ≡ has firsts.now c }
 {
     for first in firsts {
-        if u32::from(*first) == c {
+        if *first == c {
             return true;
         }
     }
     false
+}
+
+// Whether a class begins with the character, if there is one.
+fn has_if_some(firsts: &[char], c: Option<char>) -> bool
+    ensures { result ≡ spec_has_if_some firsts.now c }
+{
+    match c {
+        Some(c) => has_first(firsts, c),
+        None => true,
+    }
 }
 
 // Whether a class begins with each range, and one behind it.
@@ -89,7 +99,7 @@ fn covers_ranges(firsts: &[char], ranges: &[CharRange]) -> bool
     ensures { IsTrue result → spec_covers_ranges firsts.now ranges.now ≡ true }
 {
     for range in ranges {
-        if !(has_first(firsts, u32::from(range.0)) && has_first(firsts, u32::from(range.1) + 1)) {
+        if !(has_first(firsts, range.0) && has_if_some(firsts, next_char(range.1))) {
             return false;
         }
     }
@@ -222,7 +232,7 @@ pub(crate) fn is_table(
     if !covers(firsts, tree) || !covers_ranges(firsts, &WORD_CHARACTERS) {
         return Ok(false);
     }
-    if !has_first(firsts, 0) || !are_numbered(firsts) || !begins(states, tree) {
+    if !has_first(firsts, '\0') || !are_numbered(firsts) || !begins(states, tree) {
         return Ok(false);
     }
     Ok(are_rows(alloc, firsts, entries, states)?)

@@ -2,7 +2,7 @@
 
 ghost use Rattle.std.specs.Prelude.{◌≡◌, ◌≤◌, ◌<◌, ℕ, List, length, get_or};
 ghost use Rattle.std.specs.Str.{chars};
-ghost use Rattle.strkw_ecma.specs.Table.{class_of as spec_class_of, entry_at as spec_entry_at, walk, stride};
+ghost use Rattle.strkw_ecma.specs.Table.{class_of as spec_class_of, entry_at as spec_entry_at, next_char as spec_next_char, walk, stride};
 
 /// How many entries a row has: that of the end of the text, and those of the classes of characters.
 pub(crate) const STRIDE: usize = 64;
@@ -18,6 +18,17 @@ pub(crate) struct Table {
     pub(crate) entries: Vec<u8>,
     ghost few: { length firsts.items < stride },
     ghost classes: { (c : ℕ) → c < length ascii.items → get_or ascii.items c 0 ≡ spec_class_of firsts.items c },
+}
+
+/// The next character, where there is one.
+pub(crate) fn next_char(c: char) -> Option<char>
+    ensures { result ≡ spec_next_char c }
+{
+    match c {
+        char::MAX => None,
+        '\u{D7FF}' => Some('\u{E000}'),
+        _ => char::from_u32(u32::from(c) + 1),
+    }
 }
 
 /// The number of a character's class: how many of the first characters of the classes are not above it.

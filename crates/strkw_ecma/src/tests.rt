@@ -3,9 +3,12 @@
 mod rows;
 
 use self::rows::{
-    CLASSES_1, CLASSES_2, CLASSES_3, CLASSES_4, CODES_1, CODES_2, CODES_3, COUNTS_1, COUNTS_2,
+    BORDERS, CLASSES_1, CLASSES_2, CLASSES_3, CLASSES_4, CODES_1, CODES_2, CODES_3, COUNTS_1,
+    COUNTS_2,
 };
 use crate::EcmaPatterns;
+use crate::making::table_of;
+use crate::reader::read;
 use std::alloc::{AllocError, Global};
 use std::test::Fail;
 use strkw_pattern::{BuildRefusal, EngineBuilder, EngineFailure, RegexEngine};
@@ -399,6 +402,7 @@ fn patterns_are_found(rt: HostRuntime) -> Result<(), Fail> {
         &CLASSES_2[..],
         &CLASSES_3[..],
         &CLASSES_4[..],
+        &BORDERS[..],
         &COUNTS_1[..],
         &COUNTS_2[..],
         &CODES_1[..],
@@ -411,6 +415,27 @@ fn patterns_are_found(rt: HostRuntime) -> Result<(), Fail> {
                 Ok(Ok(*want)),
                 "{pattern} on {text:?}"
             );
+        }
+    }
+    Ok(())
+}
+
+// Patterns, and whether each has a table.
+#[test]
+fn small_patterns_have_a_table(rt: HostRuntime) -> Result<(), Fail> {
+    let alloc = rt.alloc();
+    for (pattern, made) in [
+        ("^[0-9]{4}-[0-9]{2}-[0-9]{2}$", true),
+        ("^[\\s\\S]$", true),
+        ("[\\D\\W]", true),
+        ("[a-\\uD7FF]", true),
+        ("a{60}", true),
+        ("a{70}", false),
+        ("(a|b)*a(a|b){6}", false),
+    ] {
+        match read(alloc, pattern)? {
+            Some(tree) => { assert_eq!(rt; table_of(alloc, &tree)?.is_some(), made, "{pattern}") }
+            None => return Err(Fail::from(pattern)),
         }
     }
     Ok(())

@@ -100,6 +100,46 @@ pub(super) const CLASSES_4: [(&str, &str, bool); 4] = [
     ("^(?:[a-z]|[0-9])+$", "a1", true),
 ];
 
+// Ranges up to the last character, and up to the last one before the surrogates.
+pub(super) const BORDERS: [(&str, &str, bool); 28] = [
+    ("^[\\s\\S]$", "\u{10FFFF}", true),
+    ("^[\\s\\S]$", "\n", true),
+    ("^[\\s\\S]+$", "a\u{D7FF}\u{E000}", true),
+    ("^[\\S]$", "\u{10FFFF}", true),
+    ("^[\\S]$", "\u{FEFF}", false),
+    ("^[\\D]$", "\u{10FFFF}", true),
+    ("^[\\D]$", "7", false),
+    ("^[^\\D]$", "7", true),
+    ("^[^\\D]$", "\u{10FFFF}", false),
+    ("^[\\W_]+$", "\u{10FFFF}_", true),
+    ("^[\\W_]+$", "\u{10FFFF}a", false),
+    ("^[\\u{10FFFF}]$", "\u{10FFFF}", true),
+    ("^[\\u{10FFFF}]$", "\u{10FFFE}", false),
+    ("^[^\\u{10FFFF}]$", "\u{10FFFF}", false),
+    ("^[^\\u{10FFFF}]$", "\u{10FFFE}", true),
+    ("^[a-\\u{10FFFF}]$", "`", false),
+    ("^[a-\\u{10FFFF}]$", "a", true),
+    ("^[a-\\uD7FF]$", "\u{D7FF}", true),
+    ("^[a-\\uD7FF]$", "\u{E000}", false),
+    ("^[^a-\\uD7FF]$", "\u{D7FF}", false),
+    ("^[^a-\\uD7FF]$", "\u{E000}", true),
+    ("^[\\uE000-\\uFFFD]$", "\u{D7FF}", false),
+    ("^[\\uE000-\\uFFFD]$", "\u{E000}", true),
+    ("^[\\uE000-\\uFFFD]$", "\u{FFFE}", false),
+    (
+        "^[\\u3001-\\uD7FF\\uF900-\\uFDCF]+$",
+        "\u{3001}\u{D7FF}\u{F900}",
+        true,
+    ),
+    (
+        "^[\\u3001-\\uD7FF\\uF900-\\uFDCF]+$",
+        "\u{3001}\u{E000}\u{F900}",
+        false,
+    ),
+    ("\\b[\\S]", "\u{10FFFF}", false),
+    ("\\B[\\S]$", "\u{10FFFF}", true),
+];
+
 pub(super) const COUNTS_1: [(&str, &str, bool); 28] = [
     ("^(?:a){0}$", "", true),
     ("^a{2}$", "aa", true),
