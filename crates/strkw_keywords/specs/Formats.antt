@@ -1,5 +1,5 @@
 -- The built-in formats: the grammars of their texts, and a row of what else is told of each. Names and texts are ASCII.
-use Rattle.std.specs.Prelude.{ℕ, ◌-◌, ◌^◌, List, [], ◌∷◌, Bool, true, ◌&&◌, nat_le, Option, Some, None, unwrap_or, find, codes}
+use Rattle.std.specs.Prelude.{ℕ, ◌-◌, ◌^◌, List, [], ◌∷◌, Bool, ◌&&◌, nat_le, Option, Some, None, unwrap_or, find, codes}
 use Rattle.std.specs.Str.{bytes_eq}
 use Rattle.strkw_report.specs.declared.draft.Draft.{Draft}
 use Rattle.strkw_report.specs.declared.draft.Draft.TheVariants.{Draft4, Draft6, Draft7, Draft201909, Draft202012}

@@ -1,5 +1,5 @@
 //! The formats that are checked without a registered check.
-ghost use Rattle.std.specs.Prelude.{◌≡◌, ◌↔◌, IsTrue, option_map};
+ghost use Rattle.std.specs.Prelude.{◌≡◌, ◌↔◌, None, IsTrue, option_map};
 ghost use Rattle.std.specs.Str.{chars};
 ghost use Rattle.strkw_keywords.specs.Formats.{IsOfBuiltin, format_name, is_known, window_of, bounds, example_of, window_texts_of, format_row, builtin_named};
 
@@ -166,137 +166,103 @@ impl BuiltinFormat {
     {
         match self {
             BuiltinFormat::Date => FormatRow {
-                name: "date",
-                first: Draft::Draft4,
-                last: Draft::Draft202012,
-                example: "2020-01-01",
                 window: Some((10, 10)),
                 window_texts: Some(("2020-01-01", Some("2020-01-01"))),
+                ..from_draft(Draft::Draft4, "date", "2020-01-01")
             },
             BuiltinFormat::DateTime => FormatRow {
-                name: "date-time",
-                first: Draft::Draft4,
-                last: Draft::Draft202012,
-                example: "2020-01-01T00:00:00Z",
                 window: Some((20, u64::MAX)),
                 window_texts: Some(("2020-01-01T00:00:00Z", None)),
+                ..from_draft(Draft::Draft4, "date-time", "2020-01-01T00:00:00Z")
             },
             BuiltinFormat::Duration => FormatRow {
-                name: "duration",
-                first: Draft::Draft201909,
-                last: Draft::Draft202012,
-                example: "P1D",
                 window: Some((3, u64::MAX)),
                 window_texts: Some(("P1D", None)),
+                ..from_draft(Draft::Draft201909, "duration", "P1D")
             },
             BuiltinFormat::Hostname => FormatRow {
-                name: "hostname",
-                first: Draft::Draft7,
-                last: Draft::Draft202012,
-                example: "example.com",
                 window: Some((1, 253)),
                 window_texts: Some(("a", Some(LONGEST_HOST_NAME))),
+                ..from_draft(Draft::Draft7, "hostname", "example.com")
             },
             BuiltinFormat::HostnameDraft4 => FormatRow {
-                name: "hostname",
-                first: Draft::Draft4,
                 last: Draft::Draft6,
-                example: "example.com",
                 window: Some((1, 253)),
                 window_texts: Some(("a", Some(LONGEST_HOST_NAME))),
+                ..from_draft(Draft::Draft4, "hostname", "example.com")
             },
             BuiltinFormat::Ipv4 => FormatRow {
-                name: "ipv4",
-                first: Draft::Draft4,
-                last: Draft::Draft202012,
-                example: "127.0.0.1",
                 window: Some((7, 15)),
                 window_texts: Some(("0.0.0.0", Some("255.255.255.255"))),
+                ..from_draft(Draft::Draft4, "ipv4", "127.0.0.1")
             },
             BuiltinFormat::Ipv6 => FormatRow {
-                name: "ipv6",
-                first: Draft::Draft4,
-                last: Draft::Draft202012,
-                example: "::1",
                 window: Some((2, 45)),
                 window_texts: Some(("::", Some("0000:0000:0000:0000:0000:0000:255.255.255.255"))),
+                ..from_draft(Draft::Draft4, "ipv6", "::1")
             },
-            BuiltinFormat::Iri => FormatRow {
-                name: "iri",
-                first: Draft::Draft7,
-                last: Draft::Draft202012,
-                example: "http://example.com",
-                window: None,
-                window_texts: None,
-            },
-            BuiltinFormat::IriReference => FormatRow {
-                name: "iri-reference",
-                first: Draft::Draft7,
-                last: Draft::Draft202012,
-                example: "http://example.com",
-                window: None,
-                window_texts: None,
-            },
-            BuiltinFormat::JsonPointer => FormatRow {
-                name: "json-pointer",
-                first: Draft::Draft6,
-                last: Draft::Draft202012,
-                example: "/a",
-                window: None,
-                window_texts: None,
-            },
-            BuiltinFormat::RelativeJsonPointer => FormatRow {
-                name: "relative-json-pointer",
-                first: Draft::Draft7,
-                last: Draft::Draft202012,
-                example: "0",
-                window: None,
-                window_texts: None,
-            },
+            BuiltinFormat::Iri => from_draft(Draft::Draft7, "iri", "http://example.com"),
+            BuiltinFormat::IriReference => from_draft(
+                Draft::Draft7,
+                "iri-reference",
+                "http://example.com",
+            ),
+            BuiltinFormat::JsonPointer => from_draft(Draft::Draft6, "json-pointer", "/a"),
+            BuiltinFormat::RelativeJsonPointer => from_draft(
+                Draft::Draft7,
+                "relative-json-pointer",
+                "0",
+            ),
             BuiltinFormat::Time => FormatRow {
-                name: "time",
-                first: Draft::Draft4,
-                last: Draft::Draft202012,
-                example: "00:00:00Z",
                 window: Some((9, u64::MAX)),
                 window_texts: Some(("00:00:00Z", None)),
+                ..from_draft(Draft::Draft4, "time", "00:00:00Z")
             },
-            BuiltinFormat::Uri => FormatRow {
-                name: "uri",
-                first: Draft::Draft4,
-                last: Draft::Draft202012,
-                example: "http://example.com",
-                window: None,
-                window_texts: None,
-            },
-            BuiltinFormat::UriReference => FormatRow {
-                name: "uri-reference",
-                first: Draft::Draft6,
-                last: Draft::Draft202012,
-                example: "http://example.com",
-                window: None,
-                window_texts: None,
-            },
-            BuiltinFormat::UriTemplate => FormatRow {
-                name: "uri-template",
-                first: Draft::Draft6,
-                last: Draft::Draft202012,
-                example: "http://example.com/{id}",
-                window: None,
-                window_texts: None,
-            },
+            BuiltinFormat::Uri => from_draft(Draft::Draft4, "uri", "http://example.com"),
+            BuiltinFormat::UriReference => from_draft(
+                Draft::Draft6,
+                "uri-reference",
+                "http://example.com",
+            ),
+            BuiltinFormat::UriTemplate => from_draft(
+                Draft::Draft6,
+                "uri-template",
+                "http://example.com/{id}",
+            ),
             BuiltinFormat::Uuid => FormatRow {
-                name: "uuid",
-                first: Draft::Draft201909,
-                last: Draft::Draft202012,
-                example: "00000000-0000-4000-8000-000000000000",
                 window: Some((36, 36)),
                 window_texts: Some((
                     "00000000-0000-4000-8000-000000000000",
                     Some("00000000-0000-4000-8000-000000000000"),
                 )),
+                ..from_draft(
+                    Draft::Draft201909,
+                    "uuid",
+                    "00000000-0000-4000-8000-000000000000",
+                )
             },
         }
+    }
+}
+
+// The row of a format that the drafts from one on have, and of which no lengths are told.
+fn from_draft(first: Draft, name: &'static str, example: &'static str) -> FormatRow
+    ensures { result ≡ record {
+      name = name.entry;
+      first = first;
+      last = Draft.Draft202012;
+      example = example.entry;
+      window = None;
+      window_texts = None;
+    } }
+{
+    FormatRow {
+        name,
+        first,
+        last: Draft::Draft202012,
+        example,
+        window: None,
+        window_texts: None,
     }
 }
 

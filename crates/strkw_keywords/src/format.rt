@@ -42,14 +42,6 @@ impl FormatValidator {
             Some(FindingRef::Format(self.format.as_str()))
         }
     }
-
-    // The lengths that it leaves to a text.
-    #[tactic(auto, using(crate::proofs::Intervals::bounds_unwrapped))]
-    pub(crate) fn interval(&self) -> (u64, u64)
-        ensures { result ≡ bounds (window_left (is_format (builtin self.now.format))) }
-    {
-        self.format.length_window().unwrap_or((0, u64::MAX))
-    }
 }
 
 impl Uses for FormatValidator {
@@ -130,8 +122,6 @@ pub struct AnnotationOnlyFormatValidator {
 
 impl Uses for AnnotationOnlyFormatValidator {
     ghost place = { λ v. v.origin };
-
-    ghost demands = { λ _. [] };
 
     ghost remark = { λ v. Some (remark_at v.origin.schema keyword.Format (string (string_bytes v.name))) };
 

@@ -54,14 +54,6 @@ impl Keyword {
     pub fn place(self) -> usize
         ensures { result ≡ keyword_place self }
     {
-        match self {
-            Keyword::ContentMediaType => 0,
-            Keyword::ContentEncoding => 1,
-            Keyword::ContentSchema => 2,
-            Keyword::Format => 3,
-            Keyword::MinLength => 4,
-            Keyword::MaxLength => 5,
-            Keyword::Pattern => 6,
-        }
+        self as usize
     }
 }

@@ -65,40 +65,12 @@ fn too_long(limit: u64, characters: Option<u64>) -> Option<FindingRef<'static>>
     }
 }
 
-// ---- the lengths that each leaves to a text
-
-impl MinLengthValidator {
-    pub(crate) fn interval(&self) -> (u64, u64)
-        ensures { result ≡ bounds (window_left (at_least self.now.limit)) }
-    {
-        (self.limit, u64::MAX)
-    }
-}
-
-impl MaxLengthValidator {
-    pub(crate) fn interval(&self) -> (u64, u64)
-        ensures { result ≡ bounds (window_left (at_most self.now.limit)) }
-    {
-        (0, self.limit)
-    }
-}
-
-impl LengthRangeValidator {
-    pub(crate) fn interval(&self) -> (u64, u64)
-        ensures { result ≡ bounds (common (window_left (at_least self.now.min)) (window_left (at_most self.now.max))) }
-    {
-        (self.min, self.max)
-    }
-}
-
 // ---- what each demands, and finds
 
 impl Uses for MinLengthValidator {
     ghost place = { λ v. v.origin };
 
     ghost demands = { λ v. at_least v.limit ∷ [] };
-
-    ghost remark = { λ _. None };
 
     fn parts(&self) -> Parts<'_> {
         Parts::plain(&self.origin)
@@ -116,8 +88,6 @@ impl Uses for MaxLengthValidator {
 
     ghost demands = { λ v. at_most v.limit ∷ [] };
 
-    ghost remark = { λ _. None };
-
     fn parts(&self) -> Parts<'_> {
         Parts::plain(&self.origin)
     }
@@ -133,8 +103,6 @@ impl Uses for LengthRangeValidator {
     ghost place = { λ v. v.origin };
 
     ghost demands = { λ v. at_least v.min ∷ at_most v.max ∷ [] };
-
-    ghost remark = { λ _. None };
 
     fn parts(&self) -> Parts<'_> {
         Parts::plain(&self.origin)

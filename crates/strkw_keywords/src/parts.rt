@@ -8,7 +8,7 @@ ghost use Rattle.strkw_keywords.specs.Parts.{noted_remark, IsFirst, RowsAreFirst
 
 use crate::checks::{Checks, ContentCodec, Format, MediaTypeCheck};
 use crate::keyword::Keyword;
-use crate::note::{Note, note_of_text, note_of_value};
+use crate::note::Note;
 use crate::origin::Origin;
 use serde_json::Value;
 use std::alloc::{AllocError, Global};
@@ -106,10 +106,14 @@ impl Noted<'_> {
     pub(crate) fn note(self, alloc: Global, location: &Location) -> Result<Note, AllocError>
         ensures { IfOk result (λ n. Some (remark_of n) ≡ noted_remark location.now (Some self.entry)) }
     {
-        match self {
-            Noted::Text(keyword, text) => note_of_text(alloc, location, keyword, text),
-            Noted::Value(keyword, value) => note_of_value(location, keyword, value),
-        }
+        let (keyword, value) = match self {
+            Noted::Text(keyword, text) => (keyword, Value::try_from_str(alloc, text)?),
+            Noted::Value(keyword, value) => (keyword, value.clone()?),
+        };
+        Ok(Note {
+            schema_path: location.join(keyword.as_str())?,
+            value,
+        })
     }
 }
 

@@ -63,8 +63,6 @@ impl Uses for PrefixPatternValidator {
 
     ghost demands = { λ v. compares (string_bytes v.literal.pattern) (literal_outcome v.literal.matcher) ∷ [] };
 
-    ghost remark = { λ _. None };
-
     fn parts(&self) -> Parts<'_> {
         Parts::plain(&self.origin)
     }
@@ -88,8 +86,6 @@ impl Uses for ExactPatternValidator {
     ghost place = { λ v. v.origin };
 
     ghost demands = { λ v. compares (string_bytes v.literal.pattern) (literal_outcome v.literal.matcher) ∷ [] };
-
-    ghost remark = { λ _. None };
 
     fn parts(&self) -> Parts<'_> {
         Parts::plain(&self.origin)
@@ -115,8 +111,6 @@ impl Uses for AlternationPatternValidator {
 
     ghost demands = { λ v. compares (string_bytes v.literal.pattern) (literal_outcome v.literal.matcher) ∷ [] };
 
-    ghost remark = { λ _. None };
-
     fn parts(&self) -> Parts<'_> {
         Parts::plain(&self.origin)
     }
@@ -140,8 +134,6 @@ impl Uses for NoWhitespacePatternValidator {
     ghost place = { λ v. v.origin };
 
     ghost demands = { λ v. compares (string_bytes v.literal.pattern) (literal_outcome v.literal.matcher) ∷ [] };
-
-    ghost remark = { λ _. None };
 
     fn parts(&self) -> Parts<'_> {
         Parts::plain(&self.origin)
@@ -183,8 +175,6 @@ impl<E: RegexEngine> Uses for PatternValidator<E> {
     ghost place = { λ v. v.origin };
 
     ghost demands = { λ v. matches (string_bytes v.pattern) (E.outcome v.engine) ∷ [] };
-
-    ghost remark = { λ _. None };
 
     fn parts(&self) -> Parts<'_> {
         Parts::of_content(&self.origin, None, None)

@@ -1,6 +1,6 @@
 //! What every validator answers. An implementor gives two methods, `parts` and `findings`; the others rest on them.
 
-ghost use Rattle.std.specs.Prelude.{◌≡◌, ◌↔◌, List, [], true, Option, Some, IfOk, IsOk, OnOk, OnErr, IsTrue, option_map};
+ghost use Rattle.std.specs.Prelude.{◌≡◌, ◌↔◌, List, [], true, Option, Some, None, IfOk, IsOk, OnOk, OnErr, IsTrue, option_map};
 ghost use Rattle.serde_json.specs.View.{view};
 ghost use Rattle.strkw_report.specs.declared.error.Site.{Site};
 ghost use Rattle.strkw_keywords.specs.Lists.{lists_of};
@@ -60,11 +60,11 @@ pub trait Uses {
     /// Where its schema object stands.
     ghost place: { Self → Place };
 
-    /// What it demands of a text, in the order of its errors.
-    ghost demands: { Self → List Demand };
+    /// What it demands of a text, in the order of its errors: nothing, unless an implementor says more.
+    ghost demands: { Self → List Demand } = { λ _. [] };
 
-    /// What it notes of every text, if it notes anything.
-    ghost remark: { Self → Option Remark };
+    /// What it notes of every text, if it notes anything: it does not, unless an implementor says so.
+    ghost remark: { Self → Option Remark } = { λ _. None };
 
     /// What it is, beside its test of a text: `origin`, `note`, `takes_no_memory` and `uses` rest on it.
     fn parts(&self) -> Parts<'_>

@@ -67,15 +67,15 @@ impl<E: RegexEngine> Validator<E> {
     /// The least and the greatest number of characters that it leaves to a text, both inclusive: by its limits, or by the
     /// window of its built-in format. An open end is `u64::MAX`, and a validator that bounds no length answers
     /// `(0, u64::MAX)`. The first is above the second where no length is left.
-    #[tactic(auto, using(crate::proofs::Intervals::common_any))]
+    #[tactic(auto, using(crate::proofs::Intervals::common_any, crate::proofs::Intervals::bounds_unwrapped))]
     pub fn interval(&self) -> (u64, u64)
         ensures { result ≡ bounds (interval (assertions_of E.outcome self.now)) }
     {
         match self {
-            Validator::Format(v) => v.interval(),
-            Validator::MinLength(v) => v.interval(),
-            Validator::MaxLength(v) => v.interval(),
-            Validator::LengthRange(v) => v.interval(),
+            Validator::Format(v) => v.format.length_window().unwrap_or((0, u64::MAX)),
+            Validator::MinLength(v) => (v.limit, u64::MAX),
+            Validator::MaxLength(v) => (0, v.limit),
+            Validator::LengthRange(v) => (v.min, v.max),
             // A check of the caller says nothing of lengths, whatever its name.
             Validator::CustomFormat(_) => (0, u64::MAX),
             Validator::ContentMediaType(_)

@@ -25,8 +25,6 @@ pub struct ContentMediaTypeAnnotationValidator {
 impl Uses for ContentMediaTypeAnnotationValidator {
     ghost place = { λ v. v.origin };
 
-    ghost demands = { λ _. [] };
-
     ghost remark = { λ v. Some (remark_at v.origin.schema keyword.ContentMediaType (string (string_bytes v.media_type))) };
 
     fn parts(&self) -> Parts<'_> {
@@ -53,8 +51,6 @@ pub struct ContentEncodingAnnotationValidator {
 impl Uses for ContentEncodingAnnotationValidator {
     ghost place = { λ v. v.origin };
 
-    ghost demands = { λ _. [] };
-
     ghost remark = { λ v. Some (remark_at v.origin.schema keyword.ContentEncoding (string (string_bytes v.encoding))) };
 
     fn parts(&self) -> Parts<'_> {
@@ -80,8 +76,6 @@ pub struct ContentSchemaAnnotationValidator {
 
 impl Uses for ContentSchemaAnnotationValidator {
     ghost place = { λ v. v.origin };
-
-    ghost demands = { λ _. [] };
 
     ghost remark = { λ v. Some (remark_at v.origin.schema keyword.ContentSchema (view v.schema)) };
 

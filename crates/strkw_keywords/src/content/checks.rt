@@ -40,8 +40,6 @@ impl Uses for ContentMediaTypeValidator {
 
     ghost demands = { λ v. is_media_type (choice_of v.media_type) ∷ [] };
 
-    ghost remark = { λ _. None };
-
     fn parts(&self) -> Parts<'_> {
         Parts::of_content(&self.origin, self.media_type.row(), None)
     }
@@ -77,8 +75,6 @@ impl Uses for ContentEncodingValidator {
     ghost place = { λ v. v.origin };
 
     ghost demands = { λ v. is_encoded (choice_of v.codec) ∷ [] };
-
-    ghost remark = { λ _. None };
 
     fn parts(&self) -> Parts<'_> {
         Parts::of_content(&self.origin, None, self.codec.row())
@@ -126,8 +122,6 @@ impl Uses for ContentMediaTypeAndEncodingValidator {
     ghost place = { λ v. v.origin };
 
     ghost demands = { λ v. encodes_media_type (choice_of v.codec) (choice_of v.media_type) ∷ [] };
-
-    ghost remark = { λ _. None };
 
     fn parts(&self) -> Parts<'_> {
         Parts::of_content(&self.origin, self.media_type.row(), self.codec.row())
