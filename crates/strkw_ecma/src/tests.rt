@@ -1,10 +1,12 @@
 //! The answers to the rows are those of `RegExp(pattern, "u")` of Node 20.20.2.
 
+mod examples;
 mod rows;
 
+use self::examples::EXAMPLES;
 use self::rows::{
     BORDERS, CLASSES_1, CLASSES_2, CLASSES_3, CLASSES_4, CODES_1, CODES_2, CODES_3, COUNTS_1,
-    COUNTS_2,
+    COUNTS_2, SEARCHES_1,
 };
 use crate::EcmaPatterns;
 use crate::making::table_of;
@@ -24,38 +26,7 @@ fn ask<B: EngineBuilder>(
     Ok(engine.is_match(alloc, text))
 }
 
-// Pattern, text, and whether the pattern is found. The first rows are the examples of ECMA-262 2024 (section 22.2.2).
-const SEARCHES_1: [(&str, &str, bool); 28] = [
-    ("a|ab", "abc", true),
-    ("((a)|(ab))((c)|(bc))", "abc", true),
-    ("(z)((a*))*", "zaacbbbcac", true),
-    ("(a*)*", "b", true),
-    ("(a*)b*", "baaabaac", true),
-    ("^(a*)*$", "aab", false),
-    ("", "", true),
-    ("", "a", true),
-    ("|", "", true),
-    ("a|", "b", true),
-    ("^(a|)$", "", true),
-    ("^(a|)$", "b", false),
-    ("^(|a)$", "a", true),
-    ("^(a|b|c)$", "b", true),
-    ("^(a|b|c)$", "d", false),
-    ("^a|b$", "xb", true),
-    ("^a|b$", "ax", true),
-    ("^a|b$", "xax", false),
-    ("^(a|ab)$", "ab", true),
-    ("^(a|ab)(c|bcd)$", "abcd", true),
-    ("^(ab|a)bc$", "abc", true),
-    ("^(a*|b)c$", "bc", true),
-    ("^", "x", true),
-    ("$", "x", true),
-    ("^$", "", true),
-    ("^$", "\n", false),
-    ("^$", "a", false),
-    ("a$", "a\n", false),
-];
-
+// Pattern, text, and whether the pattern is found.
 const SEARCHES_2: [(&str, &str, bool); 28] = [
     ("^a", "\na", false),
     ("a$b", "ab", false),
@@ -390,6 +361,7 @@ const NOT_TAKEN_1: [&str; 20] = [
 fn patterns_are_found(rt: HostRuntime) -> Result<(), Fail> {
     let alloc = rt.alloc();
     for rows in [
+        &EXAMPLES[..],
         &SEARCHES_1[..],
         &SEARCHES_2[..],
         &SEARCHES_3[..],

@@ -1,4 +1,31 @@
-//! Rows of classes, groups, counts and escapes by a number: pattern, text, and whether the pattern is found.
+//! Rows of alternatives, classes, groups, counts and escapes by a number: pattern, text, and whether the pattern is found.
+
+pub(super) const SEARCHES_1: [(&str, &str, bool); 24] = [
+    ("(z)((a*))*", "zaacbbbcac", true),
+    ("^(a*)*$", "aab", false),
+    ("", "", true),
+    ("", "a", true),
+    ("|", "", true),
+    ("a|", "b", true),
+    ("^(a|)$", "", true),
+    ("^(a|)$", "b", false),
+    ("^(|a)$", "a", true),
+    ("^(a|b|c)$", "b", true),
+    ("^(a|b|c)$", "d", false),
+    ("^a|b$", "xb", true),
+    ("^a|b$", "ax", true),
+    ("^a|b$", "xax", false),
+    ("^(a|ab)$", "ab", true),
+    ("^(a|ab)(c|bcd)$", "abcd", true),
+    ("^(ab|a)bc$", "abc", true),
+    ("^(a*|b)c$", "bc", true),
+    ("^", "x", true),
+    ("$", "x", true),
+    ("^$", "", true),
+    ("^$", "\n", false),
+    ("^$", "a", false),
+    ("a$", "a\n", false),
+];
 
 pub(super) const CLASSES_1: [(&str, &str, bool); 28] = [
     ("[abc]", "b", true),

@@ -1,0 +1,33 @@
+//! The examples of ECMA-262 2024 (the notes of sections 22.2.2.3 and 22.2.2.3.1) that have no back reference and no lookahead:
+//! pattern, text, and whether the pattern is found. Where `^` and `$` were put around a pattern, it is to match the whole text.
+
+pub(super) const EXAMPLES: [(&str, &str, bool); 28] = [
+    ("a|ab", "abc", true),
+    ("^(a|ab)$", "abc", false),
+    ("^(a|ab)$", "a", true),
+    ("((a)|(ab))((c)|(bc))", "abc", true),
+    ("^((a)|(ab))((c)|(bc))$", "abc", true),
+    ("^((a)|(ab))((c)|(bc))$", "abbc", true),
+    ("^((a)|(ab))((c)|(bc))$", "ab", false),
+    ("a[a-z]{2,4}", "abcdefghi", true),
+    ("a[a-z]{2,4}", "ab", false),
+    ("^a[a-z]{2,4}$", "abcde", true),
+    ("^a[a-z]{2,4}$", "abcdefghi", false),
+    ("a[a-z]{2,4}?", "abcdefghi", true),
+    ("^a[a-z]{2,4}?$", "abc", true),
+    ("^a[a-z]{2,4}?$", "abcde", true),
+    ("^a[a-z]{2,4}?$", "abcdef", false),
+    ("(aa|aabaac|ba|b|c)*", "aabaac", true),
+    ("^(aa|aabaac|ba|b|c)*$", "aaba", true),
+    ("^(aa|aabaac|ba|b|c)*$", "aabaac", true),
+    ("^(aa|aabaac|ba|b|c)*$", "aaa", false),
+    ("(z)((a+)?(b+)?(c))*", "zaacbbbcac", true),
+    ("^(z)((a+)?(b+)?(c))*$", "zaacbbbcac", true),
+    ("^(z)((a+)?(b+)?(c))*$", "zaacbbbca", false),
+    ("(z)((a+)?(b+)?(c))*", "aacbbbcac", false),
+    ("(a*)*", "b", true),
+    ("^(a*)*$", "b", false),
+    ("(a*)b*", "baaabaac", true),
+    ("^(a*)b*$", "baaabaac", false),
+    ("^(a*)b*$", "aaab", true),
+];

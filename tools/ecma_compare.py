@@ -1,0 +1,239 @@
+#!/usr/bin/env python3
+"""Compares the patterns of `strkw_ecma` with those of a JavaScript engine, on generated patterns and texts.
+
+    python3 tools/ecma_compare.py                  2,000 patterns, each on 12 texts, by the seed 1
+    python3 tools/ecma_compare.py 500 7            other numbers of patterns and seeds
+
+It wants `node` on the path, and the built program `strkw_csv` (`rt run` in `crates/strkw_csv` builds it). A pattern is
+asked as the schema object of a column: the program refuses it, or answers of each text whether it matches. Node is
+asked for `new RegExp(pattern, "u")`, and whether it is found in the text.
+
+Patterns are made by the grammar of ECMA-262, and about a third of them is then spoilt by a change of one character. One
+that Node takes and the program does not is told apart by name where it has what is not taken by design; any other
+difference is told, the shortest first, and the status is then 1. It is no part of the gate.
+"""
+import csv
+import io
+import json
+import random
+import re
+import subprocess
+import sys
+import tempfile
+from collections import Counter
+from concurrent.futures import ThreadPoolExecutor
+from pathlib import Path
+
+TOP = Path(__file__).resolve().parent.parent
+PROGRAM = TOP / "crates/strkw_csv/out/strkw_csv"
+PATTERNS, SEED, TEXTS = 2000, 1, 12
+MOST_TOLD = 20
+REFUSED = "is not a \"regex\""
+# What is taken by ECMA-262 and not here, by name.
+BY_DESIGN = [
+    ("lookaround", re.compile(r"\(\?<?[=!]")),
+    ("back reference", re.compile(r"\\[1-9]|\\k<")),
+    ("property", re.compile(r"\\[pP]\{")),
+    ("named group", re.compile(r"\(\?<[^=!]")),
+    ("lone surrogate", re.compile(r"\\u(\{0*)?[dD][89a-fA-F]")),
+]
+# A match of Node that begins between the two halves of a surrogate pair is none: ECMA-262 2024 (RegExpBuiltinExec, section
+# 22.2.7.2) searches over characters there, and V8 finds `\B` within one. Then each place between characters is asked alone.
+NODE = r"""
+const halves = (text, at) => /[\uD800-\uDBFF]/.test(text[at - 1] ?? "") && /[\uDC00-\uDFFF]/.test(text[at] ?? "");
+const told = [];
+let within = 0;
+for (const [pattern, texts] of JSON.parse(require("fs").readFileSync(0, "utf8"))) {
+  try {
+    const search = new RegExp(pattern, "u"), here = new RegExp(pattern, "uy");
+    const at = (text, place) => { here.lastIndex = place; return here.test(text); };
+    told.push(texts.map(text => {
+      const found = search.exec(text);
+      if (found === null || !halves(text, found.index)) return found !== null;
+      within += 1;
+      return [...Array(text.length + 1).keys()].some(place => !halves(text, place) && at(text, place));
+    }));
+  } catch (e) { told.push(null); }
+}
+console.log(JSON.stringify([told, within]));
+"""
+# Characters near the borders of what classes and assertions tell apart.
+LETTERS = "abcxyzABZ019_-"
+OTHERS = " \t\n\r\u2028\u2029\u00a0\ufeff\u0085\u00e9\u017f\u212a\u4e2d\U0001f600\U0001f601/:@[`{.,=!#&~\"'<>;%"
+SYNTAX = "^$\\.*+?()[]{}|/"
+ESCAPES = ["\\d", "\\D", "\\s", "\\S", "\\w", "\\W", "\\n", "\\t", "\\r", "\\f", "\\v", "\\0", "\\cA", "\\x41", "\\u0061",
+           "\\u{62}", "\\u{1F600}", "\\uD83D\\uDE00", "\\u2028"]
+QUANTIFIERS = ["*", "+", "?", "*?", "+?", "??", "{2}", "{0}", "{1,}", "{0,2}", "{1,3}?", "{2,2}", "{0,0}", "{3}?", "{2,}?"]
+
+
+class Maker:
+    """Makes patterns and texts, the same ones for the same seed."""
+
+    def __init__(self, seed):
+        self.random = random.Random(seed)
+
+    def character(self):
+        kind = self.random.random()
+        if kind < 0.75:
+            return self.random.choice(LETTERS)
+        if kind < 0.9:
+            return self.random.choice([c for c in OTHERS if c not in SYNTAX])
+        return "\\" + self.random.choice(SYNTAX)
+
+    def class_atom(self):
+        kind = self.random.random()
+        if kind < 0.2:
+            return self.random.choice(ESCAPES)
+        if kind < 0.28:
+            return self.random.choice(["\\b", "\\-", "\\]", "\\^", "^", "-", ".", "$", "(", "*", "\\\\"])
+        return self.random.choice(LETTERS + OTHERS.replace("[", ""))
+
+    def ranges(self):
+        parts = []
+        for _ in range(self.random.randrange(4)):
+            atom = self.class_atom()
+            if self.random.random() < 0.3:
+                atom += "-" + self.class_atom()
+            parts.append(atom)
+        return "".join(parts)
+
+    def atom(self, depth):
+        kind = self.random.random()
+        if depth > 0 and kind < 0.25:
+            start = self.random.choice(["(", "(", "(?:", "(?:", "(?<n%d>" % self.random.randrange(1000)])
+            return start + self.disjunction(depth - 1) + ")"
+        if kind < 0.38:
+            return self.random.choice(["[", "[^"]) + self.ranges() + "]"
+        if kind < 0.48:
+            return "."
+        if kind < 0.62:
+            return self.random.choice(ESCAPES)
+        if kind < 0.635:
+            return self.random.choice(["\\1", "\\k<n1>", "\\p{Lu}", "\\P{Script=Greek}", "\\p{L}", "\\p{Alphabetic}", "\\uD83D"])
+        return self.character()
+
+    def term(self, depth):
+        kind = self.random.random()
+        if kind < 0.16:
+            return self.random.choice(["^", "$", "^", "$", "\\b", "\\B"])
+        if kind < 0.17:
+            return self.random.choice(["(?=", "(?!", "(?<=", "(?<!"]) + self.disjunction(0) + ")"
+        quantifier = self.random.choice(QUANTIFIERS) if self.random.random() < 0.4 else ""
+        return self.atom(depth) + quantifier
+
+    def disjunction(self, depth):
+        alternatives = self.random.choice([1, 1, 1, 2, 3])
+        return "|".join("".join(self.term(depth) for _ in range(self.random.randrange(5))) for _ in range(alternatives))
+
+    def pattern(self):
+        made = self.disjunction(3)
+        if self.random.random() < 0.3:
+            made = "^" + made + "$"
+        if self.random.random() < 0.33:
+            made = self.spoilt(made)
+        return made
+
+    def spoilt(self, pattern):
+        at = self.random.randrange(len(pattern) + 1)
+        kind = self.random.random()
+        if kind < 0.4:
+            return pattern[:at] + pattern[at + 1:]
+        put = self.random.choice(SYNTAX + "-,:<=!0129abcdux")
+        return pattern[:at] + put + pattern[at + (kind > 0.7):]
+
+    def text(self, pattern):
+        """A text of characters that the pattern has, and of others."""
+        near = [c for c in pattern if c not in SYNTAX] or ["a"]
+        pick = lambda: self.random.choice(near if self.random.random() < 0.65 else LETTERS + OTHERS)
+        text = "".join(pick() for _ in range(self.random.choice([0, 1, 1, 2, 3, 4, 6, 9])))
+        return text + "\n" if self.random.random() < 0.06 else text
+
+    def row(self):
+        pattern = self.pattern()
+        return pattern, ["", "\n"] + [self.text(pattern) for _ in range(TEXTS - 2)]
+
+
+def node(rows):
+    """What Node answers: of each pattern the verdict on each text, or `None` where it is not taken; and how many of its
+    matches began within a surrogate pair."""
+    run = subprocess.run(["node", "-e", NODE], input=json.dumps(rows), stdout=subprocess.PIPE, text=True, check=True)
+    return json.loads(run.stdout)
+
+
+def records(texts):
+    """A CSV file with a record for each text, and the line at which each record begins."""
+    written = io.StringIO()
+    writer = csv.writer(written, quoting=csv.QUOTE_ALL, lineterminator="\n")
+    writer.writerow(["place", "text"])
+    starts = []
+    for place, text in enumerate(texts):
+        starts.append(written.getvalue().count("\n") + 1)
+        writer.writerow([place, text])
+    return written.getvalue().encode(), starts
+
+
+def here(row, folder, name):
+    """The same of the program."""
+    pattern, texts = row
+    plan = Path(folder) / f"{name}.json"
+    plan.write_text(json.dumps({"draft": 7, "columns": {"text": {"pattern": pattern}}}))
+    given, starts = records(texts)
+    run = subprocess.run([PROGRAM, plan], input=given, stdout=subprocess.PIPE, stderr=subprocess.PIPE)
+    plan.unlink()
+    if run.returncode == 2 and REFUSED in run.stderr.decode(errors="replace"):
+        return None
+    if run.returncode not in (0, 1):
+        raise SystemExit(f"ecma_compare: {pattern!r}: {run.stderr.decode(errors='replace').strip()}")
+    missed = {int(line.split(b":", 1)[0]) for line in run.stdout.splitlines()}
+    return [start not in missed for start in starts]
+
+
+def by_design(pattern):
+    """Why a pattern of ECMA-262 is not taken; `None` where it has nothing that is left out by name."""
+    return next((name for name, found in BY_DESIGN if found.search(pattern)), None)
+
+
+def compare(rows, ours, theirs):
+    """Counts what both sides say, and lists the differences."""
+    counts, wrong = Counter(), []
+    for (pattern, texts), mine, other in zip(rows, ours, theirs):
+        if mine is None and other is None:
+            counts["taken by neither"] += 1
+        elif mine is None:
+            why = by_design(pattern)
+            counts[f"taken by Node alone: {why or 'no reason known'}"] += 1
+            if why is None:
+                wrong.append((pattern, "", "taken by Node alone"))
+        elif other is None:
+            counts["taken here alone"] += 1
+            wrong.append((pattern, "", "taken here alone"))
+        else:
+            counts["taken by both"] += 1
+            for text, is_mine, is_other in zip(texts, mine, other):
+                counts["pairs that match" if is_other else "pairs that do not match"] += 1
+                if is_mine != is_other:
+                    wrong.append((pattern, text, f"here {is_mine}, Node {is_other}"))
+    return counts, wrong
+
+
+def main():
+    patterns, seed = ([int(word) for word in sys.argv[1:]] + [PATTERNS, SEED][len(sys.argv) - 1:])[:2]
+    version = subprocess.run(["node", "--version"], stdout=subprocess.PIPE, text=True, check=True).stdout.strip()
+    maker = Maker(seed)
+    rows = [maker.row() for _ in range(patterns)]
+    with tempfile.TemporaryDirectory() as folder, ThreadPoolExecutor() as pool:
+        ours = list(pool.map(lambda numbered: here(numbered[1], folder, numbered[0]), enumerate(rows)))
+    theirs, within = node(rows)
+    counts, wrong = compare(rows, ours, theirs)
+    counts["matches of Node within a surrogate pair, searched for again"] = within
+    print(f"ecma_compare: {patterns} patterns of the seed {seed}, Node {version}")
+    for what, count in sorted(counts.items()):
+        print(f"  {count} {what}")
+    for pattern, text, what in sorted(wrong, key=lambda found: len(found[0]) + len(found[1]))[:MOST_TOLD]:
+        print(f"{json.dumps(pattern)} on {json.dumps(text)}: {what}")
+    print(f"ecma_compare: {len(wrong)} differences")
+    return 1 if wrong else 0
+
+
+if __name__ == "__main__":
+    sys.exit(main())
