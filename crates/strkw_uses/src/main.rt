@@ -6,6 +6,7 @@ mod engine;
 mod errors;
 mod lent_again;
 mod located;
+mod patterns;
 mod recognised;
 mod registered;
 
@@ -41,6 +42,7 @@ fn main(rt: HostRuntime) -> Result<()> {
         )?;
     }
     print_matches(&rt, alloc)?;
+    print_slugs(&rt, alloc)?;
     print_registered(&rt, alloc)?;
     print_answers(&rt, alloc)
 }
@@ -77,6 +79,18 @@ fn print_matches(rt: &impl Print, alloc: Global) -> Result<()> {
     for text in ["2024-02-29", "2024"] {
         let valid = keywords.is_valid(alloc, &text, &ctx.checks)?;
         println!(rt; "mask on {text}: {valid}")?;
+    }
+    Ok(())
+}
+
+// A slug, and two texts that are none.
+fn print_slugs(rt: &impl Print, alloc: Global) -> Result<()> {
+    let schema = Value::from_str(alloc, r#"{"pattern":"^[a-z]+(-[a-z]+)*$"}"#)?;
+    let object = schema.as_object().context("the schema is no object")?;
+    for text in ["a-slug", "a--slug", "a-slug\n"] {
+        for error in patterns::errors_by(alloc, object, text)? {
+            println!(rt; "{error}")?;
+        }
     }
     Ok(())
 }
