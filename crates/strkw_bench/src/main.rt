@@ -6,6 +6,7 @@ mod characters;
 mod coding;
 mod forms;
 mod label;
+mod patterns;
 mod plain_parts;
 mod time_net;
 mod timing;
@@ -20,9 +21,10 @@ fn main(rt: HostRuntime) -> io::Result<()> {
             "coding" => coding::measure(rt)?,
             "forms" => forms::measure(rt)?,
             "label" => label::measure(rt)?,
+            "patterns" => patterns::measure(rt)?,
             "time_net" => time_net::measure(rt)?,
             "uri" => uri::measure(rt)?,
-            _ => println!(rt; "topics: characters, coding, forms, label, time_net, uri")?,
+            _ => println!(rt; "topics: characters, coding, forms, label, patterns, time_net, uri")?,
         }
     }
     Ok(())

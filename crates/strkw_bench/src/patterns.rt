@@ -1,0 +1,122 @@
+//! Nanoseconds of a search for a pattern of ECMA-262, beside the kit's `regex` with a matcher kept. The patterns and the
+//! texts are lines of the standard input: a pattern, a piece of text, how often it stands there, and what stands behind,
+//! with a tab between each two.
+
+use crate::timing::Round;
+use regex::{Matcher, Regex};
+use std::alloc::{AllocError, Global};
+use std::io;
+use std::time::Instant;
+use strkw_ecma::{EcmaMatcher, EcmaPatterns};
+use strkw_pattern::{EngineBuilder, RegexEngine};
+
+const ROUNDS: u32 = 15;
+
+// What is timed.
+trait Search {
+    // Whether the pattern is found.
+    fn finds(&mut self, alloc: Global, text: &str) -> bool;
+}
+
+impl Search for EcmaMatcher {
+    fn finds(&mut self, alloc: Global, text: &str) -> bool {
+        matches!(self.is_match(alloc, text), Ok(true))
+    }
+}
+
+impl Search for Matcher<'_> {
+    fn finds(&mut self, _alloc: Global, text: &str) -> bool {
+        self.is_match(text)
+    }
+}
+
+// The least time of some rounds of so many searches.
+#[inline(never)]
+fn least<S: Search>(
+    rt: HostRuntime,
+    search: &mut S,
+    text: &str,
+    searches: u32,
+) -> io::Result<Round> {
+    let mut least = Round {
+        nanoseconds: u128::MAX,
+        accepted: 0,
+    };
+    for _ in 0..ROUNDS {
+        let mut accepted = 0u32;
+        let start = Instant::now(&rt)?;
+        for _ in 0..searches {
+            accepted = accepted.wrapping_add(u32::from(search.finds(rt.alloc(), text)));
+        }
+        let nanoseconds = start.elapsed(&rt)?.as_nanos();
+        if nanoseconds < least.nanoseconds {
+            least = Round {
+                nanoseconds,
+                accepted,
+            };
+        }
+    }
+    Ok(least)
+}
+
+// A piece, so often, and what stands behind.
+fn text_of(alloc: Global, piece: &str, count: u32, end: &str) -> Result<String, AllocError> {
+    let mut text = String::new(alloc);
+    for _ in 0..count {
+        text.push_str(piece)?;
+    }
+    text.push_str(end)?;
+    Ok(text)
+}
+
+fn show(rt: HostRuntime, name: &str, round: Round, searches: u32) -> io::Result<()> {
+    let tenths = round.tenths_a_call(searches);
+    print!(rt;
+        "\t{name} {}.{} ns, {} found",
+        tenths / 10,
+        tenths % 10,
+        round.accepted
+    )
+}
+
+fn time(rt: HostRuntime, pattern: &str, text: &str) -> io::Result<()> {
+    let searches = if text.len() < 1000 { 20_000 } else { 1 };
+    print!(rt; "{pattern}\t{} bytes", text.len())?;
+    if let Ok(mut engine) = EcmaPatterns.build(rt.alloc(), pattern) {
+        show(
+            rt,
+            "here",
+            least(rt, &mut engine, text, searches)?,
+            searches,
+        )?;
+    }
+    if let Ok(regex) = Regex::new(rt.alloc(), pattern) {
+        let mut matcher = regex.matcher(rt.alloc())?;
+        show(
+            rt,
+            "regex",
+            least(rt, &mut matcher, text, searches)?,
+            searches,
+        )?;
+    }
+    println!(rt; "")
+}
+
+/// Times the searches of each line.
+pub fn measure(rt: HostRuntime) -> io::Result<()> {
+    let lines = io::read_to_string(rt.alloc(), rt.reader())?;
+    for line in lines.lines() {
+        let mut fields = line.split('\t');
+        let (Some(pattern), Some(piece), Some(count)) = (
+            fields.next(),
+            fields.next(),
+            fields.next(),
+        ) else {
+            continue;
+        };
+        let count = count.parse::<u32>().unwrap_or(1);
+        let text = text_of(rt.alloc(), piece, count, fields.next().unwrap_or(""))?;
+        time(rt, pattern, text.as_str())?;
+    }
+    Ok(())
+}
