@@ -1,11 +1,10 @@
 //! The validators of `format`.
 
-ghost use Rattle.std.specs.Prelude.{◌≡◌, [], ◌∷◌, Some, IfOk, option_map, string_bytes};
+ghost use Rattle.std.specs.Prelude.{[], ◌∷◌, Some, IfOk, option_map, string_bytes};
 ghost use Rattle.serde_json.specs.Data.{string};
 ghost use Rattle.strkw_keywords.specs.Lists.{lists_of};
 ghost use Rattle.strkw_keywords.specs.Meanings.{no_lists, builtin, row};
-ghost use Rattle.strkw_keywords.specs.Formats.{format_name, bounds};
-ghost use Rattle.strkw_keywords.specs.Lengths.{window_left};
+ghost use Rattle.strkw_keywords.specs.Formats.{format_name};
 ghost use Rattle.strkw_keywords.specs.Demands.{is_format, HasFinding};
 ghost use Rattle.strkw_keywords.specs.Findings.{finding_of};
 ghost use Rattle.strkw_keywords.specs.Remarks.{remark_at};

@@ -5,8 +5,6 @@ ghost use Rattle.std.specs.Str.{chars};
 ghost use Rattle.strkw_keywords.specs.Demands.{at_least, at_most, HasFinding};
 ghost use Rattle.strkw_keywords.specs.Meanings.{no_lists};
 ghost use Rattle.strkw_keywords.specs.Findings.{finding_of};
-ghost use Rattle.strkw_keywords.specs.Formats.{bounds};
-ghost use Rattle.strkw_keywords.specs.Lengths.{window_left, common};
 
 mod build;
 
@@ -16,6 +14,7 @@ use crate::origin::Origin;
 use crate::parts::Parts;
 use crate::validate::{Uses, Validate};
 pub(crate) use build::{build_max, build_min};
+pub use build::{compile_max, compile_min};
 use std::alloc::Global;
 use strkw_report::Node;
 

@@ -13,8 +13,6 @@ pub mod format;
 mod keyword;
 pub mod laws;
 mod lengths;
-pub mod max_length;
-pub mod min_length;
 mod note;
 mod options;
 mod origin;
@@ -22,6 +20,16 @@ mod parts;
 pub mod pattern;
 mod validate;
 mod validator;
+
+/// The entry `maxLength`.
+pub mod max_length {
+    pub use crate::lengths::{MaxLengthValidator, compile_max as compile};
+}
+
+/// The entry `minLength`.
+pub mod min_length {
+    pub use crate::lengths::{LengthRangeValidator, MinLengthValidator, compile_min as compile};
+}
 
 pub use builtin::{BuiltinFormat, builtin_format};
 pub use checks::{
@@ -37,8 +45,7 @@ pub use entry::compile_entry;
 pub use findings::{FindingRef, Findings, Found};
 pub use format::{AnnotationOnlyFormatValidator, CustomFormatValidator, FormatValidator};
 pub use keyword::Keyword;
-pub use max_length::MaxLengthValidator;
-pub use min_length::{LengthRangeValidator, MinLengthValidator};
+pub use lengths::{LengthRangeValidator, MaxLengthValidator, MinLengthValidator};
 pub use note::Note;
 pub use options::{Context, Options};
 pub use origin::Origin;

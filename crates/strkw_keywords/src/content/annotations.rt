@@ -1,5 +1,5 @@
 //! The content keywords where they only annotate: drafts 2019-09 and 2020-12.
-ghost use Rattle.std.specs.Prelude.{[], Some, string_bytes};
+ghost use Rattle.std.specs.Prelude.{Some, string_bytes};
 ghost use Rattle.serde_json.specs.Data.{string};
 ghost use Rattle.serde_json.specs.View.{view};
 ghost use Rattle.strkw_keywords.specs.Remarks.{remark_at};

@@ -2,19 +2,22 @@
 
 ghost use Rattle.std.specs.Prelude.{◌≡◌, [], ◌∷◌, Some, false, None, MatchOption};
 ghost use Rattle.serde_json.specs.View.{view, members_view};
-ghost use Rattle.strkw_keywords.specs.Settings.{place_in};
+ghost use Rattle.strkw_keywords.specs.Settings.{place_in, settings_of};
 ghost use Rattle.strkw_keywords.specs.Object.{value_at, is_given, gives, as_limit, least_entry, greatest_entry};
-ghost use Rattle.strkw_keywords.specs.Compiled.{min_share, max_share, IsBuilt};
+ghost use Rattle.strkw_keywords.specs.Compiled.{min_share, max_share, IsBuilt, IsCompiledAt};
 ghost use Rattle.strkw_keywords.specs.Demands.{at_least, at_most};
 
+use crate::checks::{ContentCodec, Format, MediaTypeCheck};
 use crate::compile::{Refused, origin_of, value_at};
+use crate::entry::compile_value;
 use crate::keyword::Keyword;
 use crate::lengths::{LengthRangeValidator, MaxLengthValidator, MinLengthValidator};
 use crate::options::{Context, Options};
 use crate::validator::Validator;
 use serde_json::{Map, Value};
+use std::alloc::Global;
 use strkw_pattern::EngineBuilder;
-use strkw_report::CompileErrorKind;
+use strkw_report::{CompileError, CompileErrorKind};
 
 // A limit that is a whole number of 64 bits.
 fn limit_of(value: &Value) -> Option<u64>
@@ -90,4 +93,43 @@ pub(crate) fn build_max<B: EngineBuilder>(
         origin: origin_of(ctx)?,
         limit,
     })))
+}
+
+/// The validator of the entry `minLength` (2020-12, section 6.3.2). It is a `LengthRangeValidator`, which stands for
+/// `maxLength` too, where the limit of `maxLength` is there, good and not overridden.
+///
+/// `value` is the parent's value at `minLength`, which is not overridden. The answer is never `None`.
+///
+/// Refusals: `Size` at that keyword for a value that is no whole number from 0 to 18446744073709551615; `Memory`, at
+/// the root, where it is out of memory.
+pub fn compile_min<B: EngineBuilder>(
+    alloc: Global,
+    ctx: &Context<'_, B>,
+    parent: &Map<String, Value>,
+    value: &Value,
+) -> Option<Result<Validator<B::Engine>, CompileError>>
+    requires { value_at ctx.now.options Keyword.MinLength (members_view parent.now.entries) ≡ Some (view value.now) }
+    ensures { IsCompiledAt B.Engine.outcome (settings_of B.takes B.outcome admits accepted encoded decoding ctx.now)
+        (members_view parent.now.entries) Keyword.MinLength result }
+{
+    compile_value(alloc, ctx, parent, value, Keyword::MinLength)
+}
+
+/// The validator of the entry `maxLength` (2020-12, section 6.3.1).
+///
+/// `value` is the parent's value at `maxLength`, which is not overridden. `None` means that `minLength` stands for this
+/// entry: both limits are good, and `minLength` is not overridden.
+///
+/// Refusals: as of `min_length::compile`.
+pub fn compile_max<B: EngineBuilder>(
+    alloc: Global,
+    ctx: &Context<'_, B>,
+    parent: &Map<String, Value>,
+    value: &Value,
+) -> Option<Result<Validator<B::Engine>, CompileError>>
+    requires { value_at ctx.now.options Keyword.MaxLength (members_view parent.now.entries) ≡ Some (view value.now) }
+    ensures { IsCompiledAt B.Engine.outcome (settings_of B.takes B.outcome admits accepted encoded decoding ctx.now)
+        (members_view parent.now.entries) Keyword.MaxLength result }
+{
+    compile_value(alloc, ctx, parent, value, Keyword::MaxLength)
 }
