@@ -1,3 +1,4 @@
 mod CharBlocks
 mod CharStarts
 mod Escaping
+mod JsonText

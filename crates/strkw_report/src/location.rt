@@ -1,4 +1,4 @@
-ghost use Rattle.std.specs.Prelude.{◌≡◌, [], ◌∷◌, ◌++◌, IfOk, OnOk, string_bytes, encode_utf8};
+ghost use Rattle.std.specs.Prelude.{◌≡◌, ℕ, List, [], ◌∷◌, ◌++◌, IfOk, OnOk, OnErr, string_bytes, encode_utf8};
 ghost use Rattle.strkw_report.specs.Paths.{escaped, below};
 
 use std::alloc::{AllocError, Global};
@@ -46,6 +46,21 @@ impl Location {
             push_escaped(&mut text, segment)?;
         }
         Ok(Location { text })
+    }
+
+    /// Appends the place of the member or the item `segment` of this place, as `join` gives it. Out of memory, a beginning
+    /// of it may have been appended.
+    pub fn push_below(&self, segment: &str, out: &mut Vec<u8>) -> Result<(), AllocError>
+        ensures ok { OnOk result (out.new.items ≡ out.old.items ++ below self.now segment.now) }
+        ensures err { OnErr result ((more : List ℕ) × (out.new.items ≡ out.old.items ++ more)) }
+    {
+        if escape_count(segment.as_bytes()) > 0 {
+            let place = self.join(segment)?;
+            return out.extend_from_slice(place.text.as_bytes());
+        }
+        out.extend_from_slice(self.text.as_bytes())?;
+        out.extend_from_slice(b"/")?;
+        out.extend_from_slice(segment.as_bytes())
     }
 
     /// The pointer as a text.
