@@ -1,13 +1,13 @@
 -- From what is compiled and evaluated to the answer.
-use Rattle.std.proofs.Common.{◌≡◌, ◌≢◌, ◌↔◌, ◌⊎◌, inl, inr, ℕ, List, Bool, true, false, ◌++◌, Option, Some, None, Result, Ok, Err, OnOk, OnErr, refl, ap, ◌∙◌, subst, codes, append_assoc, if◌then◌else◌, is_ok}
+use Rattle.std.proofs.Common.{◌≡◌, ◌≢◌, ◌↔◌, ◌⊎◌, inl, inr, ℕ, List, [], Bool, true, false, ◌++◌, Option, Some, None, Result, Ok, Err, OnOk, OnErr, refl, ap, ◌∙◌, subst, codes, append_assoc, if◌then◌else◌, is_ok}
 use Rattle.serde_json.specs.Data.{Members}
 use Rattle.serde_json.specs.Find.{as_str}
 use Rattle.strkw_report.specs.Kinds.{Report}
 use Rattle.strkw_report.specs.Refusals.{reason_of, refusal_of, memory}
 use Rattle.strkw_report.specs.declared.refusal.CompileError.{CompileError}
 use Rattle.strkw_pattern.specs.declared.engine.Outcome.{Outcome}
-use Rattle.strkw_keywords.specs.Meanings.{no_lists}
-use Rattle.strkw_keywords.specs.Errors.{NodeReports}
+use Rattle.strkw_keywords.specs.Meanings.{Lists, no_lists}
+use Rattle.strkw_keywords.specs.Errors.{Assertion, NodeReports}
 use Rattle.strkw_keywords.specs.Remarks.{Remark}
 use Rattle.strkw_keywords.specs.Object.{Settings, FirstRefusal, remarks_on}
 use Rattle.strkw_keywords.specs.Lengths.{IsEmpty}
@@ -66,21 +66,36 @@ pub told_appended : {T E : Type 0} (result : Result T E) (asked : Bool) (P : Typ
 told_appended (Ok x) asked P old new told kept asks tells grown = (told, grown, rw asks tells)
 told_appended (Err e) asked P old new told kept asks tells grown = tt
 
--- what was appended in two steps
-pub appended_twice : {T E : Type 0} (result : Result T E) (old mid new front back : List ℕ) → mid ≡ old ++ front → OnOk result (new ≡ mid ++ back) → OnOk result (new ≡ old ++ (front ++ back))
-appended_twice (Ok x) old mid new front back first second = second ∙ ap (λ l. l ++ back) first ∙ append_assoc old front back
-appended_twice (Err e) old mid new front back first second = tt
-
--- and where the second was refused
+-- where the first of two steps appended, the second was refused
 pub appended_more : {T E : Type 0} (result : Result T E) (old mid new front : List ℕ) → mid ≡ old ++ front → OnErr result ((more : List ℕ) × (new ≡ mid ++ more)) → OnErr result ((more : List ℕ) × (new ≡ old ++ more))
 appended_more (Ok x) old mid new front first second = tt
 appended_more (Err e) old mid new front first second = (front ++ second.0, second.1 ∙ ap (λ l. l ++ second.0) first ∙ append_assoc old front second.0)
 
--- what was appended is an answer
-pub appended_answer : {T E : Type 0} (result : Result T E) (r : Option Request) (old new made : List ℕ) → Answers r made → OnOk result (new ≡ old ++ made)
-    → OnOk result ((x : List ℕ) × (new ≡ old ++ x) × Answers r x)
-appended_answer (Ok x) r old new made is grown = (made, grown, is)
-appended_answer (Err e) r old new made is grown = tt
+-- the lines of an instance
+abbrev pub found_lines : Option (List ℕ) → List Report → List Remark → List ℕ
+found_lines node errors remarks = verdict_lines errors ++ note_lines (remarks_on node remarks) ++ codes "end\n"
+
+-- an instance that is no text
+pub appended_none : {T E : Type 0} (result : Result T E) (assertions : List Assertion) (lists : Lists) (node : Option (List ℕ)) (remarks : List Remark) (old new : List ℕ)
+    → node ≡ None → OnOk result (new ≡ old ++ codes "valid\nend\n")
+    → OnOk result ((errors : List Report) × (new ≡ old ++ found_lines node errors remarks) × NodeReports assertions lists root_site node errors)
+appended_none (Ok x) assertions lists node remarks old new is grown = ([], rw is grown, rw is refl)
+appended_none (Err e) assertions lists node remarks old new is grown = tt
+
+-- what is told, and then the lines of an instance, are an answer
+pub appended_found : {T E F : Type 0} (result : Result T F) (outcome : E → List ℕ → Outcome) (r : Request) (s : Settings) (k : StringKeywords E) (told old mid new : List ℕ)
+    → s ≡ settings_for r → IsCompiledFrom outcome s r.schema k → TellsFold r.fold (IsEmpty (keywords_interval outcome k)) told → mid ≡ old ++ told
+    → OnOk result ((errors : List Report) × (new ≡ mid ++ found_lines (as_str r.instance) errors (keywords_remarks k))
+    × NodeReports (keywords_assertions outcome k) s.lists root_site (as_str r.instance) errors)
+    → OnOk result ((x : List ℕ) × (new ≡ old ++ x) × Answers (Some r) x)
+appended_found (Ok x) outcome r s k told old mid new same of tells first (errors, grown, reports) =
+    let lines = found_lines (as_str r.instance) errors (keywords_remarks k) in (
+      told ++ lines,
+      grown ∙ ap (λ l. l ++ lines) first ∙ append_assoc old told lines,
+      answer_of_compiled outcome r k told errors (remarks_on (as_str r.instance) (keywords_remarks k)) (subst (λ t. IsCompiledFrom outcome t r.schema k) same of) tells
+          (subst (λ t. NodeReports (keywords_assertions outcome k) t.lists root_site (as_str r.instance) errors) same reports) refl,
+    )
+appended_found (Err e) outcome r s k told old mid new same of tells first found = tt
 
 -- the same where the answer is known once the call has succeeded
 pub appended_refusal : {T E : Type 0} (result : Result T E) (r : Request) (e : CompileError) (old new : List ℕ)

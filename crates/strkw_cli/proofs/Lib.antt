@@ -15,3 +15,4 @@ pub mod OutcomeLemmas
 pub mod RunLemmas
 pub mod Folding
 pub mod AnswerExistence
+pub mod Lines

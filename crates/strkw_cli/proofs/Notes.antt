@@ -1,14 +1,38 @@
 -- Lemmas on the notes that are printed.
-use Rattle.std.proofs.Common.{◌≡◌, ℕ, ◌<◌, List, false, map, length, get_or, sym, ap, ◌∙◌, arith}
-use Rattle.std.proofs.lemmas.List.{get_or-map, length-map}
-use Rattle.std.proofs.lemmas.List.Elements.{All-get_or}
+use Rattle.std.proofs.Common.{◌≡◌, ℕ, false, zero, suc, ◌+◌, ◌<◌, List, [], ◌∷◌, ◌++◌, length, get_or, take, ap, sym, ◌∙◌, append_assoc, arith}
+use Rattle.std.proofs.lemmas.List.Concat.{flat_map-append}
+use Rattle.std.proofs.lemmas.List.Elements.{All-nil, All-cons, All-head, All-tail}
+use Rattle.strkw_pattern.specs.declared.engine.Outcome.{Outcome}
+use Rattle.serde_json.specs.Data.{Data}
 use Rattle.serde_json.specs.Written.{has_float}
-use Rattle.strkw_keywords.specs.declared.note.Note.{Note}
-use Rattle.strkw_keywords.specs.Remarks.{remark_of}
-use Rattle.strkw_cli.specs.Printed.{ArePrintable}
+use Rattle.strkw_keywords.specs.declared.keyword.Keyword.{Keyword}
+use Rattle.strkw_keywords.specs.Remarks.{Remark, remark_at}
+use Rattle.strkw_keywords.specs.Validators.{remarks_in, listed_remark, remark_made}
+use Rattle.strkw_keywords.specs.declared.validator.Validator.{Validator}
+use Rattle.strkw_cli.specs.Printed.{HasText, ArePrintable, note_line, note_lines}
+use Rattle.strkw_cli.proofs.Many.{remarks_more}
 
--- where all notes can be printed, each can
-pub printable_at : (ns : List Note) (i : ℕ) (n : Note) → ArePrintable (map remark_of ns) → i < length ns → n ≡ get_or ns i n → has_float (remark_of n).value ≡ false
-printable_at ns i n printable within is =
-    let same = ap remark_of is ∙ sym (get_or-map remark_of ns i n (remark_of n) within) in
-    ap (λ r. has_float r.value) same ∙ All-get_or (λ r. has_float r.value ≡ false) (map remark_of ns) i (remark_of n) (omega (arith, length-map ns remark_of, within)) printable
+printable_split : (rs ss : List Remark) → ArePrintable (rs ++ ss) → ArePrintable rs × ArePrintable ss
+printable_split [] ss h = (All-nil HasText, h)
+printable_split (r ∷ rs) ss h =
+    let below = printable_split rs ss (All-tail HasText r (rs ++ ss) h) in
+    (All-cons HasText r rs (All-head HasText r (rs ++ ss) h) below.0, below.1)
+
+-- where all notes can be printed, those of each validator can
+pub printable_at : {E : Type 0} (vs : List (Validator E)) (i : ℕ) (v : Validator E) → ArePrintable (remarks_in vs) → i < length vs → v ≡ get_or vs i v → ArePrintable (listed_remark (remark_made v))
+printable_at [] i v printable within is = absurd (omega (arith, within))
+printable_at (w ∷ vs) zero v printable within is = rw is (printable_split (listed_remark (remark_made w)) (remarks_in vs) printable).0
+printable_at (w ∷ vs) (suc i) v printable within is = printable_at vs i v (printable_split (listed_remark (remark_made w)) (remarks_in vs) printable).1 (omega (arith, within)) is
+
+-- the lines up to one validator more
+pub noted_more : {E : Type 0} (outcome : E → List ℕ → Outcome) (vs : List (Validator E)) (i : ℕ) (v : Validator E) (old mid new : List ℕ) → i < length vs → v ≡ get_or vs i v
+    → mid ≡ old ++ note_lines (remarks_in (take i vs)) → new ≡ mid ++ note_lines (listed_remark (remark_made v)) → new ≡ old ++ note_lines (remarks_in (take (i + 1) vs))
+noted_more outcome vs i v old mid new within is first second =
+    let front = remarks_in (take i vs) in
+    let back = listed_remark (remark_made v) in
+    second ∙ ap (λ l. l ++ note_lines back) first ∙ append_assoc old (note_lines front) (note_lines back)
+    ∙ ap (λ l. old ++ l) (sym (ap note_lines (remarks_more outcome vs i v within is) ∙ flat_map-append note_line front back))
+
+-- the value of one note that can be printed
+pub printed_value : (location : List ℕ) (keyword : Keyword) (value : Data) → ArePrintable (remark_at location keyword value ∷ []) → has_float value ≡ false
+printed_value location keyword value printable = All-head HasText (remark_at location keyword value) [] printable

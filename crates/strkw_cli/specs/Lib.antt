@@ -9,3 +9,4 @@ pub mod Outcome
 pub mod Serving
 pub mod Faults
 pub mod HostDevices
+pub mod Written

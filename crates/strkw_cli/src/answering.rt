@@ -5,20 +5,20 @@ ghost use Rattle.serde_json.specs.View.{view};
 ghost use Rattle.strkw_cli.specs.Request.{request_in as request_of};
 ghost use Rattle.strkw_keywords.specs.Handed.{settings_of};
 ghost use Rattle.strkw_cli.specs.Borrowed.{request_view};
-ghost use Rattle.strkw_cli.specs.Answer.{IsAnswer, Answers, settings_for, root_site};
+ghost use Rattle.strkw_cli.specs.Answer.{IsAnswer, Answers, settings_for};
 ghost use Rattle.strkw_cli.specs.Compiled.{keywords_interval};
 ghost use Rattle.strkw_cli.specs.Printed.{TellsFold};
 ghost use Rattle.strkw_keywords.specs.Lengths.{IsEmpty};
 
 use super::compile::compile_strings;
-use super::printing::{push_bad_request, push_findings, push_refusal};
+use super::printing::{push_bad_request, push_refusal};
 use super::request::{Request, read_line, request_in};
 use super::strings::StringKeywords;
 use serde_json::Value;
 use std::alloc::{AllocError, Global};
 use strkw_keywords::{Checks, ContentCodec, Context, Format, MediaTypeCheck, Options};
 use strkw_pattern::{EngineBuilder, NoPatterns, RegexEngine};
-use strkw_report::{Location, Site};
+use strkw_report::Location;
 
 /// Appends the answer to a line. Out of memory, the vector is as it was.
 pub fn answer(alloc: Global, line: &[u8], out: &mut Vec<u8>) -> Result<(), AllocError>
@@ -65,10 +65,8 @@ fn answer_request(alloc: Global, request: &Request<'_>, out: &mut Vec<u8>) -> Re
     let ctx = context_of(alloc, request, &builder);
     match compile_strings(alloc, &ctx, request.schema) {
         Ok(keywords) => {
-            let site = root_site(alloc);
-            let found = keywords.evaluate(alloc, request.instance, &site, &ctx.checks)?;
             push_fold(request.fold, &keywords, out)?;
-            push_findings(alloc, &found.errors, &found.notes, out)
+            keywords.push_found(alloc, request.instance, &ctx.checks, out)
         }
         Err(refusal) => push_refusal(alloc, &refusal, out),
     }
@@ -117,14 +115,5 @@ fn context_of<'a>(
             codecs: &[],
         },
         builder,
-    }
-}
-
-fn root_site(alloc: Global) -> Site
-    ensures { result ≡ root_site }
-{
-    Site {
-        evaluation: Location::root(alloc),
-        instance: Location::root(alloc),
     }
 }

@@ -14,6 +14,7 @@ mod printing;
 mod request;
 mod running;
 mod strings;
+mod writing;
 
 pub use answering::answer;
 pub use compile::compile_strings;

@@ -1,0 +1,304 @@
+//! The lines of an instance, written where they are found: no error is built, and no note.
+
+ghost use Rattle.std.specs.Prelude.{◌≡◌, ℕ, List, ◌++◌, Some, false, OnOk, OnErr, codes, option_map};
+ghost use Rattle.std.specs.List.{flat_map};
+ghost use Rattle.serde_json.specs.Data.{string};
+ghost use Rattle.serde_json.specs.Find.{as_str};
+ghost use Rattle.serde_json.specs.View.{view};
+ghost use Rattle.serde_json.specs.Written.{compact_text, has_float};
+ghost use Rattle.strkw_report.specs.Failures.{kind_failed};
+ghost use Rattle.strkw_report.specs.Kinds.{Report, report_at, message};
+ghost use Rattle.strkw_report.specs.Paths.{below};
+ghost use Rattle.strkw_keywords.specs.Errors.{reported, IsInUse, NodeReports};
+ghost use Rattle.strkw_keywords.specs.Findings.{finding_of};
+ghost use Rattle.strkw_keywords.specs.Handed.{lists_of};
+ghost use Rattle.strkw_keywords.specs.Keywords.{keyword_name};
+ghost use Rattle.strkw_keywords.specs.Object.{remarks_on};
+ghost use Rattle.strkw_keywords.specs.Parts.{noted_remark};
+ghost use Rattle.strkw_keywords.specs.Places.{standing};
+ghost use Rattle.strkw_keywords.specs.Validators.{assertions_of, listed_remark, remark_made};
+ghost use Rattle.strkw_cli.specs.Answer.{root_site};
+ghost use Rattle.strkw_cli.specs.Compiled.{keywords_assertions, keywords_remarks};
+ghost use Rattle.strkw_cli.specs.Printed.{printed, error_line, verdict_lines, note_lines, ArePrintable};
+ghost use Rattle.strkw_cli.specs.Written.{AppendsLines};
+
+use super::printing::{is_plain, push_printed};
+use super::strings::StringKeywords;
+use serde_json::Value;
+use std::alloc::{AllocError, Global};
+use strkw_keywords::{Checks, FindingRef, Keyword, Noted, Origin, Uses, Validate, Validator};
+use strkw_pattern::RegexEngine;
+use strkw_report::{Failure, Location, push_json_string};
+
+// ---- one error
+
+// The keyword that finds this.
+fn keyword_of(finding: &FindingRef) -> Keyword
+    ensures { result ≡ (finding_of finding.now).keyword }
+{
+    match finding {
+        FindingRef::MinLength(_) => Keyword::MinLength,
+        FindingRef::MaxLength(_) => Keyword::MaxLength,
+        FindingRef::Pattern(_) | FindingRef::BacktrackLimit(_) | FindingRef::EngineFailed(_) => {
+            Keyword::Pattern
+        }
+        FindingRef::Format(_) => Keyword::Format,
+        FindingRef::ContentMediaType(_) => Keyword::ContentMediaType,
+        FindingRef::ContentEncoding(_) | FindingRef::FromUtf8 => Keyword::ContentEncoding,
+    }
+}
+
+// What the text failed at.
+fn failure_of<'a>(finding: &FindingRef<'a>) -> Failure<'a>
+    ensures { kind_failed result ≡ (finding_of finding.now).kind }
+{
+    match finding {
+        FindingRef::MinLength(limit) => Failure::MinLength(*limit),
+        FindingRef::MaxLength(limit) => Failure::MaxLength(*limit),
+        FindingRef::Pattern(pattern) => Failure::Pattern(*pattern),
+        FindingRef::BacktrackLimit(pattern) => Failure::BacktrackLimitExceeded(*pattern),
+        FindingRef::EngineFailed(pattern) => Failure::RegexEngineFailure(*pattern),
+        FindingRef::Format(name) => Failure::Format(*name),
+        FindingRef::ContentEncoding(name) => Failure::ContentEncoding(*name),
+        FindingRef::ContentMediaType(name) => Failure::ContentMediaType(*name),
+        FindingRef::FromUtf8 => Failure::FromUtf8,
+    }
+}
+
+// Appends what is said of a failure. Where a name in it holds control characters, they are changed in a copy.
+fn push_failure(
+    alloc: Global,
+    failure: &Failure,
+    text: &str,
+    out: &mut Vec<u8>,
+) -> Result<(), AllocError>
+    ensures ok { OnOk result (out.new.items
+        ≡ out.old.items ++ printed (message (kind_failed failure.now) (compact_text (string text.now)))) }
+    ensures err { OnErr result ((more : List ℕ) × (out.new.items ≡ out.old.items ++ more)) }
+{
+    let before = out.len();
+    failure.push_text(text, out)?;
+    if is_plain(&out[before..]) {
+        return Ok(());
+    }
+    let said = Vec::from_slice(alloc, &out[before..])?;
+    out.truncate(before);
+    push_printed(&said, out)
+}
+
+// Appends what stands before the text of a line.
+fn push_start(
+    word: &str,
+    location: &Location,
+    keyword: Keyword,
+    out: &mut Vec<u8>,
+) -> Result<(), AllocError>
+    ensures ok { OnOk result (out.new.items
+        ≡ out.old.items ++ (word.now ++ codes " " ++ below location.now (keyword_name keyword) ++ codes ": ")) }
+    ensures err { OnErr result ((more : List ℕ) × (out.new.items ≡ out.old.items ++ more)) }
+{
+    out.extend_from_slice(word.as_bytes())?;
+    out.extend_from_slice(b" ")?;
+    location.push_below(keyword.as_str(), out)?;
+    out.extend_from_slice(b": ")
+}
+
+fn push_finding_line(
+    alloc: Global,
+    origin: &Origin,
+    text: &str,
+    finding: &FindingRef,
+    out: &mut Vec<u8>,
+) -> Result<(), AllocError>
+    ensures ok { OnOk result (out.new.items ≡ out.old.items ++ error_line (report_at (standing origin.now root_site)
+        (keyword_name (finding_of finding.now).keyword) (finding_of finding.now).kind text.now)) }
+    ensures err { OnErr result ((more : List ℕ) × (out.new.items ≡ out.old.items ++ more)) }
+{
+    push_start("error", &origin.location, keyword_of(finding), out)?;
+    push_failure(alloc, &failure_of(finding), text, out)?;
+    out.extend_from_slice(b"\n")
+}
+
+fn push_found_line(
+    alloc: Global,
+    origin: &Origin,
+    text: &str,
+    finding: &Option<FindingRef>,
+    out: &mut Vec<u8>,
+) -> Result<(), AllocError>
+    ensures ok { OnOk result (out.new.items ≡ out.old.items
+        ++ flat_map error_line (reported (standing origin.now root_site) text.now (option_map finding_of finding.now))) }
+    ensures err { OnErr result ((more : List ℕ) × (out.new.items ≡ out.old.items ++ more)) }
+{
+    match finding {
+        None => Ok(()),
+        Some(finding) => push_finding_line(alloc, origin, text, finding, out),
+    }
+}
+
+// ---- one note
+
+// Appends the line of what is noted at this location.
+fn push_note_line(
+    alloc: Global,
+    location: &Location,
+    noted: Noted<'_>,
+    out: &mut Vec<u8>,
+) -> Result<(), AllocError>
+    requires { ArePrintable (listed_remark (noted_remark location.now (Some noted))) }
+    ensures ok { OnOk result (out.new.items
+        ≡ out.old.items ++ note_lines (listed_remark (noted_remark location.now (Some noted.entry)))) }
+    ensures err { OnErr result ((more : List ℕ) × (out.new.items ≡ out.old.items ++ more)) }
+{
+    match noted {
+        Noted::Text(keyword, text) => {
+            push_start("note", location, keyword, out)?;
+            push_json_string(text, out)?;
+            out.extend_from_slice(b"\n")
+        }
+        Noted::Value(keyword, value) => {
+            push_start("note", location, keyword, out)?;
+            push_value(alloc, value, out)?;
+            out.extend_from_slice(b"\n")
+        }
+    }
+}
+
+// Appends a value as compact JSON text.
+fn push_value(alloc: Global, value: &Value, out: &mut Vec<u8>) -> Result<(), AllocError>
+    requires { has_float (view value.now) ≡ false }
+    ensures ok { OnOk result (out.new.items ≡ out.old.items ++ compact_text (view value.now)) }
+    ensures err { OnErr result ((more : List ℕ) × (out.new.items ≡ out.old.items ++ more)) }
+{
+    let text = value.to_string(alloc)?;
+    out.extend_from_slice(text.as_bytes())
+}
+
+// ---- one validator
+
+// Appends the lines of the errors that a text has by a validator.
+fn push_errors_of<E: RegexEngine>(
+    alloc: Global,
+    validator: &Validator<E>,
+    node: &Value,
+    text: &str,
+    checks: &Checks,
+    out: &mut Vec<u8>,
+) -> Result<(), AllocError>
+    requires in_use { IsInUse (assertions_of E.outcome validator.now) (lists_of admits accepted encoded decoding checks.now) }
+    requires is_text { as_str (view node.now) ≡ Some text.now }
+    ensures ok { OnOk result (AppendsLines (NodeReports (assertions_of E.outcome validator.now)
+        (lists_of admits accepted encoded decoding checks.now) root_site (as_str (view node.now))) out.old.items out.new.items) }
+    ensures err { OnErr result ((more : List ℕ) × (out.new.items ≡ out.old.items ++ more)) }
+{
+    let found = validator.findings(alloc, node, text, checks)?;
+    let origin = validator.origin();
+    push_found_line(alloc, origin, text, &found.first, out)?;
+    push_found_line(alloc, origin, text, &found.second, out)
+}
+
+// Appends the line of what a validator notes, if it notes anything.
+fn push_note_of<E: RegexEngine>(
+    alloc: Global,
+    validator: &Validator<E>,
+    out: &mut Vec<u8>,
+) -> Result<(), AllocError>
+    requires { ArePrintable (listed_remark (remark_made validator.now)) }
+    ensures ok { OnOk result (out.new.items ≡ out.old.items ++ note_lines (listed_remark (remark_made validator.now))) }
+    ensures err { OnErr result ((more : List ℕ) × (out.new.items ≡ out.old.items ++ more)) }
+{
+    let parts = validator.parts();
+    let origin = parts.origin;
+    match parts.noted {
+        None => Ok(()),
+        Some(noted) => push_note_line(alloc, &origin.location, noted, out),
+    }
+}
+
+// ---- all validators
+
+impl<E: RegexEngine> StringKeywords<E> {
+    // Appends the lines of the errors of a text.
+    fn push_errors(
+        &self,
+        alloc: Global,
+        node: &Value,
+        text: &str,
+        checks: &Checks,
+        out: &mut Vec<u8>,
+    ) -> Result<(), AllocError>
+        requires in_use { IsInUse (keywords_assertions E.outcome self.now) (lists_of admits accepted encoded decoding checks.now) }
+        requires is_text { as_str (view node.now) ≡ Some text.now }
+        ensures ok { OnOk result (AppendsLines (NodeReports (keywords_assertions E.outcome self.now)
+            (lists_of admits accepted encoded decoding checks.now) root_site (as_str (view node.now))) out.old.items out.new.items) }
+        ensures err { OnErr result ((more : List ℕ) × (out.new.items ≡ out.old.items ++ more)) }
+    {
+        for validator in &self.validators {
+            push_errors_of(alloc, validator, node, text, checks, out)?;
+        }
+        Ok(())
+    }
+
+    // Appends the lines of what is noted of texts.
+    fn push_notes(&self, alloc: Global, out: &mut Vec<u8>) -> Result<(), AllocError>
+        requires { ArePrintable (keywords_remarks self.now) }
+        ensures ok { OnOk result (out.new.items ≡ out.old.items ++ note_lines (keywords_remarks self.now)) }
+        ensures err { OnErr result ((more : List ℕ) × (out.new.items ≡ out.old.items ++ more)) }
+    {
+        for validator in &self.validators {
+            push_note_of(alloc, validator, out)?;
+        }
+        Ok(())
+    }
+
+    // Appends the lines of the errors of a text, or that it has none.
+    fn push_verdict(
+        &self,
+        alloc: Global,
+        node: &Value,
+        text: &str,
+        checks: &Checks,
+        out: &mut Vec<u8>,
+    ) -> Result<(), AllocError>
+        requires in_use { IsInUse (keywords_assertions E.outcome self.now) (lists_of admits accepted encoded decoding checks.now) }
+        requires is_text { as_str (view node.now) ≡ Some text.now }
+        ensures ok { OnOk result ((errors : List Report) × (out.new.items ≡ out.old.items ++ verdict_lines errors)
+            × NodeReports (keywords_assertions E.outcome self.now) (lists_of admits accepted encoded decoding checks.now) root_site
+            (as_str (view node.now)) errors) }
+        ensures err { OnErr result ((more : List ℕ) × (out.new.items ≡ out.old.items ++ more)) }
+    {
+        let before = out.len();
+        self.push_errors(alloc, node, text, checks, out)?;
+        if out.len() > before {
+            return Ok(());
+        }
+        out.extend_from_slice(b"valid\n")
+    }
+
+    /// Appends the lines of the errors of an instance, or that it has none, then of what is noted of it, and the end.
+    pub(super) fn push_found(
+        &self,
+        alloc: Global,
+        node: &Value,
+        checks: &Checks,
+        out: &mut Vec<u8>,
+    ) -> Result<(), AllocError>
+        requires in_use { IsInUse (keywords_assertions E.outcome self.now) (lists_of admits accepted encoded decoding checks.now) }
+        requires printable { ArePrintable (keywords_remarks self.now) }
+        ensures ok { OnOk result ((errors : List Report)
+            × (out.new.items ≡ out.old.items
+            ++ (verdict_lines errors ++ note_lines (remarks_on (as_str (view node.now)) (keywords_remarks self.now)) ++ codes "end\n"))
+            × NodeReports (keywords_assertions E.outcome self.now) (lists_of admits accepted encoded decoding checks.now) root_site
+            (as_str (view node.now)) errors) }
+        ensures err { OnErr result ((more : List ℕ) × (out.new.items ≡ out.old.items ++ more)) }
+    {
+        match node.as_str() {
+            None => out.extend_from_slice(b"valid\nend\n"),
+            Some(text) => {
+                self.push_verdict(alloc, node, text, checks, out)?;
+                self.push_notes(alloc, out)?;
+                out.extend_from_slice(b"end\n")
+            }
+        }
+    }
+}
