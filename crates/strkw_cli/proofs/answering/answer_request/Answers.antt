@@ -17,13 +17,13 @@ push_found-requires-clause-printable c =
 
 pub returns-in-Ok-clause-ok : goal.returns-in-Ok-clause-ok
 returns-in-Ok-clause-ok c =
-    let told = c.in_ok-push_fold.ensures.ok in
+    let told = c.in_ok-push_fold-in-Ok.ensures.ok in
     appended_found c.push_found.result literal_outcome (request_view c.args.request.now) _ c.in-Ok.keywords told.0 c.args.out.now.items c.push_fold.new.out.items c.push_found.new.out.items
     c.context_of-ctx.ensures c.in-Ok.ensures.compiled told.2 told.1 c.push_found.ensures.ok
 
 pub returns-in-Ok-clause-err : goal.returns-in-Ok-clause-err
 returns-in-Ok-clause-err c =
-    appended_more c.push_found.result c.args.out.now.items c.push_fold.new.out.items c.push_found.new.out.items _ c.in_ok-push_fold.ensures.ok.1 c.push_found.ensures.err
+    appended_more c.push_found.result c.args.out.now.items c.push_fold.new.out.items c.push_found.new.out.items _ c.in_ok-push_fold-in-Ok.ensures.ok.1 c.push_found.ensures.err
 
 pub returns-clause-ok : goal.returns-clause-ok
 returns-clause-ok c =
