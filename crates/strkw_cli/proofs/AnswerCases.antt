@@ -79,8 +79,8 @@ found_lines node errors remarks = verdict_lines errors ++ note_lines (remarks_on
 pub appended_none : {T E : Type 0} (result : Result T E) (assertions : List Assertion) (lists : Lists) (node : Option (List ℕ)) (remarks : List Remark) (old new : List ℕ)
     → node ≡ None → OnOk result (new ≡ old ++ codes "valid\nend\n")
     → OnOk result ((errors : List Report) × (new ≡ old ++ found_lines node errors remarks) × NodeReports assertions lists root_site node errors)
-appended_none (Ok x) assertions lists node remarks old new is grown = ([], rw is grown, rw is refl)
-appended_none (Err e) assertions lists node remarks old new is grown = tt
+appended_none (Ok x) assertions lists text remarks old new is grown = ([], rw is grown, rw is refl)
+appended_none (Err e) assertions lists text remarks old new is grown = tt
 
 -- what is told, and then the lines of an instance, are an answer
 pub appended_found : {T E F : Type 0} (result : Result T F) (outcome : E → List ℕ → Outcome) (r : Request) (s : Settings) (k : StringKeywords E) (told old mid new : List ℕ)
