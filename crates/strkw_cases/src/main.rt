@@ -4,6 +4,7 @@
 #![tactic(auto)]
 
 mod coding;
+mod ecma;
 mod label;
 mod net;
 mod pattern;
@@ -73,6 +74,9 @@ fn ask(alloc: Global, row: &Value, tally: &mut Tally) -> Result<(), AllocError> 
         "matches" => pattern::ask_matches(alloc, row, tally),
         "alternatives" => pattern::ask_alternatives(alloc, row, tally),
         "prefix" => pattern::ask_prefix(alloc, row, tally),
+        "searches" => ecma::ask_searches(alloc, row, tally),
+        "long searches" => ecma::ask_long_searches(alloc, row, tally),
+        "tables" => ecma::ask_tables(alloc, row, tally),
         "nodes" => report::ask_nodes(alloc, row, tally),
         "fractions" => report::ask_fractions(alloc, row, tally),
         "drafts" => report::ask_drafts(alloc, tally),

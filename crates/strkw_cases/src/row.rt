@@ -19,6 +19,9 @@
 //!   the pattern, then in the analysis if it is of `taken`, and what the analysis is if it is a bar. Otherwise there is none;
 //! - `matches`, `alternatives`, `prefix`: the matcher of the pattern `of`, or of these alternatives or of this prefix, on
 //!   texts `yes` and `no`;
+//! - `searches`: `rows` of a pattern of ECMA-262, a text, and whether it is found there; `long searches`: the same by name, each
+//!   text by its parts and how often each stands there, null where the pattern is not taken;
+//! - `tables`: `rows` of a pattern, and whether its engine reads matches off a table;
 //! - `nodes`: `rows` of a value, its text and its length; `fractions`: values `yes` and `no`; `drafts`: their order.
 
 use serde_json::Value;

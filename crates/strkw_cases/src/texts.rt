@@ -2,7 +2,7 @@
 
 use crate::row::{items, text};
 use crate::tally::Tally;
-use crate::{coding, label};
+use crate::{coding, ecma, label};
 use serde_json::Value;
 use std::alloc::{AllocError, Global};
 use strkw_label::is_valid_hostname;
@@ -47,6 +47,7 @@ pub fn accepts(alloc: Global, of: &str, text: &str) -> Result<Option<bool>, Allo
     match of {
         "label" => Ok(Some(label::admits(alloc, text)?)),
         "json" => coding::is_media(alloc, text),
+        "patterns of ECMA-262" => Ok(ecma::is_taken(alloc, text)),
         "base64" | "base64url" | "base32" | "base32hex" | "base16" => {
             coding::is_encoded(alloc, of, text)
         }

@@ -17,6 +17,7 @@ pub mod Patterns
 pub mod WellFormed
 pub mod Search
 pub mod Outcomes
+pub mod Engine
 pub mod Laws
 pub mod Parts
 pub mod Table

@@ -1,11 +1,12 @@
 //! The engine, and what builds it.
 
-ghost use Rattle.std.specs.Prelude.{◌≡◌, true, Some};
+ghost use Rattle.std.specs.Prelude.{◌≡◌, true, Some, IsOk};
+ghost use Rattle.std.specs.Str.{chars};
 ghost use Rattle.strkw_ecma.specs.Table.{Searches};
 ghost use Rattle.strkw_ecma.specs.declared.table.Table.{Table};
 ghost use Rattle.strkw_ecma.specs.Marks.{is_clean};
 ghost use Rattle.strkw_ecma.specs.Shape.{pattern_of};
-ghost use Rattle.strkw_ecma.specs.Outcomes.{search_outcome, takes_pattern, pattern_outcome};
+ghost use Rattle.strkw_ecma.specs.Outcomes.{takes_pattern, pattern_outcome};
 
 use crate::making::table_of;
 use crate::marks::is_found;
@@ -24,13 +25,30 @@ pub struct EcmaMatcher {
     ghost exact: { (t : Table) → table ≡ Some t → Searches t.firsts.items t.entries.items (pattern_of tree) },
 }
 
+impl EcmaMatcher {
+    ghost use Rattle.strkw_ecma.specs.Engine.{has_table as spec_has_table};
+
+    /// Whether matches are read off a table, so that none of them takes memory.
+    pub fn has_table(&self) -> bool
+        ensures { result ≡ spec_has_table self.now }
+    {
+        self.table.is_some()
+    }
+}
+
 impl RegexEngine for EcmaMatcher {
-    ghost outcome = { λ e text. search_outcome (pattern_of e.tree) text };
+    ghost use Rattle.strkw_pattern.specs.Engine.{IsAnswer};
+    ghost use Rattle.strkw_ecma.specs.Engine.{engine_outcome, has_table as spec_has_table};
+
+    ghost outcome = { engine_outcome };
 
     /// Whether the pattern is found in the text (RegExpBuiltinExec, ECMA-262 2024, section 22.2.7.2), in one pass. The only
     /// error is `EngineFailure::Memory`: where the pattern has no table, a call copies its tree, and allocates nothing else;
     /// where it has one, nothing is allocated.
-    fn is_match(&self, alloc: Global, text: &str) -> Result<bool, EngineFailure> {
+    fn is_match(&self, alloc: Global, text: &str) -> Result<bool, EngineFailure>
+        ensures answer { IsAnswer (engine_outcome self.now (chars text.now)) result }
+        ensures by_table { spec_has_table self.now ≡ true → IsOk result }
+    {
         if let Some(table) = &self.table {
             return Ok(table.is_found(text));
         }

@@ -15,8 +15,6 @@ mod reader;
 mod sets;
 mod states;
 mod table;
-#[cfg(test)]
-mod tests;
 mod tokens;
 mod tree;
 

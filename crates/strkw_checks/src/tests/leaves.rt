@@ -1,6 +1,6 @@
-//! The calls of encodings and of patterns that allocate, by name. With ample memory a row has to pass.
-//! `tools/refusals.py` runs it with each growth refused in turn too: then it ends with the error of the call that was
-//! refused, by that error's own name.
+//! The calls of encodings and of patterns that allocate, by name, and those of the engine of ECMA-262. With ample memory a
+//! row has to pass. `tools/refusals.py` runs it with each growth refused in turn too: then it ends with the error of the
+//! call that was refused, by that error's own name.
 
 use std::alloc::{AllocError, Global};
 use std::test::Fail;
@@ -8,7 +8,10 @@ use strkw_coding::{
     BuiltinMediaType, Codec, DecodeError, from_base16, from_base32, from_base32hex, from_base64,
     from_base64url, is_base16, is_base32, is_base32hex, is_base64, is_base64url, is_json,
 };
-use strkw_pattern::{LiteralMatcher, PatternOptimization, RegexEngine, analyze_pattern};
+use strkw_ecma::EcmaPatterns;
+use strkw_pattern::{
+    BuildRefusal, EngineBuilder, LiteralMatcher, PatternOptimization, RegexEngine, analyze_pattern,
+};
 
 // What a text encodes.
 #[derive(Clone, Copy)]
@@ -187,6 +190,36 @@ fn analyze_pattern_under_refusal(rt: HostRuntime) -> Result<(), Fail> {
             None => true,
         };
         if !is_shown_so || !is_matched_so {
+            return Err(Fail::new(pattern));
+        }
+    }
+    Ok(())
+}
+
+// A pattern of ECMA-262, a text, and whether it is found there; nothing where the pattern is not taken.
+const SEARCHES: [(&str, &str, Option<bool>); 7] = [
+    ("^(a|b)*\\x2Ec", "ab.c", Some(true)),
+    ("(a+?|.)*$", "ab", Some(true)),
+    ("\\S\\d?\\b", "a1", Some(true)),
+    ("", "", Some(true)),
+    ("(a+|b?", "", None),
+    ("a**", "", None),
+    ("\\w[\\cA-\\cB\\s]{2", "", None),
+];
+
+// Whether the engine of a pattern answers so; out of memory is an error here.
+fn is_found_so(alloc: Global, pattern: &str, text: &str, want: Option<bool>) -> Result<bool, Fail> {
+    match EcmaPatterns.build(alloc, pattern) {
+        Ok(engine) => Ok(Some(engine.is_match(alloc, text)?) == want),
+        Err(BuildRefusal::Pattern) => Ok(want.is_none()),
+        Err(BuildRefusal::Memory) => Err(BuildRefusal::Memory.into()),
+    }
+}
+
+#[test]
+fn patterns_under_refusal(rt: HostRuntime) -> Result<(), Fail> {
+    for (pattern, text, want) in SEARCHES {
+        if !is_found_so(rt.alloc(), pattern, text, want)? {
             return Err(Fail::new(pattern));
         }
     }

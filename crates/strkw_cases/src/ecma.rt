@@ -1,0 +1,94 @@
+//! Which patterns the engine of ECMA-262 takes, which of them have a table, and where each is found.
+
+use crate::row::{items, text_at};
+use crate::tally::Tally;
+use serde_json::Value;
+use std::alloc::{AllocError, Global};
+use strkw_ecma::EcmaPatterns;
+use strkw_pattern::{BuildRefusal, EngineBuilder, RegexEngine};
+
+/// Whether a text is a pattern that is taken; `None` where memory ran out.
+pub fn is_taken(alloc: Global, pattern: &str) -> Option<bool> {
+    match EcmaPatterns.build(alloc, pattern) {
+        Ok(_) => Some(true),
+        Err(BuildRefusal::Pattern) => Some(false),
+        Err(BuildRefusal::Memory) => None,
+    }
+}
+
+// A search through the bounds of the traits alone.
+fn answer<B: EngineBuilder>(alloc: Global, builder: &B, pattern: &str, text: &str) -> &'static str {
+    match builder.build(alloc, pattern) {
+        Ok(engine) => match engine.is_match(alloc, text) {
+            Ok(true) => "found",
+            Ok(false) => "not found",
+            Err(_) => "no answer",
+        },
+        Err(BuildRefusal::Pattern) => "not taken",
+        Err(BuildRefusal::Memory) => "not built",
+    }
+}
+
+// Asks whether a pattern is found in a text. It is not to be taken where nothing is expected of the search.
+fn ask_search(
+    alloc: Global,
+    pattern: &str,
+    text: &str,
+    expected: Option<bool>,
+    tally: &mut Tally,
+) -> Result<(), AllocError> {
+    let answer = answer(alloc, &EcmaPatterns, pattern, text);
+    let wanted = match expected {
+        Some(true) => "found",
+        Some(false) => "not found",
+        None => "not taken",
+    };
+    let shown = format!(in alloc; "{answer} in {text:?}")?;
+    tally.count(alloc, answer == wanted, pattern, &shown)
+}
+
+/// The searches of a row.
+pub fn ask_searches(alloc: Global, row: &Value, tally: &mut Tally) -> Result<(), AllocError> {
+    for row in items(row, "rows") {
+        let (pattern, text) = (text_at(row, 0), text_at(row, 1));
+        let found = row.get(2).and_then(Value::as_bool);
+        ask_search(alloc, pattern, text, found, tally)?;
+    }
+    Ok(())
+}
+
+// Parts of a text, each so many times.
+fn repeated(alloc: Global, parts: &[Value]) -> Result<String, AllocError> {
+    let mut text = String::new(alloc);
+    for part in parts {
+        for _ in 0..part.get(1).and_then(Value::as_u64).unwrap_or(0) {
+            text.push_str(text_at(part, 0))?;
+        }
+    }
+    Ok(text)
+}
+
+/// The searches of a row whose patterns and texts are said by their parts.
+pub fn ask_long_searches(alloc: Global, row: &Value, tally: &mut Tally) -> Result<(), AllocError> {
+    for row in items(row, "rows") {
+        let pattern = repeated(alloc, items(row, "pattern"))?;
+        let text = repeated(alloc, items(row, "text"))?;
+        let found = row.get("found").and_then(Value::as_bool);
+        ask_search(alloc, &pattern, &text, found, tally)?;
+    }
+    Ok(())
+}
+
+/// The patterns of a row, by whether they have a table.
+pub fn ask_tables(alloc: Global, row: &Value, tally: &mut Tally) -> Result<(), AllocError> {
+    for pair in items(row, "rows") {
+        let pattern = text_at(pair, 0);
+        let has_table = match EcmaPatterns.build(alloc, pattern) {
+            Ok(engine) => Some(engine.has_table()),
+            Err(_) => None,
+        };
+        let is_expected = has_table.is_some() && has_table == pair.get(1).and_then(Value::as_bool);
+        tally.count(alloc, is_expected, pattern, "the other")?;
+    }
+    Ok(())
+}
