@@ -34,7 +34,7 @@ BY_DESIGN = [
     ("lookaround", re.compile(r"\(\?<?[=!]")),
     ("back reference", re.compile(r"\\[1-9]|\\k<")),
     ("property", re.compile(r"\\[pP]\{")),
-    ("named group", re.compile(r"\(\?<[^=!]")),
+    ("name twice", re.compile(r"\(\?<(\w+)>.*\(\?<\1>", re.DOTALL)),
     ("lone surrogate", re.compile(r"\\u(\{0*)?[dD][89a-fA-F]")),
 ]
 # A match of Node that begins between the two halves of a surrogate pair is none: ECMA-262 2024 (RegExpBuiltinExec, section

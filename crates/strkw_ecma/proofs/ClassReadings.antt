@@ -7,7 +7,7 @@ use Rattle.strkw_ecma.specs.Codes.{Code, null_code, letter_code, byte_code, unit
 use Rattle.strkw_ecma.specs.CodeReading.{Coding, Coded, fails, goes, makes, coding_next}
 use Rattle.strkw_ecma.specs.Classes.{ClassToken, ClassAtom, class_plain, hyphen, class_escaped, class_control, class_set, backspace, class_coded, Ranges, no_ranges, with_one, with_range, item, range, class_atom_spelling, ranges_spelling, negation_spelling, ending_spelling, IsClassAtom, is_hyphen, is_caret, MayBegin, MayFollow, MayEnd, AreRanges}
 use Rattle.strkw_ecma.specs.Syntax.{Disjunction, bracketed}
-use Rattle.strkw_ecma.specs.Reading.{Open, Level, Last, State, Pending, fresh, one, dashed, Class, Mode, between, class_opened, in_class, with_mode, with_atom, took, ranged, within, on_class_token, on_class_escape, with_coding, on_class_coding, on_class, read_from}
+use Rattle.strkw_ecma.specs.Reading.{Outer, Level, Last, State, Pending, fresh, one, dashed, Class, Mode, between, class_opened, in_class, with_mode, with_atom, took, ranged, within, on_class_token, on_class_escape, with_coding, on_class_coding, on_class, read_from}
 use Rattle.strkw_ecma.proofs.CodeReadings.{follow, code_tail, begun, reads_code}
 
 abbrev class_of : Bool → Ranges → Pending → Class
@@ -29,7 +29,7 @@ ranged_some : (n : Bool) (r : Ranges) (x y : ClassAtom) (o : Option (ℕ × ℕ)
 ranged_some n r x y None h = absurd (true≢false (sym h))
 ranged_some n r x y (Some s) h = refl
 
-module _ (outer : List Open) (l : Level) (x : Last) where
+module _ (outer : Outer) (l : Level) (x : Last) where
   abbrev at : Mode → State
   at m = with_mode outer l x m
 

@@ -5,9 +5,10 @@ use Rattle.std.specs.Str.{byte}
 use Rattle.strkw_ecma.specs.Escapes.{Escape, itself, control, set, boundary, no_boundary, null, letter, hexadecimal, unicode, unknown}
 use Rattle.strkw_ecma.specs.Codes.{null_code}
 use Rattle.strkw_ecma.specs.CodeReading.{byte_width, two_more, Coding, letter_awaited, unit_opened, digits_of, Coded, fails, goes, makes}
+use Rattle.strkw_ecma.specs.Names.{NameChar, name_spelling}
 use Rattle.strkw_ecma.specs.Classes.{ClassToken, closing_bracket, class_backslash, dash, class_character, ClassAtom, class_plain, hyphen, class_escaped, class_control, class_set, backspace, class_coded, Ranges, class_atom_spelling, ranges_spelling, negation_spelling}
 use Rattle.strkw_ecma.specs.Syntax.{Disjunction, Alternative, more, Term, Atom, quantifier_spelling, group_spelling, spelling, alternative_spelling, term_spelling, atom_spelling}
-use Rattle.strkw_ecma.specs.Reading.{Open, Level, Last, none, atom, counted, Pending, fresh, one, dashed, Class, Mode, between, escaping, opening, extending, class_opened, Count, low, high, counting, in_class, class_escaping, coding, class_coding, State, ended, joined, with_atom, took, took_dash, ranged, class_read, within, on_class_token, on_class_escape, with_coding, on_class_coding}
+use Rattle.strkw_ecma.specs.Reading.{Open, Outer, Level, Last, none, atom, counted, Pending, fresh, one, dashed, Class, Mode, between, escaping, opening, extending, class_opened, Count, low, high, counting, in_class, class_escaping, coding, class_coding, naming, name_escaping, name_coding, State, ended, joined, with_atom, took, took_dash, ranged, class_read, within, on_class_token, on_class_escape, with_coding, on_class_coding}
 use Rattle.strkw_ecma.proofs.Letters.{char_of_letter, char_of_class}
 use Rattle.strkw_ecma.proofs.CodeReadings.{coding_spelling, IsCodedAs}
 
@@ -36,6 +37,10 @@ abbrev count_spelling : Count → List ℕ
 count_spelling (low ds) = byte "{" ∷ ds
 count_spelling (high ds es) = byte "{" ∷ (ds ++ byte "," ∷ es)
 
+-- the beginning of a named group
+abbrev pub name_text : List NameChar → List ℕ
+name_text n = byte "(" ∷ byte "?" ∷ byte "<" ∷ name_spelling n
+
 abbrev mode_spelling : Mode → List ℕ
 mode_spelling between = []
 mode_spelling escaping = byte "\\" ∷ []
@@ -47,10 +52,13 @@ mode_spelling class_opened = byte "[" ∷ []
 mode_spelling (in_class k) = class_text k.negated k.ranges k.pending
 mode_spelling (class_escaping k) = class_text k.negated k.ranges k.pending ++ byte "\\" ∷ []
 mode_spelling (class_coding k d) = class_text k.negated k.ranges k.pending ++ byte "\\" ∷ coding_spelling d
+mode_spelling (naming n) = name_text n
+mode_spelling (name_escaping n) = name_text n ++ byte "\\" ∷ []
+mode_spelling (name_coding n k) = name_text n ++ byte "\\" ∷ coding_spelling k
 
 -- what a state has read
 abbrev pub spelled : State → List ℕ
-spelled s = ((outer_spelling s.outer ++ level_spelling s.level.earlier s.level.current) ++ last_spelling s.last) ++ mode_spelling s.mode
+spelled s = ((outer_spelling s.outer.groups ++ level_spelling s.level.earlier s.level.current) ++ last_spelling s.last) ++ mode_spelling s.mode
 
 pub ended_spelling : (a : Alternative) (x : Last) → alternative_spelling (ended a x) ≡ alternative_spelling a ++ last_spelling x
 ended_spelling a none = sym (append-nil _)
@@ -102,14 +110,14 @@ dash_read n r fresh = took_read n r fresh hyphen
 dash_read n r (one w) = sym (append_assoc (negation_spelling n ++ ranges_spelling r) (class_atom_spelling w) (byte "-" ∷ []))
 dash_read n r (dashed w) = took_read n r (dashed w) hyphen
 
-module _ (outer : List Open) (l : Level) where
+module _ (outer : Outer) (l : Level) where
   abbrev pub before : Last → List ℕ
-  before x = (outer_spelling outer ++ level_spelling l.earlier l.current) ++ last_spelling x
+  before x = (outer_spelling outer.groups ++ level_spelling l.earlier l.current) ++ last_spelling x
 
-  pub whole : (x : Last) → outer_spelling outer ++ level_spelling l.earlier (ended l.current x) ≡ before x
+  pub whole : (x : Last) → outer_spelling outer.groups ++ level_spelling l.earlier (ended l.current x) ≡ before x
   whole x =
-      ap (λ z. outer_spelling outer ++ z) (level_ended_spelling l.earlier l.current x)
-      ∙ sym (append_assoc (outer_spelling outer) (level_spelling l.earlier l.current) (last_spelling x))
+      ap (λ z. outer_spelling outer.groups ++ z) (level_ended_spelling l.earlier l.current x)
+      ∙ sym (append_assoc (outer_spelling outer.groups) (level_spelling l.earlier l.current) (last_spelling x))
 
   pub atom_read : (x : Last) (a : Atom) → spelled (with_atom outer l x a) ≡ before x ++ atom_spelling a
   atom_read x a = append-nil _ ∙ ap (λ z. z ++ atom_spelling a) (whole x)

@@ -6,6 +6,7 @@ use Rattle.std.proofs.lemmas.Bool.Decides.{nat_tests}
 use Rattle.std.specs.Char.{digit_value, is_ascii_alphabetic}
 use Rattle.std.specs.Str.{byte}
 use Rattle.strkw_ecma.specs.Codes.{Code, null_code, letter_code, byte_code, unit_code, pair_code, point_code, is_hex_digit, are_hex_digits, hex_number_from, hex_number, max_code_point, is_lead, is_trail, is_scalar, has_digits, code_spelling, code_value, AreDigits, AreCodeDigits, IsCode}
+use Rattle.strkw_ecma.specs.Names.{is_unicode}
 use Rattle.strkw_ecma.specs.CodeReading.{Width, byte_width, unit_width, trail_width, Wanted, one_more, two_more, three_more, four_more, Coding, letter_awaited, unit_opened, digits_of, lead_read, lead_escaped, point_opened, Coded, fails, goes, makes, coded_if, made, with_lead, all_read, digit_read, is_next_digit, on_digit, on_unit, on_point, coding_next}
 use Rattle.strkw_ecma.specs.Syntax.{Disjunction}
 use Rattle.strkw_ecma.proofs.Steps.{and_true, and_left, and_right}
@@ -167,6 +168,67 @@ coding_formed (lead_read ds) c h = if_formed (c == byte "\\") (goes (lead_escape
 coding_formed (lead_escaped ds) c h =
     if_formed (c == byte "u") (goes (digits_of (trail_width ds) four_more [])) (λ e. (h, refl, refl))
 coding_formed (point_opened ds) c h = point_formed ds c (c == byte "}") h
+
+-- what may have been read behind `\u`
+abbrev is_unicode_width : Width → Bool
+is_unicode_width byte_width = false
+is_unicode_width unit_width = true
+is_unicode_width (trail_width ds) = true
+
+abbrev pub is_unicode_coding : Coding → Bool
+is_unicode_coding letter_awaited = false
+is_unicode_coding unit_opened = true
+is_unicode_coding (digits_of w n ds) = is_unicode_width w
+is_unicode_coding (lead_read ds) = true
+is_unicode_coding (lead_escaped ds) = true
+is_unicode_coding (point_opened ds) = true
+
+abbrev pub IsUnicode : Coded → Type 0
+IsUnicode fails = Unit {0}
+IsUnicode (goes k) = is_unicode_coding k ≡ true
+IsUnicode (makes d) = is_unicode d ≡ true
+
+if_unicode : (b : Bool) (k : Coded) → IsUnicode k → IsUnicode (coded_if b k)
+if_unicode false k h = tt
+if_unicode true k h = h
+
+lead_unicode : (ds : List ℕ) (b : Bool) → IsUnicode (with_lead ds b)
+lead_unicode ds false = if_unicode (is_scalar (code_value (unit_code ds))) (makes (unit_code ds)) refl
+lead_unicode ds true = refl
+
+all_read_unicode : (w : Width) (ds : List ℕ) → is_unicode_width w ≡ true → IsUnicode (all_read w ds)
+all_read_unicode byte_width ds h = absurd (true≢false (sym h))
+all_read_unicode unit_width ds h = lead_unicode ds (is_lead (hex_number ds))
+all_read_unicode (trail_width ds) es h =
+    if_unicode (is_trail (hex_number es)) (made (pair_code ds es))
+    (if_unicode (is_scalar (code_value (pair_code ds es))) (makes (pair_code ds es)) refl)
+
+digit_read_unicode : (w : Width) (n : Wanted) (ds : List ℕ) → is_unicode_width w ≡ true → IsUnicode (digit_read w n ds)
+digit_read_unicode w one_more ds h = all_read_unicode w ds h
+digit_read_unicode w two_more ds h = h
+digit_read_unicode w three_more ds h = h
+digit_read_unicode w four_more ds h = h
+
+on_digit_unicode : (w : Width) (n : Wanted) (ds : List ℕ) (c : ℕ) → is_unicode_width w ≡ true → IsUnicode (on_digit w n ds c)
+on_digit_unicode w n ds c h =
+    if_unicode (is_next_digit ds c) (digit_read w n (ds ++ c ∷ [])) (digit_read_unicode w n (ds ++ c ∷ []) h)
+
+unit_unicode : (c : ℕ) (b : Bool) → IsUnicode (on_unit c b)
+unit_unicode c false = on_digit_unicode unit_width four_more [] c refl
+unit_unicode c true = refl
+
+point_unicode : (ds : List ℕ) (c : ℕ) (b : Bool) → IsUnicode (on_point ds c b)
+point_unicode ds c false = if_unicode (is_next_digit ds c) (goes (point_opened (ds ++ c ∷ []))) refl
+point_unicode ds c true =
+    if_unicode (has_digits ds) (made (point_code ds)) (if_unicode (is_scalar (code_value (point_code ds))) (makes (point_code ds)) refl)
+
+pub coding_unicode : (k : Coding) (c : ℕ) → is_unicode_coding k ≡ true → IsUnicode (coding_next k c)
+coding_unicode letter_awaited c h = absurd (true≢false (sym h))
+coding_unicode unit_opened c h = unit_unicode c (c == byte "{")
+coding_unicode (digits_of w n ds) c h = on_digit_unicode w n ds c h
+coding_unicode (lead_read ds) c h = if_unicode (c == byte "\\") (goes (lead_escaped ds)) refl
+coding_unicode (lead_escaped ds) c h = if_unicode (c == byte "u") (goes (digits_of (trail_width ds) four_more [])) refl
+coding_unicode (point_opened ds) c h = point_unicode ds c (c == byte "}")
 
 -- numbers
 hex_append : (v : ℕ) (ds es : List ℕ) → hex_number_from v (ds ++ es) ≡ hex_number_from (hex_number_from v ds) es

@@ -5,7 +5,7 @@ use Rattle.std.proofs.lemmas.List.{append-nil}
 use Rattle.std.proofs.lemmas.Bool.{le-leb}
 use Rattle.std.specs.Str.{byte}
 use Rattle.strkw_ecma.specs.Numbers.{is_digit, are_digits, number_from, number, max_count, CountToken, digit, comma, closing_brace, no_count, count_token}
-use Rattle.strkw_ecma.specs.Reading.{Open, Level, Last, Mode, with_mode, with_digit, longer, next_in, read_from}
+use Rattle.strkw_ecma.specs.Reading.{Outer, Level, Last, Mode, with_mode, with_digit, longer, next_in, read_from}
 use Rattle.strkw_ecma.proofs.Steps.{and_true, and_left, and_right}
 
 pub number_push : (v : ℕ) (ds : List ℕ) (c : ℕ) → number_from v (ds ++ c ∷ []) ≡ number_from v ds * 10 + (c - byte "0")
@@ -52,7 +52,7 @@ token_of_digit : (c : ℕ) → is_digit c ≡ true → count_token c ≡ digit
 token_of_digit c h = ap (λ (b : Bool). if b then digit else if c == byte "," then comma else if c == byte "}" then closing_brace else no_count) h
 
 -- each digit is read from its mode, in which the digits before it stand
-pub reads_digits : (outer : List Open) (l : Level) (x : Last) (m : List ℕ → Mode)
+pub reads_digits : (outer : Outer) (l : Level) (x : Last) (m : List ℕ → Mode)
     → ((ds : List ℕ) (c : ℕ) → count_token c ≡ digit → next_in outer l x (m ds) c ≡ option_map (λ (es : List ℕ). with_mode outer l x (m es)) (with_digit ds c))
     → (ds es : List ℕ) → are_digits es ≡ true → number (ds ++ es) ≤ max_count → (cs : List ℕ)
     → read_from (with_mode outer l x (m ds)) (es ++ cs) ≡ read_from (with_mode outer l x (m (ds ++ es))) cs

@@ -5,7 +5,8 @@ use Rattle.std.proofs.lemmas.Bool.{leb-true, le-leb}
 use Rattle.strkw_pattern.specs.Matcher.{outcome_of}
 use Rattle.strkw_pattern.specs.declared.engine.Outcome.{Outcome}
 use Rattle.strkw_pattern.specs.declared.engine.Outcome.TheVariants.{Match, NoMatch}
-use Rattle.strkw_ecma.specs.Syntax.{Disjunction, only, either, Alternative, nothing, more, Term, at_start, at_end, at_boundary, at_no_boundary, once, quantified, Atom, plain, escaped, control_escape, set_escape, coded, dot, bracketed, group, max_length}
+use Rattle.strkw_ecma.specs.Names.{are_distinct}
+use Rattle.strkw_ecma.specs.Syntax.{Disjunction, names, only, either, Alternative, nothing, more, Term, at_start, at_end, at_boundary, at_no_boundary, once, quantified, Atom, plain, escaped, control_escape, set_escape, coded, dot, bracketed, group, max_length}
 use Rattle.strkw_ecma.specs.Reading.{read, read_short, read_pattern, tree_if, small_tree}
 use Rattle.strkw_ecma.specs.Lookahead.{is_apart}
 use Rattle.strkw_ecma.specs.Size.{size, max_nodes}
@@ -65,15 +66,27 @@ small_of : (source : List ℕ) (d : Disjunction) (b : Bool) → nat_le (size (pa
 small_of source d false e p h = absurd (true≢false (sym h))
 small_of source d true e p h = (d, p (leb-true (size (pattern d)) max_nodes e))
 
+-- a tree is read only where no name is there twice
+distinct_of : (d : Disjunction) (b : Bool) → are_distinct (names d) ≡ b → is_some (tree_if b d) ≡ true → are_distinct (names d) ≡ true
+distinct_of d false e h = absurd (true≢false (sym h))
+distinct_of d true e h = e
+
 derived_of : (source : List ℕ) (a b : Bool) (o : Option Disjunction) → is_apart source ≡ a → leb (length source) max_length ≡ b
-    → IsSpelled o source → IsFormed o
+    → read source ≡ o → IsSpelled o source → IsFormed o
     → IsTrue (is_some (if a then small_tree (if b then o else None) else None)) → (d : Disjunction) × IsPattern source d
-derived_of source false b o a e s f h = absurd (true≢false (sym h))
-derived_of source true false o a e s f h = absurd (true≢false (sym h))
-derived_of source true true None a e s f h = absurd (true≢false (sym h))
-derived_of source true true (Some d) a e s f h =
+derived_of source false b o a e r s f h = absurd (true≢false (sym h))
+derived_of source true false o a e r s f h = absurd (true≢false (sym h))
+derived_of source true true None a e r s f h = absurd (true≢false (sym h))
+derived_of source true true (Some d) a e r s f h =
     small_of source d (nat_le (size (pattern d)) max_nodes) refl
-    (λ m. record { formed = f; spelled = s; short = leb-true (length source) max_length e; apart = a; small = m }) h
+    (λ m. record {
+      formed = f;
+      spelled = s;
+      short = leb-true (length source) max_length e;
+      apart = a;
+      distinct = distinct_of d (are_distinct (names d)) refl (ap is_some (sym (complete d f) ∙ ap read s ∙ r));
+      small = m;
+    }) h
 
 -- a pattern is read as its tree
 read_is : (source : List ℕ) (d : Disjunction) → IsPattern source d → read_pattern source ≡ Some d
@@ -81,6 +94,7 @@ read_is source d p =
     ap (λ (b : Bool). if b then small_tree (read_short source) else None) p.apart
     ∙ ap (λ (b : Bool). small_tree (if b then read source else None)) (le-leb (length source) max_length p.short)
     ∙ ap (λ (z : List ℕ). small_tree (read z)) (sym p.spelled) ∙ ap small_tree (complete d p.formed)
+    ∙ ap (λ (b : Bool). small_tree (tree_if b d)) p.distinct
     ∙ ap (λ (b : Bool). tree_if b d) (le-leb (size (pattern d)) max_nodes p.small)
 
 tree_or : Disjunction → Option Disjunction → Disjunction
@@ -113,7 +127,7 @@ decided_of (Some d) text = by_answer _
 
 pub exact : (source : List ℕ) → IsExact source
 exact source = record {
-  derived = derived_of source (is_apart source) _ (read source) refl refl (sound source) (read_formed source);
+  derived = derived_of source (is_apart source) _ (read source) refl refl refl (sound source) (read_formed source);
   taken = λ d p. ap is_some (read_is source d p);
   one_tree = λ d e p q. same_tree d e (sym (read_is source d p) ∙ read_is source e q);
   decided = decided_of (read_pattern source);

@@ -1,5 +1,5 @@
 -- What is read is well formed: each character stands where it may.
-use Rattle.std.proofs.Common.{◌≡◌, ◌==◌, ℕ, Bool, true, false, List, [], ◌∷◌, Option, Some, None, refl, length, ◌<◌, ◌≤◌, ◌*◌, ◌++◌, nat_lt, nat_le, arith}
+use Rattle.std.proofs.Common.{◌≡◌, ◌==◌, ℕ, Bool, true, false, List, [], ◌∷◌, Option, Some, None, refl, length, ◌<◌, ◌≤◌, ◌*◌, ◌++◌, nat_lt, nat_le, ◌&&◌, arith}
 use Rattle.std.specs.Prelude.{option_and_then, option_map, is_some}
 use Rattle.std.proofs.lemmas.Bool.{ltb-true, leb-true}
 use Rattle.std.specs.Str.{byte}
@@ -7,14 +7,15 @@ use Rattle.strkw_ecma.specs.Escapes.{Escape, itself, control, set, boundary, no_
 use Rattle.strkw_ecma.specs.Codes.{null_code}
 use Rattle.strkw_ecma.specs.CodeReading.{Coded, fails, goes, makes, coding_next}
 use Rattle.strkw_ecma.specs.Classes.{ClassToken, closing_bracket, class_backslash, dash, class_character, class_token, class_escape, ClassAtom, class_plain, hyphen, class_escaped, class_control, class_set, backspace, class_coded, Ranges, no_ranges, item, range, IsClassAtom, is_hyphen, is_caret, MayFollow, AreRanges}
-use Rattle.strkw_ecma.specs.Syntax.{Disjunction, Alternative, Token, bar, asterisk, plus, question, caret, dollar, opening as opening_token, closing, point, backslash, bracket, brace, character, other, token, Quantifier, zero_or_more, one_or_more, exactly, at_least, from_to, Group, capturing, plain_group, max_nesting}
-use Rattle.strkw_ecma.specs.WellFormed.{IsQuantifier, IsWellFormed, IsAlternative, IsAtom}
+use Rattle.strkw_ecma.specs.Names.{NameChar, verbatim, by_code, name_char_value, name_value, is_name_part, IsNameChar, AreNameParts, IsName, may_follow, Extension, uncaptured, name_opening, no_extension, extension, NameToken, name_end, name_backslash, name_character, name_token, are_distinct}
+use Rattle.strkw_ecma.specs.Syntax.{Disjunction, Alternative, Token, bar, asterisk, plus, question, caret, dollar, opening as opening_token, closing, point, backslash, bracket, brace, character, other, token, Quantifier, zero_or_more, one_or_more, exactly, at_least, from_to, Group, capturing, plain_group, named, max_nesting}
+use Rattle.strkw_ecma.specs.WellFormed.{IsQuantifier, IsGroup, IsWellFormed, IsAlternative, IsAtom}
 use Rattle.strkw_ecma.specs.Numbers.{number, number_of, are_digits, max_count, IsNumber, CountToken, digit, comma, closing_brace, no_count, count_token}
 use Rattle.strkw_ecma.specs.Size.{size, max_size}
 use Rattle.strkw_ecma.specs.Patterns.{atom_pattern, times, copies}
 use Rattle.strkw_ecma.proofs.Digits.{digits_push, is_digit_of}
-use Rattle.strkw_ecma.proofs.CodeReadings.{IsCoding, IsCoded, coding_formed}
-use Rattle.strkw_ecma.specs.Reading.{Open, Level, Last, none, atom, counted, Pending, fresh, one, dashed, Class, Mode, between, escaping, opening, extending, class_opened, Count, low, high, counting, when, with_count, longer, range_read, on_low, on_high, on_count, in_class, class_escaping, coding, class_coding, is_between, State, with_mode, new_level, ended, joined, closed, with_quantifier, questioned, opened, on_token, on_group, on_extension, on_escape, took, took_dash, ranged, class_read, within, on_class_token, on_class_escape, on_coding, on_class_coding, on_class, next_in, next, at_close, read_from, initial, read}
+use Rattle.strkw_ecma.proofs.CodeReadings.{IsCoding, IsCoded, coding_formed, is_unicode_coding, IsUnicode, coding_unicode}
+use Rattle.strkw_ecma.specs.Reading.{Open, Outer, Level, Last, none, atom, counted, Pending, fresh, one, dashed, Class, Mode, between, escaping, opening, extending, class_opened, Count, low, high, counting, when, with_count, longer, range_read, on_low, on_high, on_count, in_class, class_escaping, coding, class_coding, is_between, State, with_mode, new_level, ended, joined, level_ended, closed_in, naming, name_escaping, name_coding, with_name_char, name_read, on_naming, on_name_escape, on_name_coding, tree_if, closes, with_quantifier, questioned, opened, on_token, on_group, on_extension, on_escape, took, took_dash, ranged, class_read, within, on_class_token, on_class_escape, on_coding, on_class_coding, on_class, next_in, next, read_from, initial, read}
 
 -- of a level within n groups
 abbrev IsEarlier : ℕ → Option Disjunction → Type 0
@@ -31,7 +32,7 @@ IsLevel n l = IsEarlier n l.earlier × IsAlternative n l.current
 
 abbrev AreLevels : List Open → Type 0
 AreLevels [] = Unit {0}
-AreLevels (o ∷ ls) = ((IsEarlier (length ls) o.earlier × IsAlternative (length ls) o.current) × (length ls < max_nesting)) × AreLevels ls
+AreLevels (o ∷ ls) = ((IsEarlier (length ls) o.earlier × IsAlternative (length ls) o.current) × IsGroup o.group × (length ls < max_nesting)) × AreLevels ls
 
 -- what is pending may stand there; where nothing is, each atom with A may come
 abbrev IsPending : (ClassAtom → Type 0) → Bool → Ranges → Pending → Type 0
@@ -49,16 +50,24 @@ abbrev IsCount : Count → Type 0
 IsCount (low ds) = (are_digits ds ≡ true) × (number ds ≤ max_count)
 IsCount (high ds es) = IsNumber ds × (are_digits es ≡ true) × (number es ≤ max_count)
 
+-- the beginning of a name
+abbrev IsNamePart : List NameChar → Type 0
+IsNamePart [] = Unit {0}
+IsNamePart (y ∷ n) = IsName (y ∷ n)
+
 abbrev IsMode : Mode → Type 0
 IsMode (in_class k) = AreRanges k.negated k.ranges × IsPending Any k.negated k.ranges k.pending
 IsMode (class_escaping k) = AreRanges k.negated k.ranges × IsPending NoCaret k.negated k.ranges k.pending
 IsMode (class_coding k d) = (AreRanges k.negated k.ranges × IsPending NoCaret k.negated k.ranges k.pending) × IsCoding d
 IsMode (counting n) = IsCount n
 IsMode (coding k) = IsCoding k
+IsMode (naming n) = IsNamePart n
+IsMode (name_escaping n) = IsNamePart n
+IsMode (name_coding n k) = IsNamePart n × IsCoding k × (is_unicode_coding k ≡ true)
 IsMode m = Unit {0}
 
 abbrev IsState : State → Type 0
-IsState s = AreLevels s.outer × IsLevel (length s.outer) s.level × IsLast (length s.outer) s.last × IsMode s.mode
+IsState s = AreLevels s.outer.groups × IsLevel (length s.outer.groups) s.level × IsLast (length s.outer.groups) s.last × IsMode s.mode
 
 abbrev Makes : Option State → Type 0
 Makes None = Unit {0}
@@ -73,91 +82,92 @@ level_formed : (n : ℕ) (e : Option Disjunction) (a : Alternative) → IsEarlie
 level_formed n None a h k = k
 level_formed n (Some d) a h k = (h, k)
 
-quantifier_formed : (outer : List Open) (l : Level) (x : Last) (q : Quantifier) → ((s : ℕ) → IsQuantifier q s) → AreLevels outer
-    → IsLevel (length outer) l → IsLast (length outer) x → Makes (with_quantifier outer l x q)
+quantifier_formed : (outer : Outer) (l : Level) (x : Last) (q : Quantifier) → ((s : ℕ) → IsQuantifier q s) → AreLevels outer.groups
+    → IsLevel (length outer.groups) l → IsLast (length outer.groups) x → Makes (with_quantifier outer l x q)
 quantifier_formed outer l none q w f g h = tt
 quantifier_formed outer l (atom a) q w f g h = (f, g, (h, w (size (atom_pattern a))), tt)
 quantifier_formed outer l (counted a p) q w f g h = tt
 
-question_formed : (outer : List Open) (l : Level) (x : Last) → AreLevels outer → IsLevel (length outer) l
-    → IsLast (length outer) x → Makes (questioned outer l x)
+question_formed : (outer : Outer) (l : Level) (x : Last) → AreLevels outer.groups → IsLevel (length outer.groups) l
+    → IsLast (length outer.groups) x → Makes (questioned outer l x)
 question_formed outer l none f g h = tt
 question_formed outer l (atom a) f g h = (f, g, (h, tt), tt)
 question_formed outer l (counted a q) f g h = (f, (g.0, (g.1, h)), tt, tt)
 
-close_formed : (outer : List Open) (d : Disjunction) → AreLevels outer → IsWellFormed (length outer) d → Makes (closed outer d)
-close_formed [] d f h = tt
-close_formed (o ∷ outer) d f h = (f.1, f.0.0, (f.0.1, h), tt)
+close_formed : (os : List Open) (ns : List (List ℕ)) (d : Disjunction) → AreLevels os → IsWellFormed (length os) d → Makes (closed_in os ns d)
+close_formed [] ns d f h = tt
+close_formed (o ∷ os) ns d f h = (f.1, f.0.0, ((f.0.1, f.0.2), h), tt)
 
-open_formed : (outer : List Open) (l : Level) (x : Last) (k : Group) (b : Bool) → nat_lt (length outer) max_nesting ≡ b
-    → AreLevels outer → IsLevel (length outer) l → IsLast (length outer) x → Makes (opened outer l x k b)
-open_formed outer l x k false e f g h = tt
-open_formed outer l x k true e f g h =
-    ((((g.0, ended_formed (length outer) l.current x g.1 h), ltb-true (length outer) max_nesting e), f), (tt, tt), tt, tt)
+open_formed : (outer : Outer) (l : Level) (x : Last) (k : Group) (b : Bool) → nat_lt (length outer.groups) max_nesting ≡ b → IsGroup k
+    → AreLevels outer.groups → IsLevel (length outer.groups) l → IsLast (length outer.groups) x → Makes (opened outer l x k b)
+open_formed outer l x k false e w f g h = tt
+open_formed outer l x k true e w f g h =
+    ((((g.0, ended_formed (length outer.groups) l.current x g.1 h), w, ltb-true (length outer.groups) max_nesting e), f), (tt, tt), tt, tt)
 
-token_formed : (outer : List Open) (l : Level) (x : Last) (c : ℕ) (k : Token) → token c ≡ k
-    → AreLevels outer → IsLevel (length outer) l → IsLast (length outer) x → Makes (on_token outer l x c k)
-token_formed outer l x c bar e f g h = (f, (level_formed (length outer) l.earlier (ended l.current x) g.0 (ended_formed (length outer) l.current x g.1 h), tt), tt, tt)
+token_formed : (outer : Outer) (l : Level) (x : Last) (c : ℕ) (k : Token) → token c ≡ k
+    → AreLevels outer.groups → IsLevel (length outer.groups) l → IsLast (length outer.groups) x → Makes (on_token outer l x c k)
+token_formed outer l x c bar e f g h = (f, (level_formed (length outer.groups) l.earlier (ended l.current x) g.0 (ended_formed (length outer.groups) l.current x g.1 h), tt), tt, tt)
 token_formed outer l x c asterisk e f g h = quantifier_formed outer l x zero_or_more (λ s. tt) f g h
 token_formed outer l x c plus e f g h = quantifier_formed outer l x one_or_more (λ s. tt) f g h
 token_formed outer l x c question e f g h = question_formed outer l x f g h
-token_formed outer l x c caret e f g h = (f, (g.0, (ended_formed (length outer) l.current x g.1 h, tt)), tt, tt)
-token_formed outer l x c dollar e f g h = (f, (g.0, (ended_formed (length outer) l.current x g.1 h, tt)), tt, tt)
+token_formed outer l x c caret e f g h = (f, (g.0, (ended_formed (length outer.groups) l.current x g.1 h, tt)), tt, tt)
+token_formed outer l x c dollar e f g h = (f, (g.0, (ended_formed (length outer.groups) l.current x g.1 h, tt)), tt, tt)
 token_formed outer l x c opening_token e f g h = (f, g, h, tt)
 token_formed outer l x c closing e f g h =
-    close_formed outer _ f (level_formed (length outer) l.earlier (ended l.current x) g.0 (ended_formed (length outer) l.current x g.1 h))
-token_formed outer l x c point e f g h = (f, (g.0, ended_formed (length outer) l.current x g.1 h), tt, tt)
+    close_formed outer.groups outer.names _ f (level_formed (length outer.groups) l.earlier (ended l.current x) g.0 (ended_formed (length outer.groups) l.current x g.1 h))
+token_formed outer l x c point e f g h = (f, (g.0, ended_formed (length outer.groups) l.current x g.1 h), tt, tt)
 token_formed outer l x c backslash e f g h = (f, g, h, tt)
 token_formed outer l x c bracket e f g h = (f, g, h, tt)
 token_formed outer l x c brace e f g h = (f, g, h, (refl, omega arith))
-token_formed outer l x c character e f g h = (f, (g.0, ended_formed (length outer) l.current x g.1 h), e, tt)
+token_formed outer l x c character e f g h = (f, (g.0, ended_formed (length outer.groups) l.current x g.1 h), e, tt)
 token_formed outer l x c other e f g h = tt
 
-escape_formed : (outer : List Open) (l : Level) (x : Last) (c : ℕ) (k : Escape) → escape c ≡ k
-    → AreLevels outer → IsLevel (length outer) l → IsLast (length outer) x → Makes (on_escape outer l x c k)
-escape_formed outer l x c itself e f g h = (f, (g.0, ended_formed (length outer) l.current x g.1 h), e, tt)
-escape_formed outer l x c control e f g h = (f, (g.0, ended_formed (length outer) l.current x g.1 h), e, tt)
-escape_formed outer l x c set e f g h = (f, (g.0, ended_formed (length outer) l.current x g.1 h), e, tt)
-escape_formed outer l x c boundary e f g h = (f, (g.0, (ended_formed (length outer) l.current x g.1 h, tt)), tt, tt)
-escape_formed outer l x c no_boundary e f g h = (f, (g.0, (ended_formed (length outer) l.current x g.1 h, tt)), tt, tt)
-escape_formed outer l x c null e f g h = (f, (g.0, ended_formed (length outer) l.current x g.1 h), (tt, refl), tt)
+escape_formed : (outer : Outer) (l : Level) (x : Last) (c : ℕ) (k : Escape) → escape c ≡ k
+    → AreLevels outer.groups → IsLevel (length outer.groups) l → IsLast (length outer.groups) x → Makes (on_escape outer l x c k)
+escape_formed outer l x c itself e f g h = (f, (g.0, ended_formed (length outer.groups) l.current x g.1 h), e, tt)
+escape_formed outer l x c control e f g h = (f, (g.0, ended_formed (length outer.groups) l.current x g.1 h), e, tt)
+escape_formed outer l x c set e f g h = (f, (g.0, ended_formed (length outer.groups) l.current x g.1 h), e, tt)
+escape_formed outer l x c boundary e f g h = (f, (g.0, (ended_formed (length outer.groups) l.current x g.1 h, tt)), tt, tt)
+escape_formed outer l x c no_boundary e f g h = (f, (g.0, (ended_formed (length outer.groups) l.current x g.1 h, tt)), tt, tt)
+escape_formed outer l x c null e f g h = (f, (g.0, ended_formed (length outer.groups) l.current x g.1 h), (tt, refl), tt)
 escape_formed outer l x c letter e f g h = (f, g, h, tt)
 escape_formed outer l x c hexadecimal e f g h = (f, g, h, (tt, refl, refl))
 escape_formed outer l x c unicode e f g h = (f, g, h, tt)
 escape_formed outer l x c unknown e f g h = tt
 
-coded_formed : (outer : List Open) (l : Level) (x : Last) (o : Coded) → IsCoded o
-    → AreLevels outer → IsLevel (length outer) l → IsLast (length outer) x → Makes (on_coding outer l x o)
+coded_formed : (outer : Outer) (l : Level) (x : Last) (o : Coded) → IsCoded o
+    → AreLevels outer.groups → IsLevel (length outer.groups) l → IsLast (length outer.groups) x → Makes (on_coding outer l x o)
 coded_formed outer l x fails w f g h = tt
 coded_formed outer l x (goes k) w f g h = (f, g, h, w)
-coded_formed outer l x (makes d) w f g h = (f, (g.0, ended_formed (length outer) l.current x g.1 h), w, tt)
+coded_formed outer l x (makes d) w f g h = (f, (g.0, ended_formed (length outer.groups) l.current x g.1 h), w, tt)
 
-first_formed : (outer : List Open) (l : Level) (x : Last) (c : ℕ) (b : Bool) → nat_lt (length outer) max_nesting ≡ b
-    → AreLevels outer → IsLevel (length outer) l → IsLast (length outer) x
+first_formed : (outer : Outer) (l : Level) (x : Last) (c : ℕ) (b : Bool) → nat_lt (length outer.groups) max_nesting ≡ b
+    → AreLevels outer.groups → IsLevel (length outer.groups) l → IsLast (length outer.groups) x
     → Makes (option_and_then (λ t. on_token t.outer t.level t.last c (token c)) (opened outer l x capturing b))
 first_formed outer l x c false e f g h = tt
 first_formed outer l x c true e f g h =
     let o : Open = record { group = capturing; earlier = l.earlier; current = ended l.current x } in
-    let inner : AreLevels (o ∷ outer) = (((g.0, ended_formed (length outer) l.current x g.1 h), ltb-true (length outer) max_nesting e), f) in
-    token_formed (o ∷ outer) new_level none c (token c) refl inner (tt, tt) tt
+    let inner : AreLevels (o ∷ outer.groups) = (((g.0, ended_formed (length outer.groups) l.current x g.1 h), tt, ltb-true (length outer.groups) max_nesting e), f) in
+    token_formed (record { groups = o ∷ outer.groups; names = outer.names }) new_level none c (token c) refl inner (tt, tt) tt
 
-group_formed : (outer : List Open) (l : Level) (x : Last) (c : ℕ) (b : Bool) → AreLevels outer → IsLevel (length outer) l
-    → IsLast (length outer) x → Makes (on_group outer l x c b)
+group_formed : (outer : Outer) (l : Level) (x : Last) (c : ℕ) (b : Bool) → AreLevels outer.groups → IsLevel (length outer.groups) l
+    → IsLast (length outer.groups) x → Makes (on_group outer l x c b)
 group_formed outer l x c false f g h = first_formed outer l x c _ refl f g h
 group_formed outer l x c true f g h = (f, g, h, tt)
 
-extension_formed : (outer : List Open) (l : Level) (x : Last) (b : Bool) → AreLevels outer → IsLevel (length outer) l
-    → IsLast (length outer) x → Makes (on_extension outer l x b)
-extension_formed outer l x false f g h = tt
-extension_formed outer l x true f g h = open_formed outer l x plain_group _ refl f g h
+extension_formed : (outer : Outer) (l : Level) (x : Last) (k : Extension) → AreLevels outer.groups → IsLevel (length outer.groups) l
+    → IsLast (length outer.groups) x → Makes (on_extension outer l x k)
+extension_formed outer l x uncaptured f g h = open_formed outer l x plain_group _ refl tt f g h
+extension_formed outer l x name_opening f g h = (f, g, h, tt)
+extension_formed outer l x no_extension f g h = tt
 
 -- counts
 when_formed : (b : Bool) (o : Option State) → (b ≡ true → Makes o) → Makes (when b o)
 when_formed false o h = tt
 when_formed true o h = h refl
 
-module _ (outer : List Open) (l : Level) (f : AreLevels outer) (g : IsLevel (length outer) l) where
-  count_formed : (x : Last) (q : Quantifier) → IsLast (length outer) x → ((s : ℕ) → copies (times q) * s ≤ max_size → IsQuantifier q s)
+module _ (outer : Outer) (l : Level) (f : AreLevels outer.groups) (g : IsLevel (length outer.groups) l) where
+  count_formed : (x : Last) (q : Quantifier) → IsLast (length outer.groups) x → ((s : ℕ) → copies (times q) * s ≤ max_size → IsQuantifier q s)
       → Makes (with_count outer l x q)
   count_formed none q h w = tt
   count_formed (atom a) q h w =
@@ -165,12 +175,12 @@ module _ (outer : List Open) (l : Level) (f : AreLevels outer) (g : IsLevel (len
   count_formed (counted a p) q h w = tt
 
   longer_formed : (x : Last) (m : List ℕ → Mode) (ds : List ℕ) (c : ℕ) (b : Bool) → nat_le (number (ds ++ c ∷ [])) max_count ≡ b
-      → IsLast (length outer) x → (number (ds ++ c ∷ []) ≤ max_count → IsMode (m (ds ++ c ∷ [])))
+      → IsLast (length outer.groups) x → (number (ds ++ c ∷ []) ≤ max_count → IsMode (m (ds ++ c ∷ [])))
       → Makes (option_map (λ (es : List ℕ). with_mode outer l x (m es)) (longer ds c b))
   longer_formed x m ds c false e h w = tt
   longer_formed x m ds c true e h w = (f, g, h, w (leb-true (number (ds ++ c ∷ [])) max_count e))
 
-  low_formed : (x : Last) (ds : List ℕ) (c : ℕ) (k : CountToken) → count_token c ≡ k → IsLast (length outer) x → IsCount (low ds)
+  low_formed : (x : Last) (ds : List ℕ) (c : ℕ) (k : CountToken) → count_token c ≡ k → IsLast (length outer.groups) x → IsCount (low ds)
       → Makes (on_low outer l x ds c k)
   low_formed x ds c digit e h w =
       longer_formed x (λ es. counting (low es)) ds c (nat_le (number (ds ++ c ∷ [])) max_count) refl h (λ small. (digits_push ds c w.0 (is_digit_of c e), small))
@@ -180,13 +190,13 @@ module _ (outer : List Open) (l : Level) (f : AreLevels outer) (g : IsLevel (len
       when_formed (is_some (number_of ds)) (with_count outer l x (exactly ds)) (λ some. count_formed x (exactly ds) h (λ s small. ((w.0, some, w.1), small)))
   low_formed x ds c no_count e h w = tt
 
-  range_formed : (x : Last) (ds es : List ℕ) → IsLast (length outer) x → IsCount (high ds es) → Makes (range_read outer l x ds es)
+  range_formed : (x : Last) (ds es : List ℕ) → IsLast (length outer.groups) x → IsCount (high ds es) → Makes (range_read outer l x ds es)
   range_formed x ds [] h w = count_formed x (at_least ds) h (λ s small. (w.0, small))
   range_formed x ds (e ∷ es) h w =
       when_formed (nat_le (number ds) (number (e ∷ es))) (with_count outer l x (from_to ds (e ∷ es))) (λ ordered. count_formed x (from_to ds (e ∷ es)) h
       (λ s small. (w.0, (w.1, refl, w.2), leb-true (number ds) (number (e ∷ es)) ordered, small)))
 
-  high_formed : (x : Last) (ds es : List ℕ) (c : ℕ) (k : CountToken) → count_token c ≡ k → IsLast (length outer) x → IsCount (high ds es)
+  high_formed : (x : Last) (ds es : List ℕ) (c : ℕ) (k : CountToken) → count_token c ≡ k → IsLast (length outer.groups) x → IsCount (high ds es)
       → Makes (on_high outer l x ds es c k)
   high_formed x ds es c digit e h w =
       longer_formed x (λ fs. counting (high ds fs)) es c (nat_le (number (es ++ c ∷ [])) max_count) refl h (λ small. (w.0, digits_push es c w.1 (is_digit_of c e), small))
@@ -194,9 +204,43 @@ module _ (outer : List Open) (l : Level) (f : AreLevels outer) (g : IsLevel (len
   high_formed x ds es c closing_brace e h w = range_formed x ds es h w
   high_formed x ds es c no_count e h w = tt
 
-  counting_formed : (x : Last) (n : Count) (c : ℕ) → IsLast (length outer) x → IsCount n → Makes (on_count outer l x n c)
+  counting_formed : (x : Last) (n : Count) (c : ℕ) → IsLast (length outer.groups) x → IsCount n → Makes (on_count outer l x n c)
   counting_formed x (low ds) c h w = low_formed x ds c (count_token c) refl h w
   counting_formed x (high ds es) c h w = high_formed x ds es c (count_token c) refl h w
+
+-- names
+parts_push : (n : List NameChar) (y : NameChar) → AreNameParts n → IsNameChar is_name_part y → AreNameParts (n ++ y ∷ [])
+parts_push [] y h w = (w, tt)
+parts_push (z ∷ n) y h w = (h.0, parts_push n y h.1 w)
+
+name_push : (n : List NameChar) (y : NameChar) → IsNamePart n → IsNameChar (may_follow (name_value n)) y → IsNamePart (n ++ y ∷ [])
+name_push [] y h w = (w, tt)
+name_push (z ∷ n) y h w = (h.0, parts_push n y h.1 w)
+
+module _ (outer : Outer) (l : Level) (x : Last) (f : AreLevels outer.groups) (g : IsLevel (length outer.groups) l) (h : IsLast (length outer.groups) x) where
+  name_char_formed : (n : List NameChar) (y : NameChar) → IsNamePart n
+      → (may_follow (name_value n) (name_char_value y) ≡ true → IsNameChar (may_follow (name_value n)) y) → Makes (with_name_char outer l x n y)
+  name_char_formed n y w v =
+      when_formed (may_follow (name_value n) (name_char_value y)) (Some (with_mode outer l x (naming (n ++ y ∷ []))))
+      (λ e. (f, g, h, name_push n y w (v e)))
+
+  name_end_formed : (n : List NameChar) → IsNamePart n → Makes (name_read outer l x n)
+  name_end_formed [] w = tt
+  name_end_formed (y ∷ n) w = open_formed outer l x (named (y ∷ n)) _ refl w f g h
+
+  naming_formed : (n : List NameChar) (c : ℕ) (k : NameToken) → IsNamePart n → Makes (on_naming outer l x n c k)
+  naming_formed n c name_end w = name_end_formed n w
+  naming_formed n c name_backslash w = (f, g, h, w)
+  naming_formed n c name_character w = name_char_formed n (verbatim c) w (λ e. e)
+
+  name_escape_formed : (n : List NameChar) (b : Bool) → IsNamePart n → Makes (on_name_escape outer l x n b)
+  name_escape_formed n false w = tt
+  name_escape_formed n true w = (f, g, h, (w, tt, refl))
+
+  name_coded_formed : (n : List NameChar) (o : Coded) → IsNamePart n → IsCoded o → IsUnicode o → Makes (on_name_coding outer l x n o)
+  name_coded_formed n fails w v u = tt
+  name_coded_formed n (goes k) w v u = (f, g, h, (w, v, u))
+  name_coded_formed n (makes d) w v u = name_char_formed n (by_code d) w (λ e. (u, v, e))
 
 -- classes
 abbrev MakesClass : Option Class → Type 0
@@ -244,7 +288,7 @@ escapes_pending A n r fresh a g = λ y w. g y (a y w)
 escapes_pending A n r (one z) a g = g
 escapes_pending A n r (dashed z) a g = g
 
-module _ (outer : List Open) (l : Level) (x : Last) (f : AreLevels outer) (g : IsLevel (length outer) l) (h : IsLast (length outer) x) where
+module _ (outer : Outer) (l : Level) (x : Last) (f : AreLevels outer.groups) (g : IsLevel (length outer.groups) l) (h : IsLast (length outer.groups) x) where
   within_formed : (o : Option Class) → MakesClass o → Makes (within outer l x o)
   within_formed None k = tt
   within_formed (Some c) k = (f, g, h, k)
@@ -253,7 +297,7 @@ module _ (outer : List Open) (l : Level) (x : Last) (f : AreLevels outer) (g : I
       → AreRanges n r → IsPending A n r p → ((y : ClassAtom) → NoCaret y → A y) → A (class_plain c)
       → Makes (on_class_token outer l x n r p c k)
   class_token_formed A n r p c closing_bracket e u v a w =
-      (f, (g.0, ended_formed (length outer) l.current x g.1 h), read_class_formed A (length outer) n r p u v, tt)
+      (f, (g.0, ended_formed (length outer.groups) l.current x g.1 h), read_class_formed A (length outer.groups) n r p u v, tt)
   class_token_formed A n r p c class_backslash e u v a w = (f, g, h, (u, escapes_pending A n r p a v))
   class_token_formed A n r p c dash e u v a w = within_formed _ (dash_formed A n r p u v (a hyphen refl))
   class_token_formed A n r p c class_character e u v a w =
@@ -292,7 +336,7 @@ module _ (outer : List Open) (l : Level) (x : Last) (f : AreLevels outer) (g : I
   next_formed between c k = token_formed outer l x c _ refl f g h
   next_formed escaping c k = escape_formed outer l x c _ refl f g h
   next_formed opening c k = group_formed outer l x c _ f g h
-  next_formed extending c k = extension_formed outer l x _ f g h
+  next_formed extending c k = extension_formed outer l x (extension c) f g h
   next_formed (counting n) c k = counting_formed outer l f g x n c h k
   next_formed (coding d) c k = coded_formed outer l x (coding_next d c) (coding_formed d c k) f g h
   next_formed class_opened c k = bracket_formed c _ refl
@@ -300,15 +344,22 @@ module _ (outer : List Open) (l : Level) (x : Last) (f : AreLevels outer) (g : I
   next_formed (class_escaping s) c k = class_escape_formed s.negated s.ranges s.pending c (class_escape c) refl k.0 k.1
   next_formed (class_coding s d) c k =
       class_coded_formed s.negated s.ranges s.pending (coding_next d c) (coding_formed d c k.1) k.0.0 k.0.1
+  next_formed (naming n) c k = naming_formed outer l x f g h n c (name_token c) k
+  next_formed (name_escaping n) c k = name_escape_formed outer l x f g h n (c == byte "u") k
+  next_formed (name_coding n d) c k =
+      name_coded_formed outer l x f g h n (coding_next d c) k.0 (coding_formed d c k.1) (coding_unicode d c k.2)
 
 abbrev pub IsFormed : Option Disjunction → Type 0
 IsFormed None = Unit {0}
 IsFormed (Some d) = IsWellFormed 0 d
 
-close_all : (outer : List Open) (l : Level) (x : Last) (e : Bool) → IsLevel (length outer) l → IsLast (length outer) x → IsFormed (at_close outer l x e)
-close_all [] l x true g h = level_formed 0 l.earlier (ended l.current x) g.0 (ended_formed 0 l.current x g.1 h)
-close_all [] l x false g h = tt
-close_all (o ∷ outer) l x e g h = tt
+if_formed : (b : Bool) (d : Disjunction) → IsWellFormed 0 d → IsFormed (tree_if b d)
+if_formed false d h = tt
+if_formed true d h = h
+
+close_all : (os : List Open) (l : Level) (x : Last) (e : Bool) → IsLevel (length os) l → IsLast (length os) x → IsFormed (closes os l x e)
+close_all [] l x e g h = if_formed e (level_ended l x) (level_formed 0 l.earlier (ended l.current x) g.0 (ended_formed 0 l.current x g.1 h))
+close_all (o ∷ os) l x e g h = tt
 
 one_more : (cs : List ℕ) → ((t : State) → IsState t → IsFormed (read_from t cs)) → (o : Option State) → Makes o
     → IsFormed (option_and_then (λ t. read_from t cs) o)
@@ -316,7 +367,7 @@ one_more cs ih None h = tt
 one_more cs ih (Some t) h = ih t h
 
 rest_formed : (cs : List ℕ) (s : State) → IsState s → IsFormed (read_from s cs)
-rest_formed [] s h = close_all s.outer s.level s.last (is_between s.mode) h.1 h.2
+rest_formed [] s h = close_all s.outer.groups s.level s.last (is_between s.mode && are_distinct s.outer.names) h.1 h.2
 rest_formed (c ∷ cs) s h = one_more cs (rest_formed cs) (next s c) (next_formed s.outer s.level s.last h.0 h.1 h.2 s.mode c h.3)
 
 pub read_formed : (text : List ℕ) → IsFormed (read text)

@@ -6,6 +6,7 @@ use Rattle.strkw_text.specs.Characters.{is_one_of}
 use Rattle.strkw_ecma.specs.Escapes.{Escape, itself, control, set, boundary, no_boundary, null, letter, hexadecimal, unicode, unknown, escape}
 use Rattle.strkw_ecma.specs.Classes.{ClassToken, closing_bracket, class_backslash, dash, class_character, class_token, class_escape}
 use Rattle.strkw_ecma.specs.Numbers.{CountToken, digit, comma, closing_brace, no_count, is_digit, count_token}
+use Rattle.strkw_ecma.specs.Names.{Extension, uncaptured, name_opening, no_extension, extension, NameToken, name_end, name_backslash, name_character, name_token}
 use Rattle.strkw_ecma.specs.Syntax.{Token, bar, asterisk, plus, question, caret, dollar, opening, closing, point, backslash, bracket, brace, character, other, token}
 
 -- the character of a token, where it has one
@@ -25,7 +26,7 @@ char_of brace c = byte "{"
 char_of character c = c
 char_of other c = c
 
-by_test : (b : Bool) (P : Token → Type 0) (t u : Token) → (b ≡ true → P t) → P u → P (if b then t else u)
+by_test : {T : Type 0} (b : Bool) (P : T → Type 0) (t u : T) → (b ≡ true → P t) → P u → P (if b then t else u)
 by_test true P t u f g = f refl
 by_test false P t u f g = g
 
@@ -55,18 +56,14 @@ char_of_letter hexadecimal c = byte "x"
 char_of_letter unicode c = byte "u"
 char_of_letter unknown c = c
 
-by_letter : (b : Bool) (P : Escape → Type 0) (t u : Escape) → (b ≡ true → P t) → P u → P (if b then t else u)
-by_letter true P t u f g = f refl
-by_letter false P t u f g = g
-
 pub char_of_escape : (c : ℕ) → char_of_letter (escape c) c ≡ c
 char_of_escape c =
     let P = λ (t : Escape). char_of_letter t c ≡ c in
-    by_letter (c == byte "b") P _ _ (same_char c _) (by_letter (c == byte "B") P _ _ (same_char c _)
-    (by_letter (c == byte "0") P _ _ (same_char c _) (by_letter (c == byte "c") P _ _ (same_char c _)
-    (by_letter (c == byte "x") P _ _ (same_char c _) (by_letter (c == byte "u") P _ _ (same_char c _)
-    (by_letter (is_one_of (codes "^$\\.*+?()[]{}|/") c) P _ _ (λ _. refl) (by_letter (is_one_of (codes "fnrtv") c) P _ _ (λ _. refl)
-    (by_letter (is_one_of (codes "dDsSwW") c) P _ _ (λ _. refl) refl))))))))
+    by_test (c == byte "b") P _ _ (same_char c _) (by_test (c == byte "B") P _ _ (same_char c _)
+    (by_test (c == byte "0") P _ _ (same_char c _) (by_test (c == byte "c") P _ _ (same_char c _)
+    (by_test (c == byte "x") P _ _ (same_char c _) (by_test (c == byte "u") P _ _ (same_char c _)
+    (by_test (is_one_of (codes "^$\\.*+?()[]{}|/") c) P _ _ (λ _. refl) (by_test (is_one_of (codes "fnrtv") c) P _ _ (λ _. refl)
+    (by_test (is_one_of (codes "dDsSwW") c) P _ _ (λ _. refl) refl))))))))
 
 abbrev pub char_of_class : ClassToken → ℕ → ℕ
 char_of_class closing_bracket c = byte "]"
@@ -74,18 +71,14 @@ char_of_class class_backslash c = byte "\\"
 char_of_class dash c = byte "-"
 char_of_class class_character c = c
 
-by_class : (b : Bool) (P : ClassToken → Type 0) (t u : ClassToken) → (b ≡ true → P t) → P u → P (if b then t else u)
-by_class true P t u f g = f refl
-by_class false P t u f g = g
-
 pub char_of_class_token : (c : ℕ) → char_of_class (class_token c) c ≡ c
 char_of_class_token c =
     let P = λ (t : ClassToken). char_of_class t c ≡ c in
-    by_class (c == byte "]") P _ _ (same_char c _) (by_class (c == byte "\\") P _ _ (same_char c _)
-    (by_class (c == byte "-") P _ _ (same_char c _) refl))
+    by_test (c == byte "]") P _ _ (same_char c _) (by_test (c == byte "\\") P _ _ (same_char c _)
+    (by_test (c == byte "-") P _ _ (same_char c _) refl))
 
 pub char_of_class_escape : (c : ℕ) → char_of_letter (class_escape c) c ≡ c
-char_of_class_escape c = by_letter (c == byte "-") (λ (t : Escape). char_of_letter t c ≡ c) _ _ (λ _. refl) (char_of_escape c)
+char_of_class_escape c = by_test (c == byte "-") (λ (t : Escape). char_of_letter t c ≡ c) _ _ (λ _. refl) (char_of_escape c)
 
 abbrev pub char_of_count : CountToken → ℕ → ℕ
 char_of_count digit c = c
@@ -93,12 +86,28 @@ char_of_count comma c = byte ","
 char_of_count closing_brace c = byte "}"
 char_of_count no_count c = c
 
-by_count : (b : Bool) (P : CountToken → Type 0) (t u : CountToken) → (b ≡ true → P t) → P u → P (if b then t else u)
-by_count true P t u f g = f refl
-by_count false P t u f g = g
-
 pub char_of_count_token : (c : ℕ) → char_of_count (count_token c) c ≡ c
 char_of_count_token c =
     let P = λ (t : CountToken). char_of_count t c ≡ c in
-    by_count (is_digit c) P _ _ (λ _. refl) (by_count (c == byte ",") P _ _ (same_char c _)
-    (by_count (c == byte "}") P _ _ (same_char c _) refl))
+    by_test (is_digit c) P _ _ (λ _. refl) (by_test (c == byte ",") P _ _ (same_char c _)
+    (by_test (c == byte "}") P _ _ (same_char c _) refl))
+
+abbrev pub char_of_extension : Extension → ℕ → ℕ
+char_of_extension uncaptured c = byte ":"
+char_of_extension name_opening c = byte "<"
+char_of_extension no_extension c = c
+
+pub char_of_extension_token : (c : ℕ) → char_of_extension (extension c) c ≡ c
+char_of_extension_token c =
+    let P = λ (t : Extension). char_of_extension t c ≡ c in
+    by_test (c == byte ":") P _ _ (same_char c _) (by_test (c == byte "<") P _ _ (same_char c _) refl)
+
+abbrev pub char_of_name : NameToken → ℕ → ℕ
+char_of_name name_end c = byte ">"
+char_of_name name_backslash c = byte "\\"
+char_of_name name_character c = c
+
+pub char_of_name_token : (c : ℕ) → char_of_name (name_token c) c ≡ c
+char_of_name_token c =
+    let P = λ (t : NameToken). char_of_name t c ≡ c in
+    by_test (c == byte ">") P _ _ (same_char c _) (by_test (c == byte "\\") P _ _ (same_char c _) refl)

@@ -20,3 +20,4 @@ pub mod Same
 pub mod Apart
 pub mod Complements
 pub mod Rows
+pub mod Distinct

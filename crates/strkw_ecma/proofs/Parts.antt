@@ -1,5 +1,5 @@
 -- What the reader of the code holds is, pattern by pattern, what the reader of the definitions holds.
-use Rattle.std.proofs.Common.{◌≡◌, ℕ, ◌+◌, ◌<◌, ◌≤◌, ◌*◌, ◌-◌, ◌==◌, ◌++◌, Bool, true, false, List, [], ◌∷◌, map, length, drop, get_or, Option, Some, None, if◌then◌else◌, option_map, nat_lt, nat_le, refl, sym, ap, ◌∙◌}
+use Rattle.std.proofs.Common.{◌≡◌, ℕ, ◌+◌, ◌<◌, ◌≤◌, ◌*◌, ◌-◌, ◌==◌, ◌++◌, ◌&&◌, Bool, true, false, List, [], ◌∷◌, map, length, drop, get_or, Option, Some, None, if◌then◌else◌, option_map, nat_lt, nat_le, refl, sym, ap, ◌∙◌}
 use Rattle.std.specs.Prelude.{option_and_then}
 use Rattle.std.proofs.lemmas.List.{length-map, at_drop_more, at_drop_all}
 use Rattle.std.proofs.lemmas.Bool.{le-leb, lt-leb}
@@ -8,8 +8,9 @@ use Rattle.std.specs.Str.{byte}
 use Rattle.strkw_ecma.specs.Escapes.{Escape, itself, control, set, boundary, no_boundary, null, letter, hexadecimal, unicode, unknown, escape}
 use Rattle.strkw_ecma.specs.Codes.{null_code}
 use Rattle.strkw_ecma.specs.CodeReading.{Coded, fails, goes, makes, coding_next}
+use Rattle.strkw_ecma.specs.Names.{NameChar, verbatim, by_code, name_char_value, name_value, may_follow, Extension, uncaptured, name_opening, no_extension, extension, NameToken, name_end, name_backslash, name_character, name_token, are_distinct}
 use Rattle.strkw_ecma.specs.Classes.{ClassToken, closing_bracket, class_backslash, dash, class_character, class_token, class_escape, ClassAtom, class_plain, hyphen, class_escaped, class_control, class_set, backspace, class_coded, Ranges, no_ranges, item, range, range_list, ranges_of}
-use Rattle.strkw_ecma.specs.Syntax.{Disjunction, Alternative, Term, at_start, at_end, at_boundary, at_no_boundary, Quantifier, exactly, at_least, from_to, zero_or_more, one_or_more, Group, capturing, plain_group, Atom, plain, escaped, control_escape, set_escape, coded, dot, Token, bar, asterisk, plus, question, caret, dollar, opening as opening_token, closing, point, backslash, bracket, brace, character, other, token, max_nesting, max_length}
+use Rattle.strkw_ecma.specs.Syntax.{Disjunction, Alternative, Term, at_start, at_end, at_boundary, at_no_boundary, Quantifier, exactly, at_least, from_to, zero_or_more, one_or_more, Group, capturing, plain_group, named, with_name, Atom, plain, escaped, control_escape, set_escape, coded, dot, Token, bar, asterisk, plus, question, caret, dollar, opening as opening_token, closing, point, backslash, bracket, brace, character, other, token, max_nesting, max_length}
 use Rattle.strkw_ecma.specs.Patterns.{pattern, alternative_pattern, term_pattern, atom_pattern, times, copies, quantified_pattern}
 use Rattle.strkw_ecma.specs.Numbers.{number, number_of, max_count, CountToken, digit, comma, closing_brace, no_count, count_token}
 use Rattle.strkw_ecma.specs.Size.{size, max_size, max_nodes}
@@ -18,14 +19,17 @@ use Rattle.strkw_ecma.proofs.Digits.{number_push}
 use Rattle.strkw_ecma.proofs.CodeImages.{coding_image, coded_image, next_coding_image}
 use Rattle.strkw_ecma.specs.Reading as reading
 use Rattle.strkw_ecma.specs.Parts as parts
-use Rattle.strkw_ecma.specs.Reading.{Open, Level, State, with_count, when, longer, range_read, on_low, on_high, on_count, Mode, between, with_mode, opened_within, on_group, on_extension, on_class, on_class_token, on_class_escape, on_coding, on_class_coding, within, next_in, is_between, with_atom, with_term, with_quantifier, questioned, opened, closed, on_token, on_escape, next, read_from, initial, read, read_short, read_pattern, tree_if, small_tree}
-use Rattle.strkw_ecma.specs.Parts.{Side, Parts, after_count, after_low, after_high, after_high_brace, after_counting, small, value, ended, joined, level_ended, level_so_far, new_level, after_atom, after_term, after_bar, after_opening, after_closing, after_quantifier, after_question, after_escape, after_token, after_group, after_extension, after_class_token, after_class_escape, after_coding, after_class_coding, after_bracket, after_in, after_char, at_close, pattern_from, no_parts, pattern_if, small_pattern}
+use Rattle.strkw_ecma.specs.Reading.{Open, Outer, Level, State, with_count, when, longer, range_read, on_low, on_high, on_count, Mode, between, with_mode, opened_within, on_group, on_extension, on_class, on_class_token, on_class_escape, on_coding, on_class_coding, within, next_in, is_between, with_atom, with_term, with_quantifier, questioned, opened, closed_in, with_name_char, name_read, on_naming, on_name_escape, on_name_coding, closed, on_token, on_escape, next, read_from, initial, read, read_short, read_pattern, tree_if, small_tree}
+use Rattle.strkw_ecma.specs.Parts.{Side, Parts, after_count, after_low, after_high, after_high_brace, after_counting, small, value, ended, joined, level_ended, level_so_far, new_level, after_atom, after_term, after_bar, after_opening, closing_in, after_name_char, after_name, after_naming, after_name_escape, after_name_coding, closes, after_closing, after_quantifier, after_question, after_escape, after_token, after_group, after_extension, after_class_token, after_class_escape, after_coding, after_class_coding, after_bracket, after_in, after_char, at_close, pattern_from, no_parts, pattern_if, small_pattern}
 
 abbrev side : Level → Side
 side l = record { earlier = option_map pattern l.earlier; current = alternative_pattern l.current }
 
 abbrev around : Open → Side
 around o = record { earlier = option_map pattern o.earlier; current = alternative_pattern o.current }
+
+abbrev outer_image : Outer → parts.Outer
+outer_image o = record { groups = map around o.groups; names = o.names }
 
 abbrev last_image : reading.Last → parts.Last
 last_image reading.none = parts.none
@@ -55,11 +59,14 @@ mode_image reading.class_opened = parts.class_opened
 mode_image (reading.in_class k) = parts.in_class (class_image k)
 mode_image (reading.class_escaping k) = parts.class_escaping (class_image k)
 mode_image (reading.class_coding k d) = parts.class_coding (class_image k) (coding_image d)
+mode_image (reading.naming n) = parts.naming (name_value n)
+mode_image (reading.name_escaping n) = parts.name_escaping (name_value n)
+mode_image (reading.name_coding n k) = parts.name_coding (name_value n) (coding_image k)
 
 abbrev image : State → Parts
-image s = record { outer = map around s.outer; level = side s.level; last = last_image s.last; mode = mode_image s.mode }
+image s = record { outer = outer_image s.outer; level = side s.level; last = last_image s.last; mode = mode_image s.mode }
 
-abbrev state : List Open → Level → reading.Last → State
+abbrev state : Outer → Level → reading.Last → State
 state outer l x = record { outer = outer; level = l; last = x; mode = between }
 
 ended_image : (a : Alternative) (x : reading.Last) → alternative_pattern (reading.ended a x) ≡ ended (alternative_pattern a) (last_image x)
@@ -74,11 +81,11 @@ joined_image (Some d) a = refl
 level_image : (l : Level) (x : reading.Last) → pattern (reading.level_ended l x) ≡ level_ended (side l) (last_image x)
 level_image l x = joined_image l.earlier (reading.ended l.current x) ∙ ap (joined (option_map pattern l.earlier)) (ended_image l.current x)
 
-module _ (outer : List Open) (l : Level) (x : reading.Last) where
+module _ (outer : Outer) (l : Level) (x : reading.Last) where
   atom_image : (a : Atom) → image (with_atom outer l x a) ≡ after_atom (image (state outer l x)) (atom_pattern a)
   atom_image a =
       ap (λ (p : Pattern). record {
-        outer = map around outer;
+        outer = outer_image outer;
         level = record { earlier = option_map pattern l.earlier; current = p };
         last = parts.atom (atom_pattern a);
         mode = parts.between;
@@ -87,7 +94,7 @@ module _ (outer : List Open) (l : Level) (x : reading.Last) where
   term_image : (t : Term) → image (with_term outer l x t) ≡ after_term (image (state outer l x)) (term_pattern t)
   term_image t =
       ap (λ (p : Pattern). record {
-        outer = map around outer;
+        outer = outer_image outer;
         level = record { earlier = option_map pattern l.earlier; current = cat p (term_pattern t) };
         last = parts.none;
         mode = parts.between;
@@ -95,22 +102,29 @@ module _ (outer : List Open) (l : Level) (x : reading.Last) where
 
   bar_image : (c : ℕ) → option_map image (on_token outer l x c bar) ≡ Some (after_bar (image (state outer l x)))
   bar_image c =
-      ap (λ (p : Pattern). Some (record { outer = map around outer; level = record { earlier = Some p; current = empty }; last = parts.none; mode = parts.between }))
+      ap (λ (p : Pattern). Some (record { outer = outer_image outer; level = record { earlier = Some p; current = empty }; last = parts.none; mode = parts.between }))
       (level_image l x)
 
-  opened_image : (g : Group) (b : Bool) → option_map image (opened outer l x g b) ≡ after_opening (image (state outer l x)) b
+  -- with the name of the group
+  abbrev around_group : Group → Parts
+  around_group g = image (state (record { groups = outer.groups; names = with_name outer.names g }) l x)
+
+  opened_image : (g : Group) (b : Bool) → option_map image (opened outer l x g b) ≡ after_opening (around_group g) b
   opened_image g false = refl
   opened_image g true =
       ap (λ (p : Pattern). Some (record {
-        outer = record { earlier = option_map pattern l.earlier; current = p } ∷ map around outer;
+        outer = record {
+          groups = record { earlier = option_map pattern l.earlier; current = p } ∷ map around outer.groups;
+          names = with_name outer.names g;
+        };
         level = new_level;
         last = parts.none;
         mode = parts.between;
       })) (ended_image l.current x)
 
-  within_opened : (g : Group) → option_map image (opened_within outer l x g) ≡ parts.opened_within (image (state outer l x))
+  within_opened : (g : Group) → option_map image (opened_within outer l x g) ≡ parts.opened_within (around_group g)
   within_opened g =
-      opened_image g _ ∙ ap (λ (n : ℕ). after_opening (image (state outer l x)) (nat_lt n max_nesting)) (sym (length-map outer around))
+      opened_image g _ ∙ ap (λ (n : ℕ). after_opening (around_group g) (nat_lt n max_nesting)) (sym (length-map outer.groups around))
 
   within_image : (o : Option reading.Class) → option_map image (within outer l x o) ≡ parts.within (image (state outer l x)) (option_map class_image o)
   within_image None = refl
@@ -133,23 +147,24 @@ module _ (outer : List Open) (l : Level) (x : reading.Last) where
   coded_state_image (goes k) = refl
   coded_state_image (makes d) = ap Some (atom_image (coded d))
 
-quantifier_image : (outer : List Open) (l : Level) (x : reading.Last) (q : Quantifier)
+quantifier_image : (outer : Outer) (l : Level) (x : reading.Last) (q : Quantifier)
     → option_map image (with_quantifier outer l x q) ≡ after_quantifier (image (state outer l x)) (last_image x) (times q)
 quantifier_image outer l reading.none q = refl
 quantifier_image outer l (reading.atom a) q = refl
 quantifier_image outer l (reading.counted a p) q = refl
 
-question_image : (outer : List Open) (l : Level) (x : reading.Last)
+question_image : (outer : Outer) (l : Level) (x : reading.Last)
     → option_map image (questioned outer l x) ≡ after_question (image (state outer l x)) (last_image x)
 question_image outer l reading.none = refl
 question_image outer l (reading.atom a) = refl
 question_image outer l (reading.counted a q) = refl
 
-closed_image : (outer : List Open) (d : Disjunction) → option_map image (closed outer d) ≡ after_closing (map around outer) (pattern d)
-closed_image [] d = refl
-closed_image (o ∷ outer) d = refl
+closed_image : (os : List Open) (ns : List (List ℕ)) (d : Disjunction)
+    → option_map image (closed_in os ns d) ≡ closing_in (map around os) ns (pattern d)
+closed_image [] ns d = refl
+closed_image (o ∷ os) ns d = refl
 
-token_image : (outer : List Open) (l : Level) (x : reading.Last) (c : ℕ) (k : Token)
+token_image : (outer : Outer) (l : Level) (x : reading.Last) (c : ℕ) (k : Token)
     → option_map image (on_token outer l x c k) ≡ after_token (image (state outer l x)) c k
 token_image outer l x c bar = bar_image outer l x c
 token_image outer l x c asterisk = quantifier_image outer l x zero_or_more
@@ -158,7 +173,7 @@ token_image outer l x c question = question_image outer l x
 token_image outer l x c caret = ap Some (term_image outer l x at_start)
 token_image outer l x c dollar = ap Some (term_image outer l x at_end)
 token_image outer l x c opening_token = refl
-token_image outer l x c closing = closed_image outer _ ∙ ap (after_closing (map around outer)) (level_image l x)
+token_image outer l x c closing = closed_image outer.groups outer.names _ ∙ ap (after_closing (outer_image outer)) (level_image l x)
 token_image outer l x c point = ap Some (atom_image outer l x dot)
 token_image outer l x c backslash = refl
 token_image outer l x c bracket = refl
@@ -166,38 +181,76 @@ token_image outer l x c brace = refl
 token_image outer l x c character = ap Some (atom_image outer l x (plain c))
 token_image outer l x c other = refl
 
-first_image : (outer : List Open) (l : Level) (x : reading.Last) (c : ℕ) (b : Bool)
+first_image : (outer : Outer) (l : Level) (x : reading.Last) (c : ℕ) (b : Bool)
     → option_map image (option_and_then (λ t. on_token t.outer t.level t.last c (token c)) (opened outer l x capturing b))
     ≡ option_and_then (λ t. after_token t c (token c)) (after_opening (image (state outer l x)) b)
 first_image outer l x c false = refl
 first_image outer l x c true =
     let o : Open = record { group = capturing; earlier = l.earlier; current = reading.ended l.current x } in
-    token_image (o ∷ outer) reading.new_level reading.none c (token c)
+    token_image (record { groups = o ∷ outer.groups; names = outer.names }) reading.new_level reading.none c (token c)
     ∙ ap (λ (p : Pattern). after_token (record {
-      outer = record { earlier = option_map pattern l.earlier; current = p } ∷ map around outer;
+      outer = record {
+        groups = record { earlier = option_map pattern l.earlier; current = p } ∷ map around outer.groups;
+        names = outer.names;
+      };
       level = new_level;
       last = parts.none;
       mode = parts.between;
     }) c (token c)) (ended_image l.current x)
 
-group_image : (outer : List Open) (l : Level) (x : reading.Last) (c : ℕ) (b : Bool)
+group_image : (outer : Outer) (l : Level) (x : reading.Last) (c : ℕ) (b : Bool)
     → option_map image (on_group outer l x c b) ≡ after_group (image (state outer l x)) c b
 group_image outer l x c false =
     first_image outer l x c _
     ∙ ap (λ (n : ℕ). option_and_then (λ t. after_token t c (token c)) (after_opening (image (state outer l x)) (nat_lt n max_nesting)))
-    (sym (length-map outer around))
+    (sym (length-map outer.groups around))
 group_image outer l x c true = refl
 
-extension_image : (outer : List Open) (l : Level) (x : reading.Last) (b : Bool)
-    → option_map image (on_extension outer l x b) ≡ after_extension (image (state outer l x)) b
-extension_image outer l x false = refl
-extension_image outer l x true = within_opened outer l x plain_group
+extension_image : (outer : Outer) (l : Level) (x : reading.Last) (k : Extension)
+    → option_map image (on_extension outer l x k) ≡ after_extension (image (state outer l x)) k
+extension_image outer l x uncaptured = within_opened outer l x plain_group
+extension_image outer l x name_opening = refl
+extension_image outer l x no_extension = refl
 
 when_image : (b : Bool) (o : Option State) → option_map image (when b o) ≡ parts.when b (option_map image o)
 when_image false o = refl
 when_image true o = refl
 
-counted_image : (outer : List Open) (l : Level) (x : reading.Last) (q : Quantifier)
+-- names
+name_push : (n : List NameChar) (y : NameChar) → name_value (n ++ y ∷ []) ≡ name_value n ++ name_char_value y ∷ []
+name_push [] y = refl
+name_push (z ∷ n) y = ap (λ v. name_char_value z ∷ v) (name_push n y)
+
+module _ (outer : Outer) (l : Level) (x : reading.Last) where
+  name_char_image : (n : List NameChar) (y : NameChar)
+      → option_map image (with_name_char outer l x n y) ≡ after_name_char (image (state outer l x)) (name_value n) (name_char_value y)
+  name_char_image n y =
+      when_image _ (Some (with_mode outer l x (reading.naming (n ++ y ∷ []))))
+      ∙ ap (λ (v : List ℕ). parts.when (may_follow (name_value n) (name_char_value y)) (Some (parts.with_mode (image (state outer l x)) (parts.naming v))))
+      (name_push n y)
+
+  name_end_image : (n : List NameChar) → option_map image (name_read outer l x n) ≡ after_name (image (state outer l x)) (name_value n)
+  name_end_image [] = refl
+  name_end_image (y ∷ n) = within_opened outer l x (named (y ∷ n))
+
+  naming_image : (n : List NameChar) (c : ℕ) (k : NameToken)
+      → option_map image (on_naming outer l x n c k) ≡ after_naming (image (state outer l x)) (name_value n) c k
+  naming_image n c name_end = name_end_image n
+  naming_image n c name_backslash = refl
+  naming_image n c name_character = name_char_image n (verbatim c)
+
+  name_escape_image : (n : List NameChar) (b : Bool)
+      → option_map image (on_name_escape outer l x n b) ≡ after_name_escape (image (state outer l x)) (name_value n) b
+  name_escape_image n false = refl
+  name_escape_image n true = refl
+
+  name_coded_image : (n : List NameChar) (o : Coded)
+      → option_map image (on_name_coding outer l x n o) ≡ after_name_coding (image (state outer l x)) (name_value n) (coded_image o)
+  name_coded_image n fails = refl
+  name_coded_image n (goes k) = refl
+  name_coded_image n (makes d) = name_char_image n (by_code d)
+
+counted_image : (outer : Outer) (l : Level) (x : reading.Last) (q : Quantifier)
     → option_map image (with_count outer l x q) ≡ after_count (image (state outer l x)) (last_image x) (times q)
 counted_image outer l reading.none q = refl
 counted_image outer l (reading.atom a) q =
@@ -213,7 +266,7 @@ pushed_is : (ds : List ℕ) (c : ℕ) → number_of (ds ++ c ∷ []) ≡ Some (n
 pushed_is [] c = refl
 pushed_is (d ∷ ds) c = refl
 
-module _ (outer : List Open) (l : Level) (x : reading.Last) where
+module _ (outer : Outer) (l : Level) (x : reading.Last) where
   -- one more digit, where m and n are the modes of digits and of their number
   longer_image : (m : List ℕ → Mode) (n : ℕ → parts.Mode) → ((ds : List ℕ) (k : ℕ) → number_of ds ≡ Some k → mode_image (m ds) ≡ n k)
       → (ds : List ℕ) (c : ℕ)
@@ -283,7 +336,7 @@ read_class_image n r reading.fresh = refl
 read_class_image n r (reading.one w) = refl
 read_class_image n r (reading.dashed w) = refl
 
-module _ (outer : List Open) (l : Level) (x : reading.Last) where
+module _ (outer : Outer) (l : Level) (x : reading.Last) where
   taken_image : (k : reading.Class) (y : ClassAtom)
       → option_map image (within outer l x (reading.took k.negated k.ranges k.pending y))
       ≡ parts.within (image (state outer l x)) (parts.took k.negated (ranges_of k.ranges) (pending_image k.pending) (item y))
@@ -333,7 +386,7 @@ module _ (outer : List Open) (l : Level) (x : reading.Last) where
   next_image reading.between c = token_image outer l x c (token c)
   next_image reading.escaping c = escape_image outer l x c (escape c)
   next_image reading.opening c = group_image outer l x c (c == byte "?")
-  next_image reading.extending c = extension_image outer l x (c == byte ":")
+  next_image reading.extending c = extension_image outer l x (extension c)
   next_image (reading.counting n) c = counting_image outer l x n c
   next_image (reading.coding k) c =
       coded_state_image outer l x (coding_next k c) ∙ ap (after_coding (image (state outer l x))) (next_coding_image k c)
@@ -342,12 +395,19 @@ module _ (outer : List Open) (l : Level) (x : reading.Last) where
   next_image (reading.class_escaping k) c = class_escape_image k c (class_escape c)
   next_image (reading.class_coding k d) c =
       class_coded_image k (coding_next d c) ∙ ap (after_class_coding (image (state outer l x)) (class_image k)) (next_coding_image d c)
+  next_image (reading.naming n) c = naming_image outer l x n c (name_token c)
+  next_image (reading.name_escaping n) c = name_escape_image outer l x n (c == byte "u")
+  next_image (reading.name_coding n k) c =
+      name_coded_image outer l x n (coding_next k c) ∙ ap (after_name_coding (image (state outer l x)) (name_value n)) (next_coding_image k c)
 
-close_image : (outer : List Open) (l : Level) (x : reading.Last) (b : Bool)
-    → option_map pattern (reading.at_close outer l x b) ≡ at_close (map around outer) (side l) (last_image x) b
-close_image [] l x true = ap Some (level_image l x)
-close_image [] l x false = refl
-close_image (o ∷ outer) l x b = refl
+tree_image : (b : Bool) (d : Disjunction) → option_map pattern (tree_if b d) ≡ pattern_if b (pattern d)
+tree_image false d = refl
+tree_image true d = refl
+
+close_image : (os : List Open) (l : Level) (x : reading.Last) (b : Bool)
+    → option_map pattern (reading.closes os l x b) ≡ closes (map around os) (side l) (last_image x) b
+close_image [] l x b = tree_image b (reading.level_ended l x) ∙ ap (pattern_if b) (level_image l x)
+close_image (o ∷ os) l x b = refl
 
 same_between : (m : Mode) → is_between m ≡ parts.is_between (mode_image m)
 same_between reading.between = refl
@@ -360,6 +420,9 @@ same_between (reading.in_class k) = refl
 same_between (reading.class_escaping k) = refl
 same_between (reading.coding k) = refl
 same_between (reading.class_coding k d) = refl
+same_between (reading.naming n) = refl
+same_between (reading.name_escaping n) = refl
+same_between (reading.name_coding n k) = refl
 
 one_more : (cs : List ℕ) → ((t : State) → option_map pattern (read_from t cs) ≡ pattern_from (image t) cs) → (o : Option State)
     → option_map pattern (option_and_then (λ t. read_from t cs) o) ≡ option_and_then (λ t. pattern_from t cs) (option_map image o)
@@ -368,8 +431,8 @@ one_more cs ih (Some t) = ih t
 
 from_image : (cs : List ℕ) (s : State) → option_map pattern (read_from s cs) ≡ pattern_from (image s) cs
 from_image [] s =
-    close_image s.outer s.level s.last (is_between s.mode)
-    ∙ ap (at_close (map around s.outer) (side s.level) (last_image s.last)) (same_between s.mode)
+    close_image s.outer.groups s.level s.last (is_between s.mode && are_distinct s.outer.names)
+    ∙ ap (at_close (outer_image s.outer) (side s.level) (last_image s.last)) (same_between s.mode)
 from_image (c ∷ cs) s =
     one_more cs (from_image cs) (next s c)
     ∙ ap (option_and_then (λ t. pattern_from t cs)) (next_image s.outer s.level s.last s.mode c)
@@ -410,10 +473,6 @@ whole s text k h short w =
     ∙ ap (λ (b : Bool). option_map pattern (if b then read text else None)) (sym (le-leb (length text) max_length short))
 
 -- what is not too large
-tree_image : (b : Bool) (d : Disjunction) → option_map pattern (tree_if b d) ≡ pattern_if b (pattern d)
-tree_image false d = refl
-tree_image true d = refl
-
 small_image : (o : Option Disjunction) → option_map pattern (small_tree o) ≡ small_pattern (option_map pattern o)
 small_image None = refl
 small_image (Some d) = tree_image (nat_le (size (pattern d)) max_nodes) d

@@ -1,5 +1,5 @@
 -- The reading of patterns: each tree of the syntax is read from its spelling, and what is read is spelled so.
-use Rattle.std.proofs.Common.{◌≡◌, ℕ, false, List, [], ◌∷◌, ◌++◌, Option, Some, None, refl, sym, ap, subst, ◌∙◌, append_assoc, length, ◌<◌, Bool, true, true≢false}
+use Rattle.std.proofs.Common.{◌≡◌, ℕ, false, List, [], ◌∷◌, ◌++◌, Option, Some, None, refl, sym, ap, subst, ◌∙◌, append_assoc, length, ◌<◌, Bool, true, true≢false, if◌then◌else◌}
 use Rattle.std.specs.Prelude.{option_and_then, ◌==◌, ◌*◌, ◌≤◌, is_some}
 use Rattle.std.proofs.lemmas.List.{append-nil}
 use Rattle.std.proofs.lemmas.Bool.{lt-ltb, le-leb}
@@ -8,25 +8,27 @@ use Rattle.strkw_ecma.proofs.Letters.{same_char}
 use Rattle.strkw_ecma.specs.Escapes.{Escape, itself, control, set, escape}
 use Rattle.strkw_ecma.specs.Codes.{Code, null_code, letter_code, byte_code, unit_code, pair_code, point_code, code_spelling, IsCode}
 use Rattle.strkw_ecma.specs.CodeReading.{Coding, Coded, fails, goes, makes, coding_next}
-use Rattle.strkw_ecma.specs.Syntax.{Disjunction, only, either, Alternative, nothing, more, Term, at_start, at_end, at_boundary, at_no_boundary, once, quantified, Quantifier, zero_or_more, one_or_more, zero_or_one, exactly, at_least, from_to, greedy, lazy, Atom, plain, escaped, control_escape, set_escape, coded, dot, bracketed, group, Group, capturing, plain_group, Token, character, token, quantifier_spelling, group_spelling, greed_spelling, spelling, alternative_spelling, term_spelling, atom_spelling, max_nesting}
-use Rattle.strkw_ecma.specs.WellFormed.{IsQuantifier, IsWellFormed, IsAlternative, IsTerm, IsAtom}
+use Rattle.ucd_derived.proofs.Computing.{ucd_derived}
+use Rattle.strkw_ecma.specs.Names.{NameChar, verbatim, by_code, name_char_spelling, name_spelling, name_char_value, name_value, is_unicode, is_name_start, is_name_part, IsNameChar, AreNameParts, IsName, may_follow, are_distinct, NameToken, name_end, name_backslash, name_character, name_token}
+use Rattle.strkw_ecma.specs.Syntax.{Disjunction, only, either, Alternative, nothing, more, Term, at_start, at_end, at_boundary, at_no_boundary, once, quantified, Quantifier, zero_or_more, one_or_more, zero_or_one, exactly, at_least, from_to, greedy, lazy, Atom, plain, escaped, control_escape, set_escape, coded, dot, bracketed, group, Group, capturing, plain_group, named, with_name, with_names, with_alternative_names, with_term_names, with_atom_names, names, Token, character, token, quantifier_spelling, group_spelling, greed_spelling, spelling, alternative_spelling, term_spelling, atom_spelling, max_nesting}
+use Rattle.strkw_ecma.specs.WellFormed.{IsQuantifier, IsGroup, IsWellFormed, IsAlternative, IsTerm, IsAtom}
 use Rattle.strkw_ecma.specs.Numbers.{number, number_of, IsNumber}
 use Rattle.strkw_ecma.specs.Size.{size, max_size}
 use Rattle.strkw_ecma.specs.Patterns.{atom_pattern, times, copies}
 use Rattle.strkw_ecma.proofs.Digits.{reads_digits}
-use Rattle.strkw_ecma.specs.Reading.{Open, Level, Last, none, atom, counted, State, between, opening, low, high, counting, with_mode, with_quantifier, with_count, range_read, on_low, on_high, when, ended, joined, with_atom, opened, on_token, on_group, on_escape, coding, on_coding, next, at_close, read_from, read}
+use Rattle.strkw_ecma.specs.Reading.{Open, Outer, Level, Last, none, atom, counted, State, between, opening, low, high, counting, with_mode, with_quantifier, with_count, range_read, on_low, on_high, when, ended, joined, with_atom, naming, name_coding, with_name_char, on_naming, on_name_coding, closes, tree_if, opened_within, opened, on_token, on_group, on_escape, coding, on_coding, next, read_from, read}
 use Rattle.strkw_ecma.proofs.ClassReadings.{reads_class}
 use Rattle.strkw_ecma.proofs.CodeReadings.{follow, code_tail, begun, reads_code}
 
-abbrev state : List Open → Option Disjunction → Alternative → Last → State
+abbrev state : Outer → Option Disjunction → Alternative → Last → State
 state outer e a x = record { outer = outer; level = record { earlier = e; current = a }; last = x; mode = between }
 
 -- a character that begins an atom, and the atom
-plain_next : (outer : List Open) (e : Option Disjunction) (a : Alternative) (x : Last) (c : ℕ) → token c ≡ character
+plain_next : (outer : Outer) (e : Option Disjunction) (a : Alternative) (x : Last) (c : ℕ) → token c ≡ character
     → next (state outer e a x) c ≡ Some (with_atom outer (record { earlier = e; current = a }) x (plain c))
 plain_next outer e a x c h = ap (on_token outer (record { earlier = e; current = a }) x c) h
 
-escape_next : (outer : List Open) (l : Level) (x : Last) (c : ℕ) (k : Escape) → escape c ≡ k
+escape_next : (outer : Outer) (l : Level) (x : Last) (c : ℕ) (k : Escape) → escape c ≡ k
     → on_escape outer l x c (escape c) ≡ on_escape outer l x c k
 escape_next outer l x c k h = ap (on_escape outer l x c) h
 
@@ -34,7 +36,7 @@ regroup : (a b c cs : List ℕ) → ((a ++ b) ++ c) ++ cs ≡ a ++ (b ++ (c ++ c
 regroup a b c cs = append_assoc (a ++ b) c cs ∙ append_assoc a b (c ++ cs)
 
 -- an escape by a number
-module _ (outer : List Open) (e : Option Disjunction) (a : Alternative) (x : Last) where
+module _ (outer : Outer) (e : Option Disjunction) (a : Alternative) (x : Last) where
   abbrev behind_part : Coding → List ℕ → Option Disjunction
   behind_part k cs = read_from (with_mode outer (record { earlier = e; current = a }) x (coding k)) cs
 
@@ -61,35 +63,35 @@ module _ (outer : List Open) (e : Option Disjunction) (a : Alternative) (x : Las
   reads_coded d h cs = code_begins d cs ∙ reads_code behind_part behind_whole (λ k c cs. follows (coding_next k c) cs) d h cs
 
 -- a count that is whole
-counts : (outer : List Open) (l : Level) (p : Atom) (q : Quantifier) (cs : List ℕ) → copies (times q) * size (atom_pattern p) ≤ max_size
+counts : (outer : Outer) (l : Level) (p : Atom) (q : Quantifier) (cs : List ℕ) → copies (times q) * size (atom_pattern p) ≤ max_size
     → option_and_then (λ t. read_from t cs) (with_count outer l (atom p) q)
     ≡ option_and_then (λ t. read_from t cs) (with_quantifier outer l (atom p) q)
 counts outer l p q cs h =
     ap (λ (b : Bool). option_and_then (λ t. read_from t cs) (when b (with_quantifier outer l (atom p) q))) (le-leb _ max_size h)
 
-reads_first : (outer : List Open) (l : Level) (p : Atom) (ds : List ℕ) → IsNumber ds → (cs : List ℕ)
+reads_first : (outer : Outer) (l : Level) (p : Atom) (ds : List ℕ) → IsNumber ds → (cs : List ℕ)
     → read_from (with_mode outer l (atom p) (counting (low []))) (ds ++ cs) ≡ read_from (with_mode outer l (atom p) (counting (low ds))) cs
 reads_first outer l p ds h cs =
     reads_digits outer l (atom p) (λ es. counting (low es)) (λ es c e. ap (on_low outer l (atom p) es c) e) [] ds h.0 h.2 cs
 
-reads_second : (outer : List Open) (l : Level) (p : Atom) (ds es : List ℕ) → IsNumber es → (cs : List ℕ)
+reads_second : (outer : Outer) (l : Level) (p : Atom) (ds es : List ℕ) → IsNumber es → (cs : List ℕ)
     → read_from (with_mode outer l (atom p) (counting (high ds []))) (es ++ cs) ≡ read_from (with_mode outer l (atom p) (counting (high ds es))) cs
 reads_second outer l p ds es h cs =
     reads_digits outer l (atom p) (λ fs. counting (high ds fs)) (λ fs c e. ap (on_high outer l (atom p) ds fs c) e) [] es h.0 h.2 cs
 
-reads_comma : (outer : List Open) (l : Level) (p : Atom) (ds : List ℕ) → IsNumber ds → (cs : List ℕ)
+reads_comma : (outer : Outer) (l : Level) (p : Atom) (ds : List ℕ) → IsNumber ds → (cs : List ℕ)
     → read_from (with_mode outer l (atom p) (counting (low ds))) (byte "," ∷ cs)
     ≡ read_from (with_mode outer l (atom p) (counting (high ds []))) cs
 reads_comma outer l p ds h cs =
     ap (λ (b : Bool). option_and_then (λ t. read_from t cs) (when b (Some (with_mode outer l (atom p) (counting (high ds [])))))) h.1
 
-reads_exact : (outer : List Open) (l : Level) (p : Atom) (ds : List ℕ) → IsNumber ds → (cs : List ℕ)
+reads_exact : (outer : Outer) (l : Level) (p : Atom) (ds : List ℕ) → IsNumber ds → (cs : List ℕ)
     → read_from (with_mode outer l (atom p) (counting (low ds))) (byte "}" ∷ cs)
     ≡ option_and_then (λ t. read_from t cs) (with_count outer l (atom p) (exactly ds))
 reads_exact outer l p ds h cs =
     ap (λ (b : Bool). option_and_then (λ t. read_from t cs) (when b (with_count outer l (atom p) (exactly ds)))) h.1
 
-reads_range : (outer : List Open) (l : Level) (p : Atom) (ds es : List ℕ) → is_some (number_of es) ≡ true → number ds ≤ number es → (cs : List ℕ)
+reads_range : (outer : Outer) (l : Level) (p : Atom) (ds es : List ℕ) → is_some (number_of es) ≡ true → number ds ≤ number es → (cs : List ℕ)
     → option_and_then (λ t. read_from t cs) (range_read outer l (atom p) ds es)
     ≡ option_and_then (λ t. read_from t cs) (with_count outer l (atom p) (from_to ds es))
 reads_range outer l p ds [] h w cs = absurd (true≢false (sym h))
@@ -97,7 +99,7 @@ reads_range outer l p ds (e ∷ es) h w cs =
     ap (λ (b : Bool). option_and_then (λ t. read_from t cs) (when b (with_count outer l (atom p) (from_to ds (e ∷ es)))))
     (le-leb (number ds) (number (e ∷ es)) w)
 
-reads_quantifier : (outer : List Open) (e : Option Disjunction) (a : Alternative) (p : Atom) (q : Quantifier)
+reads_quantifier : (outer : Outer) (e : Option Disjunction) (a : Alternative) (p : Atom) (q : Quantifier)
     → IsQuantifier q (size (atom_pattern p)) → (cs : List ℕ)
     → read_from (state outer e a (atom p)) (quantifier_spelling q ++ cs) ≡ read_from (state outer e a (counted p q)) cs
 reads_quantifier outer e a p zero_or_more h cs = refl
@@ -171,107 +173,217 @@ mutual
   begins_atom (bracketed true r e) n h cs = refl
   begins_atom (group capturing d) n h cs = refl
   begins_atom (group plain_group d) n h cs = refl
+  begins_atom (group (named m) d) n h cs = refl
 
-not_closed : (outer : List Open) (l : Level) (x : Last) → at_close outer l x false ≡ None
+not_closed : (os : List Open) (l : Level) (x : Last) → closes os l x false ≡ None
 not_closed [] l x = refl
-not_closed (o ∷ outer) l x = refl
+not_closed (o ∷ os) l x = refl
 
-abbrev inside : List Open → Option Disjunction → Alternative → Last → Group → State
-inside outer e a x g = state (record { group = g; earlier = e; current = ended a x } ∷ outer) None nothing none
+abbrev inside : Outer → Option Disjunction → Alternative → Last → Group → State
+inside outer e a x g = state (record {
+  groups = record { group = g; earlier = e; current = ended a x } ∷ outer.groups;
+  names = with_name outer.names g;
+}) None nothing none
+
+-- a name
+name_is_not : (f : ℕ → Bool) (c d : ℕ) (b : Bool) → (c == d) ≡ b → f c ≡ true → f d ≡ false → b ≡ false
+name_is_not f c d false e h w = refl
+name_is_not f c d true e h w = absurd (true≢false (sym h ∙ sym (ap f (same_char c d e)) ∙ w))
+
+-- the characters that have a meaning of their own in a name are none of its
+IsApart : (ℕ → Bool) → Type 0
+IsApart f = (f (byte ">") ≡ false) × (f (byte "\\") ≡ false)
+
+start_apart : IsApart is_name_start
+unfolding IsApart ucd_derived
+start_apart = (refl, refl)
+
+part_apart : IsApart is_name_part
+unfolding IsApart ucd_derived
+part_apart = (refl, refl)
+
+follow_apart : (ds : List ℕ) → IsApart (may_follow ds)
+follow_apart [] = start_apart
+follow_apart (d ∷ ds) = part_apart
+
+token_of_name : (f : ℕ → Bool) → IsApart f → (c : ℕ) → f c ≡ true → name_token c ≡ name_character
+unfolding IsApart
+token_of_name f a c h =
+    ap (λ (b : Bool). if b then name_end else if c == byte "\\" then name_backslash else name_character) (name_is_not f c (byte ">") _ refl h a.0)
+    ∙ ap (λ (b : Bool). if b then name_backslash else name_character) (name_is_not f c (byte "\\") _ refl h a.1)
+
+module _ (outer : Outer) (l : Level) (x : Last) where
+  abbrev in_name : List NameChar → List ℕ → Option Disjunction
+  in_name n cs = read_from (with_mode outer l x (naming n)) cs
+
+  module _ (n : List NameChar) where
+    abbrev name_behind_part : Coding → List ℕ → Option Disjunction
+    name_behind_part k cs = read_from (with_mode outer l x (name_coding n k)) cs
+
+    abbrev name_behind_whole : Code → List ℕ → Option Disjunction
+    name_behind_whole d cs = option_and_then (λ t. read_from t cs) (with_name_char outer l x n (by_code d))
+
+    name_follows : (o : Coded) (cs : List ℕ)
+        → option_and_then (λ t. read_from t cs) (on_name_coding outer l x n o) ≡ follow name_behind_part name_behind_whole o cs
+    name_follows fails cs = refl
+    name_follows (goes k) cs = refl
+    name_follows (makes d) cs = refl
+
+    name_code_begins : (d : Code) → is_unicode d ≡ true → (cs : List ℕ)
+        → in_name n (byte "\\" ∷ (code_spelling d ++ cs)) ≡ begun name_behind_part name_behind_whole d (code_tail d ++ cs)
+    name_code_begins null_code h cs = absurd (true≢false (sym h))
+    name_code_begins (letter_code c) h cs = absurd (true≢false (sym h))
+    name_code_begins (byte_code ds) h cs = absurd (true≢false (sym h))
+    name_code_begins (unit_code ds) h cs = refl
+    name_code_begins (pair_code ds es) h cs = refl
+    name_code_begins (point_code ds) h cs = refl
+
+    name_char_taken : (y : NameChar) → may_follow (name_value n) (name_char_value y) ≡ true → (cs : List ℕ)
+        → option_and_then (λ t. read_from t cs) (with_name_char outer l x n y) ≡ in_name (n ++ y ∷ []) cs
+    name_char_taken y h cs =
+        ap (λ (b : Bool). option_and_then (λ t. read_from t cs) (when b (Some (with_mode outer l x (naming (n ++ y ∷ [])))))) h
+
+    reads_name_char : (y : NameChar) → IsNameChar (may_follow (name_value n)) y → (cs : List ℕ)
+        → in_name n (name_char_spelling y ++ cs) ≡ in_name (n ++ y ∷ []) cs
+    reads_name_char (verbatim c) h cs =
+        ap (λ (k : NameToken). option_and_then (λ t. read_from t cs) (on_naming outer l x n c k))
+        (token_of_name (may_follow (name_value n)) (follow_apart (name_value n)) c h)
+        ∙ name_char_taken (verbatim c) h cs
+    reads_name_char (by_code d) h cs =
+        name_code_begins d h.0 cs
+        ∙ reads_code name_behind_part name_behind_whole (λ k c cs. name_follows (coding_next k c) cs) d h.1 cs
+        ∙ name_char_taken (by_code d) h.2 cs
+
+  reads_name_parts : (y : NameChar) (m n : List NameChar) → AreNameParts n → (cs : List ℕ)
+      → in_name (y ∷ m) (name_spelling n ++ cs) ≡ in_name (y ∷ (m ++ n)) cs
+  reads_name_parts y m [] h cs = ap (λ (z : List NameChar). in_name (y ∷ z) cs) (sym (append-nil m))
+  reads_name_parts y m (z ∷ n) h cs =
+      ap (in_name (y ∷ m)) (append_assoc (name_char_spelling z) (name_spelling n) cs)
+      ∙ reads_name_char (y ∷ m) z h.0 (name_spelling n ++ cs) ∙ reads_name_parts y (m ++ z ∷ []) n h.1 cs
+      ∙ ap (λ (w : List NameChar). in_name (y ∷ w) cs) (append_assoc m (z ∷ []) n)
+
+  reads_name : (n : List NameChar) → IsName n → (cs : List ℕ)
+      → in_name [] (name_spelling n ++ cs) ≡ in_name n cs
+  reads_name [] h cs = absurd h
+  reads_name (y ∷ n) h cs =
+      ap (in_name []) (append_assoc (name_char_spelling y) (name_spelling n) cs)
+      ∙ reads_name_char [] y h.0 (name_spelling n ++ cs) ∙ reads_name_parts y [] n h.1 cs
+
+  ends_name : (n : List NameChar) → IsName n → (cs : List ℕ)
+      → in_name n (byte ">" ∷ cs) ≡ option_and_then (λ t. read_from t cs) (opened_within outer l x (named n))
+  ends_name [] h cs = absurd h
+  ends_name (y ∷ n) h cs = refl
 
 -- behind `(`
-enters : (outer : List Open) (e : Option Disjunction) (a : Alternative) (x : Last) (cs : List ℕ) → length outer < max_nesting → IsNoQuestion cs
+enters : (outer : Outer) (e : Option Disjunction) (a : Alternative) (x : Last) (cs : List ℕ) → length outer.groups < max_nesting → IsNoQuestion cs
     → read_from (with_mode outer (record { earlier = e; current = a }) x opening) cs ≡ read_from (inside outer e a x capturing) cs
-enters outer e a x [] h w = not_closed outer (record { earlier = e; current = a }) x
+enters outer e a x [] h w = not_closed outer.groups (record { earlier = e; current = a }) x
 enters outer e a x (c ∷ cs) h w =
     let l : Level = record { earlier = e; current = a } in
     ap (λ (b : Bool). option_and_then (λ t. read_from t cs) (on_group outer l x c b)) w
     ∙ ap (λ (b : Bool). option_and_then (λ t. read_from t cs) (option_and_then (λ t. on_token t.outer t.level t.last c (token c)) (opened outer l x capturing b)))
-    (lt-ltb (length outer) max_nesting h)
+    (lt-ltb (length outer.groups) max_nesting h)
 
-opens : (outer : List Open) (e : Option Disjunction) (a : Alternative) (x : Last) (g : Group) (cs : List ℕ) → length outer < max_nesting
-    → IsNoQuestion cs → read_from (state outer e a x) (group_spelling g ++ cs) ≡ read_from (inside outer e a x g) cs
-opens outer e a x capturing cs h w = enters outer e a x cs h w
-opens outer e a x plain_group cs h w =
+opens : (outer : Outer) (e : Option Disjunction) (a : Alternative) (x : Last) (g : Group) (cs : List ℕ) → length outer.groups < max_nesting
+    → IsGroup g → IsNoQuestion cs → read_from (state outer e a x) (group_spelling g ++ cs) ≡ read_from (inside outer e a x g) cs
+opens outer e a x capturing cs h v w = enters outer e a x cs h w
+opens outer e a x plain_group cs h v w =
     ap (λ (b : Bool). option_and_then (λ t. read_from t cs) (opened outer (record { earlier = e; current = a }) x plain_group b))
-    (lt-ltb (length outer) max_nesting h)
+    (lt-ltb (length outer.groups) max_nesting h)
+opens outer e a x (named n) cs h v w =
+    let l : Level = record { earlier = e; current = a } in
+    ap (in_name outer l x []) (append_assoc (name_spelling n) (byte ">" ∷ []) cs)
+    ∙ reads_name outer l x n v (byte ">" ∷ cs) ∙ ends_name outer l x n v cs
+    ∙ ap (λ (b : Bool). option_and_then (λ t. read_from t cs) (opened outer l x (named n) b)) (lt-ltb (length outer.groups) max_nesting h)
+
+abbrev around : List Open → List (List ℕ) → Outer
+around os ns = record { groups = os; names = ns }
 
 mutual
   -- behind the spelling of a disjunction the reader stands where the disjunction has been read
-  reads_disjunction : (d : Disjunction) (outer : List Open) → IsWellFormed (length outer) d → (cs : List ℕ)
+  reads_disjunction : (d : Disjunction) (os : List Open) (ns : List (List ℕ)) → IsWellFormed (length os) d → (cs : List ℕ)
       → ((e : Option Disjunction) × (a : Alternative) × (x : Last) × (joined e (ended a x) ≡ d)
-      × (read_from (state outer None nothing none) (spelling d ++ cs) ≡ read_from (state outer e a x) cs))
-  reads_disjunction (only a) outer h cs =
-      let r = reads_alternative a outer h None cs in (None, r.0, r.1, ap only r.2, r.3)
-  reads_disjunction (either d a) outer h cs =
-      let front = reads_disjunction d outer h.0 (byte "|" ∷ (alternative_spelling a ++ cs)) in
-      let back = reads_alternative a outer h.1 (Some d) cs in (
+      × (read_from (state (around os ns) None nothing none) (spelling d ++ cs) ≡ read_from (state (around os (with_names ns d)) e a x) cs))
+  reads_disjunction (only a) os ns h cs =
+      let r = reads_alternative a os ns h None cs in (None, r.0, r.1, ap only r.2, r.3)
+  reads_disjunction (either d a) os ns h cs =
+      let front = reads_disjunction d os ns h.0 (byte "|" ∷ (alternative_spelling a ++ cs)) in
+      let behind = with_names ns d in
+      let back = reads_alternative a os behind h.1 (Some d) cs in (
         Some d,
         back.0,
         back.1,
         ap (either d) back.2,
-        ap (read_from (state outer None nothing none)) (append_assoc (spelling d) (byte "|" ∷ alternative_spelling a) cs)
-            ∙ front.4 ∙ ap (λ z. read_from (state outer (Some z) nothing none) (alternative_spelling a ++ cs)) front.3 ∙ back.3,
+        ap (read_from (state (around os ns) None nothing none)) (append_assoc (spelling d) (byte "|" ∷ alternative_spelling a) cs)
+            ∙ front.4 ∙ ap (λ z. read_from (state (around os behind) (Some z) nothing none) (alternative_spelling a ++ cs)) front.3 ∙ back.3,
       )
 
-  reads_alternative : (a : Alternative) (outer : List Open) → IsAlternative (length outer) a → (e : Option Disjunction) (cs : List ℕ)
+  reads_alternative : (a : Alternative) (os : List Open) (ns : List (List ℕ)) → IsAlternative (length os) a → (e : Option Disjunction) (cs : List ℕ)
       → ((b : Alternative) × (x : Last) × (ended b x ≡ a)
-      × (read_from (state outer e nothing none) (alternative_spelling a ++ cs) ≡ read_from (state outer e b x) cs))
-  reads_alternative nothing outer h e cs = (nothing, none, refl, refl)
-  reads_alternative (more a t) outer h e cs =
-      let front = reads_alternative a outer h.0 e (term_spelling t ++ cs) in
-      let back = reads_term t outer h.1 e front.0 front.1 cs in (
+      × (read_from (state (around os ns) e nothing none) (alternative_spelling a ++ cs)
+      ≡ read_from (state (around os (with_alternative_names ns a)) e b x) cs))
+  reads_alternative nothing os ns h e cs = (nothing, none, refl, refl)
+  reads_alternative (more a t) os ns h e cs =
+      let front = reads_alternative a os ns h.0 e (term_spelling t ++ cs) in
+      let back = reads_term t os (with_alternative_names ns a) h.1 e front.0 front.1 cs in (
         back.0,
         back.1,
         back.2 ∙ ap (λ z. more z t) front.2,
-        ap (read_from (state outer e nothing none)) (append_assoc (alternative_spelling a) (term_spelling t) cs) ∙ front.3 ∙ back.3,
+        ap (read_from (state (around os ns) e nothing none)) (append_assoc (alternative_spelling a) (term_spelling t) cs) ∙ front.3 ∙ back.3,
       )
 
-  reads_term : (t : Term) (outer : List Open) → IsTerm (length outer) t → (e : Option Disjunction) (a : Alternative) (x : Last) (cs : List ℕ)
+  reads_term : (t : Term) (os : List Open) (ns : List (List ℕ)) → IsTerm (length os) t
+      → (e : Option Disjunction) (a : Alternative) (x : Last) (cs : List ℕ)
       → ((b : Alternative) × (y : Last) × (ended b y ≡ more (ended a x) t)
-      × (read_from (state outer e a x) (term_spelling t ++ cs) ≡ read_from (state outer e b y) cs))
-  reads_term at_start outer h e a x cs = (more (ended a x) at_start, none, refl, refl)
-  reads_term at_end outer h e a x cs = (more (ended a x) at_end, none, refl, refl)
-  reads_term at_boundary outer h e a x cs = (more (ended a x) at_boundary, none, refl, refl)
-  reads_term at_no_boundary outer h e a x cs = (more (ended a x) at_no_boundary, none, refl, refl)
-  reads_term (once p) outer h e a x cs = (ended a x, atom p, refl, reads_atom p outer h e a x cs)
-  reads_term (quantified p q greedy) outer h e a x cs = (
+      × (read_from (state (around os ns) e a x) (term_spelling t ++ cs) ≡ read_from (state (around os (with_term_names ns t)) e b y) cs))
+  reads_term at_start os ns h e a x cs = (more (ended a x) at_start, none, refl, refl)
+  reads_term at_end os ns h e a x cs = (more (ended a x) at_end, none, refl, refl)
+  reads_term at_boundary os ns h e a x cs = (more (ended a x) at_boundary, none, refl, refl)
+  reads_term at_no_boundary os ns h e a x cs = (more (ended a x) at_no_boundary, none, refl, refl)
+  reads_term (once p) os ns h e a x cs = (ended a x, atom p, refl, reads_atom p os ns h e a x cs)
+  reads_term (quantified p q greedy) os ns h e a x cs = (
     ended a x,
     counted p q,
     refl,
-    ap (read_from (state outer e a x)) (regroup (atom_spelling p) (quantifier_spelling q) [] cs)
-        ∙ reads_atom p outer h.0 e a x (quantifier_spelling q ++ cs) ∙ reads_quantifier outer e (ended a x) p q h.1 cs,
+    ap (read_from (state (around os ns) e a x)) (regroup (atom_spelling p) (quantifier_spelling q) [] cs)
+        ∙ reads_atom p os ns h.0 e a x (quantifier_spelling q ++ cs)
+        ∙ reads_quantifier (around os (with_atom_names ns p)) e (ended a x) p q h.1 cs,
   )
-  reads_term (quantified p q lazy) outer h e a x cs = (
+  reads_term (quantified p q lazy) os ns h e a x cs = (
     more (ended a x) (quantified p q lazy),
     none,
     refl,
-    ap (read_from (state outer e a x)) (regroup (atom_spelling p) (quantifier_spelling q) (byte "?" ∷ []) cs)
-        ∙ reads_atom p outer h.0 e a x (quantifier_spelling q ++ byte "?" ∷ cs)
-        ∙ reads_quantifier outer e (ended a x) p q h.1 (byte "?" ∷ cs),
+    ap (read_from (state (around os ns) e a x)) (regroup (atom_spelling p) (quantifier_spelling q) (byte "?" ∷ []) cs)
+        ∙ reads_atom p os ns h.0 e a x (quantifier_spelling q ++ byte "?" ∷ cs)
+        ∙ reads_quantifier (around os (with_atom_names ns p)) e (ended a x) p q h.1 (byte "?" ∷ cs),
   )
 
-  reads_atom : (p : Atom) (outer : List Open) → IsAtom (length outer) p → (e : Option Disjunction) (a : Alternative) (x : Last) (cs : List ℕ)
-      → read_from (state outer e a x) (atom_spelling p ++ cs) ≡ read_from (state outer e (ended a x) (atom p)) cs
-  reads_atom (plain c) outer h e a x cs = ap (option_and_then (λ t. read_from t cs)) (plain_next outer e a x c h)
-  reads_atom (escaped c) outer h e a x cs =
-      ap (option_and_then (λ t. read_from t cs)) (escape_next outer (record { earlier = e; current = a }) x c itself h)
-  reads_atom (control_escape c) outer h e a x cs =
-      ap (option_and_then (λ t. read_from t cs)) (escape_next outer (record { earlier = e; current = a }) x c control h)
-  reads_atom (set_escape c) outer h e a x cs =
-      ap (option_and_then (λ t. read_from t cs)) (escape_next outer (record { earlier = e; current = a }) x c set h)
-  reads_atom (coded d) outer h e a x cs = reads_coded outer e a x d h cs
-  reads_atom dot outer h e a x cs = refl
-  reads_atom (bracketed n r w) outer h e a x cs = reads_class outer (record { earlier = e; current = a }) x n r w h.0 h.1 cs
-  reads_atom (group g d) outer h e a x cs =
+  reads_atom : (p : Atom) (os : List Open) (ns : List (List ℕ)) → IsAtom (length os) p
+      → (e : Option Disjunction) (a : Alternative) (x : Last) (cs : List ℕ)
+      → read_from (state (around os ns) e a x) (atom_spelling p ++ cs)
+      ≡ read_from (state (around os (with_atom_names ns p)) e (ended a x) (atom p)) cs
+  reads_atom (plain c) os ns h e a x cs = ap (option_and_then (λ t. read_from t cs)) (plain_next (around os ns) e a x c h)
+  reads_atom (escaped c) os ns h e a x cs =
+      ap (option_and_then (λ t. read_from t cs)) (escape_next (around os ns) (record { earlier = e; current = a }) x c itself h)
+  reads_atom (control_escape c) os ns h e a x cs =
+      ap (option_and_then (λ t. read_from t cs)) (escape_next (around os ns) (record { earlier = e; current = a }) x c control h)
+  reads_atom (set_escape c) os ns h e a x cs =
+      ap (option_and_then (λ t. read_from t cs)) (escape_next (around os ns) (record { earlier = e; current = a }) x c set h)
+  reads_atom (coded d) os ns h e a x cs = reads_coded (around os ns) e a x d h cs
+  reads_atom dot os ns h e a x cs = refl
+  reads_atom (bracketed n r w) os ns h e a x cs =
+      reads_class (around os ns) (record { earlier = e; current = a }) x n r w h.0 h.1 cs
+  reads_atom (group g d) os ns h e a x cs =
       let o : Open = record { group = g; earlier = e; current = ended a x } in
-      let inner = reads_disjunction d (o ∷ outer) h.1 (byte ")" ∷ cs) in
+      let inner = reads_disjunction d (o ∷ os) (with_name ns g) h.1 (byte ")" ∷ cs) in
+      let outer = around os ns in
+      let behind = around os (with_names (with_name ns g) d) in
       ap (read_from (state outer e a x)) (regroup (group_spelling g) (spelling d) (byte ")" ∷ []) cs)
-      ∙ opens outer e a x g (spelling d ++ byte ")" ∷ cs) h.0 (begins_disjunction d (length (o ∷ outer)) h.1 (byte ")" ∷ cs) refl)
-      ∙ inner.4 ∙ ap (λ z. read_from (state outer e (ended a x) (atom (group g z))) cs) inner.3
+      ∙ opens outer e a x g (spelling d ++ byte ")" ∷ cs) h.0.1 h.0.0 (begins_disjunction d (length (o ∷ os)) h.1 (byte ")" ∷ cs) refl)
+      ∙ inner.4 ∙ ap (λ z. read_from (state behind e (ended a x) (atom (group g z))) cs) inner.3
 
--- each pattern is read as its tree: so no two trees are spelled alike
-pub complete : (d : Disjunction) → IsWellFormed 0 d → read (spelling d) ≡ Some d
+-- each pattern is read as its tree, where no name is there twice: so no two trees are spelled alike
+pub complete : (d : Disjunction) → IsWellFormed 0 d → read (spelling d) ≡ tree_if (are_distinct (names d)) d
 complete d h =
-    let r = reads_disjunction d [] h [] in
-    ap read (sym (append-nil (spelling d))) ∙ r.4 ∙ ap Some r.3
+    let r = reads_disjunction d [] [] h [] in
+    ap read (sym (append-nil (spelling d))) ∙ r.4 ∙ ap (tree_if (are_distinct (names d))) r.3

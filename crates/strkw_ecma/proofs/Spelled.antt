@@ -1,29 +1,30 @@
 -- What is read is spelled so.
-use Rattle.std.proofs.Common.{◌≡◌, ℕ, Bool, true, false, List, [], ◌∷◌, ◌++◌, Option, Some, None, ◌==◌, refl, sym, ap, subst, ◌∙◌, append_assoc}
+use Rattle.std.proofs.Common.{◌≡◌, ℕ, Bool, true, false, ◌&&◌, List, [], ◌∷◌, ◌++◌, Option, Some, None, ◌==◌, refl, sym, ap, subst, ◌∙◌, append_assoc}
 use Rattle.std.specs.Prelude.{option_and_then, option_map, is_some, nat_le, ◌*◌}
 use Rattle.std.proofs.lemmas.List.{append-nil}
 use Rattle.std.specs.Str.{byte}
 use Rattle.strkw_ecma.specs.Escapes.{Escape, itself, control, set, boundary, no_boundary, null, letter, hexadecimal, unicode, unknown, escape}
 use Rattle.strkw_ecma.specs.Codes.{null_code}
 use Rattle.strkw_ecma.specs.CodeReading.{Coding, Coded, fails, goes, makes, coding_next}
+use Rattle.strkw_ecma.specs.Names.{NameChar, verbatim, by_code, name_char_spelling, name_spelling, name_char_value, name_value, may_follow, Extension, uncaptured, name_opening, no_extension, extension, NameToken, name_end, name_backslash, name_character, name_token, are_distinct}
 use Rattle.strkw_ecma.specs.Classes.{class_token, class_escape, no_ranges}
-use Rattle.strkw_ecma.specs.Syntax.{Disjunction, Term, at_start, at_end, at_boundary, at_no_boundary, quantified, Quantifier, zero_or_more, one_or_more, zero_or_one, exactly, at_least, from_to, lazy, Group, capturing, plain_group, plain, escaped, control_escape, set_escape, coded, dot, group, Token, bar, asterisk, plus, question, caret, dollar, opening as opening_token, closing, point, backslash, bracket, brace, character, other, token, quantifier_spelling, group_spelling, spelling, term_spelling, atom_spelling}
-use Rattle.strkw_ecma.specs.Reading.{Open, Level, Last, none, atom, counted, fresh, Mode, between, escaping, opening, extending, class_opened, Count, low, high, counting, when, with_count, longer, on_low, on_high, on_count, range_read, in_class, class_escaping, coding, class_coding, on_coding, is_between, State, ended, level_ended, new_level, with_term, with_mode, closed, with_quantifier, questioned, opened, opened_within, on_token, on_group, on_extension, on_escape, on_class, next, next_in, at_close, read_from, initial, read}
+use Rattle.strkw_ecma.specs.Syntax.{Disjunction, Term, at_start, at_end, at_boundary, at_no_boundary, quantified, Quantifier, zero_or_more, one_or_more, zero_or_one, exactly, at_least, from_to, lazy, Group, capturing, plain_group, named, plain, escaped, control_escape, set_escape, coded, dot, group, Token, bar, asterisk, plus, question, caret, dollar, opening as opening_token, closing, point, backslash, bracket, brace, character, other, token, quantifier_spelling, group_spelling, spelling, term_spelling, atom_spelling}
+use Rattle.strkw_ecma.specs.Reading.{Open, Outer, Level, Last, none, atom, counted, fresh, Mode, between, escaping, opening, extending, class_opened, Count, low, high, counting, when, with_count, longer, on_low, on_high, on_count, range_read, in_class, class_escaping, coding, class_coding, naming, name_escaping, name_coding, with_name_char, name_read, on_naming, on_name_escape, on_name_coding, on_coding, tree_if, closes, is_between, State, ended, level_ended, new_level, with_term, with_mode, closed_in, closed, with_quantifier, questioned, opened, opened_within, on_token, on_group, on_extension, on_escape, on_class, next, next_in, read_from, initial, read}
 use Rattle.strkw_ecma.specs.Numbers.{number, number_of, max_count, CountToken, digit, comma, closing_brace, no_count, count_token}
 use Rattle.strkw_ecma.specs.Size.{size, max_size}
 use Rattle.strkw_ecma.specs.Patterns.{atom_pattern, times, copies}
-use Rattle.strkw_ecma.proofs.Letters.{char_of_count, char_of_count_token, same_char, char_of, char_of_token, char_of_letter, char_of_escape, char_of_class_token, char_of_class_escape}
-use Rattle.strkw_ecma.proofs.ClassSpelled.{level_spelling, last_spelling, outer_spelling, spelled, HasRead, joined_spelling, more_spelling, before, whole, atom_read, class_token_read, class_escape_read, class_coding_read}
+use Rattle.strkw_ecma.proofs.Letters.{char_of_count, char_of_count_token, same_char, char_of_extension, char_of_extension_token, char_of_name, char_of_name_token, char_of, char_of_token, char_of_letter, char_of_escape, char_of_class_token, char_of_class_escape}
+use Rattle.strkw_ecma.proofs.ClassSpelled.{level_spelling, last_spelling, outer_spelling, name_text, spelled, HasRead, joined_spelling, more_spelling, before, whole, atom_read, class_token_read, class_escape_read, class_coding_read}
 use Rattle.strkw_ecma.proofs.CodeReadings.{coding_spelling, IsCodedAs, coding_as}
 
-module _ (outer : List Open) (l : Level) where
+module _ (outer : Outer) (l : Level) where
   abbrev level_text : List ℕ
-  level_text = outer_spelling outer ++ level_spelling l.earlier l.current
+  level_text = outer_spelling outer.groups ++ level_spelling l.earlier l.current
 
   term_read : (x : Last) (t : Term) → spelled (with_term outer l x t) ≡ before outer l x ++ term_spelling t
   term_read x t =
-      append-nil _ ∙ append-nil _ ∙ ap (λ z. outer_spelling outer ++ z) (more_spelling l.earlier (ended l.current x) t)
-      ∙ sym (append_assoc (outer_spelling outer) (level_spelling l.earlier (ended l.current x)) (term_spelling t))
+      append-nil _ ∙ append-nil _ ∙ ap (λ z. outer_spelling outer.groups ++ z) (more_spelling l.earlier (ended l.current x) t)
+      ∙ sym (append_assoc (outer_spelling outer.groups) (level_spelling l.earlier (ended l.current x)) (term_spelling t))
       ∙ ap (λ z. z ++ term_spelling t) (whole outer l x)
 
   -- behind what stands before the last term
@@ -33,8 +34,8 @@ module _ (outer : List Open) (l : Level) where
   term_alone : (t : Term) → spelled (with_term outer l none t) ≡ level_text ++ term_spelling t
   term_alone t = term_read none t ∙ ap (λ z. z ++ term_spelling t) (append-nil level_text)
 
-  level_whole : (x : Last) → outer_spelling outer ++ spelling (level_ended l x) ≡ before outer l x
-  level_whole x = ap (λ z. outer_spelling outer ++ z) (joined_spelling l.earlier (ended l.current x)) ∙ whole outer l x
+  level_whole : (x : Last) → outer_spelling outer.groups ++ spelling (level_ended l x) ≡ before outer l x
+  level_whole x = ap (λ z. outer_spelling outer.groups ++ z) (joined_spelling l.earlier (ended l.current x)) ∙ whole outer l x
 
   quantifier_read : (x : Last) (q : Quantifier) → HasRead (with_quantifier outer l x q) (before outer l x ++ quantifier_spelling q)
   quantifier_read none q = tt
@@ -49,21 +50,24 @@ module _ (outer : List Open) (l : Level) where
 
   bar_read : (x : Last) → HasRead (on_token outer l x (byte "|") bar) (before outer l x ++ byte "|" ∷ [])
   bar_read x =
-      append-nil _ ∙ append-nil _ ∙ sym (append_assoc (outer_spelling outer) (spelling (level_ended l x)) (byte "|" ∷ []))
+      append-nil _ ∙ append-nil _ ∙ sym (append_assoc (outer_spelling outer.groups) (spelling (level_ended l x)) (byte "|" ∷ []))
       ∙ ap (λ z. z ++ byte "|" ∷ []) (level_whole x)
 
   open_read : (x : Last) (g : Group) (b : Bool) → HasRead (opened outer l x g b) (before outer l x ++ group_spelling g)
   open_read x g false = tt
   open_read x g true = append-nil _ ∙ append-nil _ ∙ append-nil _ ∙ ap (λ z. z ++ group_spelling g) (whole outer l x)
 
-close_read : (outer : List Open) (l : Level) (x : Last) → HasRead (closed outer (level_ended l x)) (before outer l x ++ byte ")" ∷ [])
-close_read [] l x = tt
-close_read (o ∷ outer) l x =
-    let front = outer_spelling outer ++ level_spelling o.earlier o.current in
+close_in_read : (os : List Open) (ns : List (List ℕ)) (l : Level) (x : Last)
+    → HasRead (closed_in os ns (level_ended l x)) (before (record { groups = os; names = ns }) l x ++ byte ")" ∷ [])
+close_in_read [] ns l x = tt
+close_in_read (o ∷ os) ns l x =
+    let outer : Outer = record { groups = os; names = ns } in
+    let inner : Outer = record { groups = o ∷ os; names = ns } in
+    let front = outer_spelling outer.groups ++ level_spelling o.earlier o.current in
     let around : Level = record { earlier = o.earlier; current = o.current } in
     atom_read outer around none (group o.group (level_ended l x))
     ∙ regroup front (group_spelling o.group) (spelling (level_ended l x)) (before outer around none) (append-nil _)
-    ∙ ap (λ z. z ++ byte ")" ∷ []) (level_whole (o ∷ outer) l x)
+    ∙ ap (λ z. z ++ byte ")" ∷ []) (level_whole inner l x)
   where
     regroup : (front kind inner b : List ℕ) → b ≡ front → b ++ ((kind ++ inner) ++ byte ")" ∷ []) ≡ ((front ++ kind) ++ inner) ++ byte ")" ∷ []
     regroup front kind inner b e =
@@ -71,7 +75,10 @@ close_read (o ∷ outer) l x =
         ∙ sym (append_assoc front (kind ++ inner) (byte ")" ∷ []))
         ∙ ap (λ z. z ++ byte ")" ∷ []) (sym (append_assoc front kind inner))
 
-token_read : (outer : List Open) (l : Level) (x : Last) (c : ℕ) (k : Token) → char_of k c ≡ c
+close_read : (outer : Outer) (l : Level) (x : Last) → HasRead (closed outer (level_ended l x)) (before outer l x ++ byte ")" ∷ [])
+close_read outer l x = close_in_read outer.groups outer.names l x
+
+token_read : (outer : Outer) (l : Level) (x : Last) (c : ℕ) (k : Token) → char_of k c ≡ c
     → HasRead (on_token outer l x c k) (before outer l x ++ c ∷ [])
 token_read outer l x c bar e = subst (λ z. HasRead (on_token outer l x c bar) (before outer l x ++ z ∷ [])) e (bar_read outer l x)
 token_read outer l x c asterisk e =
@@ -90,7 +97,7 @@ token_read outer l x c brace e = ap (λ z. before outer l x ++ z ∷ []) e
 token_read outer l x c character e = atom_read outer l x (plain c)
 token_read outer l x c other e = tt
 
-escape_read : (outer : List Open) (l : Level) (x : Last) (c : ℕ) (k : Escape) → char_of_letter k c ≡ c
+escape_read : (outer : Outer) (l : Level) (x : Last) (c : ℕ) (k : Escape) → char_of_letter k c ≡ c
     → HasRead (on_escape outer l x c k) ((before outer l x ++ byte "\\" ∷ []) ++ c ∷ [])
 escape_read outer l x c itself e = atom_read outer l x (escaped c) ∙ sym (append_assoc (before outer l x) (byte "\\" ∷ []) (c ∷ []))
 escape_read outer l x c control e =
@@ -113,7 +120,7 @@ escape_read outer l x c unicode e =
     sym (append_assoc (before outer l x) (byte "\\" ∷ []) (byte "u" ∷ [])) ∙ ap (λ z. (before outer l x ++ byte "\\" ∷ []) ++ z ∷ []) e
 escape_read outer l x c unknown e = tt
 
-coding_read : (outer : List Open) (l : Level) (x : Last) (k : Coding) (c : ℕ) (o : Coded) → IsCodedAs o (coding_spelling k ++ c ∷ [])
+coding_read : (outer : Outer) (l : Level) (x : Last) (k : Coding) (c : ℕ) (o : Coded) → IsCodedAs o (coding_spelling k ++ c ∷ [])
     → HasRead (on_coding outer l x o) ((before outer l x ++ byte "\\" ∷ coding_spelling k) ++ c ∷ [])
 coding_read outer l x k c fails h = tt
 coding_read outer l x k c (goes m) h =
@@ -123,30 +130,33 @@ coding_read outer l x k c (makes d) h =
     ∙ sym (append_assoc (before outer l x) (byte "\\" ∷ coding_spelling k) (c ∷ []))
 
 -- behind `(`: the group is open, and the character is read within it
-first_read : (outer : List Open) (l : Level) (x : Last) (c : ℕ) (b : Bool)
+first_read : (outer : Outer) (l : Level) (x : Last) (c : ℕ) (b : Bool)
     → HasRead (option_and_then (λ t. on_token t.outer t.level t.last c (token c)) (opened outer l x capturing b))
     ((before outer l x ++ byte "(" ∷ []) ++ c ∷ [])
 first_read outer l x c false = tt
 first_read outer l x c true =
     let o : Open = record { group = capturing; earlier = l.earlier; current = ended l.current x } in
-    subst (λ z. HasRead (on_token (o ∷ outer) new_level none c (token c)) (z ++ c ∷ []))
-    (append-nil _ ∙ append-nil _ ∙ ap (λ z. z ++ byte "(" ∷ []) (whole outer l x)) (token_read (o ∷ outer) new_level none c (token c) (char_of_token c))
+    let inner : Outer = record { groups = o ∷ outer.groups; names = outer.names } in
+    subst (λ z. HasRead (on_token inner new_level none c (token c)) (z ++ c ∷ []))
+    (append-nil _ ∙ append-nil _ ∙ ap (λ z. z ++ byte "(" ∷ []) (whole outer l x)) (token_read inner new_level none c (token c) (char_of_token c))
 
-group_read : (outer : List Open) (l : Level) (x : Last) (c : ℕ) (b : Bool) → (c == byte "?") ≡ b
+group_read : (outer : Outer) (l : Level) (x : Last) (c : ℕ) (b : Bool) → (c == byte "?") ≡ b
     → HasRead (on_group outer l x c b) ((before outer l x ++ byte "(" ∷ []) ++ c ∷ [])
 group_read outer l x c false e = first_read outer l x c _
 group_read outer l x c true e =
     ap (λ z. before outer l x ++ byte "(" ∷ z ∷ []) (same_char c (byte "?") e) ∙ sym (append_assoc (before outer l x) (byte "(" ∷ []) (c ∷ []))
 
-extension_read : (outer : List Open) (l : Level) (x : Last) (c : ℕ) (b : Bool) → (c == byte ":") ≡ b
-    → HasRead (on_extension outer l x b) ((before outer l x ++ byte "(" ∷ byte "?" ∷ []) ++ c ∷ [])
-extension_read outer l x c false e = tt
-extension_read outer l x c true e =
+extension_read : (outer : Outer) (l : Level) (x : Last) (c : ℕ) (k : Extension) → char_of_extension k c ≡ c
+    → HasRead (on_extension outer l x k) ((before outer l x ++ byte "(" ∷ byte "?" ∷ []) ++ c ∷ [])
+extension_read outer l x c uncaptured e =
     subst (HasRead (opened_within outer l x plain_group))
-    (ap (λ z. before outer l x ++ byte "(" ∷ byte "?" ∷ z ∷ []) (same_char c (byte ":") e)
-    ∙ sym (append_assoc (before outer l x) (byte "(" ∷ byte "?" ∷ []) (c ∷ []))) (open_read outer l x plain_group _)
+    (ap (λ z. before outer l x ++ byte "(" ∷ byte "?" ∷ z ∷ []) e ∙ sym (append_assoc (before outer l x) (byte "(" ∷ byte "?" ∷ []) (c ∷ [])))
+    (open_read outer l x plain_group _)
+extension_read outer l x c name_opening e =
+    ap (λ z. before outer l x ++ byte "(" ∷ byte "?" ∷ z ∷ []) e ∙ sym (append_assoc (before outer l x) (byte "(" ∷ byte "?" ∷ []) (c ∷ []))
+extension_read outer l x c no_extension e = tt
 
-bracket_read : (outer : List Open) (l : Level) (x : Last) (c : ℕ) (b : Bool) → (c == byte "^") ≡ b
+bracket_read : (outer : Outer) (l : Level) (x : Last) (c : ℕ) (b : Bool) → (c == byte "^") ≡ b
     → HasRead (on_class outer l x c b) ((before outer l x ++ byte "[" ∷ []) ++ c ∷ [])
 bracket_read outer l x c false e = class_token_read outer l x false no_ranges fresh c (class_token c) (char_of_class_token c)
 bracket_read outer l x c true e =
@@ -157,7 +167,7 @@ when_read : (b : Bool) (o : Option State) (text : List ℕ) → HasRead o text �
 when_read false o text h = tt
 when_read true o text h = h
 
-module _ (outer : List Open) (l : Level) where
+module _ (outer : Outer) (l : Level) where
   count_read : (x : Last) (q : Quantifier) → HasRead (with_count outer l x q) (before outer l x ++ quantifier_spelling q)
   count_read none q = tt
   count_read (atom a) q =
@@ -214,13 +224,71 @@ module _ (outer : List Open) (l : Level) where
   counting_read x (low ds) c = low_read x ds c (count_token c) (char_of_count_token c)
   counting_read x (high ds es) c = high_read x ds es c (count_token c) (char_of_count_token c)
 
-next_read : (outer : List Open) (l : Level) (x : Last) (m : Mode) (c : ℕ)
+-- names
+name_push : (n : List NameChar) (y : NameChar) → name_spelling (n ++ y ∷ []) ≡ name_spelling n ++ name_char_spelling y
+name_push [] y = append-nil _
+name_push (z ∷ n) y =
+    ap (λ z'. name_char_spelling z ++ z') (name_push n y) ∙ sym (append_assoc (name_char_spelling z) (name_spelling n) (name_char_spelling y))
+
+module _ (outer : Outer) (l : Level) (x : Last) (n : List NameChar) where
+  -- behind this much of a name
+  abbrev in_name : List ℕ
+  in_name = before outer l x ++ name_text n
+
+  name_char_read : (y : NameChar) (s : List ℕ) (c : ℕ) → name_char_spelling y ≡ s ++ c ∷ []
+      → HasRead (with_name_char outer l x n y) ((before outer l x ++ (name_text n ++ s)) ++ c ∷ [])
+  name_char_read y s c e =
+      when_read (may_follow (name_value n) (name_char_value y)) (Some (with_mode outer l x (naming (n ++ y ∷ [])))) ((before outer l x ++ (name_text n ++ s)) ++ c ∷ [])
+      (ap (λ z. before outer l x ++ byte "(" ∷ byte "?" ∷ byte "<" ∷ z) (name_push n y)
+      ∙ ap (λ z. before outer l x ++ (name_text n ++ z)) e
+      ∙ ap (λ z. before outer l x ++ z) (sym (append_assoc (name_text n) s (c ∷ [])))
+      ∙ sym (append_assoc (before outer l x) (name_text n ++ s) (c ∷ [])))
+
+  -- behind s, and a character that ends t
+  name_behind : (s : List ℕ) (c : ℕ) (t : List ℕ) → t ≡ s ++ c ∷ []
+      → before outer l x ++ (name_text n ++ t) ≡ (before outer l x ++ (name_text n ++ s)) ++ c ∷ []
+  name_behind s c t e =
+      ap (λ z. before outer l x ++ (name_text n ++ z)) e
+      ∙ ap (λ z. before outer l x ++ z) (sym (append_assoc (name_text n) s (c ∷ [])))
+      ∙ sym (append_assoc (before outer l x) (name_text n ++ s) (c ∷ []))
+
+  name_escape_read : (c : ℕ) (b : Bool) → (c == byte "u") ≡ b
+      → HasRead (on_name_escape outer l x n b) ((before outer l x ++ (name_text n ++ byte "\\" ∷ [])) ++ c ∷ [])
+  name_escape_read c false e = tt
+  name_escape_read c true e =
+      name_behind (byte "\\" ∷ []) c (byte "\\" ∷ byte "u" ∷ []) (ap (λ z. byte "\\" ∷ z ∷ []) (same_char c (byte "u") e))
+
+  name_coding_read : (k : Coding) (c : ℕ) (o : Coded) → IsCodedAs o (coding_spelling k ++ c ∷ [])
+      → HasRead (on_name_coding outer l x n o) ((before outer l x ++ (name_text n ++ byte "\\" ∷ coding_spelling k)) ++ c ∷ [])
+  name_coding_read k c fails h = tt
+  name_coding_read k c (goes m) h =
+      name_behind (byte "\\" ∷ coding_spelling k) c (byte "\\" ∷ coding_spelling m) (ap (λ z. byte "\\" ∷ z) h)
+  name_coding_read k c (makes d) h = name_char_read (by_code d) (byte "\\" ∷ coding_spelling k) c (ap (λ z. byte "\\" ∷ z) h)
+
+name_end_read : (outer : Outer) (l : Level) (x : Last) (n : List NameChar)
+    → HasRead (name_read outer l x n) ((before outer l x ++ name_text n) ++ byte ">" ∷ [])
+name_end_read outer l x [] = tt
+name_end_read outer l x (y ∷ n) =
+    subst (HasRead (opened_within outer l x (named (y ∷ n)))) (sym (append_assoc (before outer l x) (name_text (y ∷ n)) (byte ">" ∷ [])))
+    (open_read outer l x (named (y ∷ n)) _)
+
+naming_read : (outer : Outer) (l : Level) (x : Last) (n : List NameChar) (c : ℕ) (k : NameToken) → char_of_name k c ≡ c
+    → HasRead (on_naming outer l x n c k) ((before outer l x ++ name_text n) ++ c ∷ [])
+naming_read outer l x n c name_end e =
+    subst (λ z. HasRead (name_read outer l x n) ((before outer l x ++ name_text n) ++ z ∷ [])) e (name_end_read outer l x n)
+naming_read outer l x n c name_backslash e =
+    sym (append_assoc (before outer l x) (name_text n) (byte "\\" ∷ [])) ∙ ap (λ z. (before outer l x ++ name_text n) ++ z ∷ []) e
+naming_read outer l x n c name_character e =
+    subst (λ z. HasRead (with_name_char outer l x n (verbatim c)) ((before outer l x ++ z) ++ c ∷ [])) (append-nil (name_text n))
+    (name_char_read outer l x n (verbatim c) [] c refl)
+
+next_read : (outer : Outer) (l : Level) (x : Last) (m : Mode) (c : ℕ)
     → HasRead (next_in outer l x m c) (spelled (with_mode outer l x m) ++ c ∷ [])
 next_read outer l x between c =
     subst (λ z. HasRead (on_token outer l x c (token c)) (z ++ c ∷ [])) (sym (append-nil _)) (token_read outer l x c (token c) (char_of_token c))
 next_read outer l x escaping c = escape_read outer l x c (escape c) (char_of_escape c)
 next_read outer l x opening c = group_read outer l x c _ refl
-next_read outer l x extending c = extension_read outer l x c _ refl
+next_read outer l x extending c = extension_read outer l x c (extension c) (char_of_extension_token c)
 next_read outer l x (counting n) c = counting_read outer l x n c
 next_read outer l x (coding k) c = coding_read outer l x k c (coding_next k c) (coding_as k c)
 next_read outer l x class_opened c = bracket_read outer l x c _ refl
@@ -230,24 +298,36 @@ next_read outer l x (class_escaping k) c =
     class_escape_read outer l x k.negated k.ranges k.pending c (class_escape c) (char_of_class_escape c)
 next_read outer l x (class_coding k d) c =
     class_coding_read outer l x k.negated k.ranges k.pending d c (coding_next d c) (coding_as d c)
+next_read outer l x (naming n) c = naming_read outer l x n c (name_token c) (char_of_name_token c)
+next_read outer l x (name_escaping n) c = name_escape_read outer l x n c _ refl
+next_read outer l x (name_coding n k) c = name_coding_read outer l x n k c (coding_next k c) (coding_as k c)
 
 -- the tree that was made is spelled so
 abbrev pub IsSpelled : Option Disjunction → List ℕ → Type 0
 IsSpelled None text = Unit {0}
 IsSpelled (Some d) text = spelling d ≡ text
 
-at_close_read : (outer : List Open) (l : Level) (x : Last) (m : Mode) → IsSpelled (at_close outer l x (is_between m)) (spelled (with_mode outer l x m) ++ [])
-at_close_read [] l x between = level_whole [] l x ∙ sym (append-nil _) ∙ sym (append-nil _)
-at_close_read [] l x escaping = tt
-at_close_read [] l x opening = tt
-at_close_read [] l x extending = tt
-at_close_read [] l x (counting n) = tt
-at_close_read [] l x class_opened = tt
-at_close_read [] l x (in_class k) = tt
-at_close_read [] l x (class_escaping k) = tt
-at_close_read [] l x (coding k) = tt
-at_close_read [] l x (class_coding k d) = tt
-at_close_read (o ∷ outer) l x m = tt
+if_read : (b : Bool) (d : Disjunction) (text : List ℕ) → spelling d ≡ text → IsSpelled (tree_if b d) text
+if_read false d text h = tt
+if_read true d text h = h
+
+at_close_read : (os : List Open) (ns : List (List ℕ)) (l : Level) (x : Last) (m : Mode) (b : Bool)
+    → IsSpelled (closes os l x (is_between m && b)) (spelled (with_mode (record { groups = os; names = ns }) l x m) ++ [])
+at_close_read [] ns l x between b =
+    if_read b (level_ended l x) _ (level_whole (record { groups = []; names = ns }) l x ∙ sym (append-nil _) ∙ sym (append-nil _))
+at_close_read [] ns l x escaping b = tt
+at_close_read [] ns l x opening b = tt
+at_close_read [] ns l x extending b = tt
+at_close_read [] ns l x (counting n) b = tt
+at_close_read [] ns l x class_opened b = tt
+at_close_read [] ns l x (in_class k) b = tt
+at_close_read [] ns l x (class_escaping k) b = tt
+at_close_read [] ns l x (coding k) b = tt
+at_close_read [] ns l x (class_coding k d) b = tt
+at_close_read [] ns l x (naming n) b = tt
+at_close_read [] ns l x (name_escaping n) b = tt
+at_close_read [] ns l x (name_coding n k) b = tt
+at_close_read (o ∷ os) ns l x m b = tt
 
 one_more : (s : State) (c : ℕ) (cs : List ℕ) → ((t : State) → IsSpelled (read_from t cs) (spelled t ++ cs))
     → (o : Option State) → HasRead o (spelled s ++ c ∷ []) → IsSpelled (option_and_then (λ t. read_from t cs) o) (spelled s ++ c ∷ cs)
@@ -256,7 +336,7 @@ one_more s c cs ih (Some t) h =
     subst (IsSpelled (read_from t cs)) (ap (λ z. z ++ cs) h ∙ append_assoc (spelled s) (c ∷ []) cs) (ih t)
 
 rest_read : (cs : List ℕ) (s : State) → IsSpelled (read_from s cs) (spelled s ++ cs)
-rest_read [] s = at_close_read s.outer s.level s.last s.mode
+rest_read [] s = at_close_read s.outer.groups s.outer.names s.level s.last s.mode (are_distinct s.outer.names)
 rest_read (c ∷ cs) s = one_more s c cs (rest_read cs) (next s c) (next_read s.outer s.level s.last s.mode c)
 
 -- what is read is spelled as the text

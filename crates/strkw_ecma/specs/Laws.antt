@@ -1,7 +1,8 @@
 -- The grammar and the meaning of a pattern's text, with no reader and no marks in them.
 use Rattle.std.specs.Prelude.{◌≡◌, ◌↔◌, ◌⊎◌, ℕ, ◌≤◌, true, not, IsTrue, List, length}
 use Rattle.strkw_pattern.specs.declared.engine.Outcome.TheVariants.{Match, NoMatch}
-use Rattle.strkw_ecma.specs.Syntax.{Disjunction, spelling, max_length}
+use Rattle.strkw_ecma.specs.Names.{are_distinct}
+use Rattle.strkw_ecma.specs.Syntax.{Disjunction, spelling, names, max_length}
 use Rattle.strkw_ecma.specs.WellFormed.{IsWellFormed}
 use Rattle.strkw_ecma.specs.Tree.{in_ranges}
 use Rattle.strkw_ecma.specs.Codes.{max_code_point}
@@ -22,6 +23,8 @@ pub record IsPattern (source : List ℕ) (d : Disjunction) : Type 0 where
   pub short : length source ≤ max_length
   -- behind no `\0` a decimal digit stands
   pub apart : is_apart source ≡ true
+  -- no two groups have the same name
+  pub distinct : are_distinct (names d) ≡ true
   pub small : size (pattern d) ≤ max_nodes
 
 -- what is taken is a pattern, each pattern is taken, it has one tree, and it comes to a match exactly where that is found, and

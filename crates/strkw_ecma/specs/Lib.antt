@@ -9,6 +9,7 @@ pub mod Escapes
 pub mod Lookahead
 pub mod Codes
 pub mod Classes
+pub mod Names
 pub mod Syntax
 pub mod CodeReading
 pub mod CodeParts

@@ -1,11 +1,12 @@
 -- What the reader of the code holds: of all that has been read, the patterns that it stands for.
-use Rattle.std.specs.Prelude.{ℕ, ◌+◌, ◌*◌, ◌-◌, nat_le, nat_lt, ◌==◌, Bool, true, false, List, [], ◌∷◌, ◌++◌, map, reverse, length, Option, Some, None, option_map}
+use Rattle.std.specs.Prelude.{ℕ, ◌+◌, ◌*◌, ◌-◌, nat_le, nat_lt, ◌==◌, Bool, true, false, ◌&&◌, List, [], ◌∷◌, ◌++◌, map, reverse, length, Option, Some, None, option_map}
 use Rattle.std.specs.Prelude.{option_and_then}
 use Rattle.std.specs.Str.{byte}
 use Rattle.strkw_ecma.specs.Tree.{Pattern, empty, class, look, cat, alt, start, end, boundary, no_boundary}
 use Rattle.strkw_ecma.specs.Escapes.{Escape, itself, control, set, boundary as boundary_letter, no_boundary as no_boundary_letter, null, letter, hexadecimal, unicode, unknown, escape}
 use Rattle.strkw_ecma.specs.CodeReading.{two_more}
 use Rattle.strkw_ecma.specs.CodeParts.{byte_width, Coding, letter_awaited, unit_opened, digits_of, Coded, fails, goes, makes, coding_of, coding_next}
+use Rattle.strkw_ecma.specs.Names.{may_follow, are_distinct, Extension, uncaptured, name_opening, no_extension, extension, NameToken, name_end, name_backslash, name_character, name_token}
 use Rattle.strkw_ecma.specs.Classes.{ClassToken, closing_bracket, class_backslash, dash, class_character, class_token, class_escape, Item, char, set_item, item_ranges, range}
 use Rattle.strkw_ecma.specs.Syntax.{Token, bar, asterisk, plus, question, caret, dollar, opening as opening_token, closing, point, backslash, bracket, brace, character, other, token, max_nesting}
 use Rattle.strkw_ecma.specs.Patterns.{one_char, Times, any_times, some_times, once_at_most, exact_times, least_times, range_times, quantified_pattern, copies}
@@ -15,6 +16,7 @@ use Rattle.strkw_ecma.specs.Sets.{line_ends, set_of, is_negative, control_char}
 use Rattle.strkw_ecma.specs.Shape.{pattern_of}
 use Rattle.strkw_ecma.specs.Lookahead.{Front, neither, backslash as after_backslash, null as after_null}
 use Rattle.strkw_ecma.specs.declared.reader.Level.{Level}
+use Rattle.strkw_ecma.specs.declared.reader.Outer.{Outer as CodeOuter}
 use Rattle.strkw_ecma.specs.declared.reader.Reader.{Reader}
 use Rattle.strkw_ecma.specs.declared.reader.Last.{Last as CodeLast}
 use Rattle.strkw_ecma.specs.declared.reader.Last.TheVariants as last
@@ -35,6 +37,10 @@ use Rattle.strkw_ecma.specs.declared.lookahead.Front.{Front as CodeFront}
 use Rattle.strkw_ecma.specs.declared.lookahead.Front.TheVariants as code_front
 use Rattle.strkw_ecma.specs.declared.tokens.Escape.{Escape as CodeEscape}
 use Rattle.strkw_ecma.specs.declared.tokens.Escape.TheVariants as escaped
+use Rattle.strkw_ecma.specs.declared.tokens.Extension.{Extension as CodeExtension}
+use Rattle.strkw_ecma.specs.declared.tokens.Extension.TheVariants as extension_code
+use Rattle.strkw_ecma.specs.declared.tokens.NameToken.{NameToken as CodeNameToken}
+use Rattle.strkw_ecma.specs.declared.tokens.NameToken.TheVariants as name_code
 use Rattle.strkw_ecma.specs.declared.tokens.Token.{Token as CodeToken}
 use Rattle.strkw_ecma.specs.declared.tokens.Token.TheVariants as code
 use Rattle.strkw_ecma.specs.declared.tokens.ClassToken.{ClassToken as CodeClassToken}
@@ -50,6 +56,11 @@ pub data Last : Type 0 where
   none : Last
   atom : Pattern → Last
   counted : Pattern → Last
+
+-- the groups that are open, the innermost first, and the names of all that there were
+pub record Outer : Type 0 where
+  pub groups : List Side
+  pub names : List (List ℕ)
 
 -- of a class: what may still belong to a range
 pub data Pending : Type 0 where
@@ -74,14 +85,16 @@ pub data Mode : Type 0 where
   in_class : Class → Mode
   class_escaping : Class → Mode
   class_coding : Class → Coding → Mode
+  naming : List ℕ → Mode
+  name_escaping : List ℕ → Mode
+  name_coding : List ℕ → Coding → Mode
 
 abbrev pub is_between : Mode → Bool
 is_between between = true
 is_between m = false
 
 pub record Parts : Type 0 where
-  -- the groups that are open, the innermost first
-  pub outer : List Side
+  pub outer : Outer
   pub level : Side
   pub last : Last
   pub mode : Mode
@@ -122,9 +135,15 @@ mode_of mode.ClassOpened = class_opened
 mode_of (mode.Class k) = in_class (class_of k)
 mode_of (mode.ClassEscaping k) = class_escaping (class_of k)
 mode_of (mode.ClassCoding k d) = class_coding (class_of k) (coding_of d)
+mode_of (mode.Naming n) = naming n.items
+mode_of (mode.NameEscaping n) = name_escaping n.items
+mode_of (mode.NameCoding n k) = name_coding n.items (coding_of k)
+
+abbrev pub outer_of : CodeOuter → Outer
+outer_of o = record { groups = reverse (map side_of o.groups.items); names = map (λ n. n.items) o.names.items }
 
 abbrev pub parts_of : Reader → Parts
-parts_of r = record { outer = reverse (map side_of r.outer.items); level = side_of r.level; last = last_of r.last; mode = mode_of r.mode }
+parts_of r = record { outer = outer_of r.outer; level = side_of r.level; last = last_of r.last; mode = mode_of r.mode }
 
 abbrev pub token_of : CodeToken → Token
 token_of code.Bar = bar
@@ -147,6 +166,16 @@ class_token_of class_code.Closing = closing_bracket
 class_token_of class_code.Backslash = class_backslash
 class_token_of class_code.Dash = dash
 class_token_of class_code.Character = class_character
+
+abbrev pub extension_of : CodeExtension → Extension
+extension_of extension_code.Uncaptured = uncaptured
+extension_of extension_code.NameOpening = name_opening
+extension_of extension_code.Unknown = no_extension
+
+abbrev pub name_token_of : CodeNameToken → NameToken
+name_token_of name_code.End = name_end
+name_token_of name_code.Backslash = name_backslash
+name_token_of name_code.Character = name_character
 
 abbrev pub escape_of : CodeEscape → Escape
 escape_of escaped.Itself = itself
@@ -219,17 +248,25 @@ after_bar s = record {
 
 abbrev pub after_opening : Parts → Bool → Option Parts
 after_opening s false = None
-after_opening s true = Some (record { outer = level_so_far s.level s.last ∷ s.outer; level = new_level; last = none; mode = between })
+after_opening s true = Some (record {
+  outer = record { groups = level_so_far s.level s.last ∷ s.outer.groups; names = s.outer.names };
+  level = new_level;
+  last = none;
+  mode = between;
+})
 
 abbrev pub opened_within : Parts → Option Parts
-opened_within s = after_opening s (nat_lt (length s.outer) max_nesting)
+opened_within s = after_opening s (nat_lt (length s.outer.groups) max_nesting)
 
 abbrev pub with_mode : Parts → Mode → Parts
 with_mode s m = record { outer = s.outer; level = s.level; last = s.last; mode = m }
 
-abbrev pub after_closing : List Side → Pattern → Option Parts
-after_closing [] p = None
-after_closing (l ∷ outer) p = Some (record { outer = outer; level = l; last = atom p; mode = between })
+abbrev pub closing_in : List Side → List (List ℕ) → Pattern → Option Parts
+closing_in [] ns p = None
+closing_in (l ∷ ls) ns p = Some (record { outer = record { groups = ls; names = ns }; level = l; last = atom p; mode = between })
+
+abbrev pub after_closing : Outer → Pattern → Option Parts
+after_closing o p = closing_in o.groups o.names p
 
 abbrev pub after_quantifier : Parts → Last → Times → Option Parts
 after_quantifier s none q = None
@@ -281,9 +318,10 @@ abbrev pub after_group : Parts → ℕ → Bool → Option Parts
 after_group s c false = option_and_then (λ t. after_token t c (token c)) (opened_within s)
 after_group s c true = Some (with_mode s extending)
 
-abbrev pub after_extension : Parts → Bool → Option Parts
-after_extension s false = None
-after_extension s true = opened_within s
+abbrev pub after_extension : Parts → Extension → Option Parts
+after_extension s uncaptured = opened_within s
+after_extension s name_opening = Some (with_mode s (naming []))
+after_extension s no_extension = None
 
 -- a class after an item, and after a `-`
 abbrev pub ranged : Bool → List (ℕ × ℕ) → Option (ℕ × ℕ) → Option Class
@@ -342,6 +380,31 @@ abbrev pub when : Bool → Option Parts → Option Parts
 when false o = None
 when true o = o
 
+-- in a name
+abbrev pub after_name_char : Parts → List ℕ → ℕ → Option Parts
+after_name_char s n c = when (may_follow n c) (Some (with_mode s (naming (n ++ c ∷ []))))
+
+abbrev pub named : Parts → List ℕ → Parts
+named s n = record { outer = record { groups = s.outer.groups; names = s.outer.names ++ n ∷ [] }; level = s.level; last = s.last; mode = s.mode }
+
+abbrev pub after_name : Parts → List ℕ → Option Parts
+after_name s [] = None
+after_name s (c ∷ cs) = opened_within (named s (c ∷ cs))
+
+abbrev pub after_naming : Parts → List ℕ → ℕ → NameToken → Option Parts
+after_naming s n c name_end = after_name s n
+after_naming s n c name_backslash = Some (with_mode s (name_escaping n))
+after_naming s n c name_character = after_name_char s n c
+
+abbrev pub after_name_escape : Parts → List ℕ → Bool → Option Parts
+after_name_escape s n false = None
+after_name_escape s n true = Some (with_mode s (name_coding n unit_opened))
+
+abbrev pub after_name_coding : Parts → List ℕ → Coded → Option Parts
+after_name_coding s n fails = None
+after_name_coding s n (goes k) = Some (with_mode s (name_coding n k))
+after_name_coding s n (makes c) = after_name_char s n c
+
 abbrev pub after_count : Parts → Last → Times → Option Parts
 after_count s none t = None
 after_count s (atom p) t = when (nat_le (copies t * size p) max_size) (after_quantifier s (atom p) t)
@@ -390,21 +453,31 @@ abbrev pub after_in : Parts → Mode → ℕ → Option Parts
 after_in s between c = after_token s c (token c)
 after_in s escaping c = after_escape s c (escape c)
 after_in s opening c = after_group s c (c == byte "?")
-after_in s extending c = after_extension s (c == byte ":")
+after_in s extending c = after_extension s (extension c)
 after_in s (counting n) c = after_counting s n c
 after_in s (coding k) c = after_coding s (coding_next k c)
 after_in s class_opened c = after_bracket s c (c == byte "^")
 after_in s (in_class k) c = after_class_token s k c (class_token c)
 after_in s (class_escaping k) c = after_class_escape s k c (class_escape c)
 after_in s (class_coding k d) c = after_class_coding s k (coding_next d c)
+after_in s (naming n) c = after_naming s n c (name_token c)
+after_in s (name_escaping n) c = after_name_escape s n (c == byte "u")
+after_in s (name_coding n k) c = after_name_coding s n (coding_next k c)
 
 abbrev pub after_char : Parts → ℕ → Option Parts
 after_char s c = after_in (with_mode s between) s.mode c
 
-abbrev pub at_close : List Side → Side → Last → Bool → Option Pattern
-at_close [] l x true = Some (level_ended l x)
-at_close [] l x false = None
-at_close (o ∷ outer) l x b = None
+-- the pattern, where the test holds
+abbrev pub pattern_if : Bool → Pattern → Option Pattern
+pattern_if false p = None
+pattern_if true p = Some p
+
+abbrev pub closes : List Side → Side → Last → Bool → Option Pattern
+closes [] l x b = pattern_if b (level_ended l x)
+closes (o ∷ os) l x b = None
+
+abbrev pub at_close : Outer → Side → Last → Bool → Option Pattern
+at_close o l x b = closes o.groups l x (b && are_distinct o.names)
 
 -- the pattern of all that is read, where what follows the parts is the rest of the text
 abbrev pub pattern_from : Parts → List ℕ → Option Pattern
@@ -412,13 +485,9 @@ pattern_from s [] = at_close s.outer s.level s.last (is_between s.mode)
 pattern_from s (c ∷ cs) = option_and_then (λ t. pattern_from t cs) (after_char s c)
 
 -- what is not too large
-abbrev pub pattern_if : Bool → Pattern → Option Pattern
-pattern_if false p = None
-pattern_if true p = Some p
-
 abbrev pub small_pattern : Option Pattern → Option Pattern
 small_pattern None = None
 small_pattern (Some p) = pattern_if (nat_le (size p) max_nodes) p
 
 abbrev pub no_parts : Parts
-no_parts = record { outer = []; level = new_level; last = none; mode = between }
+no_parts = record { outer = record { groups = []; names = [] }; level = new_level; last = none; mode = between }

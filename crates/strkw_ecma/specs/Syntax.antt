@@ -5,6 +5,7 @@ use Rattle.std.specs.Prelude.{ℕ, Bool, List, [], ◌∷◌, ◌++◌, codes, i
 use Rattle.std.specs.Str.{byte}
 use Rattle.strkw_text.specs.Characters.{is_one_of}
 use Rattle.strkw_ecma.specs.Codes.{Code, code_spelling}
+use Rattle.strkw_ecma.specs.Names.{NameChar, name_spelling, name_value}
 use Rattle.strkw_ecma.specs.Classes.{Ranges, ranges_spelling, negation_spelling, ending_spelling}
 
 -- what a character is in a pattern
@@ -34,9 +35,10 @@ pub data Quantifier : Type 0 where
 pub data Greed : Type 0 where
   greedy lazy : Greed
 
--- a group that captures, or `(?: )`, which means the same here: there are no back references
+-- a group that captures, `(?: )`, or `(?<name> )`, which all mean the same here: there are no back references
 pub data Group : Type 0 where
   capturing plain_group : Group
+  named : List NameChar → Group
 
 mutual
   -- Disjunction: the first alternative, or more of them before the last
@@ -85,6 +87,7 @@ greed_spelling lazy = byte "?" ∷ []
 abbrev pub group_spelling : Group → List ℕ
 group_spelling capturing = byte "(" ∷ []
 group_spelling plain_group = byte "(" ∷ byte "?" ∷ byte ":" ∷ []
+group_spelling (named n) = byte "(" ∷ byte "?" ∷ byte "<" ∷ (name_spelling n ++ byte ">" ∷ [])
 
 abbrev mutual
   -- as it is written
@@ -113,6 +116,44 @@ abbrev mutual
   atom_spelling dot = byte "." ∷ []
   atom_spelling (bracketed n r e) = (negation_spelling n ++ ranges_spelling r) ++ ending_spelling e
   atom_spelling (group g d) = (group_spelling g ++ spelling d) ++ byte ")" ∷ []
+
+-- the names, and behind them that of the group
+abbrev pub with_name : List (List ℕ) → Group → List (List ℕ)
+with_name ns capturing = ns
+with_name ns plain_group = ns
+with_name ns (named n) = ns ++ name_value n ∷ []
+
+abbrev mutual
+  -- the names, and behind them those of the groups of the tree
+  pub with_names : List (List ℕ) → Disjunction → List (List ℕ)
+  with_names ns (only a) = with_alternative_names ns a
+  with_names ns (either d a) = with_alternative_names (with_names ns d) a
+
+  pub with_alternative_names : List (List ℕ) → Alternative → List (List ℕ)
+  with_alternative_names ns nothing = ns
+  with_alternative_names ns (more a t) = with_term_names (with_alternative_names ns a) t
+
+  pub with_term_names : List (List ℕ) → Term → List (List ℕ)
+  with_term_names ns at_start = ns
+  with_term_names ns at_end = ns
+  with_term_names ns (once a) = with_atom_names ns a
+  with_term_names ns at_boundary = ns
+  with_term_names ns at_no_boundary = ns
+  with_term_names ns (quantified a q g) = with_atom_names ns a
+
+  pub with_atom_names : List (List ℕ) → Atom → List (List ℕ)
+  with_atom_names ns (plain c) = ns
+  with_atom_names ns (escaped c) = ns
+  with_atom_names ns (control_escape c) = ns
+  with_atom_names ns (set_escape c) = ns
+  with_atom_names ns (coded k) = ns
+  with_atom_names ns dot = ns
+  with_atom_names ns (bracketed n r e) = ns
+  with_atom_names ns (group g d) = with_names (with_name ns g) d
+
+-- the names of the groups of a pattern
+abbrev pub names : Disjunction → List (List ℕ)
+names = with_names []
 
 -- groups lie in one another at most so deep, and a pattern has at most so many characters
 abbrev pub max_nesting : ℕ

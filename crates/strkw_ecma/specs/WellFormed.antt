@@ -2,11 +2,12 @@
 use Rattle.std.specs.Prelude.{◌≡◌, ℕ, suc, ◌+◌, ◌*◌, ◌<◌, ◌≤◌}
 use Rattle.strkw_ecma.specs.Escapes.{itself, control, set, escape}
 use Rattle.strkw_ecma.specs.Codes.{IsCode}
+use Rattle.strkw_ecma.specs.Names.{IsName}
 use Rattle.strkw_ecma.specs.Classes.{AreRanges, MayEnd}
 use Rattle.strkw_ecma.specs.Numbers.{number, IsNumber}
 use Rattle.strkw_ecma.specs.Size.{size, max_size}
 use Rattle.strkw_ecma.specs.Patterns.{atom_pattern}
-use Rattle.strkw_ecma.specs.Syntax.{Disjunction, only, either, Alternative, nothing, more, Term, at_start, at_end, at_boundary, at_no_boundary, once, quantified, Quantifier, zero_or_more, one_or_more, zero_or_one, exactly, at_least, from_to, Atom, plain, escaped, control_escape, set_escape, coded, dot, bracketed, group, token, character, max_nesting}
+use Rattle.strkw_ecma.specs.Syntax.{Disjunction, only, either, Alternative, nothing, more, Term, at_start, at_end, at_boundary, at_no_boundary, once, quantified, Quantifier, zero_or_more, one_or_more, zero_or_one, exactly, at_least, from_to, Group, capturing, plain_group, named, Atom, plain, escaped, control_escape, set_escape, coded, dot, bracketed, group, token, character, max_nesting}
 
 -- of what has so many nodes. The counts do not fall, and no more than so many nodes come of a counted term
 abbrev pub IsQuantifier : Quantifier → ℕ → Type 0
@@ -16,6 +17,11 @@ IsQuantifier zero_or_one s = Unit {0}
 IsQuantifier (exactly ds) s = IsNumber ds × (number ds * s ≤ max_size)
 IsQuantifier (at_least ds) s = IsNumber ds × ((number ds + 1) * s ≤ max_size)
 IsQuantifier (from_to ds es) s = IsNumber ds × IsNumber es × (number ds ≤ number es) × (number es * s ≤ max_size)
+
+abbrev pub IsGroup : Group → Type 0
+IsGroup capturing = Unit {0}
+IsGroup plain_group = Unit {0}
+IsGroup (named n) = IsName n
 
 abbrev mutual
   -- each character stands where it may, n groups being open around it
@@ -43,4 +49,4 @@ abbrev mutual
   IsAtom n (coded k) = IsCode k
   IsAtom n dot = Unit {0}
   IsAtom n (bracketed b r e) = AreRanges b r × MayEnd e r
-  IsAtom n (group g d) = (n < max_nesting) × IsWellFormed (suc n) d
+  IsAtom n (group g d) = (IsGroup g × (n < max_nesting)) × IsWellFormed (suc n) d

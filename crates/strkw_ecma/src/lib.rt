@@ -11,6 +11,7 @@ pub mod laws;
 mod lookahead;
 mod making;
 mod marks;
+mod names;
 mod reader;
 mod sets;
 mod states;

@@ -5,20 +5,23 @@ ghost use Rattle.std.specs.Str.{chars, byte};
 ghost use Rattle.strkw_ecma.specs.Patterns.{pattern};
 ghost use Rattle.strkw_ecma.specs.Shape.{pattern_of};
 ghost use Rattle.strkw_ecma.specs.Syntax.{token as spec_token};
+ghost use Rattle.strkw_ecma.specs.Names.{extension as spec_extension};
 ghost use Rattle.strkw_ecma.specs.Escapes.{escape as spec_escape};
-ghost use Rattle.strkw_ecma.specs.Classes.{class_token as spec_class_token, class_escape as spec_class_escape};
 ghost use Rattle.strkw_ecma.specs.Reading.{read_pattern, read_short as spec_read_short};
-ghost use Rattle.strkw_ecma.specs.Parts.{parts_of, quantifier_of, last_of, class_of, mode_of, ended as spec_ended, joined as spec_joined, level_ended, side_of, after_atom, after_term, after_bar, opened_within, after_closing, after_quantifier, after_question, after_escape, after_token, after_group, after_extension, within, after_class_token, after_class_escape, after_bracket, after_in, after_char, with_mode, at_close, no_parts, is_between};
+ghost use Rattle.strkw_ecma.specs.Parts.{parts_of, quantifier_of, last_of, mode_of, ended as spec_ended, joined as spec_joined, level_ended, side_of, after_atom, after_term, after_bar, opened_within, after_closing, after_quantifier, after_question, after_escape, after_token, after_group, after_extension, after_in, after_char, with_mode, at_close, no_parts, is_between};
 
+mod classing;
 mod coding;
 mod counting;
+mod naming;
 
-use crate::classes::{ClassReader, Item};
+use crate::classes::ClassReader;
 use crate::codes::{Coding, Wanted, Width};
 use crate::counts::{Count, Quantifier, if_small, then};
 use crate::lookahead::is_apart;
+use crate::names::are_distinct;
 use crate::sets::{control_char, dot, one_char, set};
-use crate::tokens::{ClassToken, Escape, Token};
+use crate::tokens::{Escape, Extension, Token};
 use crate::tree::Tree;
 use std::alloc::{AllocError, Global};
 
@@ -42,8 +45,15 @@ struct Level {
     current: Tree,
 }
 
+// The groups that are open, the innermost last, and the names of all that there were.
+#[derive(Drop)]
+struct Outer {
+    groups: Vec<Level>,
+    names: Vec<Vec<char>>,
+}
+
 // What has just been read: a whole atom or term; a backslash; `(`; `(?`; a part of a count, of an escape by a number; `[`; a
-// part of a class, and there a backslash, and a part of such an escape.
+// part of a class, and there a backslash, and a part of such an escape; a part of a name, and there the same.
 #[derive(Drop)]
 enum Mode {
     Between,
@@ -56,13 +66,15 @@ enum Mode {
     Class(ClassReader),
     ClassEscaping(ClassReader),
     ClassCoding(ClassReader, Coding),
+    Naming(Vec<char>),
+    NameEscaping(Vec<char>),
+    NameCoding(Vec<char>, Coding),
 }
 
-// What has been read: the groups that are open, the innermost last; the level within them; its last term; and what is under
-// way.
+// What has been read: the groups around; the level within them; its last term; and what is under way.
 #[derive(Drop)]
 struct Reader {
-    outer: Vec<Level>,
+    outer: Outer,
     level: Level,
     last: Last,
     mode: Mode,
@@ -92,7 +104,10 @@ impl Reader {
         ensures { parts_of result ≡ no_parts }
     {
         Reader {
-            outer: Vec::new(alloc),
+            outer: Outer {
+                groups: Vec::new(alloc),
+                names: Vec::new(alloc),
+            },
             level: Level {
                 earlier: None,
                 current: Tree::Empty,
@@ -228,19 +243,20 @@ impl Reader {
         ensures { IfOk result (λ r. option_map parts_of r ≡ opened_within (parts_of self)) }
     {
         let Reader {
-            mut outer,
+            outer,
             level,
             last,
             ..
         } = self;
-        if outer.len() >= MAX_NESTING {
+        let Outer { mut groups, names } = outer;
+        if groups.len() >= MAX_NESTING {
             return Ok(None);
         }
         let Level { earlier, current } = level;
         let current = ended(alloc, current, last)?;
-        outer.push(Level { earlier, current })?;
+        groups.push(Level { earlier, current })?;
         Ok(Some(Reader {
-            outer,
+            outer: Outer { groups, names },
             level: Level {
                 earlier: None,
                 current: Tree::Empty,
@@ -255,18 +271,19 @@ impl Reader {
             ≡ after_closing (parts_of self).outer (level_ended (side_of self.level) (last_of self.last))) }
     {
         let Reader {
-            mut outer,
+            outer,
             level,
             last,
             ..
         } = self;
+        let Outer { mut groups, names } = outer;
         let Level { earlier, current } = level;
         let before = ended(alloc, current, last)?;
         let group = joined(alloc, earlier, before)?;
-        match outer.pop() {
+        match groups.pop() {
             None => Ok(None),
             Some(level) => Ok(Some(Reader {
-                outer,
+                outer: Outer { groups, names },
                 level,
                 last: Last::Atom(group),
                 mode: Mode::Between,
@@ -349,82 +366,12 @@ impl Reader {
 
     // Behind `(?`.
     fn extended(self, alloc: Global, c: char) -> Result<Option<Reader>, AllocError>
-        ensures { IfOk result (λ r. option_map parts_of r ≡ after_extension (parts_of self) (c == byte ":")) }
+        ensures { IfOk result (λ r. option_map parts_of r ≡ after_extension (parts_of self) (spec_extension c)) }
     {
-        if c == ':' {
-            self.opened(alloc)
-        } else {
-            Ok(None)
-        }
-    }
-
-    fn with_class(self, class: Option<ClassReader>) -> Option<Reader>
-        ensures { option_map parts_of result ≡ within (parts_of self) (option_map class_of class) }
-    {
-        match class {
-            Some(class) => Some(self.with_mode(Mode::Class(class))),
-            None => None,
-        }
-    }
-
-    fn class_plain(
-        self,
-        alloc: Global,
-        class: ClassReader,
-        c: char,
-    ) -> Result<Option<Reader>, AllocError>
-        ensures { IfOk result (λ r. option_map parts_of r
-            ≡ after_class_token (parts_of self) (class_of class) c (spec_class_token c)) }
-    {
-        let class = match ClassToken::of(c) {
-            ClassToken::Closing => {
-                let atom = class.closed()?;
-                return Ok(Some(self.with_atom(alloc, atom)?));
-            }
-            ClassToken::Backslash => {
-                return Ok(Some(self.with_mode(Mode::ClassEscaping(class))));
-            }
-            ClassToken::Dash => class.with_dash()?,
-            ClassToken::Character => class.with_item(Item::Char(c))?,
-        };
-        Ok(self.with_class(class))
-    }
-
-    fn class_escaped(self, class: ClassReader, c: char) -> Result<Option<Reader>, AllocError>
-        ensures { IfOk result (λ r. option_map parts_of r
-            ≡ after_class_escape (parts_of self) (class_of class) c (spec_class_escape c)) }
-    {
-        let item = match Escape::of_class(c) {
-            Escape::Itself => Item::Char(c),
-            Escape::Control => Item::Char(control_char(c)),
-            Escape::Set => Item::Set(c),
-            Escape::Boundary => Item::Char('\u{8}'),
-            Escape::Null => Item::Char('\0'),
-            Escape::Letter => {
-                return Ok(Some(self.with_mode(Mode::ClassCoding(class, Coding::Letter))));
-            }
-            Escape::Hexadecimal => {
-                let coding = Coding::Digits(Width::Byte, Wanted::Two, 0);
-                return Ok(Some(self.with_mode(Mode::ClassCoding(class, coding))));
-            }
-            Escape::Unicode => {
-                return Ok(Some(self.with_mode(Mode::ClassCoding(class, Coding::UnitOpened))));
-            }
-            Escape::NoBoundary | Escape::Unknown => return Ok(None),
-        };
-        let class = class.with_item(item)?;
-        Ok(self.with_class(class))
-    }
-
-    // Behind `[`.
-    fn in_bracket(self, alloc: Global, c: char) -> Result<Option<Reader>, AllocError>
-        ensures { IfOk result (λ r. option_map parts_of r ≡ after_bracket (parts_of self) c (c == byte "^")) }
-    {
-        if c == '^' {
-            let class = ClassReader::new(alloc, true);
-            Ok(Some(self.with_mode(Mode::Class(class))))
-        } else {
-            self.class_plain(alloc, ClassReader::new(alloc, false), c)
+        match Extension::of(c) {
+            Extension::Uncaptured => self.opened(alloc),
+            Extension::NameOpening => Ok(Some(self.with_mode(Mode::Naming(Vec::new(alloc))))),
+            Extension::Unknown => Ok(None),
         }
     }
 
@@ -456,6 +403,9 @@ impl Reader {
             Mode::ClassEscaping(class) => so_far.class_escaped(class, c),
             Mode::Coding(coding) => so_far.coded(alloc, coding.next(c)),
             Mode::ClassCoding(class, coding) => so_far.class_coded(class, coding.next(c)),
+            Mode::Naming(name) => so_far.in_name(alloc, name, c),
+            Mode::NameEscaping(name) => so_far.name_escaped(name, c),
+            Mode::NameCoding(name, coding) => so_far.name_coded(name, coding.next(c)),
         }
     }
 
@@ -470,7 +420,10 @@ impl Reader {
             last,
             mode,
         } = self;
-        if !outer.is_empty() || !matches!(mode, Mode::Between) {
+        if !outer.groups.is_empty() || !matches!(mode, Mode::Between) {
+            return Ok(None);
+        }
+        if !are_distinct(&outer.names) {
             return Ok(None);
         }
         let Level { earlier, current } = level;

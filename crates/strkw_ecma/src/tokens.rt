@@ -3,9 +3,10 @@
 ghost use Rattle.std.specs.Prelude.{◌≡◌};
 ghost use Rattle.strkw_ecma.specs.Syntax.{token as spec_token};
 ghost use Rattle.strkw_ecma.specs.Escapes.{escape as spec_escape};
+ghost use Rattle.strkw_ecma.specs.Names.{extension as spec_extension, name_token as spec_name_token};
 ghost use Rattle.strkw_ecma.specs.Classes.{class_token as spec_class_token, class_escape as spec_class_escape};
 ghost use Rattle.strkw_ecma.specs.Numbers.{count_token as spec_count_token};
-ghost use Rattle.strkw_ecma.specs.Parts.{token_of, escape_of, class_token_of, count_token_of};
+ghost use Rattle.strkw_ecma.specs.Parts.{token_of, escape_of, class_token_of, extension_of, name_token_of, count_token_of};
 
 // What a character is in a pattern.
 #[derive(Clone, Copy)]
@@ -126,6 +127,46 @@ impl ClassToken {
             '\\' => ClassToken::Backslash,
             '-' => ClassToken::Dash,
             _ => ClassToken::Character,
+        }
+    }
+}
+
+// What a character is behind `(?`.
+#[derive(Clone, Copy)]
+pub(crate) enum Extension {
+    Uncaptured,
+    NameOpening,
+    Unknown,
+}
+
+impl Extension {
+    pub(crate) fn of(c: char) -> Extension
+        ensures { extension_of result ≡ spec_extension c }
+    {
+        match c {
+            ':' => Extension::Uncaptured,
+            '<' => Extension::NameOpening,
+            _ => Extension::Unknown,
+        }
+    }
+}
+
+// What a character is in a name.
+#[derive(Clone, Copy)]
+pub(crate) enum NameToken {
+    End,
+    Backslash,
+    Character,
+}
+
+impl NameToken {
+    pub(crate) fn of(c: char) -> NameToken
+        ensures { name_token_of result ≡ spec_name_token c }
+    {
+        match c {
+            '>' => NameToken::End,
+            '\\' => NameToken::Backslash,
+            _ => NameToken::Character,
         }
     }
 }
