@@ -1,6 +1,6 @@
 //! What the calls are lent, and whether they left it as it was.
 
-use crate::{Row, ScriptedBuilder};
+use crate::{Row, ScriptedBuilder, check_named};
 use serde_json::Value;
 use std::alloc::{AllocError, Global};
 use std::cell::Cell;
@@ -25,6 +25,14 @@ pub(super) fn builder() -> ScriptedBuilder<'static> {
         engines_have_memory: true,
         calls: Cell::new(0),
     }
+}
+
+/// A format by the name `even`, for texts of an even number of characters.
+pub(super) fn even_format(alloc: Global) -> Result<NamedFormat, AllocError> {
+    Ok(NamedFormat {
+        name: String::from_str(alloc, "even")?,
+        check: Box::new(alloc, check_named("even"))?,
+    })
 }
 
 /// A schema object under a location and a prefix that are copied. Unknown formats are refused.

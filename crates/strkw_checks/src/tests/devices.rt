@@ -73,30 +73,37 @@ impl Source for LineByLine {
     }
 }
 
+// Whether a run over a source that fails behind so many reads answers the lines that it has read, and fails there. The
+// sixth read finds the end. Each read is for 16 KiB at least.
+fn ends_at_the_read(alloc: Global, reads: usize) -> Result<bool, AllocError> {
+    let mut source = LineByLine {
+        bytes: script().to_vec(alloc)?,
+        passed: 0,
+        reads,
+        least: usize::MAX,
+        failed: false,
+    };
+    let mut sink = MemorySink::new(alloc);
+    let ended = run(alloc, &mut source, &mut sink);
+    let (wanted, end) = if reads > 5 {
+        (Ok(()), ends()[5])
+    } else {
+        (Err(RunFault::Read), ends()[reads.min(4)])
+    };
+    Ok(
+        ended == wanted
+            && Some(sink.bytes()) == answers().get(..end)
+            && source.has_failed() == (reads <= 5)
+            && source.least >= 16384,
+    )
+}
+
 // The source fails at its k-th read, for each k: the lines whose line feed was read are answered, and an
-// unfinished line is not. The sixth read finds the end. Each read is for 16 KiB at least.
+// unfinished line is not.
 #[test]
 fn a_read_fails(rt: HostRuntime) -> Result<(), Fail> {
     for reads in 0..8usize {
-        let mut source = LineByLine {
-            bytes: script().to_vec(rt.alloc())?,
-            passed: 0,
-            reads,
-            least: usize::MAX,
-            failed: false,
-        };
-        let mut sink = MemorySink::new(rt.alloc());
-        let ended = run(rt.alloc(), &mut source, &mut sink);
-        if reads > 5 {
-            assert_eq!(rt; ended, Ok(()));
-            assert!(rt; sink.bytes() == answers());
-        } else {
-            assert_eq!(rt; ended, Err(RunFault::Read));
-            let end = ends()[reads.min(4)];
-            assert!(rt; Some(sink.bytes()) == answers().get(..end), "{reads}");
-        }
-        assert_eq!(rt; source.has_failed(), reads <= 5);
-        assert!(rt; source.least >= 16384);
+        assert!(rt; ends_at_the_read(rt.alloc(), reads)?, "{reads}");
     }
     Ok(())
 }
@@ -137,27 +144,28 @@ impl Sink for ShortSink {
     }
 }
 
+// Whether a run over a sink with so much room fills it, and fails there where it has not room for all.
+fn ends_at_the_write(alloc: Global, room: usize) -> Result<bool, AllocError> {
+    let mut source = MemorySource::new(script().to_vec(alloc)?);
+    let mut sink = ShortSink {
+        bytes: Vec::new(alloc),
+        room,
+        failed: false,
+    };
+    let ended = run(alloc, &mut source, &mut sink);
+    let wanted = if room < 307 {
+        Err(RunFault::Write)
+    } else {
+        Ok(())
+    };
+    Ok(ended == wanted && Some(sink.bytes.as_slice()) == answers().get(..room))
+}
+
 // The sink fails at each byte of each answer: the answers before are whole, and a beginning of that one follows.
 #[test]
 fn a_write_fails(rt: HostRuntime) -> Result<(), Fail> {
     for room in 0..308usize {
-        let mut source = MemorySource::new(script().to_vec(rt.alloc())?);
-        let mut sink = ShortSink {
-            bytes: Vec::new(rt.alloc()),
-            room,
-            failed: false,
-        };
-        let ended = run(rt.alloc(), &mut source, &mut sink);
-        let wanted = if room < 307 {
-            Err(RunFault::Write)
-        } else {
-            Ok(())
-        };
-        assert_eq!(rt; ended, wanted);
-        assert!(rt;
-            Some(sink.bytes.as_slice()) == answers().get(..room),
-            "{room}"
-        );
+        assert!(rt; ends_at_the_write(rt.alloc(), room)?, "{room}");
     }
     Ok(())
 }
@@ -185,15 +193,27 @@ impl Read for FailsOnceReader {
     }
 }
 
-// How a run over a reader of a host ends, whether the source has failed, and the sink.
-fn run_over_reader(
-    alloc: Global,
-    reader: &mut FailsOnceReader,
-) -> (Result<(), RunFault>, bool, MemorySink) {
-    let mut source = HostSource::new(reader);
+// Whether a run over a reader of a host whose read fails once answers the lines before, fails there, and reads no more.
+fn ends_at_the_read_of_a_host(alloc: Global, kind: ErrorKind, fails_at: usize) -> bool {
+    let mut reader = FailsOnceReader {
+        rest: script(),
+        reads: 0,
+        fails_at,
+        kind,
+    };
+    let mut source = HostSource::new(&mut reader);
     let mut sink = MemorySink::new(alloc);
     let ended = run(alloc, &mut source, &mut sink);
-    (ended, source.has_failed(), sink)
+    let has_failed = source.has_failed();
+    let (wanted, end) = if fails_at > 5 {
+        (Ok(()), ends()[5])
+    } else {
+        (Err(RunFault::Read), ends()[fails_at.min(4)])
+    };
+    ended == wanted
+        && has_failed == (fails_at <= 5)
+        && reader.reads == fails_at.min(5) + 1
+        && Some(sink.bytes()) == answers().get(..end)
 }
 
 // The first error of a reader ends the run, an interrupted read too: it is not asked again. The sixth read finds the
@@ -202,23 +222,10 @@ fn run_over_reader(
 fn a_read_of_a_host_fails_once(rt: HostRuntime) {
     for kind in [ErrorKind::Interrupted, ErrorKind::Other] {
         for fails_at in 0..8usize {
-            let mut reader = FailsOnceReader {
-                rest: script(),
-                reads: 0,
-                fails_at,
-                kind,
-            };
-            let (ended, has_failed, sink) = run_over_reader(rt.alloc(), &mut reader);
-            assert_eq!(rt; has_failed, fails_at <= 5);
-            assert_eq!(rt; reader.reads, fails_at.min(5) + 1);
-            if has_failed {
-                assert_eq!(rt; ended, Err(RunFault::Read));
-                let end = ends()[fails_at.min(4)];
-                assert!(rt; Some(sink.bytes()) == answers().get(..end), "{fails_at}");
-            } else {
-                assert_eq!(rt; ended, Ok(()));
-                assert!(rt; sink.bytes() == answers());
-            }
+            assert!(rt;
+                ends_at_the_read_of_a_host(rt.alloc(), kind, fails_at),
+                "{fails_at}"
+            );
         }
     }
 }
@@ -267,19 +274,39 @@ impl Write for FailsOnceWriter {
     }
 }
 
-// How a run over a writer of a host ends, and whether the sink has failed.
-fn run_over_writer(
-    alloc: Global,
-    writer: &mut FailsOnceWriter,
-) -> Result<(Result<(), RunFault>, bool), AllocError> {
-    let mut source = MemorySource::new(script().to_vec(alloc)?);
-    let mut sink = HostSink::new(writer);
-    let ended = run(alloc, &mut source, &mut sink);
-    Ok((ended, sink.has_failed()))
-}
-
 // The writes of seven bytes: 40 for the answers to the ended lines, and 5 for the last.
 const WRITES: usize = 45;
+
+// Whether a run over a writer of a host, one of whose writes or flushes goes wrong, ends there.
+fn ends_at_the_write_of_a_host(
+    alloc: Global,
+    trouble: Trouble,
+    fails_at: usize,
+) -> Result<bool, AllocError> {
+    let mut source = MemorySource::new(script().to_vec(alloc)?);
+    let mut writer = FailsOnceWriter {
+        taken: Vec::new(alloc),
+        writes: 0,
+        flushes: 0,
+        fails_at,
+        trouble,
+    };
+    let mut sink = HostSink::new(&mut writer);
+    let ended = run(alloc, &mut source, &mut sink);
+    let has_failed = sink.has_failed();
+    let taken = writer.taken.as_slice();
+    let is_as_wanted = if fails_at < WRITES {
+        let flushes = fails_at + usize::from(matches!(trouble, Trouble::Flush(_)));
+        ended == Err(RunFault::Write) && answers().starts_with(taken) && writer.flushes == flushes
+    } else {
+        ended == Ok(()) && taken == answers() && writer.flushes == WRITES
+    };
+    Ok(
+        is_as_wanted
+            && has_failed == (fails_at < WRITES)
+            && writer.writes == WRITES.min(fails_at + 1),
+    )
+}
 
 // The first write or flush that goes wrong ends the run, an interrupted one too: neither is tried again. Each write is
 // flushed. What a write took whose flush failed stays taken.
@@ -293,27 +320,10 @@ fn a_write_of_a_host_fails_once(rt: HostRuntime) -> Result<(), Fail> {
         Trouble::Flush(ErrorKind::Other),
     ] {
         for fails_at in 0..WRITES + 2 {
-            let mut writer = FailsOnceWriter {
-                taken: Vec::new(rt.alloc()),
-                writes: 0,
-                flushes: 0,
-                fails_at,
-                trouble,
-            };
-            let (ended, has_failed) = run_over_writer(rt.alloc(), &mut writer)?;
-            let taken = writer.taken.as_slice();
-            assert_eq!(rt; has_failed, fails_at < WRITES);
-            assert_eq!(rt; writer.writes, WRITES.min(fails_at + 1));
-            if has_failed {
-                assert_eq!(rt; ended, Err(RunFault::Write));
-                assert!(rt; answers().starts_with(taken), "{fails_at}");
-                let is_flush = matches!(trouble, Trouble::Flush(_));
-                assert_eq!(rt; writer.flushes, fails_at + if is_flush { 1 } else { 0 });
-            } else {
-                assert_eq!(rt; ended, Ok(()));
-                assert!(rt; taken == answers());
-                assert_eq!(rt; writer.flushes, WRITES);
-            }
+            assert!(rt;
+                ends_at_the_write_of_a_host(rt.alloc(), trouble, fails_at)?,
+                "{fails_at}"
+            );
         }
     }
     Ok(())

@@ -2,14 +2,14 @@
 //! refused in turn too: then it ends as out of memory, once it has shown that what the refused call was lent is as it was.
 
 use super::context::{
-    Call, are_lent, builder, collects, context, error_lines, gives_the_first, is_as_made, json,
-    lent_errors, no_memory_at_the_root, root_site,
+    Call, are_lent, builder, collects, context, error_lines, even_format, gives_the_first,
+    is_as_made, json, lent_errors, no_memory_at_the_root, root_site,
 };
-use crate::{ScriptedBuilder, ScriptedEngine, check_named, compiled};
+use crate::{ScriptedBuilder, ScriptedEngine, compiled};
 use serde_json::Value;
 use std::alloc::{AllocError, Global};
 use std::test::Fail;
-use strkw_keywords::{Checks, Context, Keyword, NamedFormat, Uses, Validate, Validator};
+use strkw_keywords::{Checks, Context, Keyword, Uses, Validate, Validator};
 use strkw_report::{CompileError, Draft, Site};
 
 // A draft, a keyword, a schema object, and where it is refused with ample memory.
@@ -116,19 +116,28 @@ fn outcome_of(
     Ok(outcome)
 }
 
+// Whether an entry is compiled, or refused at its place.
+fn is_refused_at(
+    alloc: Global,
+    draft: Draft,
+    keyword: Keyword,
+    schema: &str,
+    place: Option<&str>,
+) -> Result<bool, Fail> {
+    let builder = builder();
+    let formats = [even_format(alloc)?];
+    let ctx = context(alloc, draft, &builder, &formats)?;
+    match outcome_of(alloc, &ctx, keyword, schema)? {
+        Ok(_validator) => Ok(place.is_none()),
+        Err(refusal) => Ok(Some(refusal.location.as_str()) == place),
+    }
+}
+
 #[test]
 fn compile_functions_under_refusal(rt: HostRuntime) -> Result<(), Fail> {
-    let alloc = rt.alloc();
-    let builder = builder();
-    let formats = [NamedFormat {
-        name: String::from_str(alloc, "even")?,
-        check: Box::new(alloc, check_named("even"))?,
-    }];
     for (draft, keyword, schema, place) in ENTRIES_AND_PLACES {
-        let ctx = context(alloc, draft, &builder, &formats)?;
-        match outcome_of(alloc, &ctx, keyword, schema)? {
-            Ok(_validator) => assert!(rt; place.is_none(), "{schema}"),
-            Err(refusal) => { assert!(rt; Some(refusal.location.as_str()) == place, "{schema}") }
+        if !is_refused_at(rt.alloc(), draft, keyword, schema, place)? {
+            return Err(Fail::new(schema));
         }
     }
     Ok(())
@@ -262,10 +271,7 @@ fn answers(
 // Asks of each entry whether a call answers as it is to. What the call was lent is as it was, whatever it answered.
 fn asked_of_entries(alloc: Global, call: Call) -> Result<(), Fail> {
     let builder = builder();
-    let formats = [NamedFormat {
-        name: String::from_str(alloc, "even")?,
-        check: Box::new(alloc, check_named("even"))?,
-    }];
+    let formats = [even_format(alloc)?];
     for (draft, keyword, schema, text, wanted, is_quiet) in ENTRIES_AND_LINES {
         let ctx = context(alloc, draft, &builder, &formats)?;
         let Ok(validator) = outcome_of(alloc, &ctx, keyword, schema)? else {

@@ -3,18 +3,18 @@
 //! call was lent is as it was.
 
 use super::context::{
-    Call, are_lent, builder, collects, context, error_lines, gives_the_first, is_as_made, json,
-    lent_errors, no_memory_at_the_root, root_site,
+    Call, are_lent, builder, collects, context, error_lines, even_format, gives_the_first,
+    is_as_made, json, lent_errors, no_memory_at_the_root, root_site,
 };
 use super::devices::{answers, ends, script};
-use crate::{ScriptedBuilder, ScriptedEngine, check_named};
+use crate::{ScriptedBuilder, ScriptedEngine};
 use serde_json::Value;
 use std::alloc::{AllocError, Global};
 use std::test::Fail;
 use strkw_cli::{
     MemorySink, MemorySource, Note, RunFault, Sink, StringKeywords, compile_strings, run,
 };
-use strkw_keywords::{Checks, Context, NamedFormat};
+use strkw_keywords::{Checks, Context};
 use strkw_report::{CompileError, Draft, Site};
 
 type Keywords = StringKeywords<ScriptedEngine<'static>>;
@@ -58,49 +58,50 @@ fn schemas_and_places() -> [(&'static str, Option<&'static str>); 9] {
     ]
 }
 
+// Whether a schema object is compiled, or refused at its place.
+fn is_refused_at(alloc: Global, schema: &str, place: Option<&str>) -> Result<bool, Fail> {
+    let builder = builder();
+    let formats = [even_format(alloc)?];
+    let ctx = context(alloc, Draft::Draft7, &builder, &formats)?;
+    match outcome_of(alloc, &ctx, schema)? {
+        Ok(_keywords) => Ok(place.is_none()),
+        Err(refusal) => Ok(Some(refusal.location.as_str()) == place),
+    }
+}
+
 #[test]
 fn compile_strings_under_refusal(rt: HostRuntime) -> Result<(), Fail> {
-    let alloc = rt.alloc();
-    let builder = builder();
-    let formats = [NamedFormat {
-        name: String::from_str(alloc, "even")?,
-        check: Box::new(alloc, check_named("even"))?,
-    }];
     for (schema, place) in schemas_and_places() {
-        let ctx = context(alloc, Draft::Draft7, &builder, &formats)?;
-        match outcome_of(alloc, &ctx, schema)? {
-            Ok(_keywords) => assert!(rt; place.is_none(), "{schema}"),
-            Err(refusal) => {
-                assert!(rt; Some(refusal.location.as_str()) == place, "{schema}");
-            }
+        if !is_refused_at(rt.alloc(), schema, place)? {
+            return Err(Fail::new(schema));
         }
     }
     Ok(())
 }
 
+// Whether a text is tested with no memory, and found valid or not.
+fn is_tested_without_memory(alloc: Global, text: &str, valid: bool) -> Result<bool, Fail> {
+    let builder = builder();
+    let formats = [even_format(alloc)?];
+    let ctx = context(alloc, Draft::Draft7, &builder, &formats)?;
+    let schema = r#"{"format":"uri","minLength":1,"pattern":"^a"}"#;
+    let Ok(keywords) = outcome_of(alloc, &ctx, schema)? else {
+        return Err(Fail::new("refused"));
+    };
+    let node = Value::try_from_str(alloc, text)?;
+    Ok(
+        keywords.uses(&ctx.checks)
+            && keywords.takes_no_memory()
+            && keywords.is_valid(alloc, &node, &ctx.checks) == Ok(valid),
+    )
+}
+
 // Testing a text by these takes no memory: wherever the compilation had enough, there is an answer.
 #[test]
 fn is_valid_without_memory_under_refusal(rt: HostRuntime) -> Result<(), Fail> {
-    let alloc = rt.alloc();
-    let builder = builder();
-    let formats = [NamedFormat {
-        name: String::from_str(alloc, "even")?,
-        check: Box::new(alloc, check_named("even"))?,
-    }];
     for (text, valid) in [("a:", true), ("b:", false), ("", false)] {
-        let ctx = context(alloc, Draft::Draft7, &builder, &formats)?;
-        let schema = r#"{"format":"uri","minLength":1,"pattern":"^a"}"#;
-        let Ok(keywords) = outcome_of(alloc, &ctx, schema)? else {
-            return Err(Fail::new("refused"));
-        };
-        let node = Value::try_from_str(alloc, text)?;
-        assert!(rt; keywords.takes_no_memory() && keywords.uses(&ctx.checks));
-        if keywords.uses(&ctx.checks) {
-            assert_eq!(rt;
-                keywords.is_valid(alloc, &node, &ctx.checks),
-                Ok(valid),
-                "{text}"
-            );
+        if !is_tested_without_memory(rt.alloc(), text, valid)? {
+            return Err(Fail::new(text));
         }
     }
     Ok(())
@@ -207,10 +208,7 @@ fn answers_so(
 // Asks of each object whether a call answers as it is to. What the call was lent is as it was, whatever it answered.
 fn asked_of_objects(alloc: Global, call: Call) -> Result<(), Fail> {
     let builder = builder();
-    let formats = [NamedFormat {
-        name: String::from_str(alloc, "even")?,
-        check: Box::new(alloc, check_named("even"))?,
-    }];
+    let formats = [even_format(alloc)?];
     for (draft, schema, text, errors, notes) in OBJECTS {
         let ctx = context(alloc, draft, &builder, &formats)?;
         let Ok(keywords) = outcome_of(alloc, &ctx, schema)? else {
@@ -246,31 +244,35 @@ fn evaluate_of_objects_under_refusal(rt: HostRuntime) -> Result<(), Fail> {
     asked_of_objects(rt.alloc(), Call::Evaluate)
 }
 
-// What was written is a beginning of the answers: all of them where the run ended well, whole ones where there was
-// no memory for the next. The fault is one of writing only where the sink itself was refused its growth.
+// Whether a run ended as it is to: what was written is a beginning of the answers, all of them where it ended well, and
+// whole ones where there was no memory for the next. The fault is one of writing only where the sink itself was refused
+// its growth. Out of memory is an error here.
+fn ended_well(ended: Result<(), RunFault>, sink: &MemorySink) -> Result<bool, AllocError> {
+    let bytes = sink.bytes();
+    let is_as_faulted = match ended {
+        Ok(()) => return Ok(bytes == answers()),
+        // The last request has no line feed: it is not answered before a fault.
+        Err(RunFault::Memory) => {
+            !sink.has_failed() && ends()[..5].iter().any(|end| *end == bytes.len())
+        }
+        Err(RunFault::Write) => sink.has_failed(),
+        Err(_) => false,
+    };
+    if is_as_faulted && answers().starts_with(bytes) {
+        Err(AllocError)
+    } else {
+        Ok(false)
+    }
+}
+
 #[test]
 fn run_under_refusal(rt: HostRuntime) -> Result<(), Fail> {
     let mut source = MemorySource::new(script().to_vec(rt.alloc())?);
     let mut sink = MemorySink::new(rt.alloc());
     let ended = run(rt.alloc(), &mut source, &mut sink);
-    let bytes = sink.bytes();
-    assert!(rt; answers().starts_with(bytes));
-    match ended {
-        Ok(()) => {
-            assert!(rt; bytes == answers());
-            Ok(())
-        }
-        Err(RunFault::Memory) => {
-            assert!(rt; !sink.has_failed());
-            // The last request has no line feed: it is not answered before a fault.
-            let is_whole = ends()[..5].iter().any(|end| *end == bytes.len());
-            assert!(rt; is_whole);
-            Err(AllocError.into())
-        }
-        Err(RunFault::Write) => {
-            assert!(rt; sink.has_failed());
-            Err(AllocError.into())
-        }
-        Err(_) => Err(Fail::new("another fault")),
+    if ended_well(ended, &sink)? {
+        Ok(())
+    } else {
+        Err(Fail::new("another ending"))
     }
 }
