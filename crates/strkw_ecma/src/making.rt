@@ -11,10 +11,12 @@ use crate::table::{FOUND, STRIDE, Table, class_of, next_char};
 use crate::tree::{CharRange, Tree};
 use std::alloc::{AllocError, Global};
 
-/// A pattern with more states is searched by its marks, and so is one with more nodes, since each entry costs a step.
-const MOST_ROWS: usize = 64;
+/// The most states of a table, whose numbers are bytes, of which the last stands for `FOUND`. A pattern with more is
+/// searched by its marks.
+const MOST_ROWS: usize = 255;
 
-const MOST_NODES: usize = 128;
+/// How many nodes may be stepped to make a table. Each entry costs a step of the whole pattern.
+const MOST_STEPS: usize = 1 << 20;
 
 #[cycle(nodes)]
 fn nodes(tree: &Tree) -> usize {
@@ -63,6 +65,12 @@ fn add_firsts(firsts: &mut Vec<char>, tree: &Tree) -> Result<(), AllocError> {
     }
 }
 
+// How many states of a pattern can be stepped by each class of characters.
+fn most_rows(tree: &Tree, firsts: &[char]) -> usize {
+    let steps_a_row = nodes(tree).saturating_mul(firsts.len()).max(1);
+    (MOST_STEPS / steps_a_row).min(MOST_ROWS)
+}
+
 // The first characters of the classes that a pattern and `\b` do not tell apart, in order.
 fn firsts_of(alloc: Global, tree: &Tree) -> Result<Vec<char>, AllocError> {
     let mut firsts = Vec::new(alloc);
@@ -89,6 +97,7 @@ fn entry_of(
     states: &mut Vec<State>,
     row: usize,
     c: char,
+    most_rows: usize,
 ) -> Result<Option<u8>, AllocError> {
     let Some(state) = states.get(row) else {
         return Ok(None);
@@ -102,7 +111,7 @@ fn entry_of(
         return Ok(known);
     }
     let number = states.len();
-    if number >= MOST_ROWS {
+    if number >= most_rows {
         return Ok(None);
     }
     states.push(State {
@@ -119,6 +128,7 @@ fn add_row(
     states: &mut Vec<State>,
     entries: &mut Vec<u8>,
     row: usize,
+    most_rows: usize,
 ) -> Result<bool, AllocError> {
     let ends = match states.get(row) {
         Some(state) => leaves_tree(&state.tree, state.last, None, true),
@@ -126,7 +136,7 @@ fn add_row(
     };
     entries.push(if ends { FOUND } else { 0 })?;
     for c in firsts {
-        match entry_of(alloc, states, row, *c)? {
+        match entry_of(alloc, states, row, *c, most_rows)? {
             Some(entry) => entries.push(entry)?,
             None => return Ok(false),
         }
@@ -173,9 +183,6 @@ fn table_if_right(
 pub(crate) fn table_of(alloc: Global, tree: &Tree) -> Result<Option<Table>, AllocError>
     ensures { IfOk result (λ made. MatchOption made Unit (λ t. Searches t.firsts.items t.entries.items (pattern_of tree.now))) }
 {
-    if nodes(tree) > MOST_NODES {
-        return Ok(None);
-    }
     let firsts = firsts_of(alloc, tree)?;
     if firsts.len() >= STRIDE {
         return Ok(None);
@@ -186,11 +193,12 @@ pub(crate) fn table_of(alloc: Global, tree: &Tree) -> Result<Option<Table>, Allo
         last: None,
     })?;
     let mut entries = Vec::new(alloc);
-    for row in 0..MOST_ROWS {
+    let most_rows = most_rows(tree, &firsts);
+    for row in 0..=most_rows {
         if row == states.len() {
             return table_if_right(alloc, firsts, entries, &states, tree);
         }
-        if !add_row(alloc, &firsts, &mut states, &mut entries, row)? {
+        if !add_row(alloc, &firsts, &mut states, &mut entries, row, most_rows)? {
             return Ok(None);
         }
     }
