@@ -1,19 +1,18 @@
 //! One schema object, read from its bytes and compiled.
 
-ghost use Rattle.std.specs.Prelude.{◌≡◌, ◌⊎◌, Some, option_map, IfOk, IfErr};
+ghost use Rattle.std.specs.Prelude.{◌≡◌, ◌⊎◌, Some, IfOk, IfErr};
 ghost use Rattle.serde_json.specs.Data.{Members};
-ghost use Rattle.serde_json.specs.View.{view, members_view};
+ghost use Rattle.serde_json.specs.View.{members_view};
 ghost use Rattle.strkw_pattern.specs.Matcher.{literal_outcome};
 ghost use Rattle.strkw_keywords.specs.Meanings.{no_lists};
 ghost use Rattle.strkw_keywords.specs.Errors.{IsInUse};
-ghost use Rattle.strkw_cli.specs.Request.{IsReading};
 ghost use Rattle.strkw_cli.specs.Compiled.{IsCompiledFrom, keywords_assertions};
 ghost use Rattle.strkw_c.specs.declared.schemas.Failure.TheVariants.{Memory, Refused};
 ghost use Rattle.strkw_c.specs.Verdicts.{IsSchema, IsRefused, Fails, settings_for};
 
 use serde_json::{Map, Value};
 use std::alloc::{AllocError, Global};
-use strkw_cli::{StringKeywords, compile_strings};
+use strkw_cli::{StringKeywords, compile_strings, read_value};
 use strkw_keywords::Context;
 use strkw_pattern::{LiteralMatcher, NoPatterns};
 use strkw_report::{CompileError, CompileErrorKind, Draft};
@@ -54,17 +53,6 @@ pub(crate) fn compile(
     match value.as_object() {
         Some(object) => compile_object(alloc, draft, object),
         None => Err(Failure::NoSchema),
-    }
-}
-
-// The JSON value that bytes are, or that they are none.
-fn read_value(alloc: Global, bytes: &[u8]) -> Result<Option<Value>, AllocError>
-    ensures { IfOk result (λ value. IsReading bytes.now (option_map view value)) }
-{
-    match Value::from_slice(alloc, bytes) {
-        Ok(value) => Ok(Some(value)),
-        Err(e) if e.is_memory() => Err(AllocError),
-        Err(_) => Ok(None),
     }
 }
 

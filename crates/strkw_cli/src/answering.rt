@@ -12,7 +12,7 @@ ghost use Rattle.strkw_keywords.specs.Lengths.{IsEmpty};
 
 use super::compile::compile_strings;
 use super::printing::{push_bad_request, push_refusal};
-use super::request::{Request, read_line, request_in};
+use super::request::{Request, read_value, request_in};
 use super::strings::StringKeywords;
 use serde_json::Value;
 use std::alloc::{AllocError, Global};
@@ -38,7 +38,7 @@ fn answer_line(alloc: Global, line: &[u8], out: &mut Vec<u8>) -> Result<(), Allo
     ensures ok { OnOk result ((made : List ℕ) × (out.new.items ≡ out.old.items ++ made) × IsAnswer line.now made) }
     ensures err { OnErr result ((more : List ℕ) × (out.new.items ≡ out.old.items ++ more)) }
 {
-    match read_line(alloc, line)? {
+    match read_value(alloc, line)? {
         Some(value) => answer_value(alloc, &value, out),
         None => push_bad_request(out),
     }

@@ -22,7 +22,7 @@ pub use devices::{DeviceFailed, Sink, Source};
 pub use faults::RunFault;
 pub use host_devices::{HostSink, HostSource};
 pub use memory_devices::{MemorySink, MemorySource};
-pub use request::{draft_in, draft_numbered};
+pub use request::{draft_in, draft_numbered, read_value};
 pub use running::run;
 pub use strings::{ObjectEvaluation, StringKeywords};
 pub use strkw_keywords::Note;

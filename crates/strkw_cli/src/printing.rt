@@ -2,7 +2,7 @@
 
 ghost use Rattle.std.specs.Prelude.{◌≡◌, ◌↔◌, ℕ, List, ◌++◌, ◌≢◌, false, IsTrue, OnOk, OnErr, codes};
 ghost use Rattle.strkw_report.specs.Refusals.{refusal_of, reason_of, prints_float, memory};
-ghost use Rattle.strkw_cli.specs.Printed.{printed, line_of, refused_line};
+ghost use Rattle.strkw_cli.specs.Printed.{printed, refused_line};
 
 use std::alloc::{AllocError, Global};
 use strkw_report::{CompileError, CompileErrorKind};
@@ -30,34 +30,11 @@ pub(super) fn push_refusal(
         return Err(AllocError);
     }
     let text = refusal.text(alloc)?;
-    push_printed_line("refused", refusal.location.as_str(), &text, out)?;
-    out.extend_from_slice(b"end\n")
-}
-
-// Appends a line whose text may hold control characters.
-fn push_printed_line(
-    word: &str,
-    place: &str,
-    text: &str,
-    out: &mut Vec<u8>,
-) -> Result<(), AllocError>
-    ensures ok { OnOk result (out.new.items ≡ out.old.items ++ line_of word.now place.now (printed text.now)) }
-    ensures err { OnErr result ((more : List ℕ) × (out.new.items ≡ out.old.items ++ more)) }
-{
-    push_place(word, place, out)?;
+    out.extend_from_slice(b"refused ")?;
+    out.extend_from_slice(refusal.location.as_str().as_bytes())?;
+    out.extend_from_slice(b": ")?;
     push_printed(text.as_bytes(), out)?;
-    out.extend_from_slice(b"\n")
-}
-
-// Appends what stands before the text of a line.
-fn push_place(word: &str, place: &str, out: &mut Vec<u8>) -> Result<(), AllocError>
-    ensures ok { OnOk result (out.new.items ≡ out.old.items ++ (word.now ++ codes " " ++ place.now ++ codes ": ")) }
-    ensures err { OnErr result ((more : List ℕ) × (out.new.items ≡ out.old.items ++ more)) }
-{
-    out.extend_from_slice(word.as_bytes())?;
-    out.extend_from_slice(b" ")?;
-    out.extend_from_slice(place.as_bytes())?;
-    out.extend_from_slice(b": ")
+    out.extend_from_slice(b"\nend\n")
 }
 
 // The text, with a space for each of its bytes below 32.

@@ -21,19 +21,14 @@ pub struct Request<'a> {
     pub fold: bool,
 }
 
-/// The value that a line is, or that it is none.
-pub fn read_line(alloc: Global, line: &[u8]) -> Result<Option<Value>, AllocError>
-    ensures { IfOk result (λ value. IsReading line.now (option_map view value)) }
+/// The JSON value that bytes are, or `None` where they are none. The only error is out of memory.
+pub fn read_value(alloc: Global, bytes: &[u8]) -> Result<Option<Value>, AllocError>
+    ensures { IfOk result (λ value. IsReading bytes.now (option_map view value)) }
 {
-    match Value::from_slice(alloc, line) {
+    match Value::from_slice(alloc, bytes) {
         Ok(value) => Ok(Some(value)),
-        Err(e) => {
-            if e.is_memory() {
-                Err(AllocError)
-            } else {
-                Ok(None)
-            }
-        }
+        Err(e) if e.is_memory() => Err(AllocError),
+        Err(_) => Ok(None),
     }
 }
 
@@ -63,10 +58,7 @@ fn flag_in(value: Option<&Value>) -> Option<Option<bool>>
 {
     match value {
         None => Some(None),
-        Some(value) => match value.as_bool() {
-            Some(flag) => Some(Some(flag)),
-            None => None,
-        },
+        Some(value) => Some(Some(value.as_bool()?)),
     }
 }
 

@@ -7,7 +7,7 @@ ghost use Rattle.serde_json.specs.Find.{as_str};
 ghost use Rattle.serde_json.specs.View.{view};
 ghost use Rattle.serde_json.specs.Written.{compact_text, has_float};
 ghost use Rattle.strkw_report.specs.Failures.{kind_failed};
-ghost use Rattle.strkw_report.specs.Kinds.{Report, report_at, message};
+ghost use Rattle.strkw_report.specs.Kinds.{Report, message};
 ghost use Rattle.strkw_report.specs.Paths.{below};
 ghost use Rattle.strkw_keywords.specs.Errors.{reported, IsInUse, NodeReports};
 ghost use Rattle.strkw_keywords.specs.Findings.{finding_of};
@@ -26,44 +26,11 @@ use super::printing::{is_plain, push_printed};
 use super::strings::StringKeywords;
 use serde_json::Value;
 use std::alloc::{AllocError, Global};
-use strkw_keywords::{Checks, FindingRef, Keyword, Noted, Origin, Uses, Validate, Validator};
+use strkw_keywords::{Checks, Keyword, Noted, Origin, Uses, Validate, Validator};
 use strkw_pattern::RegexEngine;
 use strkw_report::{Failure, Location, push_json_string};
 
 // ---- one error
-
-// The keyword that finds this.
-fn keyword_of(finding: &FindingRef) -> Keyword
-    ensures { result ≡ (finding_of finding.now).keyword }
-{
-    match finding {
-        FindingRef::MinLength(_) => Keyword::MinLength,
-        FindingRef::MaxLength(_) => Keyword::MaxLength,
-        FindingRef::Pattern(_) | FindingRef::BacktrackLimit(_) | FindingRef::EngineFailed(_) => {
-            Keyword::Pattern
-        }
-        FindingRef::Format(_) => Keyword::Format,
-        FindingRef::ContentMediaType(_) => Keyword::ContentMediaType,
-        FindingRef::ContentEncoding(_) | FindingRef::FromUtf8 => Keyword::ContentEncoding,
-    }
-}
-
-// What the text failed at.
-fn failure_of<'a>(finding: &FindingRef<'a>) -> Failure<'a>
-    ensures { kind_failed result ≡ (finding_of finding.now).kind }
-{
-    match finding {
-        FindingRef::MinLength(limit) => Failure::MinLength(*limit),
-        FindingRef::MaxLength(limit) => Failure::MaxLength(*limit),
-        FindingRef::Pattern(pattern) => Failure::Pattern(*pattern),
-        FindingRef::BacktrackLimit(pattern) => Failure::BacktrackLimitExceeded(*pattern),
-        FindingRef::EngineFailed(pattern) => Failure::RegexEngineFailure(*pattern),
-        FindingRef::Format(name) => Failure::Format(*name),
-        FindingRef::ContentEncoding(name) => Failure::ContentEncoding(*name),
-        FindingRef::ContentMediaType(name) => Failure::ContentMediaType(*name),
-        FindingRef::FromUtf8 => Failure::FromUtf8,
-    }
-}
 
 // Appends what is said of a failure. Where a name in it holds control characters, they are changed in a copy.
 fn push_failure(
@@ -103,37 +70,24 @@ fn push_start(
     out.extend_from_slice(b": ")
 }
 
-fn push_finding_line(
-    alloc: Global,
-    origin: &Origin,
-    text: &str,
-    finding: &FindingRef,
-    out: &mut Vec<u8>,
-) -> Result<(), AllocError>
-    ensures ok { OnOk result (out.new.items ≡ out.old.items ++ error_line (report_at (standing origin.now root_site)
-        (keyword_name (finding_of finding.now).keyword) (finding_of finding.now).kind text.now)) }
-    ensures err { OnErr result ((more : List ℕ) × (out.new.items ≡ out.old.items ++ more)) }
-{
-    push_start("error", &origin.location, keyword_of(finding), out)?;
-    push_failure(alloc, &failure_of(finding), text, out)?;
-    out.extend_from_slice(b"\n")
-}
-
+// Appends the line of the error of a text that failed so, if it failed.
 fn push_found_line(
     alloc: Global,
     origin: &Origin,
     text: &str,
-    finding: &Option<FindingRef>,
+    failure: &Option<Failure>,
     out: &mut Vec<u8>,
 ) -> Result<(), AllocError>
     ensures ok { OnOk result (out.new.items ≡ out.old.items
-        ++ flat_map error_line (reported (standing origin.now root_site) text.now (option_map finding_of finding.now))) }
+        ++ flat_map error_line (reported (standing origin.now root_site) text.now (option_map finding_of failure.now))) }
     ensures err { OnErr result ((more : List ℕ) × (out.new.items ≡ out.old.items ++ more)) }
 {
-    match finding {
-        None => Ok(()),
-        Some(finding) => push_finding_line(alloc, origin, text, finding, out),
-    }
+    let Some(failure) = failure else {
+        return Ok(());
+    };
+    push_start("error", &origin.location, Keyword::of_failure(failure), out)?;
+    push_failure(alloc, failure, text, out)?;
+    out.extend_from_slice(b"\n")
 }
 
 // ---- one note

@@ -1,11 +1,18 @@
--- On the codec of a name.
-use Rattle.std.proofs.Common.{◌≡◌, ◌↔◌, ℕ, List, Bool, true, false, Option, Some, None, refl, if◌then◌else◌}
+-- On codecs.
+use Rattle.std.proofs.Common.{◌≡◌, ◌↔◌, ℕ, List, Bool, true, false, Option, Some, None, Result, Ok, Err, IfOk, refl, if◌then◌else◌}
+use Rattle.std.specs.Prelude.{String}
+use Rattle.std.specs.declared.alloc.Global.{Global}
 use Rattle.std.specs.Bool.{Decides}
+use Rattle.std.proofs.lemmas.Str.{IsUtf8-string_bytes}
 use Rattle.std.proofs.lemmas.Bool.Decides.{not_from_Decides}
 use Rattle.std.proofs.lemmas.Slice.Eq.{bytes_eq-Decides}
 use Rattle.strkw_coding.specs.declared.codec.Codec.{Codec}
 use Rattle.strkw_coding.specs.declared.codec.Codec.TheVariants.{Base64, Base64Url, Base32, Base32Hex, Base16}
 use Rattle.strkw_coding.specs.Names.{codec_name}
+use Rattle.strkw_coding.specs.Rfc4648.{IsTextOf}
+use Rattle.strkw_coding.specs.declared.codec.DecodeError.{DecodeError}
+use Rattle.strkw_keywords.specs.Decodings.{decoded_of}
+use Rattle.strkw_keywords.specs.Demands.{CodecDecodes}
 use Rattle.strkw_keywords.specs.Object.{codec_named}
 
 -- the codec of each name, and no codec of any other name
@@ -32,3 +39,9 @@ named_codec r name h =
     named_or _ Base32Hex r _ _ (bytes_eq-Decides name (codec_name Base32Hex)) (h Base32Hex) (λ d.
     named_or _ Base16 r _ _ (bytes_eq-Decides name (codec_name Base16)) (h Base16) (λ e.
     none_named r a b c d e)))))
+
+-- what a built-in codec answers is what a text decodes to
+pub decodes : (c : Codec) (text : List ℕ) (r : Result (Option (String Global)) DecodeError) → IfOk r (IsTextOf c text) → IfOk r (λ o. CodecDecodes c text (decoded_of o))
+decodes c text (Ok None) h = h
+decodes c text (Ok (Some s)) h = (h, IsUtf8-string_bytes s)
+decodes c text (Err e) h = tt

@@ -1,12 +1,13 @@
 //! The caller's own checks: the traits that they implement, their rows, and the first row of a name.
 
-ghost use Rattle.std.specs.Prelude.{◌≡◌, ◌↔◌, List, ℕ, Bool, IfOk, IfErr, MatchOption, IsTrue, string_bytes};
+ghost use Rattle.std.specs.Prelude.{◌≡◌, ◌↔◌, List, ℕ, Bool, IfOk, IfErr, IsErrOf, MatchOption, IsTrue, string_bytes};
 ghost use Rattle.std.specs.List.{position_from};
 ghost use Rattle.std.specs.Str.{chars, bytes_eq};
 ghost use Rattle.strkw_keywords.specs.Meanings.{no_encoding, no_text, decoded, row_names, codec_names, first_named};
 ghost use Rattle.strkw_keywords.specs.Lists.{lists_of};
 ghost use Rattle.strkw_keywords.specs.Demands.{Admits, Takes, KeepsFirst};
 ghost use Rattle.strkw_keywords.specs.Choices.{choice_of};
+ghost use Rattle.strkw_keywords.specs.Decodings.{decoded_of};
 ghost use Rattle.strkw_keywords.specs.Parts.{IsFirst};
 
 use crate::parts::RowRef;
@@ -143,9 +144,8 @@ impl NamedCodec {
     }
 
     pub(crate) fn decode(&self, alloc: Global, text: &str) -> Result<Option<String>, DecodeError>
-        ensures text { IfOk result (λ o. MatchOption o (decoding self.now.codec (chars text.now) ≡ no_encoding)
-            (λ s. decoding self.now.codec (chars text.now) ≡ decoded (string_bytes s))) }
-        ensures not_utf8 { IfErr result (λ e. e ≡ DecodeError.NotUtf8 → decoding self.now.codec (chars text.now) ≡ no_text) }
+        ensures text { IfOk result (λ o. decoded_of o ≡ decoding self.now.codec (chars text.now)) }
+        ensures not_utf8 { IsErrOf result DecodeError.NotUtf8 → no_text ≡ decoding self.now.codec (chars text.now) }
     {
         self.codec.decode(alloc, text)
     }

@@ -1,9 +1,9 @@
 //! What a media type and a codec say of a text, and the validators of the three content keywords.
-ghost use Rattle.std.specs.Prelude.{◌≡◌, ◌↔◌, IfOk, IsTrue};
-ghost use Rattle.std.specs.Str.{chars};
+ghost use Rattle.std.specs.Prelude.{◌≡◌, ◌↔◌, IfOk, IsErrOf, IsTrue};
 ghost use Rattle.strkw_keywords.specs.Lists.{lists_of};
 ghost use Rattle.strkw_keywords.specs.Choices.{choice_of, chosen_media_type_name, chosen_codec_name};
-ghost use Rattle.strkw_keywords.specs.Demands.{IsOfMediaType, IsEncoded, Decodes, CodecDecodes, RowDecodes};
+ghost use Rattle.strkw_keywords.specs.Demands.{IsOfMediaType, IsEncoded, Decodes, RowDecodes};
+ghost use Rattle.strkw_keywords.specs.Meanings.{no_text};
 ghost use Rattle.strkw_keywords.specs.Decodings.{decoded_of};
 
 mod annotations;
@@ -11,7 +11,7 @@ mod build;
 mod checks;
 
 use crate::checks::{
-    Checks, Choice, ContentCodec, Format, MediaTypeCheck, NamedCodec, ask_codec, ask_media_type,
+    Checks, Choice, ContentCodec, Format, MediaTypeCheck, ask_codec, ask_media_type,
 };
 pub use annotations::{
     ContentEncodingAnnotationValidator, ContentMediaTypeAnnotationValidator,
@@ -32,14 +32,6 @@ pub use checks::{
 };
 use std::alloc::{AllocError, Global};
 use strkw_coding::{BuiltinMediaType, Codec, DecodeError};
-
-// What a text decodes to.
-#[derive(Drop)]
-pub(crate) enum DecodedText {
-    NoEncoding,
-    NoText,
-    Text(String),
-}
 
 fn chosen_media_type(choice: &Choice<BuiltinMediaType>) -> &str
     ensures { result.now ≡ chosen_media_type_name (choice_of choice.now) }
@@ -87,53 +79,37 @@ fn is_encoding(
     }
 }
 
+// What a text decodes to, as `ContentCodec::decode` answers it.
 fn decode(
     alloc: Global,
     choice: &Choice<Codec>,
     checks: &Checks,
     text: &str,
-) -> Result<DecodedText, AllocError>
-    ensures { IfOk result (λ d. Decodes (choice_of choice.now) (lists_of admits accepted encoded decoding checks.now) text.now (decoded_of d)) }
+) -> Result<Option<String>, DecodeError>
+    ensures text { IfOk result (λ o. Decodes (choice_of choice.now) (lists_of admits accepted encoded decoding checks.now) text.now (decoded_of o)) }
+    ensures not_utf8 { IsErrOf result DecodeError.NotUtf8
+        → Decodes (choice_of choice.now) (lists_of admits accepted encoded decoding checks.now) text.now no_text }
 {
     match choice {
-        Choice::Builtin(codec) => decode_builtin(alloc, *codec, text),
+        Choice::Builtin(codec) => codec.decode(alloc, text),
         Choice::Row { position, .. } => decode_by_row(alloc, checks, *position, text),
     }
 }
 
-fn decode_builtin(alloc: Global, codec: Codec, text: &str) -> Result<DecodedText, AllocError>
-    ensures { IfOk result (λ d. CodecDecodes codec text.now (decoded_of d)) }
-{
-    match codec.decode(alloc, text) {
-        Ok(Some(decoded)) => Ok(DecodedText::Text(decoded)),
-        Ok(None) => Ok(DecodedText::NoEncoding),
-        Err(DecodeError::NotUtf8) => Ok(DecodedText::NoText),
-        Err(DecodeError::Memory) => Err(AllocError),
-    }
-}
-
+// The same by the row at a position; where there is none, nothing is an encoding.
 fn decode_by_row(
     alloc: Global,
     checks: &Checks,
     position: usize,
     text: &str,
-) -> Result<DecodedText, AllocError>
-    ensures { IfOk result (λ d. RowDecodes (lists_of admits accepted encoded decoding checks.now).codecs position text.now (decoded_of d)) }
+) -> Result<Option<String>, DecodeError>
+    ensures text { IfOk result (λ o. RowDecodes (lists_of admits accepted encoded decoding checks.now).codecs position text.now (decoded_of o)) }
+    ensures not_utf8 { IsErrOf result DecodeError.NotUtf8
+        → RowDecodes (lists_of admits accepted encoded decoding checks.now).codecs position text.now no_text }
 {
     if position < checks.codecs.len() {
-        decode_by(alloc, &checks.codecs[position], text)
+        checks.codecs[position].decode(alloc, text)
     } else {
-        Ok(DecodedText::NoEncoding)
-    }
-}
-
-fn decode_by(alloc: Global, row: &NamedCodec, text: &str) -> Result<DecodedText, AllocError>
-    ensures { IfOk result (λ d. decoded_of d ≡ decoding row.now.codec (chars text.now)) }
-{
-    match row.decode(alloc, text) {
-        Ok(Some(decoded)) => Ok(DecodedText::Text(decoded)),
-        Ok(None) => Ok(DecodedText::NoEncoding),
-        Err(DecodeError::NotUtf8) => Ok(DecodedText::NoText),
-        Err(DecodeError::Memory) => Err(AllocError),
+        Ok(None)
     }
 }

@@ -1,8 +1,7 @@
 //! The validators of `format`.
 
-ghost use Rattle.std.specs.Prelude.{[], ◌∷◌, Some, IfOk, option_map, string_bytes};
+ghost use Rattle.std.specs.Prelude.{[], ◌∷◌, Some, option_map, string_bytes};
 ghost use Rattle.serde_json.specs.Data.{string};
-ghost use Rattle.strkw_keywords.specs.Lists.{lists_of};
 ghost use Rattle.strkw_keywords.specs.Meanings.{no_lists, builtin, row};
 ghost use Rattle.strkw_keywords.specs.Formats.{format_name};
 ghost use Rattle.strkw_keywords.specs.Demands.{is_format, HasFinding};
@@ -13,8 +12,8 @@ ghost use Rattle.strkw_keywords.specs.declared.keyword.Keyword.TheVariants as ke
 mod build;
 
 use crate::builtin::BuiltinFormat;
-use crate::checks::{Checks, ContentCodec, Format, MediaTypeCheck, ask_format};
-use crate::findings::{FindingRef, Findings, Found, FoundOne};
+use crate::checks::{Checks, ask_format};
+use crate::findings::{Findings, Found};
 use crate::keyword::Keyword;
 use crate::origin::Origin;
 use crate::parts::{Noted, Parts, RowRef};
@@ -22,7 +21,7 @@ use crate::validate::{Uses, Validate};
 pub(crate) use build::build_format;
 pub use build::compile;
 use std::alloc::Global;
-use strkw_report::Node;
+use strkw_report::{Failure, Node};
 
 /// Demands that a text is of a built-in format, and notes the name of the format (2020-12, section 7.3).
 #[derive(Drop)]
@@ -32,13 +31,13 @@ pub struct FormatValidator {
 }
 
 impl FormatValidator {
-    fn finding(&self, text: &str) -> Option<FindingRef<'static>>
+    fn finding(&self, text: &str) -> Option<Failure<'static>>
         ensures { HasFinding (is_format (builtin self.now.format)) no_lists text.now (option_map finding_of result) }
     {
         if self.format.is_valid(text) {
             None
         } else {
-            Some(FindingRef::Format(self.format.as_str()))
+            Some(Failure::Format(self.format.as_str()))
         }
     }
 }
@@ -73,19 +72,6 @@ pub struct CustomFormatValidator {
     pub(crate) name: String,
 }
 
-impl CustomFormatValidator {
-    fn finding(&self, alloc: Global, text: &str, checks: &Checks) -> FoundOne<'_>
-        ensures { IfOk result (λ o. HasFinding (is_format (row self.now.position (string_bytes self.now.name)))
-            (lists_of admits accepted encoded decoding checks.now) text.now (option_map finding_of o)) }
-    {
-        if ask_format(alloc, checks, self.position, text)? {
-            Ok(None)
-        } else {
-            Ok(Some(FindingRef::Format(self.name.as_str())))
-        }
-    }
-}
-
 impl Uses for CustomFormatValidator {
     ghost place = { λ v. v.origin };
 
@@ -108,7 +94,12 @@ impl Uses for CustomFormatValidator {
 
 impl<N: Node> Validate<N> for CustomFormatValidator {
     fn findings(&self, alloc: Global, _node: &N, text: &str, checks: &Checks) -> Found<'_> {
-        Ok(Findings::one(self.finding(alloc, text, checks)?))
+        let failure = if ask_format(alloc, checks, self.position, text)? {
+            None
+        } else {
+            Some(Failure::Format(self.name.as_str()))
+        };
+        Ok(Findings::one(failure))
     }
 }
 

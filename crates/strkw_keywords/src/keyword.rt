@@ -2,6 +2,9 @@
 
 ghost use Rattle.std.specs.Prelude.{◌≡◌};
 ghost use Rattle.strkw_keywords.specs.Keywords.{keyword_name, keyword_place};
+ghost use Rattle.strkw_keywords.specs.Findings.{keyword_failed};
+
+use strkw_report::Failure;
 
 /// A string keyword of JSON Schema Validation. The order of the variants is that in which the entries of a schema
 /// object are looked at.
@@ -55,5 +58,22 @@ impl Keyword {
         ensures { result ≡ keyword_place self }
     {
         self as usize
+    }
+
+    /// The keyword of the error of a text that failed so.
+    pub fn of_failure(failure: &Failure) -> Keyword
+        ensures { result ≡ keyword_failed failure.now }
+    {
+        match failure {
+            Failure::MinLength(_) => Keyword::MinLength,
+            Failure::MaxLength(_) => Keyword::MaxLength,
+            Failure::Pattern(_) => Keyword::Pattern,
+            Failure::BacktrackLimitExceeded(_) => Keyword::Pattern,
+            Failure::RegexEngineFailure(_) => Keyword::Pattern,
+            Failure::Format(_) => Keyword::Format,
+            Failure::ContentEncoding(_) => Keyword::ContentEncoding,
+            Failure::ContentMediaType(_) => Keyword::ContentMediaType,
+            Failure::FromUtf8 => Keyword::ContentEncoding,
+        }
     }
 }

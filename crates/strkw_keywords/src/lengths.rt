@@ -9,14 +9,14 @@ ghost use Rattle.strkw_keywords.specs.Findings.{finding_of};
 mod build;
 
 use crate::checks::Checks;
-use crate::findings::{FindingRef, Findings, Found};
+use crate::findings::{Findings, Found};
 use crate::origin::Origin;
 use crate::parts::Parts;
 use crate::validate::{Uses, Validate};
 pub(crate) use build::{build_max, build_min};
 pub use build::{compile_max, compile_min};
 use std::alloc::Global;
-use strkw_report::Node;
+use strkw_report::{Failure, Node};
 
 /// Demands that a text has so many characters or more (2020-12, section 6.3.2).
 #[derive(Drop)]
@@ -42,23 +42,23 @@ pub struct LengthRangeValidator {
 }
 
 // The finding on a node with this number of characters.
-fn too_short(limit: u64, characters: Option<u64>) -> Option<FindingRef<'static>>
+fn too_short(limit: u64, characters: Option<u64>) -> Option<Failure<'static>>
     ensures { (text : List ℕ) → characters ≡ Some (length (chars text))
         → HasFinding (at_least limit) no_lists text (option_map finding_of result) }
 {
     if characters? < limit {
-        Some(FindingRef::MinLength(limit))
+        Some(Failure::MinLength(limit))
     } else {
         None
     }
 }
 
-fn too_long(limit: u64, characters: Option<u64>) -> Option<FindingRef<'static>>
+fn too_long(limit: u64, characters: Option<u64>) -> Option<Failure<'static>>
     ensures { (text : List ℕ) → characters ≡ Some (length (chars text))
         → HasFinding (at_most limit) no_lists text (option_map finding_of result) }
 {
     if characters? > limit {
-        Some(FindingRef::MaxLength(limit))
+        Some(Failure::MaxLength(limit))
     } else {
         None
     }

@@ -42,7 +42,7 @@ pub use content::{
     ContentMediaTypeValidator, ContentSchemaAnnotationValidator,
 };
 pub use entry::compile_entry;
-pub use findings::{FindingRef, Findings, Found};
+pub use findings::{Findings, Found};
 pub use format::{AnnotationOnlyFormatValidator, CustomFormatValidator, FormatValidator};
 pub use keyword::Keyword;
 pub use lengths::{LengthRangeValidator, MaxLengthValidator, MinLengthValidator};

@@ -3,7 +3,7 @@
 ghost use Rattle.std.specs.Prelude.{◌≡◌, None, []};
 ghost use Rattle.strkw_keywords.specs.Lists.{lists_of};
 ghost use Rattle.strkw_keywords.specs.Meanings.{no_lists};
-ghost use Rattle.strkw_keywords.specs.Object.{default_options, is_on, is_overridden, has_codec, codec_place};
+ghost use Rattle.strkw_keywords.specs.Object.{default_options, is_on, is_overridden, has_codec};
 
 use crate::checks::{Checks, ContentCodec, Format, MediaTypeCheck};
 use crate::keyword::Keyword;
@@ -111,7 +111,7 @@ impl Options {
     pub(crate) fn has_codec(&self, codec: Codec) -> bool
         ensures { result ≡ has_codec self.now codec }
     {
-        is_on(&self.codecs, codec_place(codec))
+        is_on(&self.codecs, codec as usize)
     }
 }
 
@@ -122,18 +122,5 @@ fn is_on(flags: &[bool], place: usize) -> bool
     match flags.get(place) {
         Some(flag) => *flag,
         None => false,
-    }
-}
-
-// The place of a codec among the flags.
-fn codec_place(codec: Codec) -> usize
-    ensures { result ≡ codec_place codec }
-{
-    match codec {
-        Codec::Base64 => 0,
-        Codec::Base64Url => 1,
-        Codec::Base32 => 2,
-        Codec::Base32Hex => 3,
-        Codec::Base16 => 4,
     }
 }

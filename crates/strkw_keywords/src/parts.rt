@@ -2,9 +2,8 @@
 
 ghost use Rattle.std.specs.Prelude.{◌≡◌, ◌↔◌, None, Some, true, false, IfOk, IsTrue};
 ghost use Rattle.strkw_keywords.specs.Lists.{lists_of};
-ghost use Rattle.strkw_keywords.specs.Meanings.{row_names, codec_names};
 ghost use Rattle.strkw_keywords.specs.Remarks.{remark_of};
-ghost use Rattle.strkw_keywords.specs.Parts.{noted_remark, IsFirst, RowsAreFirst};
+ghost use Rattle.strkw_keywords.specs.Parts.{noted_remark, RowsAreFirst};
 
 use crate::checks::{Checks, ContentCodec, Format, MediaTypeCheck};
 use crate::keyword::Keyword;
@@ -54,9 +53,19 @@ impl Parts<'_> {
     pub(crate) fn rows_are_first(&self, checks: &Checks) -> bool
         ensures { IsTrue result ↔ RowsAreFirst self.now (lists_of admits accepted encoded decoding checks.now) }
     {
-        is_first_format(self.format, checks)
-            && is_first_media_type(self.media_type, checks)
-            && is_first_codec(self.codec, checks)
+        let is_format_first = match self.format {
+            None => true,
+            Some(row) => checks.format_named(row.name) == Some(row.position),
+        };
+        let is_media_type_first = match self.media_type {
+            None => true,
+            Some(row) => checks.media_type_named(row.name) == Some(row.position),
+        };
+        let is_codec_first = match self.codec {
+            None => true,
+            Some(row) => checks.codec_named(row.name) == Some(row.position),
+        };
+        is_format_first && is_media_type_first && is_codec_first
     }
 }
 
@@ -114,34 +123,5 @@ impl Noted<'_> {
             schema_path: location.join(keyword.as_str())?,
             value,
         })
-    }
-}
-
-// ---- whether a row is the first of its name
-
-fn is_first_format(row: Option<RowRef>, checks: &Checks) -> bool
-    ensures { IsTrue result ↔ IsFirst row.entry (row_names (lists_of admits accepted encoded decoding checks.now).formats) }
-{
-    match row {
-        None => true,
-        Some(row) => checks.format_named(row.name) == Some(row.position),
-    }
-}
-
-fn is_first_media_type(row: Option<RowRef>, checks: &Checks) -> bool
-    ensures { IsTrue result ↔ IsFirst row.entry (row_names (lists_of admits accepted encoded decoding checks.now).media_types) }
-{
-    match row {
-        None => true,
-        Some(row) => checks.media_type_named(row.name) == Some(row.position),
-    }
-}
-
-fn is_first_codec(row: Option<RowRef>, checks: &Checks) -> bool
-    ensures { IsTrue result ↔ IsFirst row.entry (codec_names (lists_of admits accepted encoded decoding checks.now).codecs) }
-{
-    match row {
-        None => true,
-        Some(row) => checks.codec_named(row.name) == Some(row.position),
     }
 }

@@ -1,6 +1,6 @@
 //! The validators of `pattern`: four of literals, and one of engines.
 
-ghost use Rattle.std.specs.Prelude.{◌≡◌, [], ◌∷◌, None, IfOk, option_map, string_bytes};
+ghost use Rattle.std.specs.Prelude.{◌≡◌, [], ◌∷◌, None, option_map, string_bytes};
 ghost use Rattle.strkw_pattern.specs.Matcher.{literal_outcome, outcome_of};
 ghost use Rattle.strkw_keywords.specs.Meanings.{no_lists};
 ghost use Rattle.strkw_keywords.specs.LiteralKinds.{kind_of, prefix, exact, alternation, no_whitespace};
@@ -11,7 +11,7 @@ ghost use Rattle.std.specs.Str.{chars};
 mod build;
 
 use crate::checks::Checks;
-use crate::findings::{FindingRef, Findings, Found, FoundOne};
+use crate::findings::{Findings, Found};
 use crate::origin::Origin;
 use crate::parts::Parts;
 use crate::validate::{Uses, Validate};
@@ -19,7 +19,7 @@ pub(crate) use build::build_pattern;
 pub use build::compile;
 use std::alloc::{AllocError, Global};
 use strkw_pattern::{EngineFailure, LiteralMatcher, RegexEngine};
-use strkw_report::Node;
+use strkw_report::{Failure, Node};
 
 // A literal pattern, and what matches it.
 #[derive(Drop)]
@@ -29,14 +29,14 @@ pub(crate) struct Literal {
 }
 
 impl Literal {
-    fn finding(&self, alloc: Global, text: &str) -> Option<FindingRef<'_>>
+    fn finding(&self, alloc: Global, text: &str) -> Option<Failure<'_>>
         ensures { HasFinding (compares (string_bytes self.now.pattern) (literal_outcome self.now.matcher)) no_lists text.now
             (option_map finding_of result) }
     {
         if is_matched(alloc, &self.matcher, text) {
             None
         } else {
-            Some(FindingRef::Pattern(self.pattern.as_str()))
+            Some(Failure::Pattern(self.pattern.as_str()))
         }
     }
 }
@@ -154,23 +154,6 @@ pub struct PatternValidator<E> {
     pub(crate) engine: E,
 }
 
-impl<E: RegexEngine> PatternValidator<E> {
-    fn finding(&self, alloc: Global, text: &str) -> FoundOne<'_>
-        ensures { IfOk result (λ o. HasFinding (matches (string_bytes self.now.pattern) (E.outcome self.now.engine)) no_lists
-            text.now (option_map finding_of o)) }
-    {
-        match self.engine.is_match(alloc, text) {
-            Ok(true) => Ok(None),
-            Ok(false) => Ok(Some(FindingRef::Pattern(self.pattern.as_str()))),
-            Err(EngineFailure::BacktrackLimit) => {
-                Ok(Some(FindingRef::BacktrackLimit(self.pattern.as_str())))
-            }
-            Err(EngineFailure::Failed) => Ok(Some(FindingRef::EngineFailed(self.pattern.as_str()))),
-            Err(EngineFailure::Memory) => Err(AllocError),
-        }
-    }
-}
-
 impl<E: RegexEngine> Uses for PatternValidator<E> {
     ghost place = { λ v. v.origin };
 
@@ -183,6 +166,14 @@ impl<E: RegexEngine> Uses for PatternValidator<E> {
 
 impl<E: RegexEngine, N: Node> Validate<N> for PatternValidator<E> {
     fn findings(&self, alloc: Global, _node: &N, text: &str, _checks: &Checks) -> Found<'_> {
-        Ok(Findings::one(self.finding(alloc, text)?))
+        let pattern = self.pattern.as_str();
+        let failure = match self.engine.is_match(alloc, text) {
+            Ok(true) => None,
+            Ok(false) => Some(Failure::Pattern(pattern)),
+            Err(EngineFailure::BacktrackLimit) => Some(Failure::BacktrackLimitExceeded(pattern)),
+            Err(EngineFailure::Failed) => Some(Failure::RegexEngineFailure(pattern)),
+            Err(EngineFailure::Memory) => return Err(AllocError),
+        };
+        Ok(Findings::one(failure))
     }
 }

@@ -14,7 +14,7 @@ ghost use Rattle.strkw_keywords.specs.Remarks.{Remark, remark_of, annotation_of}
 ghost use Rattle.strkw_keywords.specs.Verdicts.{IsVerdict};
 
 use crate::checks::{Checks, ContentCodec, Format, MediaTypeCheck};
-use crate::findings::{Found, push_findings};
+use crate::findings::{Found, error_of, push_findings};
 use crate::note::Note;
 use crate::origin::Origin;
 use crate::parts::Parts;
@@ -184,7 +184,7 @@ pub trait Validate<N: Node>: Uses {
         match findings.first() {
             None => Ok(()),
             Some(finding) => {
-                let error = finding.error(alloc, self.origin(), text, site)?;
+                let error = error_of(alloc, finding, self.origin(), text, site)?;
                 Err(Fault::Invalid(error))
             }
         }

@@ -77,19 +77,7 @@ impl<E: RegexEngine> Validator<E> {
             Validator::MaxLength(v) => (0, v.limit),
             Validator::LengthRange(v) => (v.min, v.max),
             // A check of the caller says nothing of lengths, whatever its name.
-            Validator::CustomFormat(_) => (0, u64::MAX),
-            Validator::ContentMediaType(_)
-            | Validator::ContentEncoding(_)
-            | Validator::ContentMediaTypeAndEncoding(_)
-            | Validator::ContentMediaTypeAnnotation(_)
-            | Validator::ContentEncodingAnnotation(_)
-            | Validator::ContentSchemaAnnotation(_)
-            | Validator::AnnotationOnlyFormat(_)
-            | Validator::PrefixPattern(_)
-            | Validator::ExactPattern(_)
-            | Validator::AlternationPattern(_)
-            | Validator::NoWhitespacePattern(_)
-            | Validator::Pattern(_) => (0, u64::MAX),
+            _ => (0, u64::MAX),
         }
     }
 }

@@ -1,16 +1,17 @@
 //! What a text failed at, by names that are borrowed, and what is said of it, appended to bytes.
 
-ghost use Rattle.std.specs.Prelude.{◌≡◌, ℕ, List, ◌++◌, OnOk, OnErr, codes, decimal};
+ghost use Rattle.std.specs.Prelude.{◌≡◌, ℕ, List, ◌++◌, IfOk, OnOk, OnErr, codes, decimal};
 ghost use Rattle.serde_json.specs.Data.{string};
 ghost use Rattle.serde_json.specs.Written.{compact_text};
 ghost use Rattle.strkw_report.specs.Nouns.{characters};
 ghost use Rattle.strkw_report.specs.Kinds.{message};
 ghost use Rattle.strkw_report.specs.Failures.{kind_failed};
+ghost use Rattle.strkw_report.specs.KindOf.{kind_of};
 
-use crate::error::characters;
+use crate::error::{ErrorKind, characters};
 use crate::json_text::push_json_string;
 use itoa::Buffer;
-use std::alloc::AllocError;
+use std::alloc::{AllocError, Global};
 
 /// What a text failed at: an `ErrorKind` whose names are borrowed.
 #[derive(Clone, Copy, Debug)]
@@ -36,6 +37,35 @@ pub enum Failure<'a> {
 }
 
 impl Failure<'_> {
+    /// The same, with a copy of its name. It is refused only where it is out of memory.
+    pub fn kind(&self, alloc: Global) -> Result<ErrorKind, AllocError>
+        ensures { IfOk result (λ kind. kind_of kind ≡ kind_failed self.now) }
+    {
+        match self {
+            Failure::MinLength(limit) => Ok(ErrorKind::MinLength { limit: *limit }),
+            Failure::MaxLength(limit) => Ok(ErrorKind::MaxLength { limit: *limit }),
+            Failure::Pattern(pattern) => Ok(ErrorKind::Pattern {
+                pattern: String::from_str(alloc, pattern)?,
+            }),
+            Failure::BacktrackLimitExceeded(pattern) => Ok(ErrorKind::BacktrackLimitExceeded {
+                pattern: String::from_str(alloc, pattern)?,
+            }),
+            Failure::RegexEngineFailure(pattern) => Ok(ErrorKind::RegexEngineFailure {
+                pattern: String::from_str(alloc, pattern)?,
+            }),
+            Failure::Format(format) => Ok(ErrorKind::Format {
+                format: String::from_str(alloc, format)?,
+            }),
+            Failure::ContentEncoding(name) => Ok(ErrorKind::ContentEncoding {
+                name: String::from_str(alloc, name)?,
+            }),
+            Failure::ContentMediaType(name) => Ok(ErrorKind::ContentMediaType {
+                name: String::from_str(alloc, name)?,
+            }),
+            Failure::FromUtf8 => Ok(ErrorKind::FromUtf8),
+        }
+    }
+
     /// Appends what is said of a text that failed so, as `ValidationError::text` gives it. Out of memory, a beginning of
     /// it may have been appended.
     pub fn push_text(&self, text: &str, out: &mut Vec<u8>) -> Result<(), AllocError>

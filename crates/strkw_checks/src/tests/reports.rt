@@ -6,127 +6,91 @@ use serde_json::Value;
 use std::alloc::{AllocError, Global};
 use std::test::Fail;
 use strkw_report::{
-    CompileError, CompileErrorKind, ErrorKind, EvaluationResult, Location, Site, ValidationError,
-    error_at,
+    CompileError, CompileErrorKind, ErrorKind, EvaluationResult, Failure, Location, Site,
+    ValidationError, error_at,
 };
-
-// An error's kind, with a borrowed name.
-#[derive(Clone, Copy)]
-enum Fault {
-    MinLength(u64),
-    MaxLength(u64),
-    Pattern(&'static str),
-    BacktrackLimitExceeded(&'static str),
-    RegexEngineFailure(&'static str),
-    Format(&'static str),
-    ContentEncoding(&'static str),
-    ContentMediaType(&'static str),
-    FromUtf8,
-}
 
 fn owned(alloc: Global, text: &str) -> Result<String, AllocError> {
     String::from_str(alloc, text)
 }
 
-fn kind(alloc: Global, fault: Fault) -> Result<ErrorKind, AllocError> {
-    match fault {
-        Fault::MinLength(limit) => Ok(ErrorKind::MinLength { limit }),
-        Fault::MaxLength(limit) => Ok(ErrorKind::MaxLength { limit }),
-        Fault::Pattern(it) => Ok(ErrorKind::Pattern {
-            pattern: owned(alloc, it)?,
-        }),
-        Fault::BacktrackLimitExceeded(it) => {
-            Ok(ErrorKind::BacktrackLimitExceeded {
-                pattern: owned(alloc, it)?,
-            })
-        }
-        Fault::RegexEngineFailure(it) => {
-            Ok(ErrorKind::RegexEngineFailure {
-                pattern: owned(alloc, it)?,
-            })
-        }
-        Fault::Format(it) => Ok(ErrorKind::Format {
-            format: owned(alloc, it)?,
-        }),
-        Fault::ContentEncoding(it) => Ok(ErrorKind::ContentEncoding {
-            name: owned(alloc, it)?,
-        }),
-        Fault::ContentMediaType(it) => Ok(ErrorKind::ContentMediaType {
-            name: owned(alloc, it)?,
-        }),
-        Fault::FromUtf8 => Ok(ErrorKind::FromUtf8),
-    }
-}
-
 // What a text fails at, the text, and what is said.
-const ERRORS: [(Fault, &str, &str); 14] = [
+const ERRORS: [(Failure<'static>, &str, &str); 14] = [
     (
-        Fault::MinLength(5),
+        Failure::MinLength(5),
         "abcd",
         "\"abcd\" is shorter than 5 characters",
     ),
-    (Fault::MinLength(1), "", "\"\" is shorter than 1 character"),
     (
-        Fault::MaxLength(3),
+        Failure::MinLength(1),
+        "",
+        "\"\" is shorter than 1 character",
+    ),
+    (
+        Failure::MaxLength(3),
         "abcd",
         "\"abcd\" is longer than 3 characters",
     ),
     (
-        Fault::MaxLength(1),
+        Failure::MaxLength(1),
         "a\"b",
         "\"a\\\"b\" is longer than 1 character",
     ),
     (
-        Fault::MaxLength(0),
+        Failure::MaxLength(0),
         "é",
         "\"é\" is longer than 0 characters",
     ),
     (
-        Fault::MinLength(u64::MAX),
+        Failure::MinLength(u64::MAX),
         "\n",
         "\"\\n\" is shorter than 18446744073709551615 characters",
     ),
     (
-        Fault::Pattern("^foo"),
+        Failure::Pattern("^foo"),
         "barfoo",
         "\"barfoo\" does not match \"^foo\"",
     ),
     (
-        Fault::Pattern("^\"\\"),
+        Failure::Pattern("^\"\\"),
         "x",
         "\"x\" does not match \"^\"\\\"",
     ),
     (
-        Fault::BacktrackLimitExceeded("a+"),
+        Failure::BacktrackLimitExceeded("a+"),
         "x",
         "Error executing regex: Max limit for backtracking count exceeded",
     ),
     (
-        Fault::RegexEngineFailure("a+"),
+        Failure::RegexEngineFailure("a+"),
         "x",
         "Regex engine failed to evaluate pattern 'a+'",
     ),
-    (Fault::Format("date"), "abcd", "\"abcd\" is not a \"date\""),
     (
-        Fault::ContentEncoding("base64"),
+        Failure::Format("date"),
+        "abcd",
+        "\"abcd\" is not a \"date\"",
+    ),
+    (
+        Failure::ContentEncoding("base64"),
         "{}",
         "\"{}\" is not compliant with \"base64\" content encoding",
     ),
     (
-        Fault::ContentMediaType("application/json"),
+        Failure::ContentMediaType("application/json"),
         "ezp9Cg==",
         "\"ezp9Cg==\" is not compliant with \"application/json\" media type",
     ),
     (
-        Fault::FromUtf8,
+        Failure::FromUtf8,
         "//4=",
         "\"//4=\" does not decode to UTF-8 text",
     ),
 ];
 
 // An error at the root.
-fn error_of(alloc: Global, fault: Fault, text: &str) -> Result<ValidationError, AllocError> {
-    let kind = kind(alloc, fault)?;
+fn error_of(alloc: Global, failure: Failure, text: &str) -> Result<ValidationError, AllocError> {
+    let kind = failure.kind(alloc)?;
     let location = Location::root(alloc);
     error_at(alloc, kind, "k", text, &location, &None, &root_site(alloc))
 }
@@ -157,8 +121,8 @@ fn is_said(
 // what that call was lent is as it was.
 #[test]
 fn texts_of_errors_under_refusal(rt: HostRuntime) -> Result<(), Fail> {
-    for (fault, text, want) in ERRORS {
-        let error = error_of(rt.alloc(), fault, text)?;
+    for (failure, text, want) in ERRORS {
+        let error = error_of(rt.alloc(), failure, text)?;
         if !is_said(rt.alloc(), &error, text, want)? {
             return Err(Fail::new(want));
         }

@@ -5,34 +5,21 @@ ghost use Rattle.strkw_keywords.specs.Choices.{choice_of};
 ghost use Rattle.strkw_keywords.specs.Demands.{is_media_type, is_encoded, encodes_media_type, HasFinding};
 ghost use Rattle.strkw_keywords.specs.Findings.{finding_of};
 
-use super::{DecodedText, accepts, chosen_codec, chosen_media_type, decode, is_encoding};
+use super::{accepts, chosen_codec, chosen_media_type, decode, is_encoding};
 use crate::checks::{Checks, Choice, ContentCodec, Format, MediaTypeCheck};
-use crate::findings::{FindingRef, Findings, Found, FoundOne};
+use crate::findings::{Findings, Found, FoundOne};
 use crate::origin::Origin;
 use crate::parts::Parts;
 use crate::validate::{Uses, Validate};
-use std::alloc::Global;
-use strkw_coding::{BuiltinMediaType, Codec};
-use strkw_report::Node;
+use std::alloc::{AllocError, Global};
+use strkw_coding::{BuiltinMediaType, Codec, DecodeError};
+use strkw_report::{Failure, Node};
 
 /// Demands that a text is of a media type (draft 7, section 8.4).
 #[derive(Drop)]
 pub struct ContentMediaTypeValidator {
     pub(crate) origin: Origin,
     pub(crate) media_type: Choice<BuiltinMediaType>,
-}
-
-impl ContentMediaTypeValidator {
-    fn finding(&self, alloc: Global, text: &str, checks: &Checks) -> FoundOne<'_>
-        ensures { IfOk result (λ o. HasFinding (is_media_type (choice_of self.now.media_type))
-            (lists_of admits accepted encoded decoding checks.now) text.now (option_map finding_of o)) }
-    {
-        if accepts(alloc, &self.media_type, checks, text)? {
-            Ok(None)
-        } else {
-            Ok(Some(FindingRef::ContentMediaType(chosen_media_type(&self.media_type))))
-        }
-    }
 }
 
 impl Uses for ContentMediaTypeValidator {
@@ -47,7 +34,12 @@ impl Uses for ContentMediaTypeValidator {
 
 impl<N: Node> Validate<N> for ContentMediaTypeValidator {
     fn findings(&self, alloc: Global, _node: &N, text: &str, checks: &Checks) -> Found<'_> {
-        Ok(Findings::one(self.finding(alloc, text, checks)?))
+        let failure = if accepts(alloc, &self.media_type, checks, text)? {
+            None
+        } else {
+            Some(Failure::ContentMediaType(chosen_media_type(&self.media_type)))
+        };
+        Ok(Findings::one(failure))
     }
 }
 
@@ -66,7 +58,7 @@ impl ContentEncodingValidator {
         if is_encoding(alloc, &self.codec, checks, text)? {
             Ok(None)
         } else {
-            Ok(Some(FindingRef::ContentEncoding(chosen_codec(&self.codec))))
+            Ok(Some(Failure::ContentEncoding(chosen_codec(&self.codec))))
         }
     }
 }
@@ -102,16 +94,15 @@ impl ContentMediaTypeAndEncodingValidator {
         ensures { IfOk result (λ o. HasFinding (encodes_media_type (choice_of self.now.codec) (choice_of self.now.media_type))
             (lists_of admits accepted encoded decoding checks.now) text.now (option_map finding_of o)) }
     {
-        match decode(alloc, &self.codec, checks, text)? {
-            DecodedText::NoEncoding => Ok(Some(FindingRef::ContentEncoding(chosen_codec(
-                &self.codec,
-            )))),
-            DecodedText::NoText => Ok(Some(FindingRef::FromUtf8)),
-            DecodedText::Text(decoded) => {
+        match decode(alloc, &self.codec, checks, text) {
+            Ok(None) => Ok(Some(Failure::ContentEncoding(chosen_codec(&self.codec)))),
+            Err(DecodeError::NotUtf8) => Ok(Some(Failure::FromUtf8)),
+            Err(DecodeError::Memory) => Err(AllocError),
+            Ok(Some(decoded)) => {
                 if accepts(alloc, &self.media_type, checks, decoded.as_str())? {
                     Ok(None)
                 } else {
-                    Ok(Some(FindingRef::ContentMediaType(chosen_media_type(&self.media_type))))
+                    Ok(Some(Failure::ContentMediaType(chosen_media_type(&self.media_type))))
                 }
             }
         }

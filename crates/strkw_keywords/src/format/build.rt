@@ -3,7 +3,7 @@
 ghost use Rattle.std.specs.Prelude.{◌≡◌, Some};
 ghost use Rattle.serde_json.specs.View.{view, members_view};
 ghost use Rattle.strkw_keywords.specs.Settings.{place_in, settings_of};
-ghost use Rattle.strkw_keywords.specs.Object.{value_at, format_entry, checks_formats, checks_formats_itself, ignores_unknown};
+ghost use Rattle.strkw_keywords.specs.Object.{value_at, format_entry, checks_formats, ignores_unknown};
 ghost use Rattle.strkw_keywords.specs.Compiled.{alone, IsBuilt, IsCompiledAt};
 
 use crate::builtin::builtin_format;
@@ -93,17 +93,7 @@ fn checks_formats(options: &Options, draft: Draft) -> bool
 {
     match options.validate_formats {
         Some(wanted) => wanted,
-        None => checks_formats_itself(draft) || options.formats_by_dialect,
-    }
-}
-
-// Whether a draft checks formats where nothing else is said.
-fn checks_formats_itself(draft: Draft) -> bool
-    ensures { result ≡ checks_formats_itself draft }
-{
-    match draft {
-        Draft::Draft4 | Draft::Draft6 | Draft::Draft7 => true,
-        Draft::Draft201909 | Draft::Draft202012 => false,
+        None => draft <= Draft::Draft7 || options.formats_by_dialect,
     }
 }
 

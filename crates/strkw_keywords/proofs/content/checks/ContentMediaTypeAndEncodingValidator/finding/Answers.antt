@@ -6,9 +6,9 @@ use Rattle.strkw_keywords.proofs.content.checks.ContentMediaTypeAndEncodingValid
 pub returns-then-branch : goal.returns-then-branch
 returns-then-branch g c =
     decodes_well (choice_of c.args.self.now.codec) (choice_of c.args.self.now.media_type) _ c.args.text.now c.as_str.result.now _ _
-    (search rules) c.in_ok-decode.ensures c.if-branch.true c.in_ok-accepts-in-Text.ensures
+    (search rules) c.in-Ok-Some.ensures.text c.if-branch.true c.in_ok-accepts-in-Ok-Some.ensures
 
 pub returns : goal.returns
 returns g c =
     decodes_badly (choice_of c.args.self.now.codec) (choice_of c.args.self.now.media_type) _ c.args.text.now c.as_str.result.now c.chosen_media_type.result.now _ _
-    (search rules) c.in_ok-decode.ensures c.if-branch.false c.in_ok-accepts-in-Text.ensures c.chosen_media_type.ensures
+    (search rules) c.in-Ok-Some.ensures.text c.if-branch.false c.in_ok-accepts-in-Ok-Some.ensures c.chosen_media_type.ensures
