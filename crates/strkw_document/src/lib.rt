@@ -4,8 +4,6 @@
 mod document;
 mod faults;
 mod place;
-#[cfg(test)]
-mod tests;
 
 pub use document::check_document;
 pub use faults::DocumentFault;

@@ -10,8 +10,6 @@ mod plan;
 mod rows;
 mod schema_column;
 mod table;
-#[cfg(test)]
-mod tests;
 
 pub use faults::{PlanFault, TableFault};
 pub use instance::{check_instance, require_schema};

@@ -1,0 +1,83 @@
+//! Reads rows, one a line of JSON: a `plan`, and what is checked by it, the text of a CSV file (`file`) or a JSON document
+//! (`document`). Prints each row, and under it the messages and how the check ended: what it counted, or why it could not
+//! be done. A line that begins with `#` is copied.
+#![tactic(auto)]
+
+#[cfg(test)]
+mod tests;
+
+use serde_json::Value;
+use std::alloc::{AllocError, Global};
+use std::io;
+use strkw_document::check_document;
+use strkw_pattern::NoPatterns;
+use strkw_table::{Checked, Watch, check_table};
+
+#[derive(Drop)]
+struct Unwatched;
+
+impl Watch for Unwatched {
+    fn at(&mut self, _checked: Checked) {}
+}
+
+fn main(rt: HostRuntime) -> io::Result<()> {
+    for line in rt.lines(rt.alloc()) {
+        let lines = told(rt.alloc(), line?.as_str())?;
+        print!(rt; "{lines}")?;
+    }
+    Ok(())
+}
+
+// A line, and what is told of the row that it is.
+fn told(alloc: Global, line: &str) -> Result<String, AllocError> {
+    let mut lines = format!(in alloc; "{line}\n")?;
+    if line.is_empty() || line.starts_with('#') {
+        return Ok(lines);
+    }
+    let mut messages = Vec::new(alloc);
+    let ended = match Value::from_str(alloc, line) {
+        Ok(row) => ended(alloc, &row, &mut messages)?,
+        Err(_) => String::from_str(alloc, "no JSON")?,
+    };
+    lines.push_str(str::from_utf8(&messages).unwrap_or("messages that are not UTF-8\n"))?;
+    lines.push_str(&ended)?;
+    lines.push_str("\n")?;
+    Ok(lines)
+}
+
+// How the check of a row ended, with its messages appended.
+fn ended(alloc: Global, row: &Value, messages: &mut Vec<u8>) -> Result<String, AllocError> {
+    let Some(plan) = row.get("plan") else {
+        return String::from_str(alloc, "no plan");
+    };
+    match (row.get("file").and_then(Value::as_str), row.get("document")) {
+        (Some(file), None) => of_file(alloc, plan, file, messages),
+        (None, Some(document)) => of_document(alloc, plan, document, messages),
+        _ => String::from_str(alloc, "no file, or no document"),
+    }
+}
+
+fn of_file(
+    alloc: Global,
+    plan: &Value,
+    file: &str,
+    messages: &mut Vec<u8>,
+) -> Result<String, AllocError> {
+    let (mut watch, bytes) = (Unwatched, file.as_bytes());
+    match check_table(alloc, &NoPatterns, plan, bytes, messages, &mut watch) {
+        Ok(Checked { records, errors }) => format!(in alloc; "{records} records, {errors} errors"),
+        Err(fault) => format!(in alloc; "{fault}"),
+    }
+}
+
+fn of_document(
+    alloc: Global,
+    plan: &Value,
+    document: &Value,
+    messages: &mut Vec<u8>,
+) -> Result<String, AllocError> {
+    match check_document(alloc, &NoPatterns, plan, document, messages) {
+        Ok(errors) => format!(in alloc; "{errors} errors"),
+        Err(fault) => format!(in alloc; "{fault}"),
+    }
+}

@@ -1,0 +1,73 @@
+//! Both checks with each growth refused. With ample memory a row has to pass. `tools/refusals.py` runs it with each growth
+//! refused in turn too: then it ends as out of memory.
+
+use crate::Unwatched;
+use serde_json::Value;
+use std::alloc::{AllocError, Global};
+use std::test::Fail;
+use strkw_document::{DocumentFault, check_document};
+use strkw_pattern::NoPatterns;
+use strkw_table::{Checked, TableFault, check_table};
+
+// The value of a JSON text that is one.
+fn json(alloc: Global, text: &str) -> Result<Value, Fail> {
+    match Value::from_str(alloc, text) {
+        Ok(value) => Ok(value),
+        Err(error) if error.is_memory() => Err(AllocError.into()),
+        Err(_) => Err(Fail::new("no JSON")),
+    }
+}
+
+// What was answered and written, where that is what was to be.
+fn is_as_wanted(answer: bool, messages: &[u8], wanted: &str) -> Result<(), Fail> {
+    if answer && messages == wanted.as_bytes() {
+        Ok(())
+    } else {
+        Err(Fail::new(wanted))
+    }
+}
+
+// Where it had memory it writes every line.
+#[test]
+fn check_table_under_refusal(rt: HostRuntime) -> Result<(), Fail> {
+    let alloc = rt.alloc();
+    let plan = json(
+        alloc,
+        "{\"draft\":7,\"columns\":{\"a\":{\"format\":\"date\"},\"b\":{\"maxLength\":2}}}",
+    )?;
+    let file = "a,b\n2023-02-29,xy\n".as_bytes();
+    let mut out = Vec::with_capacity(alloc, 100)?;
+    let checked = match check_table(alloc, &NoPatterns, &plan, file, &mut out, &mut Unwatched) {
+        Ok(checked) => checked,
+        Err(TableFault::Memory) => return Err(AllocError.into()),
+        Err(_) => return Err(Fail::new("a fault where there is memory")),
+    };
+    let is_counted = checked.records == 1 && checked.errors == 1;
+    is_as_wanted(
+        is_counted,
+        &out,
+        "2: a: /format: \"2023-02-29\" is not a \"date\"\n",
+    )
+}
+
+// Where it had memory it writes every line.
+#[test]
+fn check_document_under_refusal(rt: HostRuntime) -> Result<(), Fail> {
+    let alloc = rt.alloc();
+    let plan = json(
+        alloc,
+        "{\"draft\":7,\"places\":{\"/server/name\":{\"maxLength\":2,\"minLength\":4},\"/server/host\":{\"format\":\"ipv4\"}}}",
+    )?;
+    let document = json(alloc, "{\"server\":{\"host\":\"::1\"}}")?;
+    let mut out = Vec::with_capacity(alloc, 100)?;
+    let errors = match check_document(alloc, &NoPatterns, &plan, &document, &mut out) {
+        Ok(errors) => errors,
+        Err(DocumentFault::Memory) => return Err(AllocError.into()),
+        Err(_) => return Err(Fail::new("a fault where there is memory")),
+    };
+    is_as_wanted(
+        errors == 2,
+        &out,
+        "/server/host: /format: \"::1\" is not a \"ipv4\"\n/server/name: missing\n",
+    )
+}
