@@ -297,15 +297,14 @@ fn ends_at_the_write_of_a_host(
     let taken = writer.taken.as_slice();
     let is_as_wanted = if fails_at < WRITES {
         let flushes = fails_at + usize::from(matches!(trouble, Trouble::Flush(_)));
-        ended == Err(RunFault::Write) && answers().starts_with(taken) && writer.flushes == flushes
+        ended == Err(RunFault::Write)
+            && answers().starts_with(taken)
+            && writer.writes == fails_at + 1
+            && writer.flushes == flushes
     } else {
-        ended == Ok(()) && taken == answers() && writer.flushes == WRITES
+        ended == Ok(()) && taken == answers() && writer.writes == WRITES && writer.flushes == WRITES
     };
-    Ok(
-        is_as_wanted
-            && has_failed == (fails_at < WRITES)
-            && writer.writes == WRITES.min(fails_at + 1),
-    )
+    Ok(is_as_wanted && has_failed == (fails_at < WRITES))
 }
 
 // The first write or flush that goes wrong ends the run, an interrupted one too: neither is tried again. Each write is
