@@ -4,6 +4,7 @@
 
 use serde_json::Value;
 use std::alloc::{AllocError, Global};
+use strkw_cli::draft_in;
 use strkw_keywords::{Keyword, Options};
 use strkw_report::{Draft, Location, Site};
 
@@ -22,28 +23,15 @@ pub fn text_at(items: &Value, place: usize) -> &str {
 
 /// The draft of a row.
 pub fn draft(row: &Value) -> Option<Draft> {
-    match row.get("draft").and_then(Value::as_u64)? {
-        4 => Some(Draft::Draft4),
-        6 => Some(Draft::Draft6),
-        7 => Some(Draft::Draft7),
-        201909 => Some(Draft::Draft201909),
-        202012 => Some(Draft::Draft202012),
-        _ => None,
-    }
+    row.get("draft").and_then(draft_in)
 }
 
 /// The keyword of a name.
 pub fn keyword_named(name: &str) -> Option<Keyword> {
-    match name {
-        "contentMediaType" => Some(Keyword::ContentMediaType),
-        "contentEncoding" => Some(Keyword::ContentEncoding),
-        "contentSchema" => Some(Keyword::ContentSchema),
-        "format" => Some(Keyword::Format),
-        "minLength" => Some(Keyword::MinLength),
-        "maxLength" => Some(Keyword::MaxLength),
-        "pattern" => Some(Keyword::Pattern),
-        _ => None,
-    }
+    Keyword::VARIANTS
+        .iter()
+        .copied()
+        .find(|keyword| keyword.as_str() == name)
 }
 
 fn flag(row: &Value, key: &str) -> Option<bool> {

@@ -15,9 +15,9 @@ use engine::Masks;
 use registered::{ArticleNumber, AsciiText, EightBit};
 use serde_json::Value;
 use std::alloc::Global;
-use strkw_cli::compile_strings;
+use strkw_cli::{StringKeywords, compile_strings};
 use strkw_keywords::{Checks, Context, NamedCodec, NamedFormat, NamedMediaType};
-use strkw_pattern::NoPatterns;
+use strkw_pattern::{LiteralMatcher, NoPatterns};
 use strkw_report::Draft;
 
 fn main(rt: HostRuntime) -> Result<()> {
@@ -130,11 +130,7 @@ fn print_registered(rt: &impl Print, alloc: Global) -> Result<()> {
 
 // Compiles with the caller's checks, and asks with them, and without them.
 fn print_verdicts(rt: &impl Print, alloc: Global, schema: &str, checks: &Checks) -> Result<()> {
-    let value = Value::from_str(alloc, schema)?;
-    let object = value.as_object().context("the schema is no object")?;
-    let mut ctx = Context::new(alloc, Draft::Draft7, &NoPatterns);
-    ctx.checks = lent_again::same_rows(checks);
-    let keywords = compile_strings(alloc, &ctx, object)?;
+    let keywords = compiled_with(alloc, schema, checks)?;
     for text in ["12345678", "éééééééé"] {
         let valid = lent_again::is_valid(alloc, &keywords, text, checks)?;
         println!(rt; "{schema} on {text}: {valid:?}")?;
@@ -142,4 +138,16 @@ fn print_verdicts(rt: &impl Print, alloc: Global, schema: &str, checks: &Checks)
     let without = lent_again::is_valid(alloc, &keywords, "", &Checks::none())?;
     println!(rt; "with no checks: {without:?}")?;
     Ok(())
+}
+
+fn compiled_with(
+    alloc: Global,
+    schema: &str,
+    checks: &Checks,
+) -> Result<StringKeywords<LiteralMatcher>> {
+    let value = Value::from_str(alloc, schema)?;
+    let object = value.as_object().context("the schema is no object")?;
+    let mut ctx = Context::new(alloc, Draft::Draft7, &NoPatterns);
+    ctx.checks = lent_again::same_rows(checks);
+    Ok(compile_strings(alloc, &ctx, object)?)
 }

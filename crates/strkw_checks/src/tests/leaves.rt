@@ -73,7 +73,13 @@ fn decode_by_name(codec: Codec, alloc: Global, text: &str) -> Result<Option<Stri
 }
 
 // Whether both calls that test a text for an encoding answer so.
-fn are_checked_so(alloc: Global, codec: Codec, text: &str, want: bool) -> Result<bool, AllocError> {
+fn are_checked_so(
+    alloc: Global,
+    codec: Codec,
+    text: &str,
+    encoded: Encoded,
+) -> Result<bool, AllocError> {
+    let want = !matches!(encoded, Encoded::Nothing);
     Ok(check_by_name(codec, alloc, text)? == want && codec.is_encoded(alloc, text)? == want)
 }
 
@@ -85,11 +91,15 @@ fn are_told_so(alloc: Global, text: &str, want: bool) -> Result<bool, AllocError
 #[test]
 fn checks_under_refusal(rt: HostRuntime) -> Result<(), Fail> {
     for (codec, text, encoded) in TEXTS {
-        let want = !matches!(encoded, Encoded::Nothing);
-        if !are_checked_so(rt.alloc(), codec, text, want)? {
+        if !are_checked_so(rt.alloc(), codec, text, encoded)? {
             return Err(Fail::new(text));
         }
     }
+    Ok(())
+}
+
+#[test]
+fn checks_of_json_under_refusal(rt: HostRuntime) -> Result<(), Fail> {
     for (text, want) in [("{\"a\":[1,\"x\"]}", true), ("[1,", false), ("", false)] {
         if !are_told_so(rt.alloc(), text, want)? {
             return Err(Fail::new(text));
@@ -178,18 +188,33 @@ fn matches_so(alloc: Global, found: PatternOptimization, matched: &str, unmatche
     matcher.is_match(alloc, matched) == Ok(true) && matcher.is_match(alloc, unmatched) == Ok(false)
 }
 
+fn is_shown_as(
+    alloc: Global,
+    found: &Option<PatternOptimization>,
+    want: &str,
+) -> Result<bool, AllocError> {
+    Ok(format!(in alloc; "{found:?}")?.as_str() == want)
+}
+
+// Whether a pattern is analyzed so; where it is literal, its matcher answers so on both texts.
+fn is_analyzed_so(
+    alloc: Global,
+    (pattern, want): (&str, &str),
+    (matched, unmatched): (&str, &str),
+) -> Result<bool, AllocError> {
+    let found = analyze_pattern(alloc, pattern)?;
+    let is_shown = is_shown_as(alloc, &found, want)?;
+    match found {
+        Some(found) => Ok(is_shown && matches_so(alloc, found, matched, unmatched)),
+        None => Ok(is_shown),
+    }
+}
+
 // Where the analysis had memory, its matcher answers.
 #[test]
 fn analyze_pattern_under_refusal(rt: HostRuntime) -> Result<(), Fail> {
-    let alloc = rt.alloc();
     for (pattern, want, matched, unmatched) in PATTERNS {
-        let found = analyze_pattern(alloc, pattern)?;
-        let is_shown_so = format!(in alloc; "{found:?}")?.as_str() == want;
-        let is_matched_so = match found {
-            Some(found) => matches_so(alloc, found, matched, unmatched),
-            None => true,
-        };
-        if !is_shown_so || !is_matched_so {
+        if !is_analyzed_so(rt.alloc(), (pattern, want), (matched, unmatched))? {
             return Err(Fail::new(pattern));
         }
     }

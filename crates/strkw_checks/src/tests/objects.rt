@@ -58,15 +58,21 @@ fn schemas_and_places() -> [(&'static str, Option<&'static str>); 9] {
     ]
 }
 
+// Whether the outcome is a refusal at this place, or none where there is no place.
+fn is_at(outcome: &Result<Keywords, CompileError>, place: Option<&str>) -> bool {
+    match outcome {
+        Ok(_keywords) => place.is_none(),
+        Err(refusal) => Some(refusal.location.as_str()) == place,
+    }
+}
+
 // Whether a schema object is compiled, or refused at its place.
 fn is_refused_at(alloc: Global, schema: &str, place: Option<&str>) -> Result<bool, Fail> {
     let builder = builder();
     let formats = [even_format(alloc)?];
     let ctx = context(alloc, Draft::Draft7, &builder, &formats)?;
-    match outcome_of(alloc, &ctx, schema)? {
-        Ok(_keywords) => Ok(place.is_none()),
-        Err(refusal) => Ok(Some(refusal.location.as_str()) == place),
-    }
+    let outcome = outcome_of(alloc, &ctx, schema)?;
+    Ok(is_at(&outcome, place))
 }
 
 #[test]
@@ -80,20 +86,30 @@ fn compile_strings_under_refusal(rt: HostRuntime) -> Result<(), Fail> {
 }
 
 // Whether a text is tested with no memory, and found valid or not.
+fn answers_quietly(
+    alloc: Global,
+    keywords: &Keywords,
+    checks: &Checks,
+    (text, valid): (&str, bool),
+) -> Result<bool, AllocError> {
+    let node = Value::try_from_str(alloc, text)?;
+    Ok(
+        keywords.uses(checks)
+            && keywords.takes_no_memory()
+            && keywords.is_valid(alloc, &node, checks) == Ok(valid),
+    )
+}
+
+// The same by an object whose entries take no memory.
 fn is_tested_without_memory(alloc: Global, text: &str, valid: bool) -> Result<bool, Fail> {
     let builder = builder();
     let formats = [even_format(alloc)?];
     let ctx = context(alloc, Draft::Draft7, &builder, &formats)?;
     let schema = r#"{"format":"uri","minLength":1,"pattern":"^a"}"#;
-    let Ok(keywords) = outcome_of(alloc, &ctx, schema)? else {
-        return Err(Fail::new("refused"));
-    };
-    let node = Value::try_from_str(alloc, text)?;
-    Ok(
-        keywords.uses(&ctx.checks)
-            && keywords.takes_no_memory()
-            && keywords.is_valid(alloc, &node, &ctx.checks) == Ok(valid),
-    )
+    match outcome_of(alloc, &ctx, schema)? {
+        Ok(keywords) => Ok(answers_quietly(alloc, &keywords, &ctx.checks, (text, valid))?),
+        Err(_refusal) => Err(Fail::new("refused")),
+    }
 }
 
 // Testing a text by these takes no memory: wherever the compilation had enough, there is an answer.
@@ -205,19 +221,43 @@ fn answers_so(
     }
 }
 
-// Asks of each object whether a call answers as it is to. What the call was lent is as it was, whatever it answered.
-fn asked_of_objects(alloc: Global, call: Call) -> Result<(), Fail> {
+// Whether a call answers of a text as it is to. The text and the place are as they were, whatever it answered.
+fn is_answered_so(
+    alloc: Global,
+    call: Call,
+    keywords: &Keywords,
+    checks: &Checks,
+    text: &str,
+    wanted: (&str, &str),
+) -> Result<bool, AllocError> {
+    let (node, site) = (Value::try_from_str(alloc, text)?, root_site(alloc));
+    let answer = answers_so(alloc, call, keywords, checks, (&node, &site), wanted);
+    Ok(are_lent(&node, text, &site) && answer?)
+}
+
+// The same of an object in a draft, which the call leaves as it was.
+fn is_asked_so(
+    alloc: Global,
+    call: Call,
+    draft: Draft,
+    (schema, text): (&str, &str),
+    wanted: (&str, &str),
+) -> Result<bool, Fail> {
     let builder = builder();
     let formats = [even_format(alloc)?];
+    let ctx = context(alloc, draft, &builder, &formats)?;
+    match outcome_of(alloc, &ctx, schema)? {
+        Ok(keywords) => {
+            let answer = is_answered_so(alloc, call, &keywords, &ctx.checks, text, wanted);
+            Ok(is_as_made(alloc, &ctx, draft) && answer?)
+        }
+        Err(_refusal) => Ok(false),
+    }
+}
+
+fn asked_of_objects(alloc: Global, call: Call) -> Result<(), Fail> {
     for (draft, schema, text, errors, notes) in OBJECTS {
-        let ctx = context(alloc, draft, &builder, &formats)?;
-        let Ok(keywords) = outcome_of(alloc, &ctx, schema)? else {
-            return Err(Fail::new(schema));
-        };
-        let (node, site) = (Value::try_from_str(alloc, text)?, root_site(alloc));
-        let lent = (&node, &site);
-        let answer = answers_so(alloc, call, &keywords, &ctx.checks, lent, (errors, notes));
-        if !are_lent(&node, text, &site) || !is_as_made(alloc, &ctx, draft) || !answer? {
+        if !is_asked_so(alloc, call, draft, (schema, text), (errors, notes))? {
             return Err(Fail::new(schema));
         }
     }

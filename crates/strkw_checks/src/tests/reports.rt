@@ -116,14 +116,24 @@ fn is_said(
     }
 }
 
+// Whether a text that fails at this says so.
+fn is_failed_so(
+    alloc: Global,
+    failure: Failure,
+    text: &str,
+    want: &str,
+) -> Result<bool, AllocError> {
+    let error = error_of(alloc, failure, text)?;
+    is_said(alloc, &error, text, want)
+}
+
 // A row whose name ends in `_under_refusal` is run with ample memory, when it has to pass, and by `tools/refusals.py`
 // with each growth refused in turn: then it ends with the error of the call that was refused, once it has shown that
 // what that call was lent is as it was.
 #[test]
 fn texts_of_errors_under_refusal(rt: HostRuntime) -> Result<(), Fail> {
     for (failure, text, want) in ERRORS {
-        let error = error_of(rt.alloc(), failure, text)?;
-        if !is_said(rt.alloc(), &error, text, want)? {
+        if !is_failed_so(rt.alloc(), failure, text, want)? {
             return Err(Fail::new(want));
         }
     }
@@ -215,11 +225,16 @@ fn is_told(alloc: Global, refusal: &CompileError, want: &str) -> Result<bool, Al
     }
 }
 
+// Whether what is refused for this says so.
+fn is_refused_so(alloc: Global, why: Why, want: &str) -> Result<bool, Fail> {
+    let refusal = refusal_of(alloc, why)?;
+    Ok(is_told(alloc, &refusal, want)?)
+}
+
 #[test]
 fn texts_of_refusals_under_refusal(rt: HostRuntime) -> Result<(), Fail> {
     for (why, want) in REFUSALS {
-        let refusal = refusal_of(rt.alloc(), why)?;
-        if !is_told(rt.alloc(), &refusal, want)? {
+        if !is_refused_so(rt.alloc(), why, want)? {
             return Err(Fail::new(want));
         }
     }
@@ -269,14 +284,18 @@ fn is_pointer(alloc: Global, place: &Location, want: &str) -> Result<bool, Alloc
     Ok(place.to_string(alloc)?.as_str() == want && copy?.as_str() == want)
 }
 
+// Whether the place of these segments is this pointer.
+fn are_joined_to(alloc: Global, segments: &[&str], want: &str) -> Result<bool, AllocError> {
+    match place_of(alloc, segments)? {
+        Some(place) => is_pointer(alloc, &place, want),
+        None => Ok(false),
+    }
+}
+
 #[test]
 fn pointers_of_places_under_refusal(rt: HostRuntime) -> Result<(), Fail> {
     for (segments, want) in PLACES {
-        let is_so = match place_of(rt.alloc(), segments)? {
-            Some(place) => is_pointer(rt.alloc(), &place, want)?,
-            None => false,
-        };
-        if !is_so {
+        if !are_joined_to(rt.alloc(), segments, want)? {
             return Err(Fail::new(want));
         }
     }
@@ -312,15 +331,32 @@ fn is_error_of_the_item(error: &ValidationError) -> bool {
         && error.absolute.as_deref() == Some("https://example.com/s.json#/minLength")
 }
 
+// A result with a note alone.
+fn noted(alloc: Global) -> Result<EvaluationResult, AllocError> {
+    Ok(EvaluationResult {
+        errors: Vec::new(alloc),
+        annotation: Some(Value::try_from_str(alloc, "date")?),
+    })
+}
+
+fn is_noted_alone(found: &EvaluationResult) -> bool {
+    found.errors.is_empty() && found.annotation.as_ref().and_then(Value::as_str) == Some("date")
+}
+
+#[test]
+fn fields_of_an_error_under_refusal(rt: HostRuntime) -> Result<(), Fail> {
+    if is_error_of_the_item(&error_of_an_item(rt.alloc())?) {
+        Ok(())
+    } else {
+        Err(Fail::new("another error"))
+    }
+}
+
 #[test]
 fn fields_of_a_result_under_refusal(rt: HostRuntime) -> Result<(), Fail> {
-    let error = error_of_an_item(rt.alloc())?;
-    assert!(rt; is_error_of_the_item(&error));
-    let result = EvaluationResult {
-        errors: Vec::new(rt.alloc()),
-        annotation: Some(Value::try_from_str(rt.alloc(), "date")?),
-    };
-    let annotation = result.annotation.as_ref().and_then(Value::as_str);
-    assert!(rt; result.errors.is_empty() && annotation == Some("date"));
-    Ok(())
+    if is_noted_alone(&noted(rt.alloc())?) {
+        Ok(())
+    } else {
+        Err(Fail::new("another result"))
+    }
 }
