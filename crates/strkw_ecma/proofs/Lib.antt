@@ -20,4 +20,5 @@ pub mod Same
 pub mod Apart
 pub mod Complements
 pub mod Rows
+pub mod Bytes
 pub mod Distinct

@@ -1,5 +1,5 @@
 -- A right table gives the answers of the search.
-use Rattle.std.proofs.Common.{◌≡◌, ℕ, suc, ◌-◌, ◌<◌, ◌≤◌, ◌==◌, true, false, List, length, get_or, Option, Some, None, slice_get, refl, sym, ap, subst, ◌∙◌, arith}
+use Rattle.std.proofs.Common.{◌≡◌, ℕ, suc, ◌-◌, ◌<◌, ◌≤◌, ◌==◌, true, false, List, length, get_or, Option, Some, None, refl, sym, ap, subst, ◌∙◌, arith}
 use Rattle.std.proofs.lemmas.Str.{scalars-chars}
 use Rattle.std.specs.Char.{IsScalar}
 use Rattle.std.specs.Str.{chars}
@@ -8,7 +8,7 @@ use Rattle.strkw_ecma.specs.Sets.{word_characters}
 use Rattle.strkw_ecma.specs.Meaning.{is_word, is_edge}
 use Rattle.strkw_ecma.specs.Marks.{leaves, step}
 use Rattle.strkw_ecma.specs.Shape.{pattern_of}
-use Rattle.strkw_ecma.specs.Table.{class_of, entry_at, found, covers, IsEntry, IsRow, IsTable, Searches}
+use Rattle.strkw_ecma.specs.Table.{class_of, entry_at, row_after, found, covers, IsRowOf, IsEntry, IsRow, IsTable, Searches}
 use Rattle.strkw_ecma.specs.declared.states.State.{State}
 use Rattle.strkw_ecma.proofs.Alike.{class_most, first_below, has_each, in_some_class, same_firsts, SameFirsts, same_leaves, same_ranges, same_step, step_covers}
 use Rattle.strkw_ecma.proofs.Walks.{walks}
@@ -17,7 +17,7 @@ module _ (firsts entries : List ℕ) (states : List State) (p : Pattern) (table 
   -- the row stands for the marks of p behind b
   pub record At (row : ℕ) (q : Pattern) (b : Option ℕ) : Type 0 where
     pub state : State
-    pub of_row : slice_get states row ≡ Some state
+    pub of_row : IsRowOf states row state
     pub marks : pattern_of state.tree ≡ q
     pub word : is_word state.last ≡ is_word b
     pub edge : is_edge state.last ≡ is_edge b
@@ -51,8 +51,8 @@ module _ (firsts entries : List ℕ) (states : List State) (p : Pattern) (table 
     below : first ≤ c
     below = first_below firsts first c alike (has_each firsts _ within)
 
-    entry : IsEntry states at.state first (entry_at entries row (class_of firsts c))
-    entry = subst (λ (k : ℕ). IsEntry states at.state first (entry_at entries row k)) (sym class_is) ((row_of row q b at).reads _ within)
+    entry : IsEntry states at.state row first (entry_at entries row (class_of firsts c))
+    entry = subst (λ (k : ℕ). IsEntry states at.state row first (entry_at entries row k)) (sym class_is) ((row_of row q b at).reads _ within)
 
     next_word : is_word (Some first) ≡ is_word (Some c)
     next_word = same_ranges firsts first c alike below char word_characters table.words
@@ -71,7 +71,7 @@ module _ (firsts entries : List ℕ) (states : List State) (p : Pattern) (table 
     pub finds : (entry_at entries row (class_of firsts c) == found) ≡ leaves b (Some c) q true
     finds = entry.finds ∙ here
 
-    pub goes : leaves b (Some c) q true ≡ false → At (entry_at entries row (class_of firsts c)) (step b (Some c) q true) (Some c)
+    pub goes : leaves b (Some c) q true ≡ false → At (row_after row (entry_at entries row (class_of firsts c))) (step b (Some c) q true) (Some c)
     goes none =
         let next = entry.goes (here ∙ none) in
         record {
@@ -88,7 +88,7 @@ module _ (firsts entries : List ℕ) (states : List State) (p : Pattern) (table 
       let first = table.begins in
       record {
         state = first.0;
-        of_row = first.1;
+        of_row = (0, refl, first.1);
         marks = first.2;
         word = ap is_word first.3;
         edge = ap is_edge first.3;

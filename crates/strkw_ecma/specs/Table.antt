@@ -1,5 +1,5 @@
 -- A table of the search: a row for marks that it can come to, and in a row a column for the end of the text and one for each
--- class of characters that the pattern does not tell apart.
+-- class of characters that the pattern does not tell apart. A row is told by the place of its first entry.
 use Rattle.std.specs.Prelude.{◌≡◌, ℕ, suc, ◌+◌, ◌*◌, ◌<◌, ◌==◌, nat_le, Bool, true, false, ◌&&◌, ◌||◌, List, [], ◌∷◌, length, Option, Some, None, get_or, slice_get, if◌then◌else◌}
 use Rattle.std.specs.Str.{IsUtf8, chars}
 use Rattle.strkw_ecma.specs.Tree.{Pattern, empty, class, look, cat, alt, star, plus}
@@ -20,17 +20,26 @@ abbrev pub stride : ℕ
 stride = 64
 
 abbrev pub found : ℕ
-found = 255
+found = 0xFFFF
+
+-- the entry that leads to the row behind its own
+abbrev pub next_row : ℕ
+next_row = 0xFFFE
 
 -- column 0 is that of the end of the text
 abbrev pub entry_at : List ℕ → ℕ → ℕ → ℕ
-entry_at entries row column = get_or entries (row * stride + column) 0
+entry_at entries row column = get_or entries (row + column) 0
 
--- The search by a table: an entry says that the pattern is found, or it names the next row.
+-- the row that an entry of a row leads to
+abbrev pub row_after : ℕ → ℕ → ℕ
+row_after row entry = if entry == next_row then row + stride else entry
+
+-- The search by a table: an entry says that the pattern is found, or it leads to a row.
 abbrev pub walk : List ℕ → List ℕ → ℕ → List ℕ → Bool
 walk firsts entries row [] = entry_at entries row 0 == found
 walk firsts entries row (c ∷ cs) =
-    (entry_at entries row (class_of firsts c) == found) || walk firsts entries (entry_at entries row (class_of firsts c)) cs
+    (entry_at entries row (class_of firsts c) == found)
+    || walk firsts entries (row_after row (entry_at entries row (class_of firsts c))) cs
 
 abbrev pub has : List ℕ → ℕ → Bool
 has [] t = false
@@ -59,16 +68,20 @@ covers firsts (alt p q) = covers firsts p && covers firsts q
 covers firsts (star p) = covers firsts p
 covers firsts (plus p) = covers firsts p
 
--- the state with this number has these marks, and stands behind a character like c
-abbrev pub IsBehind : List State → ℕ → Pattern → ℕ → Type 0
-IsBehind states entry p c =
-    (t : State) × (slice_get states entry ≡ Some t) × (pattern_of t.tree ≡ p) × (is_word t.last ≡ is_word (Some c)) × (is_edge t.last ≡ false)
+-- the row stands for a state
+abbrev pub IsRowOf : List State → ℕ → State → Type 0
+IsRowOf states row s = (n : ℕ) × (row ≡ n * stride) × (slice_get states n ≡ Some s)
 
--- the entry is right for a state of the search and the next character
-pub record IsEntry (states : List State) (s : State) (c : ℕ) (entry : ℕ) : Type 0 where
+-- the state of the row has these marks, and stands behind a character like c
+abbrev pub IsBehind : List State → ℕ → Pattern → ℕ → Type 0
+IsBehind states row p c =
+    (t : State) × IsRowOf states row t × (pattern_of t.tree ≡ p) × (is_word t.last ≡ is_word (Some c)) × (is_edge t.last ≡ false)
+
+-- the entry of a row is right for a state of the search and the next character
+pub record IsEntry (states : List State) (s : State) (row c entry : ℕ) : Type 0 where
   pub finds : (entry == found) ≡ leaves s.last (Some c) (pattern_of s.tree) true
   pub goes : leaves s.last (Some c) (pattern_of s.tree) true ≡ false
-      → IsBehind states entry (step s.last (Some c) (pattern_of s.tree) true) c
+      → IsBehind states (row_after row entry) (step s.last (Some c) (pattern_of s.tree) true) c
 
 -- in every text the search by this table is that of the pattern
 abbrev pub Searches : List ℕ → List ℕ → Pattern → Type 0
@@ -77,7 +90,7 @@ Searches firsts entries p = (text : List ℕ) → IsUtf8 text → walk firsts en
 -- the row is right for a state, and for the first character of each class
 pub record IsRow (firsts entries : List ℕ) (states : List State) (s : State) (row : ℕ) : Type 0 where
   pub ends : (entry_at entries row 0 == found) ≡ leaves s.last None (pattern_of s.tree) true
-  pub reads : (k : ℕ) → k < length firsts → IsEntry states s (get_or firsts k 0) (entry_at entries row (suc k))
+  pub reads : (k : ℕ) → k < length firsts → IsEntry states s row (get_or firsts k 0) (entry_at entries row (suc k))
 
 -- the table is right, with a state for each row, for a pattern
 pub record IsTable (firsts entries : List ℕ) (states : List State) (p : Pattern) : Type 0 where
@@ -87,4 +100,4 @@ pub record IsTable (firsts entries : List ℕ) (states : List State) (p : Patter
   pub numbered : (k : ℕ) → k < length firsts → class_of firsts (get_or firsts k 0) ≡ suc k
   pub first : has firsts 0 ≡ true
   pub begins : (s : State) × (slice_get states 0 ≡ Some s) × (pattern_of s.tree ≡ p) × (s.last ≡ None)
-  pub rows : (row : ℕ) (s : State) → slice_get states row ≡ Some s → IsRow firsts entries states s row
+  pub rows : (row : ℕ) (s : State) → IsRowOf states row s → IsRow firsts entries states s row

@@ -13,6 +13,7 @@ mod making;
 mod marks;
 mod names;
 mod reader;
+mod runs;
 mod sets;
 mod states;
 mod table;

@@ -1,18 +1,18 @@
 //! How the table of a pattern is made: from the state at the beginning of a text on, by each class of characters.
 
-ghost use Rattle.std.specs.Prelude.{◌≡◌, ◌<◌, ℕ, List, length, get_or, IfOk, MatchOption};
+ghost use Rattle.std.specs.Prelude.{◌≡◌, ◌≤◌, ◌<◌, ℕ, List, length, get_or, IfOk, MatchOption};
 ghost use Rattle.strkw_ecma.specs.Shape.{pattern_of};
 ghost use Rattle.strkw_ecma.specs.Table.{class_of as spec_class_of, stride, Searches};
 
 use crate::marks::{leaves_tree, step_tree};
+use crate::runs::mark_runs;
 use crate::sets::WORD_CHARACTERS;
 use crate::states::{State, is_table};
-use crate::table::{FOUND, STRIDE, Table, class_of, next_char};
+use crate::table::{FOUND, STRIDE, Table, class_of, next_char, place_of};
 use crate::tree::{CharRange, Tree};
 use std::alloc::{AllocError, Global};
 
-/// The most states of a table, whose numbers are bytes, of which the last stands for `FOUND`. A pattern with more is
-/// searched by its marks.
+/// The most states of a table. A pattern with more is searched by its marks.
 const MOST_ROWS: usize = 255;
 
 /// How many nodes may be stepped to make a table. Each entry costs a step of the whole pattern.
@@ -82,10 +82,10 @@ fn firsts_of(alloc: Global, tree: &Tree) -> Result<Vec<char>, AllocError> {
 }
 
 // The number of the state of these marks behind a character.
-fn number_of(states: &[State], tree: &Tree, last: char) -> Option<u8> {
-    for (row, state) in states.iter().enumerate() {
+fn number_of(states: &[State], tree: &Tree, last: char) -> Option<usize> {
+    for (number, state) in states.iter().enumerate() {
         if state.is_that_of(tree, last) {
-            return u8::try_from(row).ok();
+            return Some(number);
         }
     }
     None
@@ -95,30 +95,29 @@ fn number_of(states: &[State], tree: &Tree, last: char) -> Option<u8> {
 fn entry_of(
     alloc: Global,
     states: &mut Vec<State>,
-    row: usize,
+    number: usize,
     c: char,
     most_rows: usize,
-) -> Result<Option<u8>, AllocError> {
-    let Some(state) = states.get(row) else {
+) -> Result<Option<u16>, AllocError> {
+    let Some(state) = states.get(number) else {
         return Ok(None);
     };
     let mut tree = state.tree.copy(alloc)?;
     if step_tree(&mut tree, state.last, Some(c), true) {
-        return Ok(Some(FOUND));
+        return Ok(Some(FOUND as u16));
     }
-    let known = number_of(states, &tree, c);
-    if known.is_some() {
-        return Ok(known);
+    if let Some(known) = number_of(states, &tree, c) {
+        return Ok(place_of(known));
     }
-    let number = states.len();
-    if number >= most_rows {
+    let added = states.len();
+    if added >= most_rows {
         return Ok(None);
     }
     states.push(State {
         tree,
         last: Some(c),
     })?;
-    Ok(u8::try_from(number).ok())
+    Ok(place_of(added))
 }
 
 // The row of a state, behind the rows before it. Whether there is room for the states that follow it.
@@ -126,17 +125,17 @@ fn add_row(
     alloc: Global,
     firsts: &[char],
     states: &mut Vec<State>,
-    entries: &mut Vec<u8>,
-    row: usize,
+    entries: &mut Vec<u16>,
+    number: usize,
     most_rows: usize,
 ) -> Result<bool, AllocError> {
-    let ends = match states.get(row) {
+    let ends = match states.get(number) {
         Some(state) => leaves_tree(&state.tree, state.last, None, true),
         None => false,
     };
-    entries.push(if ends { FOUND } else { 0 })?;
+    entries.push(if ends { FOUND as u16 } else { 0 })?;
     for c in firsts {
-        match entry_of(alloc, states, row, *c, most_rows)? {
+        match entry_of(alloc, states, number, *c, most_rows)? {
             Some(entry) => entries.push(entry)?,
             None => return Ok(false),
         }
@@ -149,7 +148,8 @@ fn add_row(
 
 fn ascii_classes(alloc: Global, firsts: &[char]) -> Result<Vec<u8>, AllocError>
     requires { length firsts.now < stride }
-    ensures { IfOk result (λ classes. (c : ℕ) → c < length classes.items → get_or classes.items c 0 ≡ spec_class_of firsts.now c) }
+    ensures bytes { IfOk result (λ classes. length classes.items ≤ 128) }
+    ensures classes { IfOk result (λ classes. (c : ℕ) → c < length classes.items → get_or classes.items c 0 ≡ spec_class_of firsts.now c) }
 {
     let mut classes = Vec::new(alloc);
     for byte in 0..128u8 {
@@ -162,7 +162,7 @@ fn ascii_classes(alloc: Global, firsts: &[char]) -> Result<Vec<u8>, AllocError>
 fn table_if_right(
     alloc: Global,
     firsts: Vec<char>,
-    entries: Vec<u8>,
+    entries: Vec<u16>,
     states: &[State],
     tree: &Tree,
 ) -> Result<Option<Table>, AllocError>
@@ -194,11 +194,12 @@ pub(crate) fn table_of(alloc: Global, tree: &Tree) -> Result<Option<Table>, Allo
     })?;
     let mut entries = Vec::new(alloc);
     let most_rows = most_rows(tree, &firsts);
-    for row in 0..=most_rows {
-        if row == states.len() {
+    for number in 0..=most_rows {
+        if number == states.len() {
+            mark_runs(&mut entries, number);
             return table_if_right(alloc, firsts, entries, &states, tree);
         }
-        if !add_row(alloc, &firsts, &mut states, &mut entries, row, most_rows)? {
+        if !add_row(alloc, &firsts, &mut states, &mut entries, number, most_rows)? {
             return Ok(None);
         }
     }

@@ -1,13 +1,13 @@
 //! How the table of a pattern is made, and that it is right: each entry is compared with a step of the marks.
 
-ghost use Rattle.std.specs.Prelude.{◌≡◌, ◌==◌, ◌≤◌, ◌<◌, ℕ, suc, List, length, true, false, IsTrue, IfOk, None, Some, get_or, slice_get};
+ghost use Rattle.std.specs.Prelude.{◌≡◌, ◌^◌, ◌==◌, ◌≤◌, ◌<◌, ℕ, suc, List, length, true, false, IsTrue, IfOk, None, Some, get_or, slice_get};
 ghost use Rattle.strkw_ecma.specs.Meaning.{is_word as spec_is_word, is_edge as spec_is_edge};
 ghost use Rattle.strkw_ecma.specs.Shape.{pattern_of};
-ghost use Rattle.strkw_ecma.specs.Table.{class_of as spec_class_of, entry_at as spec_entry_at, found, has, has_if_some as spec_has_if_some, covers as spec_covers, covers_ranges as spec_covers_ranges, stride, IsBehind, IsEntry, IsRow, IsTable};
+ghost use Rattle.strkw_ecma.specs.Table.{class_of as spec_class_of, entry_at as spec_entry_at, row_after as spec_row_after, found, has, has_if_some as spec_has_if_some, covers as spec_covers, covers_ranges as spec_covers_ranges, stride, IsRowOf, IsBehind, IsEntry, IsRow, IsTable};
 
 use crate::marks::{is_word, leaves_tree, step_tree};
 use crate::sets::WORD_CHARACTERS;
-use crate::table::{FOUND, STRIDE, Table, class_of, entry_at, next_char};
+use crate::table::{FOUND, NEXT_ROW, STRIDE, Table, class_of, entry_at, next_char};
 use crate::tree::{CharRange, Tree};
 use std::alloc::{AllocError, Global};
 
@@ -132,48 +132,78 @@ fn are_numbered(firsts: &[char]) -> bool
     true
 }
 
-// Whether an entry says that the pattern is found, or else names the state of these marks behind a character.
-fn leads_to(states: &[State], entry: u8, is_found: bool, after: &Tree, c: char) -> bool
-    ensures finds { IsTrue result → (entry == found) ≡ is_found }
-    ensures state { IsTrue result → is_found ≡ false → IsBehind states.now entry (pattern_of after.now) c }
+// The row that an entry of a row leads to.
+fn row_after(row: usize, entry: usize) -> usize
+    requires { row < 2 ^ 32 }
+    ensures { result ≡ spec_row_after row entry }
 {
-    if is_found {
-        return entry == FOUND;
+    match entry {
+        NEXT_ROW => row + STRIDE,
+        place => place,
     }
-    if entry == FOUND {
+}
+
+// Whether the row is that of these marks behind a character.
+fn is_behind(states: &[State], row: usize, after: &Tree, c: char) -> bool
+    ensures { IsTrue result → IsBehind states.now row (pattern_of after.now) c }
+{
+    let number = row / STRIDE;
+    if number * STRIDE != row {
         return false;
     }
-    match states.get(usize::from(entry)) {
+    match states.get(number) {
         Some(state) => state.is_that_of(after, c),
         None => false,
     }
 }
 
-// Whether an entry is right for a state and the next character.
+// Whether an entry of a row says that the pattern is found, or else leads to the row of these marks behind a character.
+fn leads_to(
+    states: &[State],
+    row: usize,
+    entry: usize,
+    is_found: bool,
+    after: &Tree,
+    c: char,
+) -> bool
+    requires { row < 2 ^ 32 }
+    ensures finds { IsTrue result → (entry == found) ≡ is_found }
+    ensures state { IsTrue result → is_found ≡ false → IsBehind states.now (spec_row_after row entry) (pattern_of after.now) c }
+{
+    if is_found {
+        return entry == FOUND;
+    }
+    entry != FOUND && is_behind(states, row_after(row, entry), after, c)
+}
+
+// Whether an entry of a row is right for a state and the next character.
 fn is_entry(
     alloc: Global,
     states: &[State],
     state: &State,
+    row: usize,
     c: char,
-    entry: u8,
+    entry: usize,
 ) -> Result<bool, AllocError>
-    ensures { IfOk result (λ right. IsTrue right → IsEntry states.now state.now c entry) }
+    requires { row < 2 ^ 32 }
+    ensures { IfOk result (λ right. IsTrue right → IsEntry states.now state.now row c entry) }
 {
     let mut tree = state.tree.copy(alloc)?;
     let is_found = step_tree(&mut tree, state.last, Some(c), true);
-    Ok(leads_to(states, entry, is_found, &tree, c))
+    Ok(leads_to(states, row, entry, is_found, &tree, c))
 }
 
 // Whether a row is right for a state.
 fn is_row(
     alloc: Global,
     firsts: &[char],
-    entries: &[u8],
+    entries: &[u16],
     states: &[State],
     state: &State,
-    row: u8,
+    row: usize,
 ) -> Result<bool, AllocError>
-    requires { length firsts.now < stride }
+    requires few { length firsts.now < stride }
+    requires row { row < 2 ^ 32 }
     ensures { IfOk result (λ right. IsTrue right → IsRow firsts.now entries.now states.now state.now row) }
 {
     let ends = leaves_tree(&state.tree, state.last, None, true);
@@ -181,26 +211,33 @@ fn is_row(
         return Ok(false);
     }
     for (k, first) in firsts.iter().enumerate() {
-        if !is_entry(alloc, states, state, *first, entry_at(entries, row, k + 1))? {
+        if !is_entry(
+            alloc,
+            states,
+            state,
+            row,
+            *first,
+            entry_at(entries, row, k + 1),
+        )? {
             return Ok(false);
         }
     }
     Ok(true)
 }
 
-// Whether each row is right for the state of its number.
+// Whether each row is right for its state.
 fn are_rows(
     alloc: Global,
     firsts: &[char],
-    entries: &[u8],
+    entries: &[u16],
     states: &[State],
 ) -> Result<bool, AllocError>
     requires rows { length states.now ≤ 255 }
     requires few { length firsts.now < stride }
-    ensures { IfOk result (λ right. IsTrue right → (row : ℕ) (s : State) → slice_get states.now row ≡ Some s → IsRow firsts.now entries.now states.now s row) }
+    ensures { IfOk result (λ right. IsTrue right → (row : ℕ) (s : State) → IsRowOf states.now row s → IsRow firsts.now entries.now states.now s row) }
 {
-    for (row, state) in states.iter().enumerate() {
-        if !is_row(alloc, firsts, entries, states, state, row as u8)? {
+    for (number, state) in states.iter().enumerate() {
+        if !is_row(alloc, firsts, entries, states, state, number * STRIDE)? {
             return Ok(false);
         }
     }
@@ -220,7 +257,7 @@ fn begins(states: &[State], tree: &Tree) -> bool
 pub(crate) fn is_table(
     alloc: Global,
     firsts: &[char],
-    entries: &[u8],
+    entries: &[u16],
     states: &[State],
     tree: &Tree,
 ) -> Result<bool, AllocError>
