@@ -3,11 +3,13 @@ use Rattle.std.proofs.Common.{◌≡◌, ◌⊎◌, ℕ, zero, suc, ◌≤◌, �
 use Rattle.std.proofs.lemmas.Bool.{leb-true, leb-false, le-leb, lt-leb, eqb-true, eq-eqb}
 use Rattle.std.proofs.Math.Utf8.{scalar_cases}
 use Rattle.std.specs.Char.{IsScalar}
-use Rattle.strkw_ecma.specs.Tree.{Look, Pattern, empty, class, look, cat, alt, star, plus, start, end, boundary, no_boundary, in_ranges, differ, is_member}
+use Rattle.strkw_ecma.specs.Tree.{Look, Pattern, empty, class, look, cat, alt, star, plus, start, end, boundary, no_boundary, in_set, in_sets, differ, is_member}
 use Rattle.strkw_ecma.specs.Meaning.{is_word, is_edge, holds}
 use Rattle.strkw_ecma.specs.Marks.{leaves, step}
 use Rattle.strkw_ecma.specs.Codes.{max_code_point}
-use Rattle.strkw_ecma.specs.Table.{class_of, has, has_if_some, next_char, covers_ranges, covers}
+use Rattle.strkw_ecma.specs.Table.{class_of, has, has_if_some, next_char, covers_set, covers_sets, covers}
+use Rattle.strkw_ecma.specs.declared.tree.CharSet.{CharSet}
+use Rattle.strkw_ecma.specs.declared.tree.CharSet.TheVariants.{Range, Property}
 use Rattle.strkw_ecma.proofs.Steps.{and_left, and_right, or_left, or_right}
 
 one_more : Bool → ℕ → ℕ
@@ -125,18 +127,23 @@ module _ (ts : List ℕ) (c d : ℕ) (same : SameFirsts ts c d) (ordered : c ≤
   same_high : (r : ℕ) → has_if_some ts (next_char r) ≡ true → leb c r ≡ leb d r
   same_high r h = by_end r _ _ refl refl h
 
-  pub same_ranges : (rs : List (ℕ × ℕ)) → covers_ranges ts rs ≡ true → in_ranges rs c ≡ in_ranges rs d
+  same_set : (r : CharSet) → covers_set ts r ≡ true → in_set r c ≡ in_set r d
   unfolding SameFirsts
-  same_ranges [] h = refl
-  same_ranges (r ∷ rs) h =
-      let here = and_left _ _ h in
-      let low : leb r.0 c ≡ leb r.0 d = same r.0 (and_left _ _ here) in
-      let high : leb c r.1 ≡ leb d r.1 = same_high r.1 (and_right _ _ here) in
-      let rest = same_ranges rs (and_right (has ts r.0 && has_if_some ts (next_char r.1)) _ h) in
-      rw (low, high, rest) refl
+  same_set (Range l r) h =
+      let low : leb l c ≡ leb l d = same l (and_left _ _ h) in
+      let high : leb c r ≡ leb d r = same_high r (and_right (has ts l) _ h) in
+      rw (low, high) refl
+  same_set (Property n p) h = absurd (true≢false (sym h))
 
-  same_member : (n : Bool) (rs : List (ℕ × ℕ)) → covers_ranges ts rs ≡ true → is_member n rs c ≡ is_member n rs d
-  same_member n rs h = ap (differ n) (same_ranges rs h)
+  pub same_sets : (rs : List CharSet) → covers_sets ts rs ≡ true → in_sets rs c ≡ in_sets rs d
+  same_sets [] h = refl
+  same_sets (r ∷ rs) h =
+      let here = same_set r (and_left _ _ h) in
+      let rest = same_sets rs (and_right (covers_set ts r) _ h) in
+      ap (λ (x : Bool). x || in_sets rs c) here ∙ ap (λ (x : Bool). in_set r d || x) rest
+
+  same_member : (n : Bool) (rs : List CharSet) → covers_sets ts rs ≡ true → is_member n rs c ≡ is_member n rs d
+  same_member n rs h = ap (differ n) (same_sets rs h)
 
   module _ (b e : Option ℕ) (word : is_word b ≡ is_word e) (edge : is_edge b ≡ is_edge e)
       (next_word : is_word (Some c) ≡ is_word (Some d)) where

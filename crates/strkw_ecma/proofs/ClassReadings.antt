@@ -1,14 +1,18 @@
 -- Each class is read from its spelling.
-use Rattle.std.proofs.Common.{◌≡◌, ℕ, Bool, true, false, List, ◌∷◌, ◌++◌, Option, Some, None, refl, sym, ap, ◌∙◌, append_assoc, true≢false}
+use Rattle.std.proofs.Common.{◌≡◌, ℕ, Bool, true, false, List, [], ◌∷◌, ◌++◌, Option, Some, None, refl, sym, ap, ◌∙◌, append_assoc, true≢false}
 use Rattle.std.specs.Prelude.{option_and_then, is_some}
 use Rattle.std.specs.Str.{byte}
 use Rattle.strkw_ecma.specs.Escapes.{Escape}
 use Rattle.strkw_ecma.specs.Codes.{Code, null_code, letter_code, byte_code, unit_code, pair_code, point_code, code_spelling, IsCode}
 use Rattle.strkw_ecma.specs.CodeReading.{Coding, Coded, fails, goes, makes, coding_next}
-use Rattle.strkw_ecma.specs.Classes.{ClassToken, ClassAtom, class_plain, hyphen, class_escaped, class_control, class_set, backspace, class_coded, Ranges, no_ranges, with_one, with_range, item, range, class_atom_spelling, ranges_spelling, negation_spelling, ending_spelling, IsClassAtom, is_hyphen, is_caret, MayBegin, MayFollow, MayEnd, AreRanges}
+use Rattle.strkw_ecma.specs.Classes.{ClassToken, ClassAtom, class_plain, hyphen, class_escaped, class_control, class_set, backspace, class_coded, class_property, Ranges, no_ranges, with_one, with_range, item, range, class_atom_spelling, ranges_spelling, negation_spelling, ending_spelling, IsClassAtom, is_hyphen, is_caret, MayBegin, MayFollow, MayEnd, AreRanges}
 use Rattle.strkw_ecma.specs.Syntax.{Disjunction, bracketed}
-use Rattle.strkw_ecma.specs.Reading.{Outer, Level, Last, State, Pending, fresh, one, dashed, Class, Mode, between, class_opened, in_class, with_mode, with_atom, took, ranged, within, on_class_token, on_class_escape, with_coding, on_class_coding, on_class, read_from}
+use Rattle.strkw_ecma.specs.Reading.{Outer, Level, Last, State, Pending, fresh, one, dashed, Class, Mode, between, class_opened, in_class, with_mode, with_atom, took, ranged, within, on_class_token, on_class_escape, with_coding, on_class_coding, when, with_property, on_class_property, on_class, read_from}
 use Rattle.strkw_ecma.proofs.CodeReadings.{follow, code_tail, begun, reads_code}
+use Rattle.strkw_ecma.proofs.PropertyReadings.{follow_property, reads_property}
+use Rattle.strkw_ecma.specs.Properties.{Expression, expression_spelling, property_letter, IsExpression}
+use Rattle.strkw_ecma.specs.PropertyReading.{PropertyPart, brace_awaited, PropertyRead, no_property_read, property_goes, property_ends, property_next}
+use Rattle.strkw_ecma.specs.declared.tree.CharSet.{CharSet}
 
 abbrev class_of : Bool → Ranges → Pending → Class
 class_of n r p = record { negated = n; ranges = r; pending = p }
@@ -24,7 +28,7 @@ place n no_ranges = start n
 place n (with_one r x) = in_class (class_of n r (one x))
 place n (with_range r x y) = in_class (class_of n (with_range r x y) fresh)
 
-ranged_some : (n : Bool) (r : Ranges) (x y : ClassAtom) (o : Option (ℕ × ℕ)) → is_some o ≡ true
+ranged_some : (n : Bool) (r : Ranges) (x y : ClassAtom) (o : Option CharSet) → is_some o ≡ true
     → ranged n r x y o ≡ Some (class_of n (with_range r x y) fresh)
 ranged_some n r x y None h = absurd (true≢false (sym h))
 ranged_some n r x y (Some s) h = refl
@@ -62,6 +66,32 @@ module _ (outer : Outer) (l : Level) (x : Last) where
         → read_from (at (in_class (class_of n r p))) (class_atom_spelling (class_coded d) ++ cs) ≡ behind_whole d cs
     reads_class_code d h cs = code_begins d cs ∙ reads_code behind_part behind_whole (λ k c cs. follows (coding_next k c) cs) d h cs
 
+    -- a property
+    abbrev behind_property_part : PropertyPart → List ℕ → Option Disjunction
+    behind_property_part k cs = read_from (with_property outer l x n r p k) cs
+
+    abbrev behind_property : Bool → Expression → List ℕ → Option Disjunction
+    behind_property b e cs = then (on_class_property outer l x n r p (property_ends b e)) cs
+
+    property_follows : (o : PropertyRead) (cs : List ℕ)
+        → then (on_class_property outer l x n r p o) cs ≡ follow_property behind_property_part behind_property o cs
+    property_follows no_property_read cs = refl
+    property_follows (property_goes k) cs = refl
+    property_follows (property_ends b e) cs = refl
+
+    property_begins : (b : Bool) (cs : List ℕ)
+        → read_from (at (in_class (class_of n r p))) (byte "\\" ∷ property_letter b ∷ cs) ≡ behind_property_part (brace_awaited b) cs
+    property_begins false cs = refl
+    property_begins true cs = refl
+
+    reads_class_property : (b : Bool) (e : Expression) → IsExpression e → (cs : List ℕ)
+        → read_from (at (in_class (class_of n r p))) (class_atom_spelling (class_property b e) ++ cs)
+        ≡ then (within outer l x (took n r p (class_property b e))) cs
+    reads_class_property b e h cs =
+        property_begins b (byte "{" ∷ ((expression_spelling e ++ byte "}" ∷ []) ++ cs))
+        ∙ reads_property behind_property_part behind_property (λ k c cs. property_follows (property_next k c) cs) b e h.0 cs
+        ∙ ap (λ (t : Bool). then (when t (within outer l x (took n r p (class_property b e)))) cs) h.1
+
   -- one atom, from inside a class
   reads_inside : (n : Bool) (r : Ranges) (p : Pending) (y : ClassAtom) → IsClassAtom y → is_hyphen y ≡ false → (cs : List ℕ)
       → read_from (at (in_class (class_of n r p))) (class_atom_spelling y ++ cs) ≡ then (within outer l x (took n r p y)) cs
@@ -72,6 +102,7 @@ module _ (outer : Outer) (l : Level) (x : Last) where
   reads_inside n r p (class_set c) h w cs = ap (λ (k : Escape). then (on_class_escape outer l x n r p c k) cs) h
   reads_inside n r p backspace h w cs = refl
   reads_inside n r p (class_coded d) h w cs = reads_class_code n r p d h cs
+  reads_inside n r p (class_property b e) h w cs = reads_class_property n r p b e h cs
 
   -- one that may be a `-`: nothing is pending, or an atom and a `-`
   reads_fresh : (n : Bool) (r : Ranges) (y : ClassAtom) → IsClassAtom y → (cs : List ℕ)
@@ -83,6 +114,7 @@ module _ (outer : Outer) (l : Level) (x : Last) where
   reads_fresh n r (class_set c) h cs = reads_inside n r fresh (class_set c) h refl cs
   reads_fresh n r backspace h cs = refl
   reads_fresh n r (class_coded d) h cs = reads_inside n r fresh (class_coded d) h refl cs
+  reads_fresh n r (class_property b e) h cs = reads_inside n r fresh (class_property b e) h refl cs
 
   reads_dashed : (n : Bool) (r : Ranges) (z y : ClassAtom) → IsClassAtom y → (cs : List ℕ)
       → read_from (at (in_class (class_of n r (dashed z)))) (class_atom_spelling y ++ cs) ≡ then (within outer l x (took n r (dashed z) y)) cs
@@ -93,6 +125,7 @@ module _ (outer : Outer) (l : Level) (x : Last) where
   reads_dashed n r z (class_set c) h cs = reads_inside n r (dashed z) (class_set c) h refl cs
   reads_dashed n r z backspace h cs = refl
   reads_dashed n r z (class_coded d) h cs = reads_inside n r (dashed z) (class_coded d) h refl cs
+  reads_dashed n r z (class_property b e) h cs = reads_inside n r (dashed z) (class_property b e) h refl cs
 
   -- the first atom of a class that is not negated
   reads_first : (y : ClassAtom) → IsClassAtom y → is_caret y ≡ false → (cs : List ℕ)
@@ -106,6 +139,7 @@ module _ (outer : Outer) (l : Level) (x : Last) where
   reads_first (class_set c) h w cs = ap (λ (k : Escape). then (on_class_escape outer l x false no_ranges fresh c k) cs) h
   reads_first backspace h w cs = refl
   reads_first (class_coded d) h w cs = reads_inside false no_ranges fresh (class_coded d) h refl cs
+  reads_first (class_property b e) h w cs = reads_inside false no_ranges fresh (class_property b e) h refl cs
 
   reads_start : (n : Bool) (y : ClassAtom) → IsClassAtom y → MayBegin n y → (cs : List ℕ)
       → read_from (at (start n)) (class_atom_spelling y ++ cs) ≡ read_from (at (in_class (class_of n no_ranges (one y)))) cs

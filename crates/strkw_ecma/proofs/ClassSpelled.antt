@@ -1,16 +1,19 @@
 -- What a state of the reader has read, and the steps in a class.
-use Rattle.std.proofs.Common.{◌≡◌, ℕ, Bool, List, [], ◌∷◌, ◌++◌, Option, Some, None, refl, sym, ap, ◌∙◌, append_assoc}
+use Rattle.std.proofs.Common.{◌≡◌, ℕ, Bool, true, false, List, [], ◌∷◌, ◌++◌, Option, Some, None, refl, sym, ap, ◌∙◌, append_assoc}
 use Rattle.std.proofs.lemmas.List.{append-nil}
 use Rattle.std.specs.Str.{byte}
-use Rattle.strkw_ecma.specs.Escapes.{Escape, itself, control, set, boundary, no_boundary, null, letter, hexadecimal, unicode, unknown}
+use Rattle.strkw_ecma.specs.Escapes.{Escape, itself, control, set, boundary, no_boundary, null, letter, hexadecimal, unicode, property, no_property, unknown}
 use Rattle.strkw_ecma.specs.Codes.{null_code}
 use Rattle.strkw_ecma.specs.CodeReading.{byte_width, two_more, Coding, letter_awaited, unit_opened, digits_of, Coded, fails, goes, makes}
 use Rattle.strkw_ecma.specs.Names.{NameChar, name_spelling}
-use Rattle.strkw_ecma.specs.Classes.{ClassToken, closing_bracket, class_backslash, dash, class_character, ClassAtom, class_plain, hyphen, class_escaped, class_control, class_set, backspace, class_coded, Ranges, class_atom_spelling, ranges_spelling, negation_spelling}
+use Rattle.strkw_ecma.specs.Classes.{ClassToken, closing_bracket, class_backslash, dash, class_character, ClassAtom, class_plain, hyphen, class_escaped, class_control, class_set, backspace, class_coded, class_property, Ranges, class_atom_spelling, ranges_spelling, negation_spelling}
 use Rattle.strkw_ecma.specs.Syntax.{Disjunction, Alternative, more, Term, Atom, quantifier_spelling, group_spelling, spelling, alternative_spelling, term_spelling, atom_spelling}
-use Rattle.strkw_ecma.specs.Reading.{Open, Outer, Level, Last, none, atom, counted, Pending, fresh, one, dashed, Class, Mode, between, escaping, opening, extending, class_opened, Count, low, high, counting, in_class, class_escaping, coding, class_coding, naming, name_escaping, name_coding, State, ended, joined, with_atom, took, took_dash, ranged, class_read, within, on_class_token, on_class_escape, with_coding, on_class_coding}
+use Rattle.strkw_ecma.specs.Reading.{Open, Outer, Level, Last, none, atom, counted, Pending, fresh, one, dashed, Class, Mode, between, escaping, opening, extending, class_opened, Count, low, high, counting, in_class, class_escaping, coding, class_coding, in_property, in_class_property, naming, name_escaping, name_coding, State, ended, joined, with_atom, took, took_dash, ranged, class_read, within, on_class_token, on_class_escape, with_coding, on_class_coding, when, with_property, on_class_property}
 use Rattle.strkw_ecma.proofs.Letters.{char_of_letter, char_of_class}
 use Rattle.strkw_ecma.proofs.CodeReadings.{coding_spelling, IsCodedAs}
+use Rattle.strkw_ecma.specs.PropertyReading.{PropertyPart, brace_awaited, PropertyRead, no_property_read, property_goes, property_ends}
+use Rattle.strkw_ecma.proofs.PropertyReadings.{part_spelling, IsReadAs}
+use Rattle.strkw_ecma.specs.declared.tree.CharSet.{CharSet}
 
 abbrev pub level_spelling : Option Disjunction → Alternative → List ℕ
 level_spelling None a = alternative_spelling a
@@ -52,6 +55,8 @@ mode_spelling class_opened = byte "[" ∷ []
 mode_spelling (in_class k) = class_text k.negated k.ranges k.pending
 mode_spelling (class_escaping k) = class_text k.negated k.ranges k.pending ++ byte "\\" ∷ []
 mode_spelling (class_coding k d) = class_text k.negated k.ranges k.pending ++ byte "\\" ∷ coding_spelling d
+mode_spelling (in_property k) = byte "\\" ∷ part_spelling k
+mode_spelling (in_class_property k d) = class_text k.negated k.ranges k.pending ++ byte "\\" ∷ part_spelling d
 mode_spelling (naming n) = name_text n
 mode_spelling (name_escaping n) = name_text n ++ byte "\\" ∷ []
 mode_spelling (name_coding n k) = name_text n ++ byte "\\" ∷ coding_spelling k
@@ -84,12 +89,16 @@ abbrev pub HasRead : Option State → List ℕ → Type 0
 HasRead None text = Unit {0}
 HasRead (Some t) text = spelled t ≡ text
 
+pub when_read : (b : Bool) (o : Option State) (text : List ℕ) → HasRead o text → HasRead (when b o) text
+when_read false o text h = tt
+when_read true o text h = h
+
 -- the class that was made has read this
 abbrev HasTaken : Option Class → List ℕ → Type 0
 HasTaken None text = Unit {0}
 HasTaken (Some k) text = class_text k.negated k.ranges k.pending ≡ text
 
-ranged_read : (n : Bool) (r : Ranges) (w y : ClassAtom) (o : Option (ℕ × ℕ))
+ranged_read : (n : Bool) (r : Ranges) (w y : ClassAtom) (o : Option CharSet)
     → HasTaken (ranged n r w y o) (class_text n r (dashed w) ++ class_atom_spelling y)
 ranged_read n r w y None = tt
 ranged_read n r w y (Some s) = append-nil _ ∙ regroup (negation_spelling n) (ranges_spelling r) (class_atom_spelling w) (class_atom_spelling y)
@@ -177,6 +186,21 @@ module _ (outer : Outer) (l : Level) where
       within_read x (took n r p (class_coded d)) _ (took_read n r p (class_coded d)) _
       (behind x n r p (coding_spelling k) c (class_atom_spelling (class_coded d)) (ap (λ z. byte "\\" ∷ z) h))
 
+  property_begun : (x : Last) (n : Bool) (r : Ranges) (p : Pending) (c : ℕ) (b : Bool) → part_spelling (brace_awaited b) ≡ c ∷ []
+      → spelled (with_property outer l x n r p (brace_awaited b)) ≡ (before x ++ (class_text n r p ++ byte "\\" ∷ [])) ++ c ∷ []
+  property_begun x n r p c b e = behind x n r p [] c (byte "\\" ∷ part_spelling (brace_awaited b)) (ap (λ z. byte "\\" ∷ z) e)
+
+  pub class_property_read : (x : Last) (n : Bool) (r : Ranges) (p : Pending) (k : PropertyPart) (c : ℕ) (o : PropertyRead)
+      → IsReadAs o (part_spelling k ++ c ∷ [])
+      → HasRead (on_class_property outer l x n r p o) ((before x ++ (class_text n r p ++ byte "\\" ∷ part_spelling k)) ++ c ∷ [])
+  class_property_read x n r p k c no_property_read h = tt
+  class_property_read x n r p k c (property_goes m) h =
+      behind x n r p (part_spelling k) c (byte "\\" ∷ part_spelling m) (ap (λ z. byte "\\" ∷ z) h)
+  class_property_read x n r p k c (property_ends b e) h =
+      when_read _ (within outer l x (took n r p (class_property b e))) _
+      (within_read x (took n r p (class_property b e)) _ (took_read n r p (class_property b e)) _
+      (behind x n r p (part_spelling k) c (class_atom_spelling (class_property b e)) (ap (λ z. byte "\\" ∷ z) h)))
+
   pub class_escape_read : (x : Last) (n : Bool) (r : Ranges) (p : Pending) (c : ℕ) (k : Escape) → char_of_letter k c ≡ c
       → HasRead (on_class_escape outer l x n r p c k) ((before x ++ (class_text n r p ++ byte "\\" ∷ [])) ++ c ∷ [])
   class_escape_read x n r p c itself e = letter_read x n r p c (class_escaped c) refl
@@ -188,4 +212,6 @@ module _ (outer : Outer) (l : Level) where
   class_escape_read x n r p c letter e = coding_begun x n r p c letter_awaited (ap (λ z. z ∷ []) e)
   class_escape_read x n r p c hexadecimal e = coding_begun x n r p c (digits_of byte_width two_more []) (ap (λ z. z ∷ []) e)
   class_escape_read x n r p c unicode e = coding_begun x n r p c unit_opened (ap (λ z. z ∷ []) e)
+  class_escape_read x n r p c property e = property_begun x n r p c false (ap (λ z. z ∷ []) e)
+  class_escape_read x n r p c no_property e = property_begun x n r p c true (ap (λ z. z ∷ []) e)
   class_escape_read x n r p c unknown e = tt

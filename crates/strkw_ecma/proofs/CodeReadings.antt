@@ -10,7 +10,7 @@ use Rattle.strkw_ecma.specs.Names.{is_unicode}
 use Rattle.strkw_ecma.specs.CodeReading.{Width, byte_width, unit_width, trail_width, Wanted, one_more, two_more, three_more, four_more, Coding, letter_awaited, unit_opened, digits_of, lead_read, lead_escaped, point_opened, Coded, fails, goes, makes, coded_if, made, with_lead, all_read, digit_read, is_next_digit, on_digit, on_unit, on_point, coding_next}
 use Rattle.strkw_ecma.specs.Syntax.{Disjunction}
 use Rattle.strkw_ecma.proofs.Steps.{and_true, and_left, and_right}
-use Rattle.strkw_ecma.proofs.Letters.{same_char}
+use Rattle.strkw_ecma.proofs.Letters.{same_char, is_not}
 
 -- what has been read, behind the backslash
 abbrev width_spelling : Width → List ℕ → List ℕ
@@ -262,10 +262,6 @@ no_lead : (n : ℕ) (b : Bool) → is_lead n ≡ b → is_scalar n ≡ true → 
 no_lead n false e h = refl
 no_lead n true e h = grind (arith, nat_tests)
 
-hex_is_not : (c d : ℕ) (b : Bool) → (c == d) ≡ b → is_hex_digit c ≡ true → is_hex_digit d ≡ false → b ≡ false
-hex_is_not c d false e h w = refl
-hex_is_not c d true e h w = absurd (true≢false (sym h ∙ sym (ap is_hex_digit (same_char c d e)) ∙ w))
-
 -- the rest of a pattern that is read, behind a part of an escape and behind a whole one
 abbrev pub Behind : Type 0 → Type 0
 Behind A = A → List ℕ → Option Disjunction
@@ -338,7 +334,7 @@ module _ (F : Behind Coding) (G : Behind Code) (turn : (k : Coding) (c : ℕ) (c
   opens [] h cs = absurd (no_digits four_more h.1)
   opens (d ∷ ds) h cs =
       turn unit_opened d (ds ++ cs)
-      ∙ ap (λ (b : Bool). follow F G (on_unit d b) (ds ++ cs)) (hex_is_not d (byte "{") (d == byte "{") refl (and_left (is_hex_digit d) _ h.0) refl)
+      ∙ ap (λ (b : Bool). follow F G (on_unit d b) (ds ++ cs)) (is_not is_hex_digit d (byte "{") (d == byte "{") refl (and_left (is_hex_digit d) _ h.0) refl)
       ∙ sym (turn (digits_of unit_width four_more []) d (ds ++ cs))
 
   reads_point : (ds es : List ℕ) → are_hex_digits es ≡ true → hex_number (ds ++ es) ≤ max_code_point → (cs : List ℕ)
@@ -348,7 +344,7 @@ module _ (F : Behind Coding) (G : Behind Code) (turn : (k : Coding) (c : ℕ) (c
       let hex = and_left (is_hex_digit d) _ h in
       let small = front_small (ds ++ d ∷ []) es (shifted ds d es m) in
       turn (point_opened ds) d (es ++ cs)
-      ∙ ap (λ (b : Bool). follow F G (on_point ds d b) (es ++ cs)) (hex_is_not d (byte "}") (d == byte "}") refl hex refl)
+      ∙ ap (λ (b : Bool). follow F G (on_point ds d b) (es ++ cs)) (is_not is_hex_digit d (byte "}") (d == byte "}") refl hex refl)
       ∙ ap (λ (b : Bool). follow F G (coded_if b (goes (point_opened (ds ++ d ∷ [])))) (es ++ cs))
       (and_true _ _ hex (le-leb (hex_number (ds ++ d ∷ [])) max_code_point small))
       ∙ reads_point (ds ++ d ∷ []) es (and_right (is_hex_digit d) _ h) (shifted ds d es m) cs

@@ -1,11 +1,22 @@
 -- The gaps between ranges hold the characters outside these.
-use Rattle.std.proofs.Common.{◌≡◌, ◌⊎◌, ℕ, ◌+◌, ◌-◌, ◌<◌, ◌≤◌, nat_lt, nat_le, Bool, true, false, ◌&&◌, ◌||◌, not, List, [], ◌∷◌, refl, sym, ap, ◌∙◌, ⊎_elim, arith}
+use Rattle.std.proofs.Common.{◌≡◌, ◌⊎◌, ℕ, ◌+◌, ◌-◌, ◌<◌, ◌≤◌, nat_lt, nat_le, Bool, true, false, ◌&&◌, ◌||◌, not, List, [], ◌∷◌, map, refl, sym, ap, ◌∙◌, ⊎_elim, arith}
 use Rattle.std.proofs.lemmas.Bool.{le-leb, lt-leb, leb-true, ltb-true}
-use Rattle.strkw_ecma.specs.Tree.{in_ranges}
+use Rattle.strkw_ecma.specs.Tree.{in_sets}
 use Rattle.strkw_ecma.specs.Codes.{max_code_point}
+use Rattle.strkw_ecma.specs.declared.tree.CharSet.{CharSet}
+use Rattle.strkw_ecma.specs.declared.tree.CharSet.TheVariants.{Range, Property}
 use Rattle.strkw_ecma.proofs.Steps.{and_true, and_left, and_right}
 
-abbrev gaps : ℕ → List (ℕ × ℕ) → List (ℕ × ℕ)
+-- these as sets of characters, and back
+abbrev pub ranges : List (ℕ × ℕ) → List CharSet
+ranges = map (λ r. Range r.0 r.1)
+
+abbrev pub pairs : List CharSet → List (ℕ × ℕ)
+pairs [] = []
+pairs (Range low high ∷ rs) = (low, high) ∷ pairs rs
+pairs (Property n p ∷ rs) = pairs rs
+
+abbrev pub gaps : ℕ → List (ℕ × ℕ) → List (ℕ × ℕ)
 gaps low [] = (low, max_code_point) ∷ []
 gaps low (r ∷ rs) = (low, r.0 - 1) ∷ gaps (r.1 + 1) rs
 
@@ -40,7 +51,7 @@ module _ (low : ℕ) (r : ℕ × ℕ) (rs : List (ℕ × ℕ)) (a : are_apart lo
   rest_apart : are_apart (r.1 + 1) rs ≡ true
   rest_apart = and_right (nat_lt low r.0 && nat_le r.0 r.1) _ a
 
-no_range_below : (low : ℕ) (rs : List (ℕ × ℕ)) (c : ℕ) → are_apart low rs ≡ true → c < low → in_ranges rs c ≡ false
+no_range_below : (low : ℕ) (rs : List (ℕ × ℕ)) (c : ℕ) → are_apart low rs ≡ true → c < low → in_sets (ranges rs) c ≡ false
 no_range_below low [] c a h = refl
 no_range_below low (r ∷ rs) c a h =
     let above = begins_above low r rs a in
@@ -48,7 +59,7 @@ no_range_below low (r ∷ rs) c a h =
     or_false _ _ (no_left _ _ (lt-leb r.0 c (omega (arith, above, h))))
     ∙ no_range_below (r.1 + 1) rs c (rest_apart low r rs a) (omega (arith, above, order, h))
 
-no_gap_below : (low : ℕ) (rs : List (ℕ × ℕ)) (c : ℕ) → are_apart low rs ≡ true → c < low → in_ranges (gaps low rs) c ≡ false
+no_gap_below : (low : ℕ) (rs : List (ℕ × ℕ)) (c : ℕ) → are_apart low rs ≡ true → c < low → in_sets (ranges (gaps low rs)) c ≡ false
 no_gap_below low [] c a h = or_false _ _ (no_left _ _ (lt-leb low c h))
 no_gap_below low (r ∷ rs) c a h =
     let above = begins_above low r rs a in
@@ -57,32 +68,32 @@ no_gap_below low (r ∷ rs) c a h =
 
 -- by one range and the gap before it, where the rest is known
 module _ (low : ℕ) (r : ℕ × ℕ) (rs : List (ℕ × ℕ)) (c : ℕ) (a : are_apart low (r ∷ rs) ≡ true) (h : low ≤ c)
-    (rest : r.1 < c → in_ranges (gaps (r.1 + 1) rs) c ≡ not (in_ranges rs c)) where
-  in_gap : c < r.0 → in_ranges (gaps low (r ∷ rs)) c ≡ not (in_ranges (r ∷ rs) c)
+    (rest : r.1 < c → in_sets (ranges (gaps (r.1 + 1) rs)) c ≡ not (in_sets (ranges rs) c)) where
+  in_gap : c < r.0 → in_sets (ranges (gaps low (r ∷ rs))) c ≡ not (in_sets (ranges (r ∷ rs)) c)
   in_gap w =
       let order = in_order low r rs a in
-      let later : in_ranges rs c ≡ false = no_range_below (r.1 + 1) rs c (rest_apart low r rs a) (omega (arith, order, w)) in
+      let later : in_sets (ranges rs) c ≡ false = no_range_below (r.1 + 1) rs c (rest_apart low r rs a) (omega (arith, order, w)) in
       or_true _ _ (and_true _ _ (le-leb low c h) (le-leb c (r.0 - 1) (omega (arith, w))))
       ∙ sym (ap not (or_false _ _ (no_left _ _ (lt-leb r.0 c w)) ∙ later))
 
-  in_range : r.0 ≤ c → c ≤ r.1 → in_ranges (gaps low (r ∷ rs)) c ≡ not (in_ranges (r ∷ rs) c)
+  in_range : r.0 ≤ c → c ≤ r.1 → in_sets (ranges (gaps low (r ∷ rs))) c ≡ not (in_sets (ranges (r ∷ rs)) c)
   in_range w v =
       let above = begins_above low r rs a in
       or_false _ _ (no_right _ _ (lt-leb c (r.0 - 1) (omega (arith, above, w))))
       ∙ no_gap_below (r.1 + 1) rs c (rest_apart low r rs a) (omega (arith, v))
       ∙ sym (ap not (or_true _ _ (and_true _ _ (le-leb r.0 c w) (le-leb c r.1 v))))
 
-  behind : r.0 ≤ c → r.1 < c → in_ranges (gaps low (r ∷ rs)) c ≡ not (in_ranges (r ∷ rs) c)
+  behind : r.0 ≤ c → r.1 < c → in_sets (ranges (gaps low (r ∷ rs))) c ≡ not (in_sets (ranges (r ∷ rs)) c)
   behind w v =
       let above = begins_above low r rs a in
       or_false _ _ (no_right _ _ (lt-leb c (r.0 - 1) (omega (arith, above, w)))) ∙ rest v
       ∙ sym (ap not (or_false _ _ (no_right _ _ (lt-leb c r.1 v))))
 
-  one_range : in_ranges (gaps low (r ∷ rs)) c ≡ not (in_ranges (r ∷ rs) c)
+  one_range : in_sets (ranges (gaps low (r ∷ rs))) c ≡ not (in_sets (ranges (r ∷ rs)) c)
   one_range = ⊎_elim in_gap (λ w. ⊎_elim (behind w) (in_range w) (either_side r.1 c)) (either_side c r.0)
 
 pub complement : (low : ℕ) (rs : List (ℕ × ℕ)) (c : ℕ) → are_apart low rs ≡ true → low ≤ c → c ≤ max_code_point
-    → in_ranges (gaps low rs) c ≡ not (in_ranges rs c)
+    → in_sets (ranges (gaps low rs)) c ≡ not (in_sets (ranges rs) c)
 complement low [] c a h m = or_true _ _ (and_true _ _ (le-leb low c h) (le-leb c max_code_point m))
 complement low (r ∷ rs) c a h m =
     one_range low r rs c a h (λ v. complement (r.1 + 1) rs c (rest_apart low r rs a) (omega (arith, v)) m)

@@ -6,7 +6,7 @@ use Rattle.strkw_pattern.specs.Matcher.{outcome_of}
 use Rattle.strkw_pattern.specs.declared.engine.Outcome.{Outcome}
 use Rattle.strkw_pattern.specs.declared.engine.Outcome.TheVariants.{Match, NoMatch}
 use Rattle.strkw_ecma.specs.Names.{are_distinct}
-use Rattle.strkw_ecma.specs.Syntax.{Disjunction, names, only, either, Alternative, nothing, more, Term, at_start, at_end, at_boundary, at_no_boundary, once, quantified, Atom, plain, escaped, control_escape, set_escape, coded, dot, bracketed, group, max_length}
+use Rattle.strkw_ecma.specs.Syntax.{Disjunction, names, only, either, Alternative, nothing, more, Term, at_start, at_end, at_boundary, at_no_boundary, once, quantified, Atom, plain, escaped, control_escape, set_escape, coded, property_escape, dot, bracketed, group, max_length}
 use Rattle.strkw_ecma.specs.Reading.{read, read_short, read_pattern, tree_if, small_tree}
 use Rattle.strkw_ecma.specs.Lookahead.{is_apart}
 use Rattle.strkw_ecma.specs.Size.{size, max_nodes}
@@ -57,6 +57,7 @@ mutual
   clean_atom (control_escape c) = refl
   clean_atom (set_escape c) = refl
   clean_atom (coded d) = refl
+  clean_atom (property_escape n e) = refl
   clean_atom dot = refl
   clean_atom (bracketed n r e) = refl
   clean_atom (group g d) = clean d

@@ -3,19 +3,23 @@ use Rattle.std.proofs.Common.{◌≡◌, ◌==◌, ℕ, Bool, true, false, List,
 use Rattle.std.specs.Prelude.{option_and_then, option_map, is_some}
 use Rattle.std.proofs.lemmas.Bool.{ltb-true, leb-true}
 use Rattle.std.specs.Str.{byte}
-use Rattle.strkw_ecma.specs.Escapes.{Escape, itself, control, set, boundary, no_boundary, null, letter, hexadecimal, unicode, unknown, escape}
+use Rattle.strkw_ecma.specs.Escapes.{Escape, itself, control, set, boundary, no_boundary, null, letter, hexadecimal, unicode, property, no_property, unknown, escape}
 use Rattle.strkw_ecma.specs.Codes.{null_code}
 use Rattle.strkw_ecma.specs.CodeReading.{Coded, fails, goes, makes, coding_next}
-use Rattle.strkw_ecma.specs.Classes.{ClassToken, closing_bracket, class_backslash, dash, class_character, class_token, class_escape, ClassAtom, class_plain, hyphen, class_escaped, class_control, class_set, backspace, class_coded, Ranges, no_ranges, item, range, IsClassAtom, is_hyphen, is_caret, MayFollow, AreRanges}
+use Rattle.strkw_ecma.specs.Classes.{ClassToken, closing_bracket, class_backslash, dash, class_character, class_token, class_escape, ClassAtom, class_plain, hyphen, class_escaped, class_control, class_set, backspace, class_coded, class_property, Ranges, no_ranges, item, range, IsClassAtom, is_hyphen, is_caret, MayFollow, AreRanges}
 use Rattle.strkw_ecma.specs.Names.{NameChar, verbatim, by_code, name_char_value, name_value, is_name_part, IsNameChar, AreNameParts, IsName, may_follow, Extension, uncaptured, name_opening, no_extension, extension, NameToken, name_end, name_backslash, name_character, name_token, are_distinct}
 use Rattle.strkw_ecma.specs.Syntax.{Disjunction, Alternative, Token, bar, asterisk, plus, question, caret, dollar, opening as opening_token, closing, point, backslash, bracket, brace, character, other, token, Quantifier, zero_or_more, one_or_more, exactly, at_least, from_to, Group, capturing, plain_group, named, max_nesting}
+use Rattle.strkw_ecma.specs.Properties.{property_of}
+use Rattle.strkw_ecma.specs.PropertyReading.{PropertyRead, no_property_read, property_goes, property_ends, property_next}
+use Rattle.strkw_ecma.proofs.PropertyReadings.{IsPart, IsRead, property_formed}
+use Rattle.strkw_ecma.specs.declared.tree.CharSet.{CharSet}
 use Rattle.strkw_ecma.specs.WellFormed.{IsQuantifier, IsGroup, IsWellFormed, IsAlternative, IsAtom}
 use Rattle.strkw_ecma.specs.Numbers.{number, number_of, are_digits, max_count, IsNumber, CountToken, digit, comma, closing_brace, no_count, count_token}
 use Rattle.strkw_ecma.specs.Size.{size, max_size}
 use Rattle.strkw_ecma.specs.Patterns.{atom_pattern, times, copies}
 use Rattle.strkw_ecma.proofs.Digits.{digits_push, is_digit_of}
 use Rattle.strkw_ecma.proofs.CodeReadings.{IsCoding, IsCoded, coding_formed, is_unicode_coding, IsUnicode, coding_unicode}
-use Rattle.strkw_ecma.specs.Reading.{Open, Outer, Level, Last, none, atom, counted, Pending, fresh, one, dashed, Class, Mode, between, escaping, opening, extending, class_opened, Count, low, high, counting, when, with_count, longer, range_read, on_low, on_high, on_count, in_class, class_escaping, coding, class_coding, is_between, State, with_mode, new_level, ended, joined, level_ended, closed_in, naming, name_escaping, name_coding, with_name_char, name_read, on_naming, on_name_escape, on_name_coding, tree_if, closes, with_quantifier, questioned, opened, on_token, on_group, on_extension, on_escape, took, took_dash, ranged, class_read, within, on_class_token, on_class_escape, on_coding, on_class_coding, on_class, next_in, next, read_from, initial, read}
+use Rattle.strkw_ecma.specs.Reading.{Open, Outer, Level, Last, none, atom, counted, Pending, fresh, one, dashed, Class, Mode, between, escaping, opening, extending, class_opened, Count, low, high, counting, when, with_count, longer, range_read, on_low, on_high, on_count, in_class, class_escaping, coding, class_coding, in_property, in_class_property, is_between, State, with_mode, new_level, ended, joined, level_ended, closed_in, naming, name_escaping, name_coding, with_name_char, name_read, on_naming, on_name_escape, on_name_coding, tree_if, closes, with_quantifier, questioned, opened, on_token, on_group, on_extension, on_escape, took, took_dash, ranged, class_read, within, on_class_token, on_class_escape, on_coding, on_class_coding, on_property, on_class_property, on_class, next_in, next, read_from, initial, read}
 
 -- of a level within n groups
 abbrev IsEarlier : ℕ → Option Disjunction → Type 0
@@ -61,6 +65,8 @@ IsMode (class_escaping k) = AreRanges k.negated k.ranges × IsPending NoCaret k.
 IsMode (class_coding k d) = (AreRanges k.negated k.ranges × IsPending NoCaret k.negated k.ranges k.pending) × IsCoding d
 IsMode (counting n) = IsCount n
 IsMode (coding k) = IsCoding k
+IsMode (in_property k) = IsPart k
+IsMode (in_class_property k d) = (AreRanges k.negated k.ranges × IsPending NoCaret k.negated k.ranges k.pending) × IsPart d
 IsMode (naming n) = IsNamePart n
 IsMode (name_escaping n) = IsNamePart n
 IsMode (name_coding n k) = IsNamePart n × IsCoding k × (is_unicode_coding k ≡ true)
@@ -133,6 +139,8 @@ escape_formed outer l x c null e f g h = (f, (g.0, ended_formed (length outer.gr
 escape_formed outer l x c letter e f g h = (f, g, h, tt)
 escape_formed outer l x c hexadecimal e f g h = (f, g, h, (tt, refl, refl))
 escape_formed outer l x c unicode e f g h = (f, g, h, tt)
+escape_formed outer l x c property e f g h = (f, g, h, tt)
+escape_formed outer l x c no_property e f g h = (f, g, h, tt)
 escape_formed outer l x c unknown e f g h = tt
 
 coded_formed : (outer : Outer) (l : Level) (x : Last) (o : Coded) → IsCoded o
@@ -140,6 +148,18 @@ coded_formed : (outer : Outer) (l : Level) (x : Last) (o : Coded) → IsCoded o
 coded_formed outer l x fails w f g h = tt
 coded_formed outer l x (goes k) w f g h = (f, g, h, w)
 coded_formed outer l x (makes d) w f g h = (f, (g.0, ended_formed (length outer.groups) l.current x g.1 h), w, tt)
+
+-- where a test holds
+when_formed : (b : Bool) (o : Option State) → (b ≡ true → Makes o) → Makes (when b o)
+when_formed false o h = tt
+when_formed true o h = h refl
+
+property_read_formed : (outer : Outer) (l : Level) (x : Last) (o : PropertyRead) → IsRead o
+    → AreLevels outer.groups → IsLevel (length outer.groups) l → IsLast (length outer.groups) x → Makes (on_property outer l x o)
+property_read_formed outer l x no_property_read w f g h = tt
+property_read_formed outer l x (property_goes k) w f g h = (f, g, h, w)
+property_read_formed outer l x (property_ends n e) w f g h =
+    when_formed (is_some (property_of e)) _ (λ some. (f, (g.0, ended_formed (length outer.groups) l.current x g.1 h), (w, some), tt))
 
 first_formed : (outer : Outer) (l : Level) (x : Last) (c : ℕ) (b : Bool) → nat_lt (length outer.groups) max_nesting ≡ b
     → AreLevels outer.groups → IsLevel (length outer.groups) l → IsLast (length outer.groups) x
@@ -162,10 +182,6 @@ extension_formed outer l x name_opening f g h = (f, g, h, tt)
 extension_formed outer l x no_extension f g h = tt
 
 -- counts
-when_formed : (b : Bool) (o : Option State) → (b ≡ true → Makes o) → Makes (when b o)
-when_formed false o h = tt
-when_formed true o h = h refl
-
 module _ (outer : Outer) (l : Level) (f : AreLevels outer.groups) (g : IsLevel (length outer.groups) l) where
   count_formed : (x : Last) (q : Quantifier) → IsLast (length outer.groups) x → ((s : ℕ) → copies (times q) * s ≤ max_size → IsQuantifier q s)
       → Makes (with_count outer l x q)
@@ -258,7 +274,7 @@ suits A fresh y h w = h
 suits A (one z) y h w = w
 suits A (dashed z) y h w = tt
 
-ranged_formed : (n : Bool) (r : Ranges) (w y : ClassAtom) (o : Option (ℕ × ℕ)) → range (item w) (item y) ≡ o
+ranged_formed : (n : Bool) (r : Ranges) (w y : ClassAtom) (o : Option CharSet) → range (item w) (item y) ≡ o
     → AreRanges n r → IsClassAtom w × MayFollow n r w → IsClassAtom y → MakesClass (ranged n r w y o)
 ranged_formed n r w y None e f g h = tt
 ranged_formed n r w y (Some s) e f g h = ((f, g, h, rw e refl), λ z a. tt)
@@ -319,6 +335,8 @@ module _ (outer : Outer) (l : Level) (x : Last) (f : AreLevels outer.groups) (g 
   class_escape_formed n r p c letter e u v = (f, g, h, ((u, v), tt))
   class_escape_formed n r p c hexadecimal e u v = (f, g, h, ((u, v), (tt, refl, refl)))
   class_escape_formed n r p c unicode e u v = (f, g, h, ((u, v), tt))
+  class_escape_formed n r p c property e u v = (f, g, h, ((u, v), tt))
+  class_escape_formed n r p c no_property e u v = (f, g, h, ((u, v), tt))
   class_escape_formed n r p c unknown e u v = tt
 
   class_coded_formed : (n : Bool) (r : Ranges) (p : Pending) (o : Coded) → IsCoded o → AreRanges n r → IsPending NoCaret n r p
@@ -327,6 +345,14 @@ module _ (outer : Outer) (l : Level) (x : Last) (f : AreLevels outer.groups) (g 
   class_coded_formed n r p (goes k) w u v = (f, g, h, ((u, v), w))
   class_coded_formed n r p (makes d) w u v =
       within_formed _ (took_formed NoCaret n r p (class_coded d) u v w (suits NoCaret p (class_coded d) refl refl))
+
+  class_property_formed : (n : Bool) (r : Ranges) (p : Pending) (o : PropertyRead) → IsRead o → AreRanges n r → IsPending NoCaret n r p
+      → Makes (on_class_property outer l x n r p o)
+  class_property_formed n r p no_property_read w u v = tt
+  class_property_formed n r p (property_goes d) w u v = (f, g, h, ((u, v), w))
+  class_property_formed n r p (property_ends b e) w u v =
+      when_formed (is_some (property_of e)) _ (λ some. within_formed _
+      (took_formed NoCaret n r p (class_property b e) u v (w, some) (suits NoCaret p (class_property b e) refl refl)))
 
   bracket_formed : (c : ℕ) (b : Bool) → (c == byte "^") ≡ b → Makes (on_class outer l x c b)
   bracket_formed c false e = class_token_formed NoCaret false no_ranges fresh c (class_token c) refl tt (λ y w. w) (λ y w. w) e
@@ -344,6 +370,9 @@ module _ (outer : Outer) (l : Level) (x : Last) (f : AreLevels outer.groups) (g 
   next_formed (class_escaping s) c k = class_escape_formed s.negated s.ranges s.pending c (class_escape c) refl k.0 k.1
   next_formed (class_coding s d) c k =
       class_coded_formed s.negated s.ranges s.pending (coding_next d c) (coding_formed d c k.1) k.0.0 k.0.1
+  next_formed (in_property d) c k = property_read_formed outer l x (property_next d c) (property_formed d c k) f g h
+  next_formed (in_class_property s d) c k =
+      class_property_formed s.negated s.ranges s.pending (property_next d c) (property_formed d c k.1) k.0.0 k.0.1
   next_formed (naming n) c k = naming_formed outer l x f g h n c (name_token c) k
   next_formed (name_escaping n) c k = name_escape_formed outer l x f g h n (c == byte "u") k
   next_formed (name_coding n d) c k =

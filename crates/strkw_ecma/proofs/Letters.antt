@@ -1,9 +1,9 @@
 -- What a character is fixes it, where it is one character alone.
-use Rattle.std.proofs.Common.{◌≡◌, ℕ, Bool, true, false, if◌then◌else◌, ◌==◌, codes, refl, arith}
+use Rattle.std.proofs.Common.{◌≡◌, ℕ, Bool, true, false, if◌then◌else◌, ◌==◌, codes, refl, sym, ap, ◌∙◌, true≢false, arith}
 use Rattle.std.proofs.lemmas.Bool.Decides.{nat_tests}
 use Rattle.std.specs.Str.{byte}
 use Rattle.strkw_text.specs.Characters.{is_one_of}
-use Rattle.strkw_ecma.specs.Escapes.{Escape, itself, control, set, boundary, no_boundary, null, letter, hexadecimal, unicode, unknown, escape}
+use Rattle.strkw_ecma.specs.Escapes.{Escape, itself, control, set, boundary, no_boundary, null, letter, hexadecimal, unicode, property, no_property, unknown, escape}
 use Rattle.strkw_ecma.specs.Classes.{ClassToken, closing_bracket, class_backslash, dash, class_character, class_token, class_escape}
 use Rattle.strkw_ecma.specs.Numbers.{CountToken, digit, comma, closing_brace, no_count, is_digit, count_token}
 use Rattle.strkw_ecma.specs.Names.{Extension, uncaptured, name_opening, no_extension, extension, NameToken, name_end, name_backslash, name_character, name_token}
@@ -33,6 +33,11 @@ by_test false P t u f g = g
 pub same_char : (c d : ℕ) → (c == d) ≡ true → d ≡ c
 same_char c d h = grind (arith, nat_tests)
 
+-- with f, and so none without it
+pub is_not : (f : ℕ → Bool) (c d : ℕ) (b : Bool) → (c == d) ≡ b → f c ≡ true → f d ≡ false → b ≡ false
+is_not f c d false e h w = refl
+is_not f c d true e h w = absurd (true≢false (sym h ∙ sym (ap f (same_char c d e)) ∙ w))
+
 pub char_of_token : (c : ℕ) → char_of (token c) c ≡ c
 char_of_token c =
     let P = λ (t : Token). char_of t c ≡ c in
@@ -54,6 +59,8 @@ char_of_letter null c = byte "0"
 char_of_letter letter c = byte "c"
 char_of_letter hexadecimal c = byte "x"
 char_of_letter unicode c = byte "u"
+char_of_letter property c = byte "p"
+char_of_letter no_property c = byte "P"
 char_of_letter unknown c = c
 
 pub char_of_escape : (c : ℕ) → char_of_letter (escape c) c ≡ c
@@ -62,8 +69,9 @@ char_of_escape c =
     by_test (c == byte "b") P _ _ (same_char c _) (by_test (c == byte "B") P _ _ (same_char c _)
     (by_test (c == byte "0") P _ _ (same_char c _) (by_test (c == byte "c") P _ _ (same_char c _)
     (by_test (c == byte "x") P _ _ (same_char c _) (by_test (c == byte "u") P _ _ (same_char c _)
+    (by_test (c == byte "p") P _ _ (same_char c _) (by_test (c == byte "P") P _ _ (same_char c _)
     (by_test (is_one_of (codes "^$\\.*+?()[]{}|/") c) P _ _ (λ _. refl) (by_test (is_one_of (codes "fnrtv") c) P _ _ (λ _. refl)
-    (by_test (is_one_of (codes "dDsSwW") c) P _ _ (λ _. refl) refl))))))))
+    (by_test (is_one_of (codes "dDsSwW") c) P _ _ (λ _. refl) refl))))))))))
 
 abbrev pub char_of_class : ClassToken → ℕ → ℕ
 char_of_class closing_bracket c = byte "]"

@@ -4,6 +4,7 @@ pub mod Shapes
 pub mod Letters
 pub mod Digits
 pub mod CodeReadings
+pub mod PropertyReadings
 pub mod CodeImages
 pub mod ClassReadings
 pub mod Readings
@@ -16,9 +17,9 @@ pub mod Parts
 pub mod Alike
 pub mod Walks
 pub mod Tables
-pub mod Same
 pub mod Apart
 pub mod Complements
 pub mod Rows
 pub mod Bytes
+pub mod Named
 pub mod Distinct

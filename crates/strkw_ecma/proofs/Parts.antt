@@ -1,16 +1,21 @@
 -- What the reader of the code holds is, pattern by pattern, what the reader of the definitions holds.
-use Rattle.std.proofs.Common.{◌≡◌, ℕ, ◌+◌, ◌<◌, ◌≤◌, ◌*◌, ◌-◌, ◌==◌, ◌++◌, ◌&&◌, Bool, true, false, List, [], ◌∷◌, map, length, drop, get_or, Option, Some, None, if◌then◌else◌, option_map, nat_lt, nat_le, refl, sym, ap, ◌∙◌}
-use Rattle.std.specs.Prelude.{option_and_then}
+use Rattle.std.proofs.Common.{◌≡◌, ℕ, ◌+◌, ◌<◌, ◌≤◌, ◌*◌, ◌-◌, ◌==◌, ◌++◌, ◌&&◌, Bool, true, false, List, [], ◌∷◌, map, length, drop, get_or, Option, Some, None, if◌then◌else◌, option_map, nat_lt, nat_le, refl, sym, ap, ◌∙◌, true≢false}
+use Rattle.std.specs.Prelude.{option_and_then, is_some}
 use Rattle.std.proofs.lemmas.List.{length-map, at_drop_more, at_drop_all}
 use Rattle.std.proofs.lemmas.Bool.{le-leb, lt-leb}
-use Rattle.strkw_ecma.specs.Tree.{Pattern, empty, cat}
+use Rattle.strkw_ecma.specs.Tree.{Pattern, empty, class, cat}
 use Rattle.std.specs.Str.{byte}
-use Rattle.strkw_ecma.specs.Escapes.{Escape, itself, control, set, boundary, no_boundary, null, letter, hexadecimal, unicode, unknown, escape}
+use Rattle.strkw_ecma.specs.Escapes.{Escape, itself, control, set, boundary, no_boundary, null, letter, hexadecimal, unicode, property, no_property, unknown, escape}
 use Rattle.strkw_ecma.specs.Codes.{null_code}
 use Rattle.strkw_ecma.specs.CodeReading.{Coded, fails, goes, makes, coding_next}
+use Rattle.strkw_ecma.specs.Properties.{Expression, property_of}
+use Rattle.strkw_ecma.specs.PropertyReading.{PropertyRead, no_property_read, property_goes, property_ends, property_next}
+use Rattle.strkw_ecma.specs.declared.properties.Property.{Property}
+use Rattle.strkw_ecma.specs.declared.tree.CharSet.{CharSet}
+use Rattle.strkw_ecma.specs.declared.tree.CharSet.TheVariants.{Property as PropertySet}
 use Rattle.strkw_ecma.specs.Names.{NameChar, verbatim, by_code, name_char_value, name_value, may_follow, Extension, uncaptured, name_opening, no_extension, extension, NameToken, name_end, name_backslash, name_character, name_token, are_distinct}
-use Rattle.strkw_ecma.specs.Classes.{ClassToken, closing_bracket, class_backslash, dash, class_character, class_token, class_escape, ClassAtom, class_plain, hyphen, class_escaped, class_control, class_set, backspace, class_coded, Ranges, no_ranges, item, range, range_list, ranges_of}
-use Rattle.strkw_ecma.specs.Syntax.{Disjunction, Alternative, Term, at_start, at_end, at_boundary, at_no_boundary, Quantifier, exactly, at_least, from_to, zero_or_more, one_or_more, Group, capturing, plain_group, named, with_name, Atom, plain, escaped, control_escape, set_escape, coded, dot, Token, bar, asterisk, plus, question, caret, dollar, opening as opening_token, closing, point, backslash, bracket, brace, character, other, token, max_nesting, max_length}
+use Rattle.strkw_ecma.specs.Classes.{ClassToken, closing_bracket, class_backslash, dash, class_character, class_token, class_escape, ClassAtom, class_plain, hyphen, class_escaped, class_control, class_set, backspace, class_coded, class_property, Ranges, no_ranges, item, set_item, property_set, range, range_list, sets_of}
+use Rattle.strkw_ecma.specs.Syntax.{Disjunction, Alternative, Term, at_start, at_end, at_boundary, at_no_boundary, Quantifier, exactly, at_least, from_to, zero_or_more, one_or_more, Group, capturing, plain_group, named, with_name, Atom, plain, escaped, control_escape, set_escape, coded, property_escape, dot, Token, bar, asterisk, plus, question, caret, dollar, opening as opening_token, closing, point, backslash, bracket, brace, character, other, token, max_nesting, max_length}
 use Rattle.strkw_ecma.specs.Patterns.{pattern, alternative_pattern, term_pattern, atom_pattern, times, copies, quantified_pattern}
 use Rattle.strkw_ecma.specs.Numbers.{number, number_of, max_count, CountToken, digit, comma, closing_brace, no_count, count_token}
 use Rattle.strkw_ecma.specs.Size.{size, max_size, max_nodes}
@@ -19,8 +24,8 @@ use Rattle.strkw_ecma.proofs.Digits.{number_push}
 use Rattle.strkw_ecma.proofs.CodeImages.{coding_image, coded_image, next_coding_image}
 use Rattle.strkw_ecma.specs.Reading as reading
 use Rattle.strkw_ecma.specs.Parts as parts
-use Rattle.strkw_ecma.specs.Reading.{Open, Outer, Level, State, with_count, when, longer, range_read, on_low, on_high, on_count, Mode, between, with_mode, opened_within, on_group, on_extension, on_class, on_class_token, on_class_escape, on_coding, on_class_coding, within, next_in, is_between, with_atom, with_term, with_quantifier, questioned, opened, closed_in, with_name_char, name_read, on_naming, on_name_escape, on_name_coding, closed, on_token, on_escape, next, read_from, initial, read, read_short, read_pattern, tree_if, small_tree}
-use Rattle.strkw_ecma.specs.Parts.{Side, Parts, after_count, after_low, after_high, after_high_brace, after_counting, small, value, ended, joined, level_ended, level_so_far, new_level, after_atom, after_term, after_bar, after_opening, closing_in, after_name_char, after_name, after_naming, after_name_escape, after_name_coding, closes, after_closing, after_quantifier, after_question, after_escape, after_token, after_group, after_extension, after_class_token, after_class_escape, after_coding, after_class_coding, after_bracket, after_in, after_char, at_close, pattern_from, no_parts, pattern_if, small_pattern}
+use Rattle.strkw_ecma.specs.Reading.{Open, Outer, Level, State, with_count, when, longer, range_read, on_low, on_high, on_count, Mode, between, with_mode, opened_within, on_group, on_extension, on_class, on_class_token, on_class_escape, on_coding, on_class_coding, on_property, on_class_property, within, next_in, is_between, with_atom, with_term, with_quantifier, questioned, opened, closed_in, with_name_char, name_read, on_naming, on_name_escape, on_name_coding, closed, on_token, on_escape, next, read_from, initial, read, read_short, read_pattern, tree_if, small_tree}
+use Rattle.strkw_ecma.specs.Parts.{Side, Parts, after_count, after_low, after_high, after_high_brace, after_counting, small, value, ended, joined, level_ended, level_so_far, new_level, after_atom, after_term, after_bar, after_opening, closing_in, after_name_char, after_name, after_naming, after_name_escape, after_name_coding, closes, after_closing, after_quantifier, after_question, after_escape, after_token, after_group, after_extension, after_class_token, after_class_escape, after_coding, after_class_coding, after_property, after_class_property, after_bracket, after_in, after_char, at_close, pattern_from, no_parts, pattern_if, small_pattern}
 
 abbrev side : Level → Side
 side l = record { earlier = option_map pattern l.earlier; current = alternative_pattern l.current }
@@ -42,7 +47,7 @@ pending_image (reading.one x) = parts.one (item x)
 pending_image (reading.dashed x) = parts.dashed (item x)
 
 abbrev class_image : reading.Class → parts.Class
-class_image k = record { negated = k.negated; ranges = ranges_of k.ranges; pending = pending_image k.pending }
+class_image k = record { negated = k.negated; sets = sets_of k.ranges; pending = pending_image k.pending }
 
 abbrev count_image : reading.Count → parts.Count
 count_image (reading.low ds) = parts.low (number_of ds)
@@ -59,6 +64,8 @@ mode_image reading.class_opened = parts.class_opened
 mode_image (reading.in_class k) = parts.in_class (class_image k)
 mode_image (reading.class_escaping k) = parts.class_escaping (class_image k)
 mode_image (reading.class_coding k d) = parts.class_coding (class_image k) (coding_image d)
+mode_image (reading.in_property k) = parts.in_property k
+mode_image (reading.in_class_property k d) = parts.in_class_property (class_image k) d
 mode_image (reading.naming n) = parts.naming (name_value n)
 mode_image (reading.name_escaping n) = parts.name_escaping (name_value n)
 mode_image (reading.name_coding n k) = parts.name_coding (name_value n) (coding_image k)
@@ -140,12 +147,28 @@ module _ (outer : Outer) (l : Level) (x : reading.Last) where
   escape_image c letter = refl
   escape_image c hexadecimal = refl
   escape_image c unicode = refl
+  escape_image c property = refl
+  escape_image c no_property = refl
   escape_image c unknown = refl
 
   coded_state_image : (o : Coded) → option_map image (on_coding outer l x o) ≡ after_coding (image (state outer l x)) (coded_image o)
   coded_state_image fails = refl
   coded_state_image (goes k) = refl
   coded_state_image (makes d) = ap Some (atom_image (coded d))
+
+  -- the property that the expression is of, where it is of one
+  property_atom_image : (n : Bool) (e : Expression) (o : Option Property) → property_of e ≡ o
+      → option_map image (reading.when (is_some o) (Some (with_atom outer l x (property_escape n e))))
+      ≡ option_map (λ p. after_atom (image (state outer l x)) (class false false (PropertySet n p ∷ []))) o
+  property_atom_image n e None is = refl
+  property_atom_image n e (Some p) is =
+      ap Some (atom_image (property_escape n e))
+      ∙ ap (λ (o : Option Property). Some (after_atom (image (state outer l x)) (class false false (property_set n o)))) is
+
+  property_image : (o : PropertyRead) → option_map image (on_property outer l x o) ≡ after_property (image (state outer l x)) o
+  property_image no_property_read = refl
+  property_image (property_goes k) = refl
+  property_image (property_ends n e) = property_atom_image n e _ refl
 
 quantifier_image : (outer : Outer) (l : Level) (x : reading.Last) (q : Quantifier)
     → option_map image (with_quantifier outer l x q) ≡ after_quantifier (image (state outer l x)) (last_image x) (times q)
@@ -312,26 +335,26 @@ module _ (outer : Outer) (l : Level) (x : reading.Last) where
   counting_image (reading.low ds) c = low_image ds c (count_token c)
   counting_image (reading.high ds es) c = high_image ds es c (count_token c)
 
-ranged_image : (n : Bool) (r : Ranges) (w y : ClassAtom) (o : Option (ℕ × ℕ)) → o ≡ range (item w) (item y)
-    → option_map class_image (reading.ranged n r w y o) ≡ parts.ranged n (ranges_of r) o
+ranged_image : (n : Bool) (r : Ranges) (w y : ClassAtom) (o : Option CharSet) → o ≡ range (item w) (item y)
+    → option_map class_image (reading.ranged n r w y o) ≡ parts.ranged n (sets_of r) o
 ranged_image n r w y None e = refl
 ranged_image n r w y (Some s) e =
-    ap (λ (o : Option (ℕ × ℕ)). Some (record { negated = n; ranges = ranges_of r ++ range_list o; pending = parts.fresh })) (sym e)
+    ap (λ (o : Option CharSet). Some (record { negated = n; sets = sets_of r ++ range_list o; pending = parts.fresh })) (sym e)
 
 took_image : (n : Bool) (r : Ranges) (p : reading.Pending) (y : ClassAtom)
-    → option_map class_image (reading.took n r p y) ≡ parts.took n (ranges_of r) (pending_image p) (item y)
+    → option_map class_image (reading.took n r p y) ≡ parts.took n (sets_of r) (pending_image p) (item y)
 took_image n r reading.fresh y = refl
 took_image n r (reading.one w) y = refl
 took_image n r (reading.dashed w) y = ranged_image n r w y _ refl
 
 dash_image : (n : Bool) (r : Ranges) (p : reading.Pending)
-    → option_map class_image (reading.took_dash n r p) ≡ parts.took_dash n (ranges_of r) (pending_image p)
+    → option_map class_image (reading.took_dash n r p) ≡ parts.took_dash n (sets_of r) (pending_image p)
 dash_image n r reading.fresh = refl
 dash_image n r (reading.one w) = refl
 dash_image n r (reading.dashed w) = took_image n r (reading.dashed w) hyphen
 
 read_class_image : (n : Bool) (r : Ranges) (p : reading.Pending)
-    → atom_pattern (reading.class_read n r p) ≡ parts.class_read n (ranges_of r) (pending_image p)
+    → atom_pattern (reading.class_read n r p) ≡ parts.class_read n (sets_of r) (pending_image p)
 read_class_image n r reading.fresh = refl
 read_class_image n r (reading.one w) = refl
 read_class_image n r (reading.dashed w) = refl
@@ -339,7 +362,7 @@ read_class_image n r (reading.dashed w) = refl
 module _ (outer : Outer) (l : Level) (x : reading.Last) where
   taken_image : (k : reading.Class) (y : ClassAtom)
       → option_map image (within outer l x (reading.took k.negated k.ranges k.pending y))
-      ≡ parts.within (image (state outer l x)) (parts.took k.negated (ranges_of k.ranges) (pending_image k.pending) (item y))
+      ≡ parts.within (image (state outer l x)) (parts.took k.negated (sets_of k.ranges) (pending_image k.pending) (item y))
   taken_image k y =
       within_image outer l x _ ∙ ap (parts.within (image (state outer l x))) (took_image k.negated k.ranges k.pending y)
 
@@ -366,6 +389,8 @@ module _ (outer : Outer) (l : Level) (x : reading.Last) where
   class_escape_image k c letter = refl
   class_escape_image k c hexadecimal = refl
   class_escape_image k c unicode = refl
+  class_escape_image k c property = refl
+  class_escape_image k c no_property = refl
   class_escape_image k c unknown = refl
 
   class_coded_image : (k : reading.Class) (o : Coded)
@@ -374,6 +399,23 @@ module _ (outer : Outer) (l : Level) (x : reading.Last) where
   class_coded_image k fails = refl
   class_coded_image k (goes d) = refl
   class_coded_image k (makes d) = taken_image k (class_coded d)
+
+  property_item_image : (k : reading.Class) (n : Bool) (e : Expression) (o : Option Property) → property_of e ≡ o
+      → option_map image (reading.when (is_some o) (within outer l x (reading.took k.negated k.ranges k.pending (class_property n e))))
+      ≡ option_and_then (λ p. parts.within (image (state outer l x))
+      (parts.took k.negated (sets_of k.ranges) (pending_image k.pending) (set_item (PropertySet n p ∷ [])))) o
+  property_item_image k n e None is = refl
+  property_item_image k n e (Some p) is =
+      taken_image k (class_property n e)
+      ∙ ap (λ (o : Option Property). parts.within (image (state outer l x))
+      (parts.took k.negated (sets_of k.ranges) (pending_image k.pending) (set_item (property_set n o)))) is
+
+  class_property_image : (k : reading.Class) (o : PropertyRead)
+      → option_map image (on_class_property outer l x k.negated k.ranges k.pending o)
+      ≡ after_class_property (image (state outer l x)) (class_image k) o
+  class_property_image k no_property_read = refl
+  class_property_image k (property_goes d) = refl
+  class_property_image k (property_ends n e) = property_item_image k n e _ refl
 
   abbrev first_class : reading.Class
   first_class = record { negated = false; ranges = no_ranges; pending = reading.fresh }
@@ -395,6 +437,8 @@ module _ (outer : Outer) (l : Level) (x : reading.Last) where
   next_image (reading.class_escaping k) c = class_escape_image k c (class_escape c)
   next_image (reading.class_coding k d) c =
       class_coded_image k (coding_next d c) ∙ ap (after_class_coding (image (state outer l x)) (class_image k)) (next_coding_image d c)
+  next_image (reading.in_property k) c = property_image outer l x (property_next k c)
+  next_image (reading.in_class_property k d) c = class_property_image k (property_next d c)
   next_image (reading.naming n) c = naming_image outer l x n c (name_token c)
   next_image (reading.name_escaping n) c = name_escape_image outer l x n (c == byte "u")
   next_image (reading.name_coding n k) c =
@@ -409,6 +453,16 @@ close_image : (os : List Open) (l : Level) (x : reading.Last) (b : Bool)
 close_image [] l x b = tree_image b (reading.level_ended l x) ∙ ap (pattern_if b) (level_image l x)
 close_image (o ∷ os) l x b = refl
 
+-- the pattern at the end, where there is one
+pub none_closes : (o : Option Pattern) → is_some o ≡ false → None ≡ o
+none_closes None h = refl
+none_closes (Some p) h = absurd (true≢false h)
+
+pub closes_with : (os : List Side) (l : Side) (x : parts.Last) (b : Bool) → is_some (closes os l x b) ≡ true → Some (level_ended l x) ≡ closes os l x b
+closes_with [] l x true h = refl
+closes_with [] l x false h = absurd (true≢false (sym h))
+closes_with (o ∷ os) l x b h = absurd (true≢false (sym h))
+
 same_between : (m : Mode) → is_between m ≡ parts.is_between (mode_image m)
 same_between reading.between = refl
 same_between reading.escaping = refl
@@ -420,6 +474,8 @@ same_between (reading.in_class k) = refl
 same_between (reading.class_escaping k) = refl
 same_between (reading.coding k) = refl
 same_between (reading.class_coding k d) = refl
+same_between (reading.in_property k) = refl
+same_between (reading.in_class_property k d) = refl
 same_between (reading.naming n) = refl
 same_between (reading.name_escaping n) = refl
 same_between (reading.name_coding n k) = refl

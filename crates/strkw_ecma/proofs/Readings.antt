@@ -4,21 +4,24 @@ use Rattle.std.specs.Prelude.{option_and_then, ◌==◌, ◌*◌, ◌≤◌, is_
 use Rattle.std.proofs.lemmas.List.{append-nil}
 use Rattle.std.proofs.lemmas.Bool.{lt-ltb, le-leb}
 use Rattle.std.specs.Str.{byte}
-use Rattle.strkw_ecma.proofs.Letters.{same_char}
+use Rattle.strkw_ecma.proofs.Letters.{same_char, is_not}
 use Rattle.strkw_ecma.specs.Escapes.{Escape, itself, control, set, escape}
 use Rattle.strkw_ecma.specs.Codes.{Code, null_code, letter_code, byte_code, unit_code, pair_code, point_code, code_spelling, IsCode}
 use Rattle.strkw_ecma.specs.CodeReading.{Coding, Coded, fails, goes, makes, coding_next}
+use Rattle.strkw_ecma.specs.Properties.{Expression, expression_spelling, property_letter, IsExpression}
+use Rattle.strkw_ecma.specs.PropertyReading.{PropertyPart, brace_awaited, PropertyRead, no_property_read, property_goes, property_ends, property_next}
 use Rattle.ucd_derived.proofs.Computing.{ucd_derived}
 use Rattle.strkw_ecma.specs.Names.{NameChar, verbatim, by_code, name_char_spelling, name_spelling, name_char_value, name_value, is_unicode, is_name_start, is_name_part, IsNameChar, AreNameParts, IsName, may_follow, are_distinct, NameToken, name_end, name_backslash, name_character, name_token}
-use Rattle.strkw_ecma.specs.Syntax.{Disjunction, only, either, Alternative, nothing, more, Term, at_start, at_end, at_boundary, at_no_boundary, once, quantified, Quantifier, zero_or_more, one_or_more, zero_or_one, exactly, at_least, from_to, greedy, lazy, Atom, plain, escaped, control_escape, set_escape, coded, dot, bracketed, group, Group, capturing, plain_group, named, with_name, with_names, with_alternative_names, with_term_names, with_atom_names, names, Token, character, token, quantifier_spelling, group_spelling, greed_spelling, spelling, alternative_spelling, term_spelling, atom_spelling, max_nesting}
+use Rattle.strkw_ecma.specs.Syntax.{Disjunction, only, either, Alternative, nothing, more, Term, at_start, at_end, at_boundary, at_no_boundary, once, quantified, Quantifier, zero_or_more, one_or_more, zero_or_one, exactly, at_least, from_to, greedy, lazy, Atom, plain, escaped, control_escape, set_escape, coded, property_escape, dot, bracketed, group, Group, capturing, plain_group, named, with_name, with_names, with_alternative_names, with_term_names, with_atom_names, names, Token, character, token, quantifier_spelling, group_spelling, greed_spelling, spelling, alternative_spelling, term_spelling, atom_spelling, max_nesting}
 use Rattle.strkw_ecma.specs.WellFormed.{IsQuantifier, IsGroup, IsWellFormed, IsAlternative, IsTerm, IsAtom}
 use Rattle.strkw_ecma.specs.Numbers.{number, number_of, IsNumber}
 use Rattle.strkw_ecma.specs.Size.{size, max_size}
 use Rattle.strkw_ecma.specs.Patterns.{atom_pattern, times, copies}
 use Rattle.strkw_ecma.proofs.Digits.{reads_digits}
-use Rattle.strkw_ecma.specs.Reading.{Open, Outer, Level, Last, none, atom, counted, State, between, opening, low, high, counting, with_mode, with_quantifier, with_count, range_read, on_low, on_high, when, ended, joined, with_atom, naming, name_coding, with_name_char, on_naming, on_name_coding, closes, tree_if, opened_within, opened, on_token, on_group, on_escape, coding, on_coding, next, read_from, read}
+use Rattle.strkw_ecma.specs.Reading.{Open, Outer, Level, Last, none, atom, counted, State, between, opening, low, high, counting, with_mode, with_quantifier, with_count, range_read, on_low, on_high, when, ended, joined, with_atom, naming, name_coding, with_name_char, on_naming, on_name_coding, closes, tree_if, opened_within, opened, on_token, on_group, on_escape, coding, on_coding, in_property, on_property, next, read_from, read}
 use Rattle.strkw_ecma.proofs.ClassReadings.{reads_class}
 use Rattle.strkw_ecma.proofs.CodeReadings.{follow, code_tail, begun, reads_code}
+use Rattle.strkw_ecma.proofs.PropertyReadings.{follow_property, reads_property}
 
 abbrev state : Outer → Option Disjunction → Alternative → Last → State
 state outer e a x = record { outer = outer; level = record { earlier = e; current = a }; last = x; mode = between }
@@ -61,6 +64,35 @@ module _ (outer : Outer) (e : Option Disjunction) (a : Alternative) (x : Last) w
   reads_coded : (d : Code) → IsCode d → (cs : List ℕ)
       → read_from (state outer e a x) (atom_spelling (coded d) ++ cs) ≡ behind_whole d cs
   reads_coded d h cs = code_begins d cs ∙ reads_code behind_part behind_whole (λ k c cs. follows (coding_next k c) cs) d h cs
+
+  -- a property
+  abbrev behind_property_part : PropertyPart → List ℕ → Option Disjunction
+  behind_property_part k cs = read_from (with_mode outer (record { earlier = e; current = a }) x (in_property k)) cs
+
+  abbrev behind_property : Bool → Expression → List ℕ → Option Disjunction
+  behind_property n f cs =
+      option_and_then (λ t. read_from t cs) (on_property outer (record { earlier = e; current = a }) x (property_ends n f))
+
+  property_follows : (o : PropertyRead) (cs : List ℕ)
+      → option_and_then (λ t. read_from t cs) (on_property outer (record { earlier = e; current = a }) x o)
+      ≡ follow_property behind_property_part behind_property o cs
+  property_follows no_property_read cs = refl
+  property_follows (property_goes k) cs = refl
+  property_follows (property_ends n f) cs = refl
+
+  property_begins : (n : Bool) (cs : List ℕ)
+      → read_from (state outer e a x) (byte "\\" ∷ property_letter n ∷ cs) ≡ behind_property_part (brace_awaited n) cs
+  property_begins false cs = refl
+  property_begins true cs = refl
+
+  reads_property_escape : (n : Bool) (f : Expression) → IsExpression f → (cs : List ℕ)
+      → read_from (state outer e a x) (atom_spelling (property_escape n f) ++ cs)
+      ≡ read_from (with_atom outer (record { earlier = e; current = a }) x (property_escape n f)) cs
+  reads_property_escape n f h cs =
+      property_begins n (byte "{" ∷ ((expression_spelling f ++ byte "}" ∷ []) ++ cs))
+      ∙ reads_property behind_property_part behind_property (λ k c cs. property_follows (property_next k c) cs) n f h.0 cs
+      ∙ ap (λ (b : Bool). option_and_then (λ t. read_from t cs)
+      (when b (Some (with_atom outer (record { earlier = e; current = a }) x (property_escape n f))))) h.1
 
 -- a count that is whole
 counts : (outer : Outer) (l : Level) (p : Atom) (q : Quantifier) (cs : List ℕ) → copies (times q) * size (atom_pattern p) ≤ max_size
@@ -168,6 +200,7 @@ mutual
   begins_atom (control_escape c) n h cs = refl
   begins_atom (set_escape c) n h cs = refl
   begins_atom (coded d) n h cs = refl
+  begins_atom (property_escape b e) n h cs = refl
   begins_atom dot n h cs = refl
   begins_atom (bracketed false r e) n h cs = refl
   begins_atom (bracketed true r e) n h cs = refl
@@ -186,10 +219,6 @@ inside outer e a x g = state (record {
 }) None nothing none
 
 -- a name
-name_is_not : (f : ℕ → Bool) (c d : ℕ) (b : Bool) → (c == d) ≡ b → f c ≡ true → f d ≡ false → b ≡ false
-name_is_not f c d false e h w = refl
-name_is_not f c d true e h w = absurd (true≢false (sym h ∙ sym (ap f (same_char c d e)) ∙ w))
-
 -- the characters that have a meaning of their own in a name are none of its
 IsApart : (ℕ → Bool) → Type 0
 IsApart f = (f (byte ">") ≡ false) × (f (byte "\\") ≡ false)
@@ -209,8 +238,8 @@ follow_apart (d ∷ ds) = part_apart
 token_of_name : (f : ℕ → Bool) → IsApart f → (c : ℕ) → f c ≡ true → name_token c ≡ name_character
 unfolding IsApart
 token_of_name f a c h =
-    ap (λ (b : Bool). if b then name_end else if c == byte "\\" then name_backslash else name_character) (name_is_not f c (byte ">") _ refl h a.0)
-    ∙ ap (λ (b : Bool). if b then name_backslash else name_character) (name_is_not f c (byte "\\") _ refl h a.1)
+    ap (λ (b : Bool). if b then name_end else if c == byte "\\" then name_backslash else name_character) (is_not f c (byte ">") _ refl h a.0)
+    ∙ ap (λ (b : Bool). if b then name_backslash else name_character) (is_not f c (byte "\\") _ refl h a.1)
 
 module _ (outer : Outer) (l : Level) (x : Last) where
   abbrev in_name : List NameChar → List ℕ → Option Disjunction
@@ -370,6 +399,7 @@ mutual
   reads_atom (set_escape c) os ns h e a x cs =
       ap (option_and_then (λ t. read_from t cs)) (escape_next (around os ns) (record { earlier = e; current = a }) x c set h)
   reads_atom (coded d) os ns h e a x cs = reads_coded (around os ns) e a x d h cs
+  reads_atom (property_escape n f) os ns h e a x cs = reads_property_escape (around os ns) e a x n f h cs
   reads_atom dot os ns h e a x cs = refl
   reads_atom (bracketed n r w) os ns h e a x cs =
       reads_class (around os ns) (record { earlier = e; current = a }) x n r w h.0 h.1 cs

@@ -1,13 +1,14 @@
 -- The equations of `pattern_of`, one for each variant.
-use Rattle.std.proofs.Common.{◌≡◌, ℕ, Bool, Vec, Box, Global, sym, ap, ◌∙◌}
+use Rattle.std.proofs.Common.{◌≡◌, Bool, Vec, Box, Global, sym, ap, ◌∙◌}
 use Rattle.strkw_ecma.specs.Tree.{Pattern, class, cat, alt, star, plus}
+use Rattle.strkw_ecma.specs.declared.tree.CharSet.{CharSet}
 use Rattle.strkw_ecma.specs.Shape.{pattern_of, node_pattern}
 use Rattle.strkw_ecma.specs.declared.tree.Tree.{Tree, Tree-F, fold-roll-Tree}
 use Rattle.strkw_ecma.specs.declared.tree.Tree.TheVariants.{Class, Then, Or, Star, Plus, rolls-Class, rolls-Then, rolls-Or, rolls-Star, rolls-Plus}
 
-pub pattern-Class : (marked negated : Bool) (ranges : Vec (ℕ × ℕ) Global) → pattern_of (Class marked negated ranges) ≡ class marked negated ranges.items
-pattern-Class marked negated ranges =
-    ap pattern_of (sym (rolls-Class marked negated ranges)) ∙ fold-roll-Tree Pattern node_pattern (Tree-F.Class marked negated ranges)
+pub pattern-Class : (marked negated : Bool) (sets : Vec CharSet Global) → pattern_of (Class marked negated sets) ≡ class marked negated sets.items
+pattern-Class marked negated sets =
+    ap pattern_of (sym (rolls-Class marked negated sets)) ∙ fold-roll-Tree Pattern node_pattern (Tree-F.Class marked negated sets)
 
 pub pattern-Then : (first second : Box Tree Global) → pattern_of (Then first second) ≡ cat (pattern_of first.value) (pattern_of second.value)
 pattern-Then first second = ap pattern_of (sym (rolls-Then first second)) ∙ fold-roll-Tree Pattern node_pattern (Tree-F.Then first second)

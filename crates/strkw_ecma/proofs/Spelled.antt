@@ -3,19 +3,21 @@ use Rattle.std.proofs.Common.{◌≡◌, ℕ, Bool, true, false, ◌&&◌, List,
 use Rattle.std.specs.Prelude.{option_and_then, option_map, is_some, nat_le, ◌*◌}
 use Rattle.std.proofs.lemmas.List.{append-nil}
 use Rattle.std.specs.Str.{byte}
-use Rattle.strkw_ecma.specs.Escapes.{Escape, itself, control, set, boundary, no_boundary, null, letter, hexadecimal, unicode, unknown, escape}
+use Rattle.strkw_ecma.specs.Escapes.{Escape, itself, control, set, boundary, no_boundary, null, letter, hexadecimal, unicode, property, no_property, unknown, escape}
 use Rattle.strkw_ecma.specs.Codes.{null_code}
 use Rattle.strkw_ecma.specs.CodeReading.{Coding, Coded, fails, goes, makes, coding_next}
 use Rattle.strkw_ecma.specs.Names.{NameChar, verbatim, by_code, name_char_spelling, name_spelling, name_char_value, name_value, may_follow, Extension, uncaptured, name_opening, no_extension, extension, NameToken, name_end, name_backslash, name_character, name_token, are_distinct}
 use Rattle.strkw_ecma.specs.Classes.{class_token, class_escape, no_ranges}
-use Rattle.strkw_ecma.specs.Syntax.{Disjunction, Term, at_start, at_end, at_boundary, at_no_boundary, quantified, Quantifier, zero_or_more, one_or_more, zero_or_one, exactly, at_least, from_to, lazy, Group, capturing, plain_group, named, plain, escaped, control_escape, set_escape, coded, dot, group, Token, bar, asterisk, plus, question, caret, dollar, opening as opening_token, closing, point, backslash, bracket, brace, character, other, token, quantifier_spelling, group_spelling, spelling, term_spelling, atom_spelling}
-use Rattle.strkw_ecma.specs.Reading.{Open, Outer, Level, Last, none, atom, counted, fresh, Mode, between, escaping, opening, extending, class_opened, Count, low, high, counting, when, with_count, longer, on_low, on_high, on_count, range_read, in_class, class_escaping, coding, class_coding, naming, name_escaping, name_coding, with_name_char, name_read, on_naming, on_name_escape, on_name_coding, on_coding, tree_if, closes, is_between, State, ended, level_ended, new_level, with_term, with_mode, closed_in, closed, with_quantifier, questioned, opened, opened_within, on_token, on_group, on_extension, on_escape, on_class, next, next_in, read_from, initial, read}
+use Rattle.strkw_ecma.specs.Syntax.{Disjunction, Term, at_start, at_end, at_boundary, at_no_boundary, quantified, Quantifier, zero_or_more, one_or_more, zero_or_one, exactly, at_least, from_to, lazy, Group, capturing, plain_group, named, plain, escaped, control_escape, set_escape, coded, property_escape, dot, group, Token, bar, asterisk, plus, question, caret, dollar, opening as opening_token, closing, point, backslash, bracket, brace, character, other, token, quantifier_spelling, group_spelling, spelling, term_spelling, atom_spelling}
+use Rattle.strkw_ecma.specs.Reading.{Open, Outer, Level, Last, none, atom, counted, fresh, Mode, between, escaping, opening, extending, class_opened, Count, low, high, counting, with_count, longer, on_low, on_high, on_count, range_read, in_class, class_escaping, coding, class_coding, in_property, in_class_property, naming, name_escaping, name_coding, with_name_char, name_read, on_naming, on_name_escape, on_name_coding, on_coding, on_property, tree_if, closes, is_between, State, ended, level_ended, new_level, with_atom, with_term, with_mode, closed_in, closed, with_quantifier, questioned, opened, opened_within, on_token, on_group, on_extension, on_escape, on_class, next, next_in, read_from, initial, read}
 use Rattle.strkw_ecma.specs.Numbers.{number, number_of, max_count, CountToken, digit, comma, closing_brace, no_count, count_token}
 use Rattle.strkw_ecma.specs.Size.{size, max_size}
 use Rattle.strkw_ecma.specs.Patterns.{atom_pattern, times, copies}
 use Rattle.strkw_ecma.proofs.Letters.{char_of_count, char_of_count_token, same_char, char_of_extension, char_of_extension_token, char_of_name, char_of_name_token, char_of, char_of_token, char_of_letter, char_of_escape, char_of_class_token, char_of_class_escape}
-use Rattle.strkw_ecma.proofs.ClassSpelled.{level_spelling, last_spelling, outer_spelling, name_text, spelled, HasRead, joined_spelling, more_spelling, before, whole, atom_read, class_token_read, class_escape_read, class_coding_read}
+use Rattle.strkw_ecma.proofs.ClassSpelled.{level_spelling, last_spelling, outer_spelling, name_text, spelled, HasRead, when_read, joined_spelling, more_spelling, before, whole, atom_read, class_token_read, class_escape_read, class_coding_read, class_property_read}
 use Rattle.strkw_ecma.proofs.CodeReadings.{coding_spelling, IsCodedAs, coding_as}
+use Rattle.strkw_ecma.specs.PropertyReading.{PropertyPart, PropertyRead, no_property_read, property_goes, property_ends, property_next}
+use Rattle.strkw_ecma.proofs.PropertyReadings.{part_spelling, IsReadAs, property_as}
 
 module _ (outer : Outer) (l : Level) where
   abbrev level_text : List ℕ
@@ -118,6 +120,10 @@ escape_read outer l x c hexadecimal e =
     sym (append_assoc (before outer l x) (byte "\\" ∷ []) (byte "x" ∷ [])) ∙ ap (λ z. (before outer l x ++ byte "\\" ∷ []) ++ z ∷ []) e
 escape_read outer l x c unicode e =
     sym (append_assoc (before outer l x) (byte "\\" ∷ []) (byte "u" ∷ [])) ∙ ap (λ z. (before outer l x ++ byte "\\" ∷ []) ++ z ∷ []) e
+escape_read outer l x c property e =
+    sym (append_assoc (before outer l x) (byte "\\" ∷ []) (byte "p" ∷ [])) ∙ ap (λ z. (before outer l x ++ byte "\\" ∷ []) ++ z ∷ []) e
+escape_read outer l x c no_property e =
+    sym (append_assoc (before outer l x) (byte "\\" ∷ []) (byte "P" ∷ [])) ∙ ap (λ z. (before outer l x ++ byte "\\" ∷ []) ++ z ∷ []) e
 escape_read outer l x c unknown e = tt
 
 coding_read : (outer : Outer) (l : Level) (x : Last) (k : Coding) (c : ℕ) (o : Coded) → IsCodedAs o (coding_spelling k ++ c ∷ [])
@@ -128,6 +134,16 @@ coding_read outer l x k c (goes m) h =
 coding_read outer l x k c (makes d) h =
     atom_read outer l x (coded d) ∙ ap (λ z. before outer l x ++ byte "\\" ∷ z) h
     ∙ sym (append_assoc (before outer l x) (byte "\\" ∷ coding_spelling k) (c ∷ []))
+
+property_read : (outer : Outer) (l : Level) (x : Last) (k : PropertyPart) (c : ℕ) (o : PropertyRead) → IsReadAs o (part_spelling k ++ c ∷ [])
+    → HasRead (on_property outer l x o) ((before outer l x ++ byte "\\" ∷ part_spelling k) ++ c ∷ [])
+property_read outer l x k c no_property_read h = tt
+property_read outer l x k c (property_goes m) h =
+    ap (λ z. before outer l x ++ byte "\\" ∷ z) h ∙ sym (append_assoc (before outer l x) (byte "\\" ∷ part_spelling k) (c ∷ []))
+property_read outer l x k c (property_ends n e) h =
+    when_read _ (Some (with_atom outer l x (property_escape n e))) _
+    (atom_read outer l x (property_escape n e) ∙ ap (λ z. before outer l x ++ byte "\\" ∷ z) h
+    ∙ sym (append_assoc (before outer l x) (byte "\\" ∷ part_spelling k) (c ∷ [])))
 
 -- behind `(`: the group is open, and the character is read within it
 first_read : (outer : Outer) (l : Level) (x : Last) (c : ℕ) (b : Bool)
@@ -163,10 +179,6 @@ bracket_read outer l x c true e =
     ap (λ z. before outer l x ++ byte "[" ∷ z ∷ []) (same_char c (byte "^") e) ∙ sym (append_assoc (before outer l x) (byte "[" ∷ []) (c ∷ []))
 
 -- counts
-when_read : (b : Bool) (o : Option State) (text : List ℕ) → HasRead o text → HasRead (when b o) text
-when_read false o text h = tt
-when_read true o text h = h
-
 module _ (outer : Outer) (l : Level) where
   count_read : (x : Last) (q : Quantifier) → HasRead (with_count outer l x q) (before outer l x ++ quantifier_spelling q)
   count_read none q = tt
@@ -298,6 +310,9 @@ next_read outer l x (class_escaping k) c =
     class_escape_read outer l x k.negated k.ranges k.pending c (class_escape c) (char_of_class_escape c)
 next_read outer l x (class_coding k d) c =
     class_coding_read outer l x k.negated k.ranges k.pending d c (coding_next d c) (coding_as d c)
+next_read outer l x (in_property k) c = property_read outer l x k c (property_next k c) (property_as k c)
+next_read outer l x (in_class_property k d) c =
+    class_property_read outer l x k.negated k.ranges k.pending d c (property_next d c) (property_as d c)
 next_read outer l x (naming n) c = naming_read outer l x n c (name_token c) (char_of_name_token c)
 next_read outer l x (name_escaping n) c = name_escape_read outer l x n c _ refl
 next_read outer l x (name_coding n k) c = name_coding_read outer l x n k c (coding_next k c) (coding_as k c)
@@ -324,6 +339,8 @@ at_close_read [] ns l x (in_class k) b = tt
 at_close_read [] ns l x (class_escaping k) b = tt
 at_close_read [] ns l x (coding k) b = tt
 at_close_read [] ns l x (class_coding k d) b = tt
+at_close_read [] ns l x (in_property k) b = tt
+at_close_read [] ns l x (in_class_property k d) b = tt
 at_close_read [] ns l x (naming n) b = tt
 at_close_read [] ns l x (name_escaping n) b = tt
 at_close_read [] ns l x (name_coding n k) b = tt

@@ -1,5 +1,6 @@
 -- The law of the marks: a step leads from the ways through a pattern at a place to those at the next.
 use Rattle.std.proofs.Common.{◌≡◌, ◌⊎◌, ℕ, ◌+◌, Bool, true, false, ◌&&◌, ◌||◌, List, Option, Some, None, slice_get, refl, sym, ap, subst, ◌∙◌, inl, inr, ⊎_elim, true≢false}
+use Rattle.strkw_ecma.specs.declared.tree.CharSet.{CharSet}
 use Rattle.strkw_ecma.specs.Tree.{Pattern, empty, class, look, cat, alt, star, plus, is_member}
 use Rattle.strkw_ecma.specs.Meaning.{Rounds, no_round, a_round, before, Matches}
 use Rattle.strkw_ecma.specs.Marks.{reads, leaves, step, Rest}
@@ -109,15 +110,15 @@ module _ (text : List ℕ) (i : ℕ) where
   rounds_from_stepped q y l j m = subst (λ (R : ℕ → ℕ → Type 0). Rounds R j l) (same_meaning text (before text i) (slice_get text i) q y) m
 
   -- a class that enters and reads the character here
-  class_went : (n : Bool) (rs : List (ℕ × ℕ)) (x : Bool) (c : ℕ) (j : ℕ) → x ≡ true → slice_get text i ≡ Some c → is_member n rs c ≡ true → j ≡ i + 1
+  class_went : (n : Bool) (rs : List CharSet) (x : Bool) (c : ℕ) (j : ℕ) → x ≡ true → slice_get text i ≡ Some c → is_member n rs c ≡ true → j ≡ i + 1
       → ((x && reads (slice_get text i) n rs) ≡ true) × (i + 1 ≡ j)
   class_went n rs x c j xt at member e = (and_true _ _ xt (rw at member), sym e)
 
-  reads_some : (n : Bool) (rs : List (ℕ × ℕ)) (o : Option ℕ) → reads o n rs ≡ true → (c : ℕ) × (o ≡ Some c) × (is_member n rs c ≡ true)
+  reads_some : (n : Bool) (rs : List CharSet) (o : Option ℕ) → reads o n rs ≡ true → (c : ℕ) × (o ≡ Some c) × (is_member n rs c ≡ true)
   reads_some n rs None h = absurd (true≢false (sym h))
   reads_some n rs (Some c) h = (c, refl, h)
 
-  class_goes : (n : Bool) (rs : List (ℕ × ℕ)) (x : Bool) (j : ℕ) → (x && reads (slice_get text i) n rs) ≡ true → i + 1 ≡ j
+  class_goes : (n : Bool) (rs : List CharSet) (x : Bool) (j : ℕ) → (x && reads (slice_get text i) n rs) ≡ true → i + 1 ≡ j
       → (x ≡ true) × ((c : ℕ) × (slice_get text i ≡ Some c) × (is_member n rs c ≡ true) × (j ≡ i + 1))
   class_goes n rs x j h e =
       let found = reads_some n rs _ (and_right x _ h) in
@@ -276,7 +277,7 @@ module _ (text : List ℕ) (i : ℕ) where
   none_after_end e empty x k j r = r
   none_after_end e (class m n rs) x k j r = no_reading e n rs x r.0
     where
-      no_reading : slice_get text i ≡ None → (n : Bool) (rs : List (ℕ × ℕ)) (x : Bool) → (x && reads (slice_get text i) n rs) ≡ true → ⊥
+      no_reading : slice_get text i ≡ None → (n : Bool) (rs : List CharSet) (x : Bool) → (x && reads (slice_get text i) n rs) ≡ true → ⊥
       no_reading e n rs x h = true≢false (sym (rw e at (and_right x _ h)))
   none_after_end e (look l) x k j r = r
   none_after_end e (cat p q) x k j (inl (l, r, m)) = none_after_end e p x k l r

@@ -10,7 +10,7 @@ use Rattle.strkw_ecma.specs.Marks.{leaves, step}
 use Rattle.strkw_ecma.specs.Shape.{pattern_of}
 use Rattle.strkw_ecma.specs.Table.{class_of, entry_at, row_after, found, covers, IsRowOf, IsEntry, IsRow, IsTable, Searches}
 use Rattle.strkw_ecma.specs.declared.states.State.{State}
-use Rattle.strkw_ecma.proofs.Alike.{class_most, first_below, has_each, in_some_class, same_firsts, SameFirsts, same_leaves, same_ranges, same_step, step_covers}
+use Rattle.strkw_ecma.proofs.Alike.{class_most, first_below, has_each, in_some_class, same_firsts, SameFirsts, same_leaves, same_sets, same_step, step_covers}
 use Rattle.strkw_ecma.proofs.Walks.{walks}
 
 module _ (firsts entries : List ℕ) (states : List State) (p : Pattern) (table : IsTable firsts entries states p) where
@@ -55,7 +55,7 @@ module _ (firsts entries : List ℕ) (states : List State) (p : Pattern) (table 
     entry = subst (λ (k : ℕ). IsEntry states at.state row first (entry_at entries row k)) (sym class_is) ((row_of row q b at).reads _ within)
 
     next_word : is_word (Some first) ≡ is_word (Some c)
-    next_word = same_ranges firsts first c alike below char word_characters table.words
+    next_word = same_sets firsts first c alike below char word_characters table.words
 
     left_is : (r : Pattern) → leaves at.state.last (Some first) r true ≡ leaves b (Some c) r true
     left_is r = same_leaves at.state.last b (Some first) (Some c) at.word at.edge next_word refl r true

@@ -4,6 +4,10 @@
 use Rattle.std.specs.Prelude.{◌≡◌, ℕ, nat_le, Bool, true, false, List, [], ◌∷◌, ◌++◌, Option, Some, None, is_some, if◌then◌else◌, ◌==◌}
 use Rattle.std.specs.Str.{byte}
 use Rattle.strkw_ecma.specs.Escapes.{Escape, itself, control, set, escape}
+use Rattle.strkw_ecma.specs.Properties.{Expression, property_of, property_spelling, IsExpression}
+use Rattle.strkw_ecma.specs.declared.tree.CharSet.{CharSet}
+use Rattle.strkw_ecma.specs.declared.tree.CharSet.TheVariants.{Range, Property as PropertySet}
+use Rattle.strkw_ecma.specs.declared.properties.Property.{Property}
 use Rattle.strkw_ecma.specs.Codes.{Code, code_spelling, code_value, IsCode}
 use Rattle.strkw_ecma.specs.Sets.{control_char, set_ranges}
 
@@ -29,6 +33,7 @@ pub data ClassAtom : Type 0 where
   class_set : ℕ → ClassAtom
   backspace : ClassAtom
   class_coded : Code → ClassAtom
+  class_property : Bool → Expression → ClassAtom
 
 -- ClassContents: nothing, or what stands before its last atom or range
 pub data Ranges : Type 0 where
@@ -36,44 +41,50 @@ pub data Ranges : Type 0 where
   with_one : Ranges → ClassAtom → Ranges
   with_range : Ranges → ClassAtom → ClassAtom → Ranges
 
--- what an atom of a class stands for: one character, or the set of a letter
+-- what an atom of a class stands for: one character, or those of a letter or of a property
 pub data Item : Type 0 where
   char : ℕ → Item
-  set_item : ℕ → Item
+  set_item : List CharSet → Item
+
+-- the set of a property, where there is one
+abbrev pub property_set : Bool → Option Property → List CharSet
+property_set n None = []
+property_set n (Some p) = PropertySet n p ∷ []
 
 abbrev pub item : ClassAtom → Item
 item (class_plain c) = char c
 item hyphen = char (byte "-")
 item (class_escaped c) = char c
 item (class_control c) = char (control_char c)
-item (class_set c) = set_item c
+item (class_set c) = set_item (set_ranges c)
 item backspace = char 8
 item (class_coded k) = char (code_value k)
+item (class_property n e) = set_item (property_set n (property_of e))
 
-abbrev pub item_ranges : Item → List (ℕ × ℕ)
-item_ranges (char c) = (c, c) ∷ []
-item_ranges (set_item c) = set_ranges c
+abbrev pub item_sets : Item → List CharSet
+item_sets (char c) = Range c c ∷ []
+item_sets (set_item rs) = rs
 
 -- characters alone bound a range, and the first is not the greater
-abbrev pub range : Item → Item → Option (ℕ × ℕ)
-range (char c) (char d) = if nat_le c d then Some (c, d) else None
-range (char c) (set_item d) = None
-range (set_item c) i = None
+abbrev pub range : Item → Item → Option CharSet
+range (char c) (char d) = if nat_le c d then Some (Range c d) else None
+range (char c) (set_item rs) = None
+range (set_item rs) i = None
 
-abbrev pub range_list : Option (ℕ × ℕ) → List (ℕ × ℕ)
+abbrev pub range_list : Option CharSet → List CharSet
 range_list None = []
 range_list (Some r) = r ∷ []
 
 -- CompileToCharSet (section 22.2.2.9)
-abbrev pub ranges_of : Ranges → List (ℕ × ℕ)
-ranges_of no_ranges = []
-ranges_of (with_one r x) = ranges_of r ++ item_ranges (item x)
-ranges_of (with_range r x y) = ranges_of r ++ range_list (range (item x) (item y))
+abbrev pub sets_of : Ranges → List CharSet
+sets_of no_ranges = []
+sets_of (with_one r x) = sets_of r ++ item_sets (item x)
+sets_of (with_range r x y) = sets_of r ++ range_list (range (item x) (item y))
 
 -- with the `-` before the closing bracket, where there is one
-abbrev pub contents : Ranges → Bool → List (ℕ × ℕ)
-contents r false = ranges_of r
-contents r true = ranges_of r ++ item_ranges (char (byte "-"))
+abbrev pub contents : Ranges → Bool → List CharSet
+contents r false = sets_of r
+contents r true = sets_of r ++ item_sets (char (byte "-"))
 
 abbrev pub class_atom_spelling : ClassAtom → List ℕ
 class_atom_spelling (class_plain c) = c ∷ []
@@ -83,6 +94,7 @@ class_atom_spelling (class_control c) = byte "\\" ∷ c ∷ []
 class_atom_spelling (class_set c) = byte "\\" ∷ c ∷ []
 class_atom_spelling backspace = byte "\\" ∷ byte "b" ∷ []
 class_atom_spelling (class_coded k) = byte "\\" ∷ code_spelling k
+class_atom_spelling (class_property n e) = byte "\\" ∷ property_spelling n e
 
 abbrev pub ranges_spelling : Ranges → List ℕ
 ranges_spelling no_ranges = []
@@ -105,6 +117,7 @@ IsClassAtom (class_control c) = class_escape c ≡ control
 IsClassAtom (class_set c) = class_escape c ≡ set
 IsClassAtom backspace = Unit {0}
 IsClassAtom (class_coded k) = IsCode k
+IsClassAtom (class_property n e) = IsExpression e
 
 abbrev pub is_hyphen : ClassAtom → Bool
 is_hyphen hyphen = true

@@ -4,14 +4,15 @@ use Rattle.std.specs.Str.{byte}
 use Rattle.strkw_text.specs.Characters.{is_one_of}
 
 -- a SyntaxCharacter or `/`, which IdentityEscape takes; one of ControlEscape; one of CharacterClassEscape; an assertion's
--- letter; or the letter of an escape by a number
+-- letter; the letter of an escape by a number, or of a property
 pub data Escape : Type 0 where
-  itself control set boundary no_boundary null letter hexadecimal unicode unknown : Escape
+  itself control set boundary no_boundary null letter hexadecimal unicode property no_property unknown : Escape
 
 abbrev pub escape : ℕ → Escape
 escape c =
     if c == byte "b" then boundary else if c == byte "B" then no_boundary
     else if c == byte "0" then null else if c == byte "c" then letter
     else if c == byte "x" then hexadecimal else if c == byte "u" then unicode
+    else if c == byte "p" then property else if c == byte "P" then no_property
     else if is_one_of (codes "^$\\.*+?()[]{}|/") c then itself else if is_one_of (codes "fnrtv") c then control
     else if is_one_of (codes "dDsSwW") c then set else unknown

@@ -4,7 +4,8 @@ use Rattle.strkw_pattern.specs.declared.engine.Outcome.TheVariants.{Match, NoMat
 use Rattle.strkw_ecma.specs.Names.{are_distinct}
 use Rattle.strkw_ecma.specs.Syntax.{Disjunction, spelling, names, max_length}
 use Rattle.strkw_ecma.specs.WellFormed.{IsWellFormed}
-use Rattle.strkw_ecma.specs.Tree.{in_ranges}
+use Rattle.strkw_ecma.specs.Tree.{in_sets}
+use Rattle.strkw_ecma.specs.declared.tree.CharSet.{CharSet}
 use Rattle.strkw_ecma.specs.Codes.{max_code_point}
 use Rattle.strkw_ecma.specs.Lookahead.{is_apart}
 use Rattle.strkw_ecma.specs.Size.{size, max_nodes}
@@ -13,8 +14,8 @@ use Rattle.strkw_ecma.specs.Patterns.{pattern}
 use Rattle.strkw_ecma.specs.Outcomes.{takes_pattern, pattern_outcome}
 
 -- each character is in one of the two
-abbrev pub AreComplements : List (ℕ × ℕ) → List (ℕ × ℕ) → Type 0
-AreComplements rs ss = (c : ℕ) → c ≤ max_code_point → in_ranges ss c ≡ not (in_ranges rs c)
+abbrev pub AreComplements : List CharSet → List CharSet → Type 0
+AreComplements rs ss = (c : ℕ) → c ≤ max_code_point → in_sets ss c ≡ not (in_sets rs c)
 
 -- the text is a pattern, and this is its tree
 pub record IsPattern (source : List ℕ) (d : Disjunction) : Type 0 where

@@ -1,3 +1,4 @@
+pub mod Properties
 pub mod Tree
 pub mod Sets
 pub mod Meaning
@@ -12,6 +13,7 @@ pub mod Classes
 pub mod Names
 pub mod Syntax
 pub mod CodeReading
+pub mod PropertyReading
 pub mod CodeParts
 pub mod Reading
 pub mod Patterns

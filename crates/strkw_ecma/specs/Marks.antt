@@ -2,9 +2,10 @@
 use Rattle.std.specs.Prelude.{◌≡◌, ℕ, ◌≤◌, Bool, true, false, ◌&&◌, ◌||◌, not, ◌⊎◌, List, length, Option, Some, None}
 use Rattle.strkw_ecma.specs.Tree.{Pattern, empty, class, look, cat, alt, star, plus, is_member}
 use Rattle.strkw_ecma.specs.Meaning.{Rounds, holds, Matches}
+use Rattle.strkw_ecma.specs.declared.tree.CharSet.{CharSet}
 
 -- there is a character, and the class has it
-abbrev pub reads : Option ℕ → Bool → List (ℕ × ℕ) → Bool
+abbrev pub reads : Option ℕ → Bool → List CharSet → Bool
 reads None n rs = false
 reads (Some c) n rs = is_member n rs c
 

@@ -1,7 +1,7 @@
 -- What a pattern means (ECMA-262 2024, section 22.2.2): it matches a text from place i to place j. A place is the number of
 -- characters before it. The standard's RepeatMatcher refuses a round that reads nothing, which changes no answer.
 use Rattle.std.specs.Prelude.{◌≡◌, ℕ, ◌+◌, ◌-◌, ◌≤◌, ◌==◌, Bool, true, false, not, ◌⊎◌, List, length, Option, Some, None, if◌then◌else◌, slice_get}
-use Rattle.strkw_ecma.specs.Tree.{Look, start, end, boundary, no_boundary, Pattern, empty, class, look, cat, alt, star, plus, in_ranges, differ, is_member}
+use Rattle.strkw_ecma.specs.Tree.{Look, start, end, boundary, no_boundary, Pattern, empty, class, look, cat, alt, star, plus, in_sets, differ, is_member}
 use Rattle.strkw_ecma.specs.Sets.{word_characters}
 
 -- so many rounds of R as it takes, none among them, lead from the last number to j
@@ -16,7 +16,7 @@ before text i = if i == 0 then None else slice_get text (i - 1)
 -- IsWordChar (section 22.2.2.4.1)
 abbrev pub is_word : Option ℕ → Bool
 is_word None = false
-is_word (Some c) = in_ranges word_characters c
+is_word (Some c) = in_sets word_characters c
 
 abbrev pub is_edge : Option ℕ → Bool
 is_edge None = true

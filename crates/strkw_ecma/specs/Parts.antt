@@ -3,16 +3,18 @@ use Rattle.std.specs.Prelude.{ℕ, ◌+◌, ◌*◌, ◌-◌, nat_le, nat_lt, �
 use Rattle.std.specs.Prelude.{option_and_then}
 use Rattle.std.specs.Str.{byte}
 use Rattle.strkw_ecma.specs.Tree.{Pattern, empty, class, look, cat, alt, start, end, boundary, no_boundary}
-use Rattle.strkw_ecma.specs.Escapes.{Escape, itself, control, set, boundary as boundary_letter, no_boundary as no_boundary_letter, null, letter, hexadecimal, unicode, unknown, escape}
+use Rattle.strkw_ecma.specs.Escapes.{Escape, itself, control, set, boundary as boundary_letter, no_boundary as no_boundary_letter, null, letter, hexadecimal, unicode, property, no_property, unknown, escape}
 use Rattle.strkw_ecma.specs.CodeReading.{two_more}
 use Rattle.strkw_ecma.specs.CodeParts.{byte_width, Coding, letter_awaited, unit_opened, digits_of, Coded, fails, goes, makes, coding_of, coding_next}
+use Rattle.strkw_ecma.specs.Properties.{Expression, alone, valued, property_of}
+use Rattle.strkw_ecma.specs.PropertyReading.{PropertyPart, brace_awaited, in_braces, PropertyRead, no_property_read, property_goes, property_ends, property_next}
 use Rattle.strkw_ecma.specs.Names.{may_follow, are_distinct, Extension, uncaptured, name_opening, no_extension, extension, NameToken, name_end, name_backslash, name_character, name_token}
-use Rattle.strkw_ecma.specs.Classes.{ClassToken, closing_bracket, class_backslash, dash, class_character, class_token, class_escape, Item, char, set_item, item_ranges, range}
+use Rattle.strkw_ecma.specs.Classes.{ClassToken, closing_bracket, class_backslash, dash, class_character, class_token, class_escape, Item, char, set_item, item_sets, range}
 use Rattle.strkw_ecma.specs.Syntax.{Token, bar, asterisk, plus, question, caret, dollar, opening as opening_token, closing, point, backslash, bracket, brace, character, other, token, max_nesting}
 use Rattle.strkw_ecma.specs.Patterns.{one_char, Times, any_times, some_times, once_at_most, exact_times, least_times, range_times, quantified_pattern, copies}
 use Rattle.strkw_ecma.specs.Numbers.{max_count, CountToken, digit, comma, closing_brace, no_count, count_token}
 use Rattle.strkw_ecma.specs.Size.{size, max_size, max_nodes}
-use Rattle.strkw_ecma.specs.Sets.{line_ends, set_of, is_negative, control_char}
+use Rattle.strkw_ecma.specs.Sets.{line_ends, set_of, set_ranges, is_negative, control_char}
 use Rattle.strkw_ecma.specs.Shape.{pattern_of}
 use Rattle.strkw_ecma.specs.Lookahead.{Front, neither, backslash as after_backslash, null as after_null}
 use Rattle.strkw_ecma.specs.declared.reader.Level.{Level}
@@ -27,6 +29,14 @@ use Rattle.strkw_ecma.specs.declared.classes.Item.{Item as CodeItem}
 use Rattle.strkw_ecma.specs.declared.classes.Item.TheVariants as code_item
 use Rattle.strkw_ecma.specs.declared.classes.Pending.{Pending as CodePending}
 use Rattle.strkw_ecma.specs.declared.classes.Pending.TheVariants as pending
+use Rattle.strkw_ecma.specs.declared.tree.CharSet.{CharSet}
+use Rattle.strkw_ecma.specs.declared.tree.CharSet.TheVariants.{Property as PropertySet}
+use Rattle.strkw_ecma.specs.declared.properties.Expression.{Expression as CodeExpression}
+use Rattle.strkw_ecma.specs.declared.properties.Expression.TheVariants as code_expression
+use Rattle.strkw_ecma.specs.declared.properties.PropertyPart.{PropertyPart as CodePart}
+use Rattle.strkw_ecma.specs.declared.properties.PropertyPart.TheVariants as code_part
+use Rattle.strkw_ecma.specs.declared.properties.PropertyRead.{PropertyRead as CodeRead}
+use Rattle.strkw_ecma.specs.declared.properties.PropertyRead.TheVariants as code_read
 use Rattle.strkw_ecma.specs.declared.counts.Count.{Count as CodeCount}
 use Rattle.strkw_ecma.specs.declared.counts.Count.TheVariants as code_count
 use Rattle.strkw_ecma.specs.declared.tokens.CountToken.{CountToken as CodeCountToken}
@@ -70,7 +80,7 @@ pub data Pending : Type 0 where
 
 pub record Class : Type 0 where
   pub negated : Bool
-  pub ranges : List (ℕ × ℕ)
+  pub sets : List CharSet
   pub pending : Pending
 
 -- the numbers of a count, where they have digits: the first, or both
@@ -85,6 +95,8 @@ pub data Mode : Type 0 where
   in_class : Class → Mode
   class_escaping : Class → Mode
   class_coding : Class → Coding → Mode
+  in_property : PropertyPart → Mode
+  in_class_property : Class → PropertyPart → Mode
   naming : List ℕ → Mode
   name_escaping : List ℕ → Mode
   name_coding : List ℕ → Coding → Mode
@@ -110,7 +122,8 @@ last_of (last.Counted t) = counted (pattern_of t)
 
 abbrev pub item_of : CodeItem → Item
 item_of (code_item.Char c) = char c
-item_of (code_item.Set c) = set_item c
+item_of (code_item.Set c) = set_item (set_ranges c)
+item_of (code_item.Property n p) = set_item (PropertySet n p ∷ [])
 
 abbrev pub pending_of : CodePending → Pending
 pending_of pending.Fresh = fresh
@@ -118,7 +131,20 @@ pending_of (pending.One i) = one (item_of i)
 pending_of (pending.Dashed i) = dashed (item_of i)
 
 abbrev pub class_of : ClassReader → Class
-class_of k = record { negated = k.negated; ranges = k.ranges.items; pending = pending_of k.pending }
+class_of k = record { negated = k.negated; sets = k.sets.items; pending = pending_of k.pending }
+
+abbrev pub expression_of : CodeExpression → Expression
+expression_of (code_expression.Alone v) = alone v.items
+expression_of (code_expression.Valued n v) = valued n.items v.items
+
+abbrev pub part_of : CodePart → PropertyPart
+part_of (code_part.BraceAwaited n) = brace_awaited n
+part_of (code_part.InBraces n e) = in_braces n (expression_of e)
+
+abbrev pub property_read_of : CodeRead → PropertyRead
+property_read_of code_read.Fails = no_property_read
+property_read_of (code_read.Goes k) = property_goes (part_of k)
+property_read_of (code_read.Ends n e) = property_ends n (expression_of e)
 
 abbrev pub count_of : CodeCount → Count
 count_of (code_count.Low o) = low o
@@ -135,6 +161,8 @@ mode_of mode.ClassOpened = class_opened
 mode_of (mode.Class k) = in_class (class_of k)
 mode_of (mode.ClassEscaping k) = class_escaping (class_of k)
 mode_of (mode.ClassCoding k d) = class_coding (class_of k) (coding_of d)
+mode_of (mode.Property k) = in_property (part_of k)
+mode_of (mode.ClassProperty k d) = in_class_property (class_of k) (part_of d)
 mode_of (mode.Naming n) = naming n.items
 mode_of (mode.NameEscaping n) = name_escaping n.items
 mode_of (mode.NameCoding n k) = name_coding n.items (coding_of k)
@@ -187,6 +215,8 @@ escape_of escaped.Null = null
 escape_of escaped.Letter = letter
 escape_of escaped.Hexadecimal = hexadecimal
 escape_of escaped.Unicode = unicode
+escape_of escaped.Property = property
+escape_of escaped.NoProperty = no_property
 escape_of escaped.Unknown = unknown
 
 abbrev pub quantifier_of : CodeQuantifier → Times
@@ -291,12 +321,19 @@ after_escape s c null = Some (after_atom s (one_char 0))
 after_escape s c letter = Some (with_mode s (coding letter_awaited))
 after_escape s c hexadecimal = Some (with_mode s (coding (digits_of byte_width two_more 0)))
 after_escape s c unicode = Some (with_mode s (coding unit_opened))
+after_escape s c property = Some (with_mode s (in_property (brace_awaited false)))
+after_escape s c no_property = Some (with_mode s (in_property (brace_awaited true)))
 after_escape s c unknown = None
 
 abbrev pub after_coding : Parts → Coded → Option Parts
 after_coding s fails = None
 after_coding s (goes k) = Some (with_mode s (coding k))
 after_coding s (makes c) = Some (after_atom s (one_char c))
+
+abbrev pub after_property : Parts → PropertyRead → Option Parts
+after_property s no_property_read = None
+after_property s (property_goes k) = Some (with_mode s (in_property k))
+after_property s (property_ends n e) = option_map (λ p. after_atom s (class false false (PropertySet n p ∷ []))) (property_of e)
 
 abbrev pub after_token : Parts → ℕ → Token → Option Parts
 after_token s c bar = Some (after_bar s)
@@ -324,53 +361,61 @@ after_extension s name_opening = Some (with_mode s (naming []))
 after_extension s no_extension = None
 
 -- a class after an item, and after a `-`
-abbrev pub ranged : Bool → List (ℕ × ℕ) → Option (ℕ × ℕ) → Option Class
+abbrev pub ranged : Bool → List CharSet → Option CharSet → Option Class
 ranged n rs None = None
-ranged n rs (Some r) = Some (record { negated = n; ranges = rs ++ r ∷ []; pending = fresh })
+ranged n rs (Some r) = Some (record { negated = n; sets = rs ++ r ∷ []; pending = fresh })
 
-abbrev pub took : Bool → List (ℕ × ℕ) → Pending → Item → Option Class
-took n rs fresh j = Some (record { negated = n; ranges = rs; pending = one j })
-took n rs (one i) j = Some (record { negated = n; ranges = rs ++ item_ranges i; pending = one j })
+abbrev pub took : Bool → List CharSet → Pending → Item → Option Class
+took n rs fresh j = Some (record { negated = n; sets = rs; pending = one j })
+took n rs (one i) j = Some (record { negated = n; sets = rs ++ item_sets i; pending = one j })
 took n rs (dashed i) j = ranged n rs (range i j)
 
-abbrev pub took_dash : Bool → List (ℕ × ℕ) → Pending → Option Class
+abbrev pub took_dash : Bool → List CharSet → Pending → Option Class
 took_dash n rs fresh = took n rs fresh (char (byte "-"))
-took_dash n rs (one i) = Some (record { negated = n; ranges = rs; pending = dashed i })
+took_dash n rs (one i) = Some (record { negated = n; sets = rs; pending = dashed i })
 took_dash n rs (dashed i) = took n rs (dashed i) (char (byte "-"))
 
-abbrev pub class_read : Bool → List (ℕ × ℕ) → Pending → Pattern
+abbrev pub class_read : Bool → List CharSet → Pending → Pattern
 class_read n rs fresh = class false n rs
-class_read n rs (one i) = class false n (rs ++ item_ranges i)
-class_read n rs (dashed i) = class false n ((rs ++ item_ranges i) ++ item_ranges (char (byte "-")))
+class_read n rs (one i) = class false n (rs ++ item_sets i)
+class_read n rs (dashed i) = class false n ((rs ++ item_sets i) ++ item_sets (char (byte "-")))
 
 abbrev pub within : Parts → Option Class → Option Parts
 within s o = option_map (λ (k : Class). with_mode s (in_class k)) o
 
 abbrev pub after_class_token : Parts → Class → ℕ → ClassToken → Option Parts
-after_class_token s k c closing_bracket = Some (after_atom s (class_read k.negated k.ranges k.pending))
+after_class_token s k c closing_bracket = Some (after_atom s (class_read k.negated k.sets k.pending))
 after_class_token s k c class_backslash = Some (with_mode s (class_escaping k))
-after_class_token s k c dash = within s (took_dash k.negated k.ranges k.pending)
-after_class_token s k c class_character = within s (took k.negated k.ranges k.pending (char c))
+after_class_token s k c dash = within s (took_dash k.negated k.sets k.pending)
+after_class_token s k c class_character = within s (took k.negated k.sets k.pending (char c))
 
 abbrev pub after_class_escape : Parts → Class → ℕ → Escape → Option Parts
-after_class_escape s k c itself = within s (took k.negated k.ranges k.pending (char c))
-after_class_escape s k c control = within s (took k.negated k.ranges k.pending (char (control_char c)))
-after_class_escape s k c set = within s (took k.negated k.ranges k.pending (set_item c))
-after_class_escape s k c boundary_letter = within s (took k.negated k.ranges k.pending (char 8))
+after_class_escape s k c itself = within s (took k.negated k.sets k.pending (char c))
+after_class_escape s k c control = within s (took k.negated k.sets k.pending (char (control_char c)))
+after_class_escape s k c set = within s (took k.negated k.sets k.pending (set_item (set_ranges c)))
+after_class_escape s k c boundary_letter = within s (took k.negated k.sets k.pending (char 8))
 after_class_escape s k c no_boundary_letter = None
-after_class_escape s k c null = within s (took k.negated k.ranges k.pending (char 0))
+after_class_escape s k c null = within s (took k.negated k.sets k.pending (char 0))
 after_class_escape s k c letter = Some (with_mode s (class_coding k letter_awaited))
 after_class_escape s k c hexadecimal = Some (with_mode s (class_coding k (digits_of byte_width two_more 0)))
 after_class_escape s k c unicode = Some (with_mode s (class_coding k unit_opened))
+after_class_escape s k c property = Some (with_mode s (in_class_property k (brace_awaited false)))
+after_class_escape s k c no_property = Some (with_mode s (in_class_property k (brace_awaited true)))
 after_class_escape s k c unknown = None
 
 abbrev pub after_class_coding : Parts → Class → Coded → Option Parts
 after_class_coding s k fails = None
 after_class_coding s k (goes d) = Some (with_mode s (class_coding k d))
-after_class_coding s k (makes c) = within s (took k.negated k.ranges k.pending (char c))
+after_class_coding s k (makes c) = within s (took k.negated k.sets k.pending (char c))
+
+abbrev pub after_class_property : Parts → Class → PropertyRead → Option Parts
+after_class_property s k no_property_read = None
+after_class_property s k (property_goes d) = Some (with_mode s (in_class_property k d))
+after_class_property s k (property_ends n e) =
+    option_and_then (λ p. within s (took k.negated k.sets k.pending (set_item (PropertySet n p ∷ [])))) (property_of e)
 
 abbrev pub new_class : Bool → Class
-new_class n = record { negated = n; ranges = []; pending = fresh }
+new_class n = record { negated = n; sets = []; pending = fresh }
 
 abbrev pub after_bracket : Parts → ℕ → Bool → Option Parts
 after_bracket s c false = after_class_token s (new_class false) c (class_token c)
@@ -460,6 +505,8 @@ after_in s class_opened c = after_bracket s c (c == byte "^")
 after_in s (in_class k) c = after_class_token s k c (class_token c)
 after_in s (class_escaping k) c = after_class_escape s k c (class_escape c)
 after_in s (class_coding k d) c = after_class_coding s k (coding_next d c)
+after_in s (in_property k) c = after_property s (property_next k c)
+after_in s (in_class_property k d) c = after_class_property s k (property_next d c)
 after_in s (naming n) c = after_naming s n c (name_token c)
 after_in s (name_escaping n) c = after_name_escape s n (c == byte "u")
 after_in s (name_coding n k) c = after_name_coding s n (coding_next k c)

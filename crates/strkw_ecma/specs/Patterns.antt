@@ -5,11 +5,13 @@ use Rattle.strkw_ecma.specs.Numbers.{number}
 use Rattle.strkw_ecma.specs.Tree.{Pattern, empty, class, look, cat, alt, star, plus, start, end, boundary, no_boundary}
 use Rattle.strkw_ecma.specs.Sets.{line_ends, set_of, is_negative, control_char}
 use Rattle.strkw_ecma.specs.Codes.{code_value}
-use Rattle.strkw_ecma.specs.Classes.{contents}
-use Rattle.strkw_ecma.specs.Syntax.{Disjunction, only, either, Alternative, nothing, more, Term, at_start, at_end, at_boundary, at_no_boundary, once, quantified, Quantifier, zero_or_more, one_or_more, zero_or_one, exactly, at_least, from_to, Atom, plain, escaped, control_escape, set_escape, coded, dot, bracketed, group}
+use Rattle.strkw_ecma.specs.Properties.{property_of}
+use Rattle.strkw_ecma.specs.Classes.{contents, property_set}
+use Rattle.strkw_ecma.specs.declared.tree.CharSet.TheVariants.{Range}
+use Rattle.strkw_ecma.specs.Syntax.{Disjunction, only, either, Alternative, nothing, more, Term, at_start, at_end, at_boundary, at_no_boundary, once, quantified, Quantifier, zero_or_more, one_or_more, zero_or_one, exactly, at_least, from_to, Atom, plain, escaped, control_escape, set_escape, coded, property_escape, dot, bracketed, group}
 
 abbrev pub one_char : ℕ → Pattern
-one_char c = class false false ((c, c) ∷ [])
+one_char c = class false false (Range c c ∷ [])
 
 -- how often a quantifier repeats
 pub data Times : Type 0 where
@@ -71,6 +73,7 @@ abbrev mutual
   atom_pattern (control_escape c) = one_char (control_char c)
   atom_pattern (set_escape c) = class false (is_negative c) (set_of c)
   atom_pattern (coded k) = one_char (code_value k)
+  atom_pattern (property_escape n e) = class false false (property_set n (property_of e))
   atom_pattern dot = class false true line_ends
   atom_pattern (bracketed n r e) = class false n (contents r e)
   atom_pattern (group g d) = pattern d

@@ -1,16 +1,19 @@
 -- How a pattern is read, character by character: what has been read so far is kept as parts of trees.
 use Rattle.std.specs.Prelude.{ℕ, ◌*◌, ◌++◌, is_some, nat_lt, nat_le, ◌==◌, ◌&&◌, length, Bool, true, false, List, [], ◌∷◌, Option, Some, None, if◌then◌else◌, option_map, option_and_then}
 use Rattle.std.specs.Str.{byte}
-use Rattle.strkw_ecma.specs.Escapes.{Escape, itself, control, set, boundary, no_boundary, null, letter, hexadecimal, unicode, unknown, escape}
+use Rattle.strkw_ecma.specs.Escapes.{Escape, itself, control, set, boundary, no_boundary, null, letter, hexadecimal, unicode, property, no_property, unknown, escape}
 use Rattle.strkw_ecma.specs.Codes.{null_code}
 use Rattle.strkw_ecma.specs.CodeReading.{byte_width, two_more, Coding, letter_awaited, unit_opened, digits_of, Coded, fails, goes, makes, coding_next}
+use Rattle.strkw_ecma.specs.PropertyReading.{PropertyPart, brace_awaited, PropertyRead, no_property_read, property_goes, property_ends, property_next}
+use Rattle.strkw_ecma.specs.Properties.{property_of}
+use Rattle.strkw_ecma.specs.declared.tree.CharSet.{CharSet}
 use Rattle.strkw_ecma.specs.Names.{NameChar, verbatim, by_code, name_char_value, name_value, may_follow, are_distinct, Extension, uncaptured, name_opening, no_extension, extension, NameToken, name_end, name_backslash, name_character, name_token}
-use Rattle.strkw_ecma.specs.Classes.{ClassToken, closing_bracket, class_backslash, dash, class_character, class_token, class_escape, ClassAtom, class_plain, hyphen, class_escaped, class_control, class_set, backspace, class_coded, Ranges, no_ranges, with_one, with_range, item, range}
+use Rattle.strkw_ecma.specs.Classes.{ClassToken, closing_bracket, class_backslash, dash, class_character, class_token, class_escape, ClassAtom, class_plain, hyphen, class_escaped, class_control, class_set, backspace, class_coded, class_property, Ranges, no_ranges, with_one, with_range, item, range}
 use Rattle.strkw_ecma.specs.Numbers.{number, number_of, max_count, CountToken, digit, comma, closing_brace, no_count, count_token}
 use Rattle.strkw_ecma.specs.Size.{size, max_size, max_nodes}
 use Rattle.strkw_ecma.specs.Lookahead.{is_apart}
 use Rattle.strkw_ecma.specs.Patterns.{pattern, atom_pattern, times, copies}
-use Rattle.strkw_ecma.specs.Syntax.{Disjunction, only, either, Alternative, nothing, more, Term, at_start, at_end, at_boundary, at_no_boundary, once, quantified, Quantifier, zero_or_more, one_or_more, zero_or_one, exactly, at_least, from_to, greedy, lazy, Group, capturing, plain_group, named, with_name, Atom, plain, escaped, control_escape, set_escape, coded, dot, bracketed, group, Token, bar, asterisk, plus, question, caret, dollar, opening as opening_token, closing, point, backslash, bracket, brace, character, other, token, max_nesting, max_length}
+use Rattle.strkw_ecma.specs.Syntax.{Disjunction, only, either, Alternative, nothing, more, Term, at_start, at_end, at_boundary, at_no_boundary, once, quantified, Quantifier, zero_or_more, one_or_more, zero_or_one, exactly, at_least, from_to, greedy, lazy, Group, capturing, plain_group, named, with_name, Atom, plain, escaped, control_escape, set_escape, coded, property_escape, dot, bracketed, group, Token, bar, asterisk, plus, question, caret, dollar, opening as opening_token, closing, point, backslash, bracket, brace, character, other, token, max_nesting, max_length}
 
 -- the alternatives before the one that is read, and the terms of that one
 pub record Level : Type 0 where
@@ -50,8 +53,8 @@ pub data Count : Type 0 where
   low : List ℕ → Count
   high : List ℕ → List ℕ → Count
 
--- what has just been read: a whole atom or term; `\`; `(`; `(?`; `[`; a part of a count, of an escape by a number, of a class,
--- and there `\`, and a part of such an escape; a part of a name, and there the same
+-- what has just been read: a whole atom or term; `\`; `(`; `(?`; `[`; a part of a count, of an escape by a number, of a property,
+-- of a class, and there `\`, and a part of such an escape or property; a part of a name, and there `\` and a part of an escape
 pub data Mode : Type 0 where
   between escaping opening extending class_opened : Mode
   counting : Count → Mode
@@ -59,6 +62,8 @@ pub data Mode : Type 0 where
   in_class : Class → Mode
   class_escaping : Class → Mode
   class_coding : Class → Coding → Mode
+  in_property : PropertyPart → Mode
+  in_class_property : Class → PropertyPart → Mode
   naming : List NameChar → Mode
   name_escaping : List NameChar → Mode
   name_coding : List NameChar → Coding → Mode
@@ -159,12 +164,24 @@ on_escape outer l x c null = Some (with_atom outer l x (coded null_code))
 on_escape outer l x c letter = Some (with_mode outer l x (coding letter_awaited))
 on_escape outer l x c hexadecimal = Some (with_mode outer l x (coding (digits_of byte_width two_more [])))
 on_escape outer l x c unicode = Some (with_mode outer l x (coding unit_opened))
+on_escape outer l x c property = Some (with_mode outer l x (in_property (brace_awaited false)))
+on_escape outer l x c no_property = Some (with_mode outer l x (in_property (brace_awaited true)))
 on_escape outer l x c unknown = None
 
 abbrev pub on_coding : Outer → Level → Last → Coded → Option State
 on_coding outer l x fails = None
 on_coding outer l x (goes k) = Some (with_mode outer l x (coding k))
 on_coding outer l x (makes d) = Some (with_atom outer l x (coded d))
+
+-- where the test holds
+abbrev pub when : Bool → Option State → Option State
+when false o = None
+when true o = o
+
+abbrev pub on_property : Outer → Level → Last → PropertyRead → Option State
+on_property outer l x no_property_read = None
+on_property outer l x (property_goes k) = Some (with_mode outer l x (in_property k))
+on_property outer l x (property_ends n e) = when (is_some (property_of e)) (Some (with_atom outer l x (property_escape n e)))
 
 -- behind `(`
 abbrev pub on_group : Outer → Level → Last → ℕ → Bool → Option State
@@ -178,7 +195,7 @@ on_extension outer l x name_opening = Some (with_mode outer l x (naming []))
 on_extension outer l x no_extension = None
 
 -- a class after an atom
-abbrev pub ranged : Bool → Ranges → ClassAtom → ClassAtom → Option (ℕ × ℕ) → Option Class
+abbrev pub ranged : Bool → Ranges → ClassAtom → ClassAtom → Option CharSet → Option Class
 ranged n r y x None = None
 ranged n r y x (Some s) = Some (record { negated = n; ranges = with_range r y x; pending = fresh })
 
@@ -211,6 +228,9 @@ on_class_token outer l x n r p c class_character = within outer l x (took n r p 
 abbrev pub with_coding : Outer → Level → Last → Bool → Ranges → Pending → Coding → State
 with_coding outer l x n r p k = with_mode outer l x (class_coding (record { negated = n; ranges = r; pending = p }) k)
 
+abbrev pub with_property : Outer → Level → Last → Bool → Ranges → Pending → PropertyPart → State
+with_property outer l x n r p k = with_mode outer l x (in_class_property (record { negated = n; ranges = r; pending = p }) k)
+
 abbrev pub on_class_escape : Outer → Level → Last → Bool → Ranges → Pending → ℕ → Escape → Option State
 on_class_escape outer l x n r p c itself = within outer l x (took n r p (class_escaped c))
 on_class_escape outer l x n r p c control = within outer l x (took n r p (class_control c))
@@ -221,6 +241,8 @@ on_class_escape outer l x n r p c null = within outer l x (took n r p (class_cod
 on_class_escape outer l x n r p c letter = Some (with_coding outer l x n r p letter_awaited)
 on_class_escape outer l x n r p c hexadecimal = Some (with_coding outer l x n r p (digits_of byte_width two_more []))
 on_class_escape outer l x n r p c unicode = Some (with_coding outer l x n r p unit_opened)
+on_class_escape outer l x n r p c property = Some (with_property outer l x n r p (brace_awaited false))
+on_class_escape outer l x n r p c no_property = Some (with_property outer l x n r p (brace_awaited true))
 on_class_escape outer l x n r p c unknown = None
 
 abbrev pub on_class_coding : Outer → Level → Last → Bool → Ranges → Pending → Coded → Option State
@@ -228,15 +250,15 @@ on_class_coding outer l x n r p fails = None
 on_class_coding outer l x n r p (goes k) = Some (with_coding outer l x n r p k)
 on_class_coding outer l x n r p (makes d) = within outer l x (took n r p (class_coded d))
 
+abbrev pub on_class_property : Outer → Level → Last → Bool → Ranges → Pending → PropertyRead → Option State
+on_class_property outer l x n r p no_property_read = None
+on_class_property outer l x n r p (property_goes k) = Some (with_property outer l x n r p k)
+on_class_property outer l x n r p (property_ends b e) = when (is_some (property_of e)) (within outer l x (took n r p (class_property b e)))
+
 -- behind `[`
 abbrev pub on_class : Outer → Level → Last → ℕ → Bool → Option State
 on_class outer l x c false = on_class_token outer l x false no_ranges fresh c (class_token c)
 on_class outer l x c true = Some (with_mode outer l x (in_class (record { negated = true; ranges = no_ranges; pending = fresh })))
-
--- where the test holds
-abbrev pub when : Bool → Option State → Option State
-when false o = None
-when true o = o
 
 -- in a name: behind one more character of it, and behind its end
 abbrev pub with_name_char : Outer → Level → Last → List NameChar → NameChar → Option State
@@ -306,6 +328,8 @@ next_in outer l x class_opened c = on_class outer l x c (c == byte "^")
 next_in outer l x (in_class k) c = on_class_token outer l x k.negated k.ranges k.pending c (class_token c)
 next_in outer l x (class_escaping k) c = on_class_escape outer l x k.negated k.ranges k.pending c (class_escape c)
 next_in outer l x (class_coding k d) c = on_class_coding outer l x k.negated k.ranges k.pending (coding_next d c)
+next_in outer l x (in_property k) c = on_property outer l x (property_next k c)
+next_in outer l x (in_class_property k d) c = on_class_property outer l x k.negated k.ranges k.pending (property_next d c)
 next_in outer l x (naming n) c = on_naming outer l x n c (name_token c)
 next_in outer l x (name_escaping n) c = on_name_escape outer l x n (c == byte "u")
 next_in outer l x (name_coding n k) c = on_name_coding outer l x n (coding_next k c)

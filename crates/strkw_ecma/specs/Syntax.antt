@@ -1,10 +1,11 @@
 -- The syntax, after `Pattern` of ECMA-262 2024, section 22.2.1, in Unicode mode: the part of it with alternatives, terms one
 -- after another, `^`, `$`, `\b`, `\B`, quantifiers, groups, classes, the dot, characters, and escapes of one
--- letter or by a number. A pattern is a tree of its rules, and a text is a pattern where some tree is spelled so.
+-- letter, by a number, or of a property. A pattern is a tree of its rules, and a text is a pattern where some tree is spelled so.
 use Rattle.std.specs.Prelude.{ℕ, Bool, List, [], ◌∷◌, ◌++◌, codes, if◌then◌else◌, ◌==◌}
 use Rattle.std.specs.Str.{byte}
 use Rattle.strkw_text.specs.Characters.{is_one_of}
 use Rattle.strkw_ecma.specs.Codes.{Code, code_spelling}
+use Rattle.strkw_ecma.specs.Properties.{Expression, property_spelling}
 use Rattle.strkw_ecma.specs.Names.{NameChar, name_spelling, name_value}
 use Rattle.strkw_ecma.specs.Classes.{Ranges, ranges_spelling, negation_spelling, ending_spelling}
 
@@ -67,6 +68,8 @@ mutual
     control_escape : ℕ → Atom
     set_escape : ℕ → Atom
     coded : Code → Atom
+    -- `p{ }`, or `P{ }` where the first holds
+    property_escape : Bool → Expression → Atom
     dot : Atom
     -- negated or not, and whether a `-` stands before the closing bracket
     bracketed : Bool → Ranges → Bool → Atom
@@ -113,6 +116,7 @@ abbrev mutual
   atom_spelling (control_escape c) = byte "\\" ∷ c ∷ []
   atom_spelling (set_escape c) = byte "\\" ∷ c ∷ []
   atom_spelling (coded k) = byte "\\" ∷ code_spelling k
+  atom_spelling (property_escape n e) = byte "\\" ∷ property_spelling n e
   atom_spelling dot = byte "." ∷ []
   atom_spelling (bracketed n r e) = (negation_spelling n ++ ranges_spelling r) ++ ending_spelling e
   atom_spelling (group g d) = (group_spelling g ++ spelling d) ++ byte ")" ∷ []
@@ -147,6 +151,7 @@ abbrev mutual
   with_atom_names ns (control_escape c) = ns
   with_atom_names ns (set_escape c) = ns
   with_atom_names ns (coded k) = ns
+  with_atom_names ns (property_escape n e) = ns
   with_atom_names ns dot = ns
   with_atom_names ns (bracketed n r e) = ns
   with_atom_names ns (group g d) = with_names (with_name ns g) d

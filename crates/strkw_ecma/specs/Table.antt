@@ -10,6 +10,8 @@ use Rattle.strkw_ecma.specs.Marks.{leaves, step}
 use Rattle.strkw_ecma.specs.Search.{search_from}
 use Rattle.strkw_ecma.specs.Shape.{pattern_of}
 use Rattle.strkw_ecma.specs.declared.states.State.{State}
+use Rattle.strkw_ecma.specs.declared.tree.CharSet.{CharSet}
+use Rattle.strkw_ecma.specs.declared.tree.CharSet.TheVariants.{Range, Property}
 
 -- The number of a character's class: how many of these characters are not above it.
 abbrev pub class_of : List ℕ → ℕ → ℕ
@@ -54,14 +56,18 @@ abbrev pub has_if_some : List ℕ → Option ℕ → Bool
 has_if_some firsts None = true
 has_if_some firsts (Some c) = has firsts c
 
--- a class begins with each range, and one behind it
-abbrev pub covers_ranges : List ℕ → List (ℕ × ℕ) → Bool
-covers_ranges firsts [] = true
-covers_ranges firsts (r ∷ rs) = (has firsts r.0 && has_if_some firsts (next_char r.1)) && covers_ranges firsts rs
+-- a class begins with the range, and one behind it; of properties there is no table
+abbrev pub covers_set : List ℕ → CharSet → Bool
+covers_set firsts (Range low high) = has firsts low && has_if_some firsts (next_char high)
+covers_set firsts (Property n p) = false
+
+abbrev pub covers_sets : List ℕ → List CharSet → Bool
+covers_sets firsts [] = true
+covers_sets firsts (r ∷ rs) = covers_set firsts r && covers_sets firsts rs
 
 abbrev pub covers : List ℕ → Pattern → Bool
 covers firsts empty = true
-covers firsts (class m n rs) = covers_ranges firsts rs
+covers firsts (class m n rs) = covers_sets firsts rs
 covers firsts (look l) = true
 covers firsts (cat p q) = covers firsts p && covers firsts q
 covers firsts (alt p q) = covers firsts p && covers firsts q
@@ -96,7 +102,7 @@ pub record IsRow (firsts entries : List ℕ) (states : List State) (s : State) (
 pub record IsTable (firsts entries : List ℕ) (states : List State) (p : Pattern) : Type 0 where
   pub few : length firsts < stride
   pub covered : covers firsts p ≡ true
-  pub words : covers_ranges firsts word_characters ≡ true
+  pub words : covers_sets firsts word_characters ≡ true
   pub numbered : (k : ℕ) → k < length firsts → class_of firsts (get_or firsts k 0) ≡ suc k
   pub first : has firsts 0 ≡ true
   pub begins : (s : State) × (slice_get states 0 ≡ Some s) × (pattern_of s.tree ≡ p) × (s.last ≡ None)

@@ -1,5 +1,8 @@
 -- Patterns as trees. Each class of characters bears a mark, which means nothing for what the pattern matches.
 use Rattle.std.specs.Prelude.{ℕ, Bool, true, false, not, ◌&&◌, ◌||◌, nat_le, List, [], ◌∷◌}
+use Rattle.strkw_ecma.specs.Properties.{has_property}
+use Rattle.strkw_ecma.specs.declared.tree.CharSet.{CharSet}
+use Rattle.strkw_ecma.specs.declared.tree.CharSet.TheVariants.{Range, Property}
 
 -- ^, $, \b, \B
 pub data Look : Type 0 where
@@ -7,8 +10,8 @@ pub data Look : Type 0 where
 
 pub data Pattern : Type 0 where
   empty : Pattern
-  -- one character of these ranges, both ends included, or where the second holds, one outside them
-  class : Bool → Bool → List (ℕ × ℕ) → Pattern
+  -- one character of these sets, or where the second holds, one outside them
+  class : Bool → Bool → List CharSet → Pattern
   look : Look → Pattern
   cat : Pattern → Pattern → Pattern
   alt : Pattern → Pattern → Pattern
@@ -16,15 +19,20 @@ pub data Pattern : Type 0 where
   -- once or more
   plus : Pattern → Pattern
 
--- the character lies in one of the ranges
-abbrev pub in_ranges : List (ℕ × ℕ) → ℕ → Bool
-in_ranges [] c = false
-in_ranges (r ∷ rs) c = (nat_le r.0 c && nat_le c r.1) || in_ranges rs c
-
 abbrev pub differ : Bool → Bool → Bool
 differ true b = not b
 differ false b = b
 
+-- the character lies in the range, both ends included; or it has the property, or where the first holds, has it not
+abbrev pub in_set : CharSet → ℕ → Bool
+in_set (Range low high) c = nat_le low c && nat_le c high
+in_set (Property lacked p) c = differ lacked (has_property p c)
+
+-- it is one of some set
+abbrev pub in_sets : List CharSet → ℕ → Bool
+in_sets [] c = false
+in_sets (r ∷ rs) c = in_set r c || in_sets rs c
+
 -- the class has the character
-abbrev pub is_member : Bool → List (ℕ × ℕ) → ℕ → Bool
-is_member negated rs c = differ negated (in_ranges rs c)
+abbrev pub is_member : Bool → List CharSet → ℕ → Bool
+is_member negated rs c = differ negated (in_sets rs c)

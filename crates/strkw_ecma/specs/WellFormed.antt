@@ -2,12 +2,13 @@
 use Rattle.std.specs.Prelude.{◌≡◌, ℕ, suc, ◌+◌, ◌*◌, ◌<◌, ◌≤◌}
 use Rattle.strkw_ecma.specs.Escapes.{itself, control, set, escape}
 use Rattle.strkw_ecma.specs.Codes.{IsCode}
+use Rattle.strkw_ecma.specs.Properties.{IsExpression}
 use Rattle.strkw_ecma.specs.Names.{IsName}
 use Rattle.strkw_ecma.specs.Classes.{AreRanges, MayEnd}
 use Rattle.strkw_ecma.specs.Numbers.{number, IsNumber}
 use Rattle.strkw_ecma.specs.Size.{size, max_size}
 use Rattle.strkw_ecma.specs.Patterns.{atom_pattern}
-use Rattle.strkw_ecma.specs.Syntax.{Disjunction, only, either, Alternative, nothing, more, Term, at_start, at_end, at_boundary, at_no_boundary, once, quantified, Quantifier, zero_or_more, one_or_more, zero_or_one, exactly, at_least, from_to, Group, capturing, plain_group, named, Atom, plain, escaped, control_escape, set_escape, coded, dot, bracketed, group, token, character, max_nesting}
+use Rattle.strkw_ecma.specs.Syntax.{Disjunction, only, either, Alternative, nothing, more, Term, at_start, at_end, at_boundary, at_no_boundary, once, quantified, Quantifier, zero_or_more, one_or_more, zero_or_one, exactly, at_least, from_to, Group, capturing, plain_group, named, Atom, plain, escaped, control_escape, set_escape, coded, property_escape, dot, bracketed, group, token, character, max_nesting}
 
 -- of what has so many nodes. The counts do not fall, and no more than so many nodes come of a counted term
 abbrev pub IsQuantifier : Quantifier → ℕ → Type 0
@@ -47,6 +48,7 @@ abbrev mutual
   IsAtom n (control_escape c) = escape c ≡ control
   IsAtom n (set_escape c) = escape c ≡ set
   IsAtom n (coded k) = IsCode k
+  IsAtom n (property_escape b e) = IsExpression e
   IsAtom n dot = Unit {0}
   IsAtom n (bracketed b r e) = AreRanges b r × MayEnd e r
   IsAtom n (group g d) = (IsGroup g × (n < max_nesting)) × IsWellFormed (suc n) d

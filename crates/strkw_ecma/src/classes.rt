@@ -1,34 +1,37 @@
 //! How a class of characters is read, item by item.
 
 ghost use Rattle.std.specs.Prelude.{◌≡◌, ◌++◌, IfOk, OnOk, option_map};
-ghost use Rattle.strkw_ecma.specs.Classes.{item_ranges, range};
+ghost use Rattle.strkw_ecma.specs.Classes.{item_sets, range};
 ghost use Rattle.strkw_ecma.specs.Shape.{pattern_of};
 ghost use Rattle.strkw_ecma.specs.Parts.{item_of, class_of, took, took_dash, class_read, new_class};
 
+use crate::properties::Property;
 use crate::sets::set_ranges;
-use crate::tree::{CharRange, Tree};
+use crate::tree::{CharSet, Tree};
 use std::alloc::{AllocError, Global};
 
-// One character, or the set of a letter of `\d \D \s \S \w \W`.
+// One character, the set of a letter of `\d \D \s \S \w \W`, or the characters with a property, or without it.
 #[derive(Clone, Copy)]
 pub(crate) enum Item {
     Char(char),
     Set(char),
+    Property(bool, Property),
 }
 
 impl Item {
-    fn push_to(self, ranges: &mut Vec<CharRange>) -> Result<(), AllocError>
-        ensures { OnOk result (ranges.new.items ≡ ranges.old.items ++ item_ranges (item_of self)) }
+    fn push_to(self, sets: &mut Vec<CharSet>) -> Result<(), AllocError>
+        ensures { OnOk result (sets.new.items ≡ sets.old.items ++ item_sets (item_of self)) }
     {
         match self {
-            Item::Char(c) => ranges.push((c, c))?,
-            Item::Set(letter) => ranges.extend_from_slice(set_ranges(letter))?,
+            Item::Char(c) => sets.push(CharSet::Range(c, c))?,
+            Item::Set(letter) => sets.extend_from_slice(set_ranges(letter))?,
+            Item::Property(lacked, property) => sets.push(CharSet::Property(lacked, property))?,
         }
         Ok(())
     }
 
     // The range from this to the other, where they bound one.
-    fn range_to(self, other: Item) -> Option<CharRange>
+    fn range_to(self, other: Item) -> Option<CharSet>
         ensures { result ≡ range (item_of self) (item_of other) }
     {
         let Item::Char(from) = self else {
@@ -37,7 +40,11 @@ impl Item {
         let Item::Char(to) = other else {
             return None;
         };
-        if from <= to { Some((from, to)) } else { None }
+        if from <= to {
+            Some(CharSet::Range(from, to))
+        } else {
+            None
+        }
     }
 }
 
@@ -52,7 +59,7 @@ enum Pending {
 #[derive(Drop)]
 pub(crate) struct ClassReader {
     negated: bool,
-    ranges: Vec<CharRange>,
+    sets: Vec<CharSet>,
     pending: Pending,
 }
 
@@ -62,7 +69,7 @@ impl ClassReader {
     {
         ClassReader {
             negated,
-            ranges: Vec::new(alloc),
+            sets: Vec::new(alloc),
             pending: Pending::Fresh,
         }
     }
@@ -70,30 +77,30 @@ impl ClassReader {
     // After one more item, and `None` where it bounds no range with the one before the `-`.
     pub(crate) fn with_item(self, item: Item) -> Result<Option<ClassReader>, AllocError>
         ensures { let k = class_of self in
-            IfOk result (λ r. option_map class_of r ≡ took k.negated k.ranges k.pending (item_of item)) }
+            IfOk result (λ r. option_map class_of r ≡ took k.negated k.sets k.pending (item_of item)) }
     {
         let ClassReader {
             negated,
-            mut ranges,
+            mut sets,
             pending,
         } = self;
         let pending = match pending {
             Pending::Fresh => Pending::One(item),
             Pending::One(before) => {
-                before.push_to(&mut ranges)?;
+                before.push_to(&mut sets)?;
                 Pending::One(item)
             }
             Pending::Dashed(first) => {
                 let Some(range) = first.range_to(item) else {
                     return Ok(None);
                 };
-                ranges.push(range)?;
+                sets.push(range)?;
                 Pending::Fresh
             }
         };
         Ok(Some(ClassReader {
             negated,
-            ranges,
+            sets,
             pending,
         }))
     }
@@ -101,18 +108,14 @@ impl ClassReader {
     // After a `-`, which stands for itself where no item is before it.
     pub(crate) fn with_dash(self) -> Result<Option<ClassReader>, AllocError>
         ensures { let k = class_of self in
-            IfOk result (λ r. option_map class_of r ≡ took_dash k.negated k.ranges k.pending) }
+            IfOk result (λ r. option_map class_of r ≡ took_dash k.negated k.sets k.pending) }
     {
         match self.pending {
             Pending::One(item) => {
-                let ClassReader {
-                    negated,
-                    ranges,
-                    ..
-                } = self;
+                let ClassReader { negated, sets, .. } = self;
                 Ok(Some(ClassReader {
                     negated,
-                    ranges,
+                    sets,
                     pending: Pending::Dashed(item),
                 }))
             }
@@ -123,25 +126,25 @@ impl ClassReader {
     // The whole class, where the closing bracket stands here.
     pub(crate) fn closed(self) -> Result<Tree, AllocError>
         ensures { let k = class_of self in
-            IfOk result (λ t. pattern_of t ≡ class_read k.negated k.ranges k.pending) }
+            IfOk result (λ t. pattern_of t ≡ class_read k.negated k.sets k.pending) }
     {
         let ClassReader {
             negated,
-            mut ranges,
+            mut sets,
             pending,
         } = self;
         match pending {
             Pending::Fresh => {}
-            Pending::One(item) => item.push_to(&mut ranges)?,
+            Pending::One(item) => item.push_to(&mut sets)?,
             Pending::Dashed(item) => {
-                item.push_to(&mut ranges)?;
-                ranges.push(('-', '-'))?;
+                item.push_to(&mut sets)?;
+                sets.push(CharSet::Range('-', '-'))?;
             }
         }
         Ok(Tree::Class {
             marked: false,
             negated,
-            ranges,
+            sets,
         })
     }
 }

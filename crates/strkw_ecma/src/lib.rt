@@ -12,6 +12,7 @@ mod lookahead;
 mod making;
 mod marks;
 mod names;
+mod properties;
 mod reader;
 mod runs;
 mod sets;
@@ -19,5 +20,6 @@ mod states;
 mod table;
 mod tokens;
 mod tree;
+mod values;
 
 pub use engine::{EcmaMatcher, EcmaPatterns};

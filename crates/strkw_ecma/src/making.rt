@@ -7,9 +7,9 @@ ghost use Rattle.strkw_ecma.specs.Table.{class_of as spec_class_of, stride, Sear
 use crate::marks::{leaves_tree, step_tree};
 use crate::runs::mark_runs;
 use crate::sets::WORD_CHARACTERS;
-use crate::states::{State, is_table};
+use crate::states::{State, covers, is_table};
 use crate::table::{FOUND, STRIDE, Table, class_of, next_char, place_of};
-use crate::tree::{CharRange, Tree};
+use crate::tree::{CharSet, Tree};
 use std::alloc::{AllocError, Global};
 
 /// The most states of a table. A pattern with more is searched by its marks.
@@ -42,11 +42,13 @@ fn add_first(firsts: &mut Vec<char>, c: char) -> Result<(), AllocError> {
     Ok(())
 }
 
-fn add_ranges(firsts: &mut Vec<char>, ranges: &[CharRange]) -> Result<(), AllocError> {
-    for range in ranges {
-        add_first(firsts, range.0)?;
-        if let Some(after) = next_char(range.1) {
-            add_first(firsts, after)?;
+fn add_sets(firsts: &mut Vec<char>, sets: &[CharSet]) -> Result<(), AllocError> {
+    for set in sets {
+        if let CharSet::Range(low, high) = set {
+            add_first(firsts, *low)?;
+            if let Some(after) = next_char(*high) {
+                add_first(firsts, after)?;
+            }
         }
     }
     Ok(())
@@ -56,7 +58,7 @@ fn add_ranges(firsts: &mut Vec<char>, ranges: &[CharRange]) -> Result<(), AllocE
 fn add_firsts(firsts: &mut Vec<char>, tree: &Tree) -> Result<(), AllocError> {
     match tree {
         Tree::Empty | Tree::Start | Tree::End | Tree::Boundary | Tree::NoBoundary => Ok(()),
-        Tree::Class { ranges, .. } => add_ranges(firsts, ranges),
+        Tree::Class { sets, .. } => add_sets(firsts, sets),
         Tree::Then(one, other) | Tree::Or(one, other) => {
             add_firsts(firsts, one)?;
             add_firsts(firsts, other)
@@ -71,11 +73,11 @@ fn most_rows(tree: &Tree, firsts: &[char]) -> usize {
     (MOST_STEPS / steps_a_row).min(MOST_ROWS)
 }
 
-// The first characters of the classes that a pattern and `\b` do not tell apart, in order.
+// The first characters of the classes that the ranges of a pattern and `\b` do not tell apart, in order.
 fn firsts_of(alloc: Global, tree: &Tree) -> Result<Vec<char>, AllocError> {
     let mut firsts = Vec::new(alloc);
     add_first(&mut firsts, '\0')?;
-    add_ranges(&mut firsts, &WORD_CHARACTERS)?;
+    add_sets(&mut firsts, &WORD_CHARACTERS)?;
     add_firsts(&mut firsts, tree)?;
     firsts.sort_unstable();
     Ok(firsts)
@@ -184,7 +186,7 @@ pub(crate) fn table_of(alloc: Global, tree: &Tree) -> Result<Option<Table>, Allo
     ensures { IfOk result (λ made. MatchOption made Unit (λ t. Searches t.firsts.items t.entries.items (pattern_of tree.now))) }
 {
     let firsts = firsts_of(alloc, tree)?;
-    if firsts.len() >= STRIDE {
+    if firsts.len() >= STRIDE || !covers(&firsts, tree) {
         return Ok(None);
     }
     let mut states = Vec::new(alloc);

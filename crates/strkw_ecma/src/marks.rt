@@ -2,21 +2,32 @@
 
 ghost use Rattle.std.specs.Prelude.{◌≡◌, ◌↔◌, true, IsTrue, None};
 ghost use Rattle.std.specs.Str.{chars};
-ghost use Rattle.strkw_ecma.specs.Tree.{in_ranges, boundary};
+ghost use Rattle.strkw_ecma.specs.Tree.{in_set, in_sets, boundary};
 ghost use Rattle.strkw_ecma.specs.Meaning.{is_edge as spec_is_edge, Found, is_word as spec_is_word, holds};
 ghost use Rattle.strkw_ecma.specs.Marks.{leaves, step, reads, is_clean};
 ghost use Rattle.strkw_ecma.specs.Search.{search_from};
 ghost use Rattle.strkw_ecma.specs.Shape.{pattern_of};
 
 use crate::sets::WORD_CHARACTERS;
-use crate::tree::{CharRange, Tree};
+use crate::tree::{CharSet, Tree};
 
-// Whether the character is in one of the ranges.
-fn contains(ranges: &[CharRange], c: char) -> bool
-    ensures { result ≡ in_ranges ranges.now c }
+impl CharSet {
+    fn contains(self, c: char) -> bool
+        ensures { result ≡ in_set self c }
+    {
+        match self {
+            CharSet::Range(low, high) => low <= c && c <= high,
+            CharSet::Property(lacked, property) => property.is_of(c) != lacked,
+        }
+    }
+}
+
+// Whether the character is in one of the sets.
+fn contains(sets: &[CharSet], c: char) -> bool
+    ensures { result ≡ in_sets sets.now c }
 {
-    for range in ranges {
-        if range.0 <= c && c <= range.1 {
+    for set in sets {
+        if set.contains(c) {
             return true;
         }
     }
@@ -24,12 +35,12 @@ fn contains(ranges: &[CharRange], c: char) -> bool
 }
 
 // Whether there is a character, and the class has it.
-fn reads_class(next: Option<char>, negated: bool, ranges: &[CharRange]) -> bool
-    ensures { result ≡ reads next negated ranges.now }
+fn reads_class(next: Option<char>, negated: bool, sets: &[CharSet]) -> bool
+    ensures { result ≡ reads next negated sets.now }
 {
     match next {
         Some(c) => {
-            let inside = contains(ranges, c);
+            let inside = contains(sets, c);
             if negated { !inside } else { inside }
         }
         None => false,
@@ -103,10 +114,10 @@ pub(crate) fn step_tree(
         Tree::Class {
             marked,
             negated,
-            ranges,
+            sets,
         } => {
             let was = *marked;
-            *marked = enters && reads_class(next, *negated, ranges);
+            *marked = enters && reads_class(next, *negated, sets);
             was
         }
         Tree::Start => enters && is_edge(last),

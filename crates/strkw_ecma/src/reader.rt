@@ -1,6 +1,6 @@
 //! How a pattern is read, character by character.
 
-ghost use Rattle.std.specs.Prelude.{◌≡◌, false, IfOk, option_map, nat_lt, length, ◌==◌};
+ghost use Rattle.std.specs.Prelude.{◌≡◌, false, IfOk, is_some, option_map, nat_lt, length, ◌==◌};
 ghost use Rattle.std.specs.Str.{chars, byte};
 ghost use Rattle.strkw_ecma.specs.Patterns.{pattern};
 ghost use Rattle.strkw_ecma.specs.Shape.{pattern_of};
@@ -14,12 +14,14 @@ mod classing;
 mod coding;
 mod counting;
 mod naming;
+mod property;
 
 use crate::classes::ClassReader;
 use crate::codes::{Coding, Wanted, Width};
 use crate::counts::{Count, Quantifier, if_small, then};
 use crate::lookahead::is_apart;
 use crate::names::are_distinct;
+use crate::properties::PropertyPart;
 use crate::sets::{control_char, dot, one_char, set};
 use crate::tokens::{Escape, Extension, Token};
 use crate::tree::Tree;
@@ -52,8 +54,9 @@ struct Outer {
     names: Vec<Vec<char>>,
 }
 
-// What has just been read: a whole atom or term; a backslash; `(`; `(?`; a part of a count, of an escape by a number; `[`; a
-// part of a class, and there a backslash, and a part of such an escape; a part of a name, and there the same.
+// What has just been read: a whole atom or term; a backslash; `(`; `(?`; a part of a count, of an escape by a number, of a
+// property; `[`; a part of a class, and there a backslash, and a part of such an escape or property; a part of a name, and
+// there a backslash and a part of an escape.
 #[derive(Drop)]
 enum Mode {
     Between,
@@ -66,9 +69,19 @@ enum Mode {
     Class(ClassReader),
     ClassEscaping(ClassReader),
     ClassCoding(ClassReader, Coding),
+    Property(PropertyPart),
+    ClassProperty(ClassReader, PropertyPart),
     Naming(Vec<char>),
     NameEscaping(Vec<char>),
     NameCoding(Vec<char>, Coding),
+}
+
+impl Mode {
+    fn is_between(&self) -> bool
+        ensures { result ≡ is_between (mode_of self.now) }
+    {
+        matches!(self, Mode::Between)
+    }
 }
 
 // What has been read: the groups around; the level within them; its last term; and what is under way.
@@ -307,6 +320,14 @@ impl Reader {
                 return Ok(Some(self.with_mode(Mode::Coding(coding))));
             }
             Escape::Unicode => return Ok(Some(self.with_mode(Mode::Coding(Coding::UnitOpened)))),
+            Escape::Property => {
+                let part = PropertyPart::BraceAwaited(false);
+                return Ok(Some(self.with_mode(Mode::Property(part))));
+            }
+            Escape::NoProperty => {
+                let part = PropertyPart::BraceAwaited(true);
+                return Ok(Some(self.with_mode(Mode::Property(part))));
+            }
             Escape::Unknown => return Ok(None),
         };
         Ok(Some(self.with_atom(alloc, atom)?))
@@ -403,10 +424,25 @@ impl Reader {
             Mode::ClassEscaping(class) => so_far.class_escaped(class, c),
             Mode::Coding(coding) => so_far.coded(alloc, coding.next(c)),
             Mode::ClassCoding(class, coding) => so_far.class_coded(class, coding.next(c)),
+            Mode::Property(part) => {
+                let read = part.next(alloc, c)?;
+                so_far.property_read(alloc, read)
+            }
+            Mode::ClassProperty(class, part) => {
+                let read = part.next(alloc, c)?;
+                so_far.class_property_read(class, read)
+            }
             Mode::Naming(name) => so_far.in_name(alloc, name, c),
             Mode::NameEscaping(name) => so_far.name_escaped(name, c),
             Mode::NameCoding(name, coding) => so_far.name_coded(name, coding.next(c)),
         }
+    }
+
+    // Whether the pattern may end: no group is open, nothing is under way, and no name is there twice.
+    fn may_end(&self) -> bool
+        ensures { let s = parts_of self.now in result ≡ is_some (at_close s.outer s.level s.last (is_between s.mode)) }
+    {
+        self.outer.groups.is_empty() && self.mode.is_between() && are_distinct(&self.outer.names)
     }
 
     // The tree, where the pattern may end.
@@ -414,18 +450,10 @@ impl Reader {
         ensures { let s = parts_of self in
             IfOk result (λ t. option_map pattern_of t ≡ at_close s.outer s.level s.last (is_between s.mode)) }
     {
-        let Reader {
-            outer,
-            level,
-            last,
-            mode,
-        } = self;
-        if !outer.groups.is_empty() || !matches!(mode, Mode::Between) {
+        if !self.may_end() {
             return Ok(None);
         }
-        if !are_distinct(&outer.names) {
-            return Ok(None);
-        }
+        let Reader { level, last, .. } = self;
         let Level { earlier, current } = level;
         let before = ended(alloc, current, last)?;
         Ok(Some(joined(alloc, earlier, before)?))

@@ -1,12 +1,14 @@
-//! Sets of characters, as trees and as ranges.
+//! Sets of characters, as trees and as lists.
 
-ghost use Rattle.std.specs.Prelude.{◌≡◌, true, false, IfOk};
+ghost use Rattle.std.specs.Prelude.{◌≡◌, true, false, [], ◌∷◌, IfOk};
 ghost use Rattle.strkw_ecma.specs.Tree.{class};
 ghost use Rattle.strkw_ecma.specs.Patterns.{one_char as spec_one_char};
 ghost use Rattle.strkw_ecma.specs.Sets.{line_ends, set_of as spec_set_of, set_ranges as spec_set_ranges, is_negative as spec_is_negative, control_char as spec_control_char};
 ghost use Rattle.strkw_ecma.specs.Shape.{pattern_of};
+ghost use Rattle.strkw_ecma.specs.declared.tree.CharSet.TheVariants.{Property as PropertySet};
 
-use crate::tree::{CharRange, Tree};
+use crate::properties::Property;
+use crate::tree::{CharSet, Tree};
 use std::alloc::{AllocError, Global};
 
 pub(crate) fn one_char(alloc: Global, c: char) -> Result<Tree, AllocError>
@@ -15,7 +17,7 @@ pub(crate) fn one_char(alloc: Global, c: char) -> Result<Tree, AllocError>
     Ok(Tree::Class {
         marked: false,
         negated: false,
-        ranges: vec![in alloc; (c, c)]?,
+        sets: vec![in alloc; CharSet::Range(c, c)]?,
     })
 }
 
@@ -26,54 +28,65 @@ pub(crate) fn dot(alloc: Global) -> Result<Tree, AllocError>
     Ok(Tree::Class {
         marked: false,
         negated: true,
-        ranges: vec![in alloc; ('\n', '\n'), ('\r', '\r'), ('\u{2028}', '\u{2029}')]?,
+        sets: Vec::from_slice(alloc, &LINE_ENDS)?,
     })
 }
 
-const DIGITS: [CharRange; 1] = [('0', '9')];
+const LINE_ENDS: [CharSet; 3] = [
+    CharSet::Range('\n', '\n'),
+    CharSet::Range('\r', '\r'),
+    CharSet::Range('\u{2028}', '\u{2029}'),
+];
 
-pub(crate) const WORD_CHARACTERS: [CharRange; 4] = [('0', '9'), ('A', 'Z'), ('_', '_'), ('a', 'z')];
+const DIGITS: [CharSet; 1] = [CharSet::Range('0', '9')];
 
-const WHITE_SPACE: [CharRange; 10] = [
-    ('\t', '\r'),
-    (' ', ' '),
-    ('\u{A0}', '\u{A0}'),
-    ('\u{1680}', '\u{1680}'),
-    ('\u{2000}', '\u{200A}'),
-    ('\u{2028}', '\u{2029}'),
-    ('\u{202F}', '\u{202F}'),
-    ('\u{205F}', '\u{205F}'),
-    ('\u{3000}', '\u{3000}'),
-    ('\u{FEFF}', '\u{FEFF}'),
+pub(crate) const WORD_CHARACTERS: [CharSet; 4] = [
+    CharSet::Range('0', '9'),
+    CharSet::Range('A', 'Z'),
+    CharSet::Range('_', '_'),
+    CharSet::Range('a', 'z'),
+];
+
+const WHITE_SPACE: [CharSet; 10] = [
+    CharSet::Range('\t', '\r'),
+    CharSet::Range(' ', ' '),
+    CharSet::Range('\u{A0}', '\u{A0}'),
+    CharSet::Range('\u{1680}', '\u{1680}'),
+    CharSet::Range('\u{2000}', '\u{200A}'),
+    CharSet::Range('\u{2028}', '\u{2029}'),
+    CharSet::Range('\u{202F}', '\u{202F}'),
+    CharSet::Range('\u{205F}', '\u{205F}'),
+    CharSet::Range('\u{3000}', '\u{3000}'),
+    CharSet::Range('\u{FEFF}', '\u{FEFF}'),
 ];
 
 // The characters outside each set, up to the greatest.
-const NON_DIGITS: [CharRange; 2] = [('\0', '/'), (':', '\u{10FFFF}')];
+const NON_DIGITS: [CharSet; 2] = [CharSet::Range('\0', '/'), CharSet::Range(':', '\u{10FFFF}')];
 
-const NON_WORD_CHARACTERS: [CharRange; 5] = [
-    ('\0', '/'),
-    (':', '@'),
-    ('[', '^'),
-    ('`', '`'),
-    ('{', '\u{10FFFF}'),
+const NON_WORD_CHARACTERS: [CharSet; 5] = [
+    CharSet::Range('\0', '/'),
+    CharSet::Range(':', '@'),
+    CharSet::Range('[', '^'),
+    CharSet::Range('`', '`'),
+    CharSet::Range('{', '\u{10FFFF}'),
 ];
 
-const NON_WHITE_SPACE: [CharRange; 11] = [
-    ('\0', '\u{8}'),
-    ('\u{E}', '\u{1F}'),
-    ('!', '\u{9F}'),
-    ('\u{A1}', '\u{167F}'),
-    ('\u{1681}', '\u{1FFF}'),
-    ('\u{200B}', '\u{2027}'),
-    ('\u{202A}', '\u{202E}'),
-    ('\u{2030}', '\u{205E}'),
-    ('\u{2060}', '\u{2FFF}'),
-    ('\u{3001}', '\u{FEFE}'),
-    ('\u{FF00}', '\u{10FFFF}'),
+const NON_WHITE_SPACE: [CharSet; 11] = [
+    CharSet::Range('\0', '\u{8}'),
+    CharSet::Range('\u{E}', '\u{1F}'),
+    CharSet::Range('!', '\u{9F}'),
+    CharSet::Range('\u{A1}', '\u{167F}'),
+    CharSet::Range('\u{1681}', '\u{1FFF}'),
+    CharSet::Range('\u{200B}', '\u{2027}'),
+    CharSet::Range('\u{202A}', '\u{202E}'),
+    CharSet::Range('\u{2030}', '\u{205E}'),
+    CharSet::Range('\u{2060}', '\u{2FFF}'),
+    CharSet::Range('\u{3001}', '\u{FEFE}'),
+    CharSet::Range('\u{FF00}', '\u{10FFFF}'),
 ];
 
 // The set of a letter of `\d \D \s \S \w \W`.
-fn set_of(c: char) -> &'static [CharRange]
+fn set_of(c: char) -> &'static [CharSet]
     ensures { result.now ≡ spec_set_of c }
 {
     match c {
@@ -84,7 +97,7 @@ fn set_of(c: char) -> &'static [CharRange]
 }
 
 // The characters of a letter of `\d \D \s \S \w \W`.
-pub(crate) fn set_ranges(c: char) -> &'static [CharRange]
+pub(crate) fn set_ranges(c: char) -> &'static [CharSet]
     ensures { result.now ≡ spec_set_ranges c }
 {
     match c {
@@ -108,7 +121,18 @@ pub(crate) fn set(alloc: Global, c: char) -> Result<Tree, AllocError>
     Ok(Tree::Class {
         marked: false,
         negated: is_negative(c),
-        ranges: Vec::from_slice(alloc, set_of(c))?,
+        sets: Vec::from_slice(alloc, set_of(c))?,
+    })
+}
+
+// The characters with a property, or without it.
+pub(crate) fn having(alloc: Global, lacked: bool, property: Property) -> Result<Tree, AllocError>
+    ensures { IfOk result (λ t. pattern_of t ≡ class false false (PropertySet lacked property ∷ [])) }
+{
+    Ok(Tree::Class {
+        marked: false,
+        negated: false,
+        sets: vec![in alloc; CharSet::Property(lacked, property)]?,
     })
 }
 

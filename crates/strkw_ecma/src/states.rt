@@ -3,12 +3,12 @@
 ghost use Rattle.std.specs.Prelude.{◌≡◌, ◌^◌, ◌==◌, ◌≤◌, ◌<◌, ℕ, suc, List, length, true, false, IsTrue, IfOk, None, Some, get_or, slice_get};
 ghost use Rattle.strkw_ecma.specs.Meaning.{is_word as spec_is_word, is_edge as spec_is_edge};
 ghost use Rattle.strkw_ecma.specs.Shape.{pattern_of};
-ghost use Rattle.strkw_ecma.specs.Table.{class_of as spec_class_of, entry_at as spec_entry_at, row_after as spec_row_after, found, has, has_if_some as spec_has_if_some, covers as spec_covers, covers_ranges as spec_covers_ranges, stride, IsRowOf, IsBehind, IsEntry, IsRow, IsTable};
+ghost use Rattle.strkw_ecma.specs.Table.{class_of as spec_class_of, entry_at as spec_entry_at, row_after as spec_row_after, found, has, has_if_some as spec_has_if_some, covers as spec_covers, covers_set as spec_covers_set, covers_sets as spec_covers_sets, stride, IsRowOf, IsBehind, IsEntry, IsRow, IsTable};
 
 use crate::marks::{is_word, leaves_tree, step_tree};
 use crate::sets::WORD_CHARACTERS;
 use crate::table::{FOUND, NEXT_ROW, STRIDE, Table, class_of, entry_at, next_char};
-use crate::tree::{CharRange, Tree};
+use crate::tree::{CharSet, Tree};
 use std::alloc::{AllocError, Global};
 
 /// A state of the search between two characters: the marks, and a character that may stand for the last.
@@ -31,10 +31,29 @@ impl State {
     }
 }
 
-fn is_same_ranges(one: &[CharRange], other: &[CharRange]) -> bool
+// Whether both are one range: of properties there is no table.
+fn is_same_set(one: CharSet, other: CharSet) -> bool
+    ensures { IsTrue result → one ≡ other }
+{
+    match (one, other) {
+        (CharSet::Range(low, high), CharSet::Range(other_low, other_high)) => {
+            low == other_low && high == other_high
+        }
+        _ => false,
+    }
+}
+
+fn are_same_sets(one: &[CharSet], other: &[CharSet]) -> bool
     ensures { IsTrue result → one.now ≡ other.now }
 {
-    one == other
+    let mut rest = other;
+    for set in one {
+        match rest.split_first() {
+            Some((first, others)) if is_same_set(*set, *first) => rest = others,
+            _ => return false,
+        }
+    }
+    rest.is_empty()
 }
 
 // Whether both are one pattern with the same marks.
@@ -52,16 +71,14 @@ fn is_same(one: &Tree, other: &Tree) -> bool
             Tree::Class {
                 marked,
                 negated,
-                ranges,
+                sets,
             },
             Tree::Class {
                 marked: other_marked,
                 negated: other_negated,
-                ranges: other_ranges,
+                sets: other_sets,
             },
-        ) => marked == other_marked
-            && negated == other_negated
-            && is_same_ranges(ranges, other_ranges),
+        ) => marked == other_marked && negated == other_negated && are_same_sets(sets, other_sets),
         (Tree::Then(one, two), Tree::Then(other, more))
         | (Tree::Or(one, two), Tree::Or(other, more)) => {
             is_same(one, other) && is_same(two, more)
@@ -94,26 +111,37 @@ fn has_if_some(firsts: &[char], c: Option<char>) -> bool
     }
 }
 
-// Whether a class begins with each range, and one behind it.
-fn covers_ranges(firsts: &[char], ranges: &[CharRange]) -> bool
-    ensures { IsTrue result → spec_covers_ranges firsts.now ranges.now ≡ true }
+// Whether a class begins with the range, and one behind it; of properties there is no table.
+fn covers_set(firsts: &[char], set: CharSet) -> bool
+    ensures { result ≡ spec_covers_set firsts.now set }
 {
-    for range in ranges {
-        if !(has_first(firsts, range.0) && has_if_some(firsts, next_char(range.1))) {
+    match set {
+        CharSet::Range(low, high) => {
+            has_first(firsts, low) && has_if_some(firsts, next_char(high))
+        }
+        CharSet::Property(..) => false,
+    }
+}
+
+fn covers_sets(firsts: &[char], sets: &[CharSet]) -> bool
+    ensures { IsTrue result → spec_covers_sets firsts.now sets.now ≡ true }
+{
+    for set in sets {
+        if !covers_set(firsts, *set) {
             return false;
         }
     }
     true
 }
 
-// The same for all ranges of a pattern.
+// The same for all sets of a pattern.
 #[cycle(covers)]
-fn covers(firsts: &[char], tree: &Tree) -> bool
+pub(crate) fn covers(firsts: &[char], tree: &Tree) -> bool
     ensures { IsTrue result → spec_covers firsts.now (pattern_of tree.now) ≡ true }
 {
     match tree {
         Tree::Empty | Tree::Start | Tree::End | Tree::Boundary | Tree::NoBoundary => true,
-        Tree::Class { ranges, .. } => covers_ranges(firsts, ranges),
+        Tree::Class { sets, .. } => covers_sets(firsts, sets),
         Tree::Then(one, other) | Tree::Or(one, other) => covers(firsts, one)
             && covers(firsts, other),
         Tree::Star(body) | Tree::Plus(body) => covers(firsts, body),
@@ -266,7 +294,7 @@ pub(crate) fn is_table(
     if firsts.len() >= STRIDE || states.len() > 255 {
         return Ok(false);
     }
-    if !covers(firsts, tree) || !covers_ranges(firsts, &WORD_CHARACTERS) {
+    if !covers(firsts, tree) || !covers_sets(firsts, &WORD_CHARACTERS) {
         return Ok(false);
     }
     if !has_first(firsts, '\0') || !are_numbered(firsts) || !begins(states, tree) {

@@ -62,6 +62,8 @@ pub(crate) enum Escape {
     Letter,
     Hexadecimal,
     Unicode,
+    Property,
+    NoProperty,
     Unknown,
 }
 
@@ -76,6 +78,8 @@ impl Escape {
             'c' => Escape::Letter,
             'x' => Escape::Hexadecimal,
             'u' => Escape::Unicode,
+            'p' => Escape::Property,
+            'P' => Escape::NoProperty,
             '^'
             | '$'
             | '\\'

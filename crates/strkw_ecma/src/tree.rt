@@ -3,20 +3,27 @@
 ghost use Rattle.std.specs.Prelude.{◌≡◌, IfOk};
 ghost use Rattle.strkw_ecma.specs.Shape.{pattern_of};
 
+use crate::properties::Property;
 use std::alloc::{AllocError, Global};
 
-/// A range of characters, both ends included.
-pub type CharRange = (char, char);
+/// A set of characters.
+#[derive(Clone, Copy)]
+pub enum CharSet {
+    /// From the one to the other, both included.
+    Range(char, char),
+    /// Those with a property, or where the first holds, those without it.
+    Property(bool, Property),
+}
 
 /// A pattern. Its marks are those of a search that is under way.
 #[derive(Drop)]
 pub enum Tree {
     Empty,
-    /// One character of these ranges, or where `negated` holds, one outside them.
+    /// One character of these sets, or where `negated` holds, one outside them.
     Class {
         marked: bool,
         negated: bool,
-        ranges: Vec<CharRange>,
+        sets: Vec<CharSet>,
     },
     /// `^`
     Start,
@@ -44,11 +51,11 @@ impl Tree {
             Tree::Class {
                 marked,
                 negated,
-                ranges,
+                sets,
             } => Ok(Tree::Class {
                 marked: *marked,
                 negated: *negated,
-                ranges: Vec::from_slice(alloc, ranges)?,
+                sets: Vec::from_slice(alloc, sets)?,
             }),
             Tree::Start => Ok(Tree::Start),
             Tree::End => Ok(Tree::End),

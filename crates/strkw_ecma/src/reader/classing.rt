@@ -8,6 +8,7 @@ ghost use Rattle.strkw_ecma.specs.Parts.{parts_of, class_of, within, after_class
 use super::{Mode, Reader};
 use crate::classes::{ClassReader, Item};
 use crate::codes::{Coding, Wanted, Width};
+use crate::properties::PropertyPart;
 use crate::sets::control_char;
 use crate::tokens::{ClassToken, Escape};
 use std::alloc::{AllocError, Global};
@@ -68,6 +69,14 @@ impl Reader {
             }
             Escape::Unicode => {
                 return Ok(Some(self.with_mode(Mode::ClassCoding(class, Coding::UnitOpened))));
+            }
+            Escape::Property => {
+                let part = PropertyPart::BraceAwaited(false);
+                return Ok(Some(self.with_mode(Mode::ClassProperty(class, part))));
+            }
+            Escape::NoProperty => {
+                let part = PropertyPart::BraceAwaited(true);
+                return Ok(Some(self.with_mode(Mode::ClassProperty(class, part))));
             }
             Escape::NoBoundary | Escape::Unknown => return Ok(None),
         };

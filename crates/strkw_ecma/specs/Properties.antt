@@ -1,0 +1,85 @@
+-- Properties of characters in a pattern: `p{ }` and `P{ }` of CharacterClassEscape (ECMA-262 2024, section 22.2.1), for the
+-- properties General_Category and Script.
+use Rattle.std.specs.Prelude.{◌≡◌, ℕ, Bool, true, false, ◌&&◌, ◌||◌, ◌==◌, List, [], ◌∷◌, ◌++◌, map, filter_map, bytes_eq, codes, Option, Some, None, option_map, is_some, if◌then◌else◌}
+use Rattle.std.specs.Char.{is_ascii_alphanumeric}
+use Rattle.std.specs.Str.{byte}
+use Prim.Native.String.{String}
+use Rattle.ucd_category.specs.GeneralCategory.{general_category, general_category_eq}
+use Rattle.ucd_category.specs.GeneralCategoryGroup.{in_group}
+use Rattle.ucd_script.specs.Script.{script, script_eq}
+use Rattle.ucd_script.specs.declared.Script.{Script as ScriptValue}
+use Rattle.ucd_sets.specs.Loose.{value_named}
+use Rattle.ucd_sets.specs.Names.{category_names, script_names}
+use Rattle.ucd_sets.specs.declared.set.Set.{Set}
+use Rattle.ucd_sets.specs.declared.set.Set.TheVariants as set
+use Rattle.strkw_ecma.specs.declared.properties.Property.{Property}
+use Rattle.strkw_ecma.specs.declared.properties.Property.TheVariants.{Category, Group, Script}
+
+-- the character has it
+abbrev pub has_property : Property → ℕ → Bool
+has_property (Category v) c = general_category_eq (general_category c) v
+has_property (Group g) c = in_group g (general_category c)
+has_property (Script s) c = script_eq (script c) s
+
+-- of the sets that have a name beside the categories, `Any`, `ASCII` and `Assigned` are none
+abbrev pub category_of : Set → Option Property
+category_of (set.Category v) = Some (Category v)
+category_of (set.CategoryGroup g) = Some (Group g)
+category_of s = None
+
+abbrev pub category_row : String × Set → Option (List ℕ × Property)
+category_row row = option_map (λ p. (codes row.0, p)) (category_of row.1)
+
+abbrev pub script_row : String × ScriptValue → List ℕ × ScriptValue
+script_row row = (codes row.0, row.1)
+
+-- UnicodeMatchPropertyValue (section 22.2.2.9.2): the value with exactly this name in PropertyValueAliases.txt
+unfoldable pub category_named : List ℕ → Option Property
+category_named = value_named (filter_map category_row category_names)
+
+unfoldable pub script_value_named : List ℕ → Option ScriptValue
+script_value_named = value_named (map script_row script_names)
+
+-- UnicodeMatchProperty (section 22.2.2.9.1), of the two properties: by their names in PropertyAliases.txt
+abbrev pub value_of : List ℕ → List ℕ → Option Property
+value_of name value =
+    if bytes_eq name (codes "General_Category") || bytes_eq name (codes "gc") then category_named value
+    else if bytes_eq name (codes "Script") || bytes_eq name (codes "sc") then option_map Script (script_value_named value)
+    else None
+
+-- UnicodePropertyValueExpression: LoneUnicodePropertyNameOrValue, or a property's name and a value
+pub data Expression : Type 0 where
+  alone : List ℕ → Expression
+  valued : List ℕ → List ℕ → Expression
+
+abbrev pub expression_spelling : Expression → List ℕ
+expression_spelling (alone v) = v
+expression_spelling (valued n v) = n ++ byte "=" ∷ v
+
+-- alone stands a category and no script
+abbrev pub property_of : Expression → Option Property
+property_of (alone v) = category_named v
+property_of (valued n v) = value_of n v
+
+-- UnicodePropertyValueCharacter, which each UnicodePropertyNameCharacter is too
+abbrev pub is_property_char : ℕ → Bool
+is_property_char c = is_ascii_alphanumeric c || c == byte "_"
+
+abbrev pub are_property_chars : List ℕ → Bool
+are_property_chars [] = true
+are_property_chars (c ∷ cs) = is_property_char c && are_property_chars cs
+
+abbrev pub has_property_chars : Expression → Bool
+has_property_chars (alone v) = are_property_chars v
+has_property_chars (valued n v) = are_property_chars n && are_property_chars v
+
+abbrev pub IsExpression : Expression → Type 0
+IsExpression e = (has_property_chars e ≡ true) × (is_some (property_of e) ≡ true)
+
+-- behind the backslash: `P` is for the characters that have it not
+abbrev pub property_letter : Bool → ℕ
+property_letter false = byte "p"
+property_letter true = byte "P"
+
+abbrev pub property_spelling : Bool → Expression → List ℕ
+property_spelling n e = property_letter n ∷ byte "{" ∷ (expression_spelling e ++ byte "}" ∷ [])

@@ -1,0 +1,168 @@
+//! Properties of characters, and how `\p{ }` and `\P{ }` are read, character by character behind their letter.
+
+ghost use Rattle.std.specs.Prelude.{◌≡◌, true, map, IfOk};
+ghost use Rattle.ucd_sets.specs.Loose.{value_named as spec_value_named};
+ghost use Rattle.strkw_ecma.specs.Properties.{has_property, category_named as spec_category_named, script_value_named, value_of as spec_value_of, property_of, is_property_char as spec_is_property_char};
+ghost use Rattle.strkw_ecma.specs.PropertyReading.{property_next, on_equals, with_char};
+ghost use Rattle.strkw_ecma.specs.Parts.{expression_of, part_of, property_read_of};
+
+use crate::values::{CATEGORIES, SCRIPTS};
+use std::alloc::{AllocError, Global};
+use ucd_category::{GeneralCategory, GeneralCategoryGroup};
+use ucd_script::Script;
+
+/// A value of the property General_Category, a group of these, or a value of the property Script.
+#[derive(Clone, Copy)]
+pub enum Property {
+    Category(GeneralCategory),
+    Group(GeneralCategoryGroup),
+    Script(Script),
+}
+
+impl Property {
+    /// Whether the character has it.
+    pub(crate) fn is_of(self, c: char) -> bool
+        ensures { result ≡ has_property self c }
+    {
+        match self {
+            Property::Category(category) => GeneralCategory::for_char(c).number()
+                == category.number(),
+            Property::Group(group) => group.contains(GeneralCategory::for_char(c)),
+            Property::Script(script) => Script::for_char(c).number() == script.number(),
+        }
+    }
+}
+
+// The value of the first row with this name.
+fn value_named<T: Copy>(rows: &[(&str, T)], name: &[u8]) -> Option<T>
+    ensures { result ≡ spec_value_named (map (λ row. (row.0.now, row.1)) rows.now) name.now }
+{
+    for (spelling, value) in rows {
+        if spelling.as_bytes() == name {
+            return Some(*value);
+        }
+    }
+    None
+}
+
+fn category_named(name: &[u8]) -> Option<Property>
+    ensures { result ≡ spec_category_named name.now }
+{
+    value_named(&CATEGORIES, name)
+}
+
+fn script_named(name: &[u8]) -> Option<Script>
+    ensures { result ≡ script_value_named name.now }
+{
+    value_named(&SCRIPTS, name)
+}
+
+// Of a property by its name, the value by its.
+fn value_of(name: &[u8], value: &[u8]) -> Option<Property>
+    ensures { result ≡ spec_value_of name.now value.now }
+{
+    if name == b"General_Category".as_slice() || name == b"gc".as_slice() {
+        return category_named(value);
+    }
+    if name == b"Script".as_slice() || name == b"sc".as_slice() {
+        return Some(Property::Script(script_named(value)?));
+    }
+    None
+}
+
+// What stands between the braces: a value alone, or a property's name and behind `=` a value.
+#[derive(Drop)]
+pub(crate) enum Expression {
+    Alone(Vec<u8>),
+    Valued(Vec<u8>, Vec<u8>),
+}
+
+impl Expression {
+    // The property, where there is one: alone stands a category and no script.
+    pub(crate) fn property(&self) -> Option<Property>
+        ensures { result ≡ property_of (expression_of self.now) }
+    {
+        match self {
+            Expression::Alone(value) => category_named(value),
+            Expression::Valued(name, value) => value_of(name, value),
+        }
+    }
+
+    // With one more character, which is one of ASCII.
+    fn with_char(self, c: char) -> Result<Expression, AllocError>
+        requires { spec_is_property_char c ≡ true }
+        ensures { IfOk result (λ e. expression_of e ≡ with_char (expression_of self) c) }
+    {
+        match self {
+            Expression::Alone(mut value) => {
+                value.push(c as u8)?;
+                Ok(Expression::Alone(value))
+            }
+            Expression::Valued(name, mut value) => {
+                value.push(c as u8)?;
+                Ok(Expression::Valued(name, value))
+            }
+        }
+    }
+
+    // Behind an equals sign.
+    fn parted(self, alloc: Global, negated: bool) -> PropertyRead
+        ensures { property_read_of result ≡ on_equals negated (expression_of self) }
+    {
+        match self {
+            Expression::Alone(name) => PropertyRead::Goes(PropertyPart::InBraces(
+                negated,
+                Expression::Valued(name, Vec::new(alloc)),
+            )),
+            Expression::Valued(..) => PropertyRead::Fails,
+        }
+    }
+}
+
+// What has been read: the letter, which says whether the property is to be missing; or behind it `{` and a part of an
+// expression.
+#[derive(Drop)]
+pub(crate) enum PropertyPart {
+    BraceAwaited(bool),
+    InBraces(bool, Expression),
+}
+
+// What comes of one more character.
+#[derive(Drop)]
+pub(crate) enum PropertyRead {
+    Fails,
+    Goes(PropertyPart),
+    Ends(bool, Expression),
+}
+
+fn is_property_char(c: char) -> bool
+    ensures { result ≡ spec_is_property_char c }
+{
+    c.is_ascii_alphanumeric() || c == '_'
+}
+
+impl PropertyPart {
+    // After one more character.
+    pub(crate) fn next(self, alloc: Global, c: char) -> Result<PropertyRead, AllocError>
+        ensures { IfOk result (λ r. property_read_of r ≡ property_next (part_of self) c) }
+    {
+        match self {
+            PropertyPart::BraceAwaited(negated) if c == '{' => {
+                let nothing = Expression::Alone(Vec::new(alloc));
+                Ok(PropertyRead::Goes(PropertyPart::InBraces(negated, nothing)))
+            }
+            PropertyPart::BraceAwaited(_) => Ok(PropertyRead::Fails),
+            PropertyPart::InBraces(negated, expression) if c == '}' => {
+                Ok(PropertyRead::Ends(negated, expression))
+            }
+            PropertyPart::InBraces(negated, expression) if c == '=' => {
+                Ok(expression.parted(alloc, negated))
+            }
+            PropertyPart::InBraces(negated, expression) if is_property_char(c) => {
+                let longer = expression.with_char(c)?;
+                Ok(PropertyRead::Goes(PropertyPart::InBraces(negated, longer)))
+            }
+            PropertyPart::InBraces(..) => Ok(PropertyRead::Fails),
+        }
+    }
+}
