@@ -1,7 +1,6 @@
 -- From what is compiled and evaluated to the answer.
 use Rattle.std.proofs.Common.{◌≡◌, ◌≢◌, ◌↔◌, ◌⊎◌, inl, inr, ℕ, List, [], Bool, true, false, ◌++◌, Option, Some, None, Result, Ok, Err, OnOk, OnErr, refl, ap, ◌∙◌, subst, codes, append_assoc, if◌then◌else◌, is_ok}
 use Rattle.serde_json.specs.Data.{Members}
-use Rattle.serde_json.specs.Find.{as_str}
 use Rattle.strkw_report.specs.Kinds.{Report}
 use Rattle.strkw_report.specs.Refusals.{reason_of, refusal_of, memory}
 use Rattle.strkw_report.specs.declared.refusal.CompileError.{CompileError}
@@ -36,11 +35,11 @@ tells_alike true told same (inr fails) = inr ((λ q. fails.0 (same.1 q)), fails.
 pub answer_of_compiled : {E : Type 0} (outcome : E → List ℕ → Outcome) (r : Request) (k : StringKeywords E) (told : List ℕ) (errors : List Report) (notes : List Remark)
     → IsCompiledFrom outcome (settings_for r) r.schema k
     → TellsFold r.fold (IsEmpty (keywords_interval outcome k)) told
-    → NodeReports (keywords_assertions outcome k) no_lists root_site (as_str r.instance) errors
-    → notes ≡ remarks_on (as_str r.instance) (keywords_remarks k)
+    → NodeReports (keywords_assertions outcome k) no_lists root_site r.instance errors
+    → notes ≡ remarks_on r.instance (keywords_remarks k)
     → Answers (Some r) (told ++ (verdict_lines errors ++ note_lines notes ++ codes "end\n"))
 answer_of_compiled outcome r k told errors notes of tells reports noted =
-    let node = as_str r.instance in (
+    let node = r.instance in (
       None,
       (of.entries, of.are_entries, of.good),
       (
@@ -85,15 +84,15 @@ appended_none (Err e) assertions lists text remarks old new is grown = tt
 -- what is told, and then the lines of an instance, are an answer
 pub appended_found : {T E F : Type 0} (result : Result T F) (outcome : E → List ℕ → Outcome) (r : Request) (s : Settings) (k : StringKeywords E) (told old mid new : List ℕ)
     → s ≡ settings_for r → IsCompiledFrom outcome s r.schema k → TellsFold r.fold (IsEmpty (keywords_interval outcome k)) told → mid ≡ old ++ told
-    → OnOk result ((errors : List Report) × (new ≡ mid ++ found_lines (as_str r.instance) errors (keywords_remarks k))
-    × NodeReports (keywords_assertions outcome k) s.lists root_site (as_str r.instance) errors)
+    → OnOk result ((errors : List Report) × (new ≡ mid ++ found_lines r.instance errors (keywords_remarks k))
+    × NodeReports (keywords_assertions outcome k) s.lists root_site r.instance errors)
     → OnOk result ((x : List ℕ) × (new ≡ old ++ x) × Answers (Some r) x)
 appended_found (Ok x) outcome r s k told old mid new same of tells first (errors, grown, reports) =
-    let lines = found_lines (as_str r.instance) errors (keywords_remarks k) in (
+    let lines = found_lines r.instance errors (keywords_remarks k) in (
       told ++ lines,
       grown ∙ ap (λ l. l ++ lines) first ∙ append_assoc old told lines,
-      answer_of_compiled outcome r k told errors (remarks_on (as_str r.instance) (keywords_remarks k)) (subst (λ t. IsCompiledFrom outcome t r.schema k) same of) tells
-          (subst (λ t. NodeReports (keywords_assertions outcome k) t.lists root_site (as_str r.instance) errors) same reports) refl,
+      answer_of_compiled outcome r k told errors (remarks_on r.instance (keywords_remarks k)) (subst (λ t. IsCompiledFrom outcome t r.schema k) same of) tells
+          (subst (λ t. NodeReports (keywords_assertions outcome k) t.lists root_site r.instance errors) same reports) refl,
     )
 appended_found (Err e) outcome r s k told old mid new same of tells first found = tt
 

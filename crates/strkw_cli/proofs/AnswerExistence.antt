@@ -1,7 +1,6 @@
 -- It cannot be that a line has no answer, or an input no output.
 use Rattle.std.proofs.Common.{◌≡◌, ◌++◌, inl, inr, ℕ, List, [], ◌∷◌, Bool, true, false, Option, Some, None, refl, codes, option_and_then}
 use Rattle.serde_json.specs.Data.{Data}
-use Rattle.serde_json.specs.Find.{as_str}
 use Rattle.serde_json.specs.Read.{read as read_text}
 use Rattle.strkw_report.specs.Refusals.{Refusal}
 use Rattle.strkw_keywords.specs.Laws.{ErrorsAreThere}
@@ -20,9 +19,9 @@ told_there true P none = none (codes "fold false\n") (inr ((λ p. none (codes "f
 by_there : ErrorsAreThere → (why : Option Refusal) (r : Request) → ((answer : List ℕ) → AnswersBy why r answer → ⊥) → ⊥
 by_there errors (Some why) r none = none (refused_line why ++ codes "end\n") refl
 by_there errors None r none =
-    let (notes, noted) = notes_exist (settings_for r) r.schema (as_str r.instance) in
+    let (notes, noted) = notes_exist (settings_for r) r.schema r.instance in
     told_there r.fold (FoldsToFalse (settings_for r) r.schema) (λ told tells.
-    errors (settings_for r) r.schema no_lists root_site (as_str r.instance) (λ es are.
+    errors (settings_for r) r.schema no_lists root_site r.instance (λ es are.
     none (told ++ (verdict_lines es ++ note_lines notes ++ codes "end\n")) (told, es, notes, tells, are, noted, refl)))
 
 answers_there : ErrorsAreThere → (r : Option Request) → ((answer : List ℕ) → Answers r answer → ⊥) → ⊥

@@ -1,7 +1,6 @@
 -- A line has one answer, and an input one output.
 use Rattle.std.proofs.Common.{◌≡◌, inl, inr, ℕ, List, [], ◌∷◌, ◌++◌, Bool, true, false, Option, Some, None, refl, sym, ap, ◌∙◌, subst, codes, option_and_then}
 use Rattle.serde_json.specs.Data.{Data, Members}
-use Rattle.serde_json.specs.Find.{as_str}
 use Rattle.strkw_report.specs.Kinds.{Report}
 use Rattle.strkw_report.specs.Refusals.{Refusal}
 use Rattle.strkw_report.specs.declared.error.Site.{Site}
@@ -37,8 +36,8 @@ by_unique : OneListOfErrors → OneListOfNotes → (why : Option Refusal) (r : R
 by_unique errors notes (Some w) r a b p q = p ∙ sym q
 by_unique errors notes None r a b (told, es, ns, tells, are, noted, e) (said, fs, ms, tells2, are2, noted2, f) =
     let alone = TellsFold-unique r.fold (FoldsToFalse (settings_for r) r.schema) told said tells tells2 in
-    let same = errors (settings_for r) r.schema no_lists root_site (as_str r.instance) es fs are are2 in
-    let alike = notes (settings_for r) r.schema (as_str r.instance) ns ms noted noted2 in
+    let same = errors (settings_for r) r.schema no_lists root_site r.instance es fs are are2 in
+    let alike = notes (settings_for r) r.schema r.instance ns ms noted noted2 in
     e ∙ ap (λ l. l ++ (verdict_lines es ++ note_lines ns ++ codes "end\n")) alone
     ∙ ap (λ l. said ++ (verdict_lines l ++ note_lines ns ++ codes "end\n")) same
     ∙ ap (λ l. said ++ (verdict_lines fs ++ note_lines l ++ codes "end\n")) alike ∙ sym f

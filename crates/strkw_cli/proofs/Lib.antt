@@ -16,3 +16,5 @@ pub mod RunLemmas
 pub mod Folding
 pub mod AnswerExistence
 pub mod Lines
+pub mod Reading
+pub mod Parts

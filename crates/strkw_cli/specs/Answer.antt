@@ -1,7 +1,6 @@
 -- The answer to a line, and to lines: a relation, since it stands on facts that no test decides.
 use Rattle.std.specs.Prelude.{◌≡◌, ℕ, List, [], ◌∷◌, ◌++◌, false, Option, Some, None, option_and_then, codes}
 use Rattle.serde_json.specs.Data.{Data}
-use Rattle.serde_json.specs.Find.{as_str}
 use Rattle.strkw_report.specs.Kinds.{Report}
 use Rattle.strkw_report.specs.Refusals.{Refusal}
 use Rattle.strkw_report.specs.declared.error.Site.{Site}
@@ -47,8 +46,8 @@ abbrev pub AnswersBy : Option Refusal → Request → List ℕ → Type 0
 AnswersBy (Some why) r answer = answer ≡ refused_line why ++ codes "end\n"
 AnswersBy None r answer = (told : List ℕ) × (errors : List Report) × (notes : List Remark)
     × TellsFold r.fold (FoldsToFalse (settings_for r) r.schema) told
-    × Errors (settings_for r) r.schema no_lists root_site (as_str r.instance) errors
-    × Notes (settings_for r) r.schema (as_str r.instance) notes
+    × Errors (settings_for r) r.schema no_lists root_site r.instance errors
+    × Notes (settings_for r) r.schema r.instance notes
     × (answer ≡ told ++ (verdict_lines errors ++ note_lines notes ++ codes "end\n"))
 
 -- the answer to a request, or to what is none

@@ -10,3 +10,4 @@ pub mod Serving
 pub mod Faults
 pub mod HostDevices
 pub mod Written
+pub mod Parts

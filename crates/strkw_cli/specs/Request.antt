@@ -2,16 +2,17 @@
 use Rattle.std.specs.Prelude.{◌≡◌, ℕ, ◌==◌, List, ◌&&◌, ◌||◌, Bool, true, false, Option, Some, None, option_map, option_and_then, unwrap_or, codes, if◌then◌else◌}
 use Rattle.std.specs.Str.{IsUtf8, bytes_eq}
 use Rattle.serde_json.specs.Data.{Data, Members, no_members, member}
-use Rattle.serde_json.specs.Find.{get_member, as_number, as_u64, as_bool, as_object}
+use Rattle.serde_json.specs.Find.{get_member, as_number, as_u64, as_bool, as_str, as_object}
 use Rattle.serde_json.specs.Read.{read as read_text}
 use Rattle.strkw_report.specs.declared.draft.Draft.{Draft}
 use Rattle.strkw_report.specs.declared.draft.Draft.TheVariants.{Draft4, Draft6, Draft7, Draft201909, Draft202012}
 
--- what is asked: the draft, the schema object, the instance, two options, and whether the object folds to false
+-- what is asked: the draft, the schema object, the instance's text, where it is one, two options, and whether the object
+-- folds to false
 pub record Request : Type 0 where
   pub draft : Draft
   pub schema : Members
-  pub instance : Data
+  pub instance : Option (List ℕ)
   pub validate_formats : Option Bool
   pub ignore_unknown_formats : Bool
   pub fold : Bool
@@ -47,7 +48,7 @@ has_only_request_keys no_members = true
 has_only_request_keys (member k d ms) = is_request_key k && has_only_request_keys ms
 
 -- the parts of a request, each of its kind
-abbrev pub request_of_parts : Option Draft → Option Members → Option Data → Option (Option Bool) → Option (Option Bool) → Option (Option Bool)
+abbrev pub request_of_parts : Option Draft → Option Members → Option (Option (List ℕ)) → Option (Option Bool) → Option (Option Bool) → Option (Option Bool)
     → Option Request
 request_of_parts draft schema instance validate ignore fold =
     option_and_then (λ d. option_and_then (λ s. option_and_then (λ i. option_and_then (λ v. option_and_then (λ g. option_map (λ f. record {
@@ -63,7 +64,7 @@ abbrev pub request_of_members : Members → Option Request
 request_of_members ms = if has_only_request_keys ms then request_of_parts
     (option_and_then draft_in (get_member (codes "draft") ms))
     (option_and_then as_object (get_member (codes "schema") ms))
-    (get_member (codes "instance") ms)
+    (option_map as_str (get_member (codes "instance") ms))
     (flag_in (get_member (codes "validate_formats") ms))
     (flag_in (get_member (codes "ignore_unknown_formats") ms))
     (flag_in (get_member (codes "fold") ms))

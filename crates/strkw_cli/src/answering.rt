@@ -1,8 +1,6 @@
 //! The answer to one line.
 
 ghost use Rattle.std.specs.Prelude.{◌≡◌, ℕ, List, ◌++◌, Some, OnOk, OnErr};
-ghost use Rattle.serde_json.specs.View.{view};
-ghost use Rattle.strkw_cli.specs.Request.{request_in as request_of};
 ghost use Rattle.strkw_keywords.specs.Handed.{settings_of};
 ghost use Rattle.strkw_cli.specs.Borrowed.{request_view};
 ghost use Rattle.strkw_cli.specs.Answer.{IsAnswer, Answers, settings_for};
@@ -12,9 +10,9 @@ ghost use Rattle.strkw_keywords.specs.Lengths.{IsEmpty};
 
 use super::compile::compile_strings;
 use super::printing::{push_bad_request, push_refusal};
-use super::request::{Request, read_value, request_in};
+use super::request::{Request, read_request};
 use super::strings::StringKeywords;
-use serde_json::Value;
+use json::Scratch;
 use std::alloc::{AllocError, Global};
 use strkw_keywords::{Checks, ContentCodec, Context, Format, MediaTypeCheck, Options};
 use strkw_pattern::{EngineBuilder, NoPatterns, RegexEngine};
@@ -25,8 +23,21 @@ pub fn answer(alloc: Global, line: &[u8], out: &mut Vec<u8>) -> Result<(), Alloc
     ensures ok { OnOk result ((made : List ℕ) × (out.new.items ≡ out.old.items ++ made) × IsAnswer line.now made) }
     ensures err { OnErr result (out.new.items ≡ out.old.items) }
 {
+    answer_with(alloc, line, &mut Scratch::new(alloc), out)
+}
+
+/// The same with a scratch that is kept from line to line.
+pub(super) fn answer_with(
+    alloc: Global,
+    line: &[u8],
+    scratch: &mut Scratch,
+    out: &mut Vec<u8>,
+) -> Result<(), AllocError>
+    ensures ok { OnOk result ((made : List ℕ) × (out.new.items ≡ out.old.items ++ made) × IsAnswer line.now made) }
+    ensures err { OnErr result (out.new.items ≡ out.old.items) }
+{
     let before = out.len();
-    let result = answer_line(alloc, line, out);
+    let result = answer_line(alloc, line, scratch, out);
     if result.is_err() {
         out.truncate(before);
     }
@@ -34,22 +45,16 @@ pub fn answer(alloc: Global, line: &[u8], out: &mut Vec<u8>) -> Result<(), Alloc
 }
 
 // Appends the answer to a line, or a beginning of it where it is out of memory.
-fn answer_line(alloc: Global, line: &[u8], out: &mut Vec<u8>) -> Result<(), AllocError>
+fn answer_line(
+    alloc: Global,
+    line: &[u8],
+    scratch: &mut Scratch,
+    out: &mut Vec<u8>,
+) -> Result<(), AllocError>
     ensures ok { OnOk result ((made : List ℕ) × (out.new.items ≡ out.old.items ++ made) × IsAnswer line.now made) }
     ensures err { OnErr result ((more : List ℕ) × (out.new.items ≡ out.old.items ++ more)) }
 {
-    match read_value(alloc, line)? {
-        Some(value) => answer_value(alloc, &value, out),
-        None => push_bad_request(out),
-    }
-}
-
-// Appends the answer to a line that is this value.
-fn answer_value(alloc: Global, value: &Value, out: &mut Vec<u8>) -> Result<(), AllocError>
-    ensures ok { OnOk result ((made : List ℕ) × (out.new.items ≡ out.old.items ++ made) × Answers (request_of (view value.now)) made) }
-    ensures err { OnErr result ((more : List ℕ) × (out.new.items ≡ out.old.items ++ more)) }
-{
-    match request_in(value) {
+    match read_request(alloc, line, scratch)? {
         Some(request) => answer_request(alloc, &request, out),
         None => push_bad_request(out),
     }
@@ -63,7 +68,7 @@ fn answer_request(alloc: Global, request: &Request<'_>, out: &mut Vec<u8>) -> Re
 {
     let builder = NoPatterns;
     let ctx = context_of(alloc, request, &builder);
-    match compile_strings(alloc, &ctx, request.schema) {
+    match compile_strings(alloc, &ctx, &request.schema) {
         Ok(keywords) => {
             push_fold(request.fold, &keywords, out)?;
             keywords.push_found(alloc, request.instance, &ctx.checks, out)

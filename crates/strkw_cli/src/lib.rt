@@ -4,6 +4,7 @@
 #![tactic(auto)]
 
 mod answering;
+mod building;
 mod compile;
 mod devices;
 mod faults;

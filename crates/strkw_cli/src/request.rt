@@ -1,21 +1,30 @@
 //! The request that a line is.
 
-ghost use Rattle.std.specs.Prelude.{◌≡◌, option_map, IfOk};
+ghost use Rattle.std.specs.Prelude.{◌≡◌, ◌<◌, ◌∷◌, Option, Some, None, false, IfOk, OnOk, IsErrOf, length, option_map, option_and_then};
+ghost use Rattle.std.specs.Bool.{MatchBool};
+ghost use Rattle.json.specs.Token.{begin_object};
+ghost use Rattle.json.specs.Json.{value, members};
+ghost use Rattle.serde_json.specs.Data.{Data, Members, no_members};
+ghost use Rattle.serde_json.specs.Read.{of_json, of_members, converted, read as read_text};
+ghost use Rattle.serde_json.specs.Find.{as_object};
 ghost use Rattle.serde_json.specs.View.{view, members_view};
-ghost use Rattle.strkw_cli.specs.Request.{IsReading, draft_numbered, draft_in, flag_in, is_request_key, has_only_request_keys, request_in};
+ghost use Rattle.strkw_cli.specs.Request.{IsReading, draft_numbered, draft_in, flag_in, request_in, request_of_members};
 ghost use Rattle.strkw_cli.specs.Borrowed.{request_view};
+ghost use Rattle.strkw_cli.specs.Parts.{AreParts, Takes, begins_object, member_depth};
 
+use super::building::{NoValue, build_value, text_in};
+use json::{Reader, Scratch, Token};
 use serde_json::{Map, Value};
 use std::alloc::{AllocError, Global};
-use strkw_keywords::member;
 use strkw_report::Draft;
 
-/// A request, inside the value of its line.
+/// A request. The text of its instance stands in its line, or unescaped in the scratch that its line was read with.
 #[derive(Drop)]
 pub struct Request<'a> {
     pub draft: Draft,
-    pub schema: &'a Map<String, Value>,
-    pub instance: &'a Value,
+    pub schema: Map<String, Value>,
+    /// The text that the instance is, or `None` where it is another value.
+    pub instance: Option<&'a str>,
     pub validate_formats: Option<bool>,
     pub ignore_unknown_formats: bool,
     pub fold: bool,
@@ -53,57 +62,162 @@ pub fn draft_in(value: &Value) -> Option<Draft>
     draft_numbered(value.as_u64()?)
 }
 
-fn flag_in(value: Option<&Value>) -> Option<Option<bool>>
-    ensures { result ≡ flag_in (option_map (λ v. view v.now) value.entry) }
+fn flag_in(value: &Value) -> Option<Option<bool>>
+    ensures { result ≡ flag_in (Some (view value.now)) }
+{
+    Some(Some(value.as_bool()?))
+}
+
+fn object_in(value: Value) -> Option<Map<String, Value>>
+    ensures { option_map (λ m. members_view m.entries) result ≡ as_object (view value) }
 {
     match value {
-        None => Some(None),
-        Some(value) => Some(Some(value.as_bool()?)),
+        Value::Object(members) => Some(members),
+        _ => None,
     }
 }
 
-fn is_request_key(key: &str) -> bool
-    ensures { result ≡ is_request_key key.now }
-{
-    key == "draft"
-        || key == "schema"
-        || key == "instance"
-        || key == "validate_formats"
-        || key == "ignore_unknown_formats"
-        || key == "fold"
+// How deep the value of a member may nest: one less than the line.
+const MEMBER_DEPTH: usize = 126;
+
+// What the members so far come to, each name by its last value: a part of the wanted kind, or none.
+#[derive(Drop)]
+struct Parts<'a> {
+    draft: Option<Draft>,
+    schema: Option<Map<String, Value>>,
+    instance: Option<Option<&'a str>>,
+    validate_formats: Option<Option<bool>>,
+    ignore_unknown_formats: Option<Option<bool>>,
+    fold: Option<Option<bool>>,
+    has_only_request_keys: bool,
 }
 
-fn has_only_request_keys(members: &Map<String, Value>) -> bool
-    ensures { result ≡ has_only_request_keys (members_view members.now.entries) }
-{
-    for (key, _value) in members.iter() {
-        if !is_request_key(key) {
-            return false;
+impl<'a> Parts<'a> {
+    fn of_no_members() -> Self
+        ensures { AreParts result no_members }
+    {
+        Parts {
+            draft: None,
+            schema: None,
+            instance: None,
+            validate_formats: Some(None),
+            ignore_unknown_formats: Some(None),
+            fold: Some(None),
+            has_only_request_keys: true,
         }
     }
-    true
+
+    // Takes the value of a member of this name.
+    fn take_member(
+        &mut self,
+        alloc: Global,
+        name: &str,
+        tokens: &mut Reader<'a>,
+    ) -> Result<(), NoValue>
+        ensures ok { OnOk result ((d : Data) × (converted of_json (value member_depth tokens.old) ≡ Some (d, tokens.new))
+            × Takes name.now d self.old self.new) }
+        ensures none { IsErrOf result NoValue.NotJson → converted of_json (value member_depth tokens.old) ≡ None }
+        ensures shorter { OnOk result (length tokens.new < length tokens.old) }
+    {
+        match name {
+            "draft" => self.draft = draft_in(&build_value(alloc, tokens, MEMBER_DEPTH)?),
+            "schema" => self.schema = object_in(build_value(alloc, tokens, MEMBER_DEPTH)?),
+            "instance" => self.instance = Some(text_in(tokens, MEMBER_DEPTH)?),
+            "validate_formats" => {
+                self.validate_formats = flag_in(&build_value(alloc, tokens, MEMBER_DEPTH)?)
+            }
+            "ignore_unknown_formats" => {
+                self.ignore_unknown_formats = flag_in(&build_value(alloc, tokens, MEMBER_DEPTH)?)
+            }
+            "fold" => self.fold = flag_in(&build_value(alloc, tokens, MEMBER_DEPTH)?),
+            _ => {
+                text_in(tokens, MEMBER_DEPTH)?;
+                self.has_only_request_keys = false;
+            }
+        }
+        Ok(())
+    }
+
+    // The request that these are the parts of.
+    fn into_request(self) -> Option<Request<'a>>
+        ensures { (ms : Members) → AreParts self.entry ms → option_map request_view result ≡ request_of_members ms }
+    {
+        if !self.has_only_request_keys {
+            return None;
+        }
+        let draft = self.draft?;
+        let schema = self.schema?;
+        let instance = self.instance?;
+        let validate_formats = self.validate_formats?;
+        let ignore_unknown_formats = self.ignore_unknown_formats?;
+        let fold = self.fold?;
+        Some(Request {
+            draft,
+            schema,
+            instance,
+            validate_formats,
+            ignore_unknown_formats: ignore_unknown_formats.unwrap_or(true),
+            fold: fold.unwrap_or(false),
+        })
+    }
 }
 
-/// The request that a value is.
-pub fn request_in(value: &Value) -> Option<Request<'_>>
-    ensures { option_map request_view result ≡ request_in (view value.now) }
+// What the members that are left of an object come to, up to its end.
+fn parts_in<'a>(alloc: Global, tokens: &mut Reader<'a>) -> Result<Parts<'a>, NoValue>
+    ensures ok { IfOk result (λ parts. (ms : Members)
+        × (converted (λ js. of_members js no_members) (members (value member_depth) (length tokens.old) tokens.old) ≡ Some (ms, tokens.new))
+        × AreParts parts ms) }
+    ensures none { IsErrOf result NoValue.NotJson
+        → converted (λ js. of_members js no_members) (members (value member_depth) (length tokens.old) tokens.old) ≡ None }
 {
-    let members = value.as_object()?;
-    if !has_only_request_keys(members) {
-        return None;
+    let mut parts = Parts::of_no_members();
+    'members: while let Some(name) = tokens.next_key()? {
+        parts.take_member(alloc, name, tokens)?;
     }
-    let draft = draft_in(member(members, "draft")?)?;
-    let schema = member(members, "schema")?.as_object()?;
-    let instance = member(members, "instance")?;
-    let validate_formats = flag_in(member(members, "validate_formats"))?;
-    let ignore_unknown_formats = flag_in(member(members, "ignore_unknown_formats"))?;
-    let fold = flag_in(member(members, "fold"))?;
-    Some(Request {
-        draft,
-        schema,
-        instance,
-        validate_formats,
-        ignore_unknown_formats: ignore_unknown_formats.unwrap_or(true),
-        fold: fold.unwrap_or(false),
-    })
+    Ok(parts)
+}
+
+// Takes a token, and whether an object begins with it.
+fn takes_begin_object(tokens: &mut Reader<'_>) -> bool
+    ensures { MatchBool result (tokens.old ≡ begin_object ∷ tokens.new) (begins_object tokens.old ≡ false) }
+{
+    matches!(tokens.next(), Some(Token::BeginObject))
+}
+
+// The request that a text is.
+fn request_in<'a>(
+    alloc: Global,
+    text: &'a str,
+    scratch: &'a mut Scratch,
+) -> Result<Option<Request<'a>>, AllocError>
+    ensures { IfOk result (λ request. option_map request_view request ≡ option_and_then request_in (read_text text.now)) }
+{
+    let mut tokens = Reader::new(text, scratch)?;
+    if !takes_begin_object(&mut tokens) {
+        return Ok(None);
+    }
+    match parts_in(alloc, &mut tokens) {
+        Ok(parts) => match tokens.next() {
+            None => Ok(parts.into_request()),
+            Some(_) => Ok(None),
+        },
+        Err(NoValue::NotJson) => Ok(None),
+        Err(NoValue::Memory) => Err(AllocError),
+    }
+}
+
+/// The request that a line is, or `None` where it is none. The scratch is kept from line to line. The only error is out of
+/// memory.
+pub fn read_request<'a>(
+    alloc: Global,
+    line: &'a [u8],
+    scratch: &'a mut Scratch,
+) -> Result<Option<Request<'a>>, AllocError>
+    ensures { IfOk result (λ request. (read : Option Data) × IsReading line.now read
+        × (option_map request_view request ≡ option_and_then request_in read)) }
+{
+    let Ok(text) = simdutf8::basic::from_utf8(line) else {
+        return Ok(None);
+    };
+    request_in(alloc, text, scratch)
 }

@@ -7,9 +7,10 @@ ghost use Rattle.strkw_cli.specs.Answer.{AreAnswers, IsAnswer};
 ghost use Rattle.strkw_cli.specs.Outcome.{AnswersSome, IsOutcome};
 ghost use Rattle.strkw_cli.specs.Serving.{Serves};
 
-use super::answering::answer;
+use super::answering::answer_with;
 use super::devices::{DeviceFailed, Sink, Source};
 use super::faults::RunFault;
+use json::Scratch;
 use memchr::memchr;
 use std::alloc::{AllocError, Global};
 
@@ -44,6 +45,7 @@ fn answer_piece(
     alloc: Global,
     piece: &[u8],
     line: &mut Vec<u8>,
+    scratch: &mut Scratch,
     out: &mut Vec<u8>,
 ) -> Result<(), AllocError>
     requires { last_part line.old.items ≡ line.old.items }
@@ -56,7 +58,7 @@ fn answer_piece(
     let mut at = 0;
     while let Some(offset) = find_line_feed(&piece[at..]) {
         let end = at + offset;
-        answer_ending(alloc, &piece[at..end], line, out)?;
+        answer_ending(alloc, &piece[at..end], line, scratch, out)?;
         at = end + 1;
     }
     line.extend_from_slice(&piece[at..])
@@ -67,6 +69,7 @@ fn answer_ending(
     alloc: Global,
     ending: &[u8],
     line: &mut Vec<u8>,
+    scratch: &mut Scratch,
     out: &mut Vec<u8>,
 ) -> Result<(), AllocError>
     ensures ok { OnOk result ((made : List ℕ) × (out.new.items ≡ out.old.items ++ made) × IsAnswer (line.old.items ++ ending.now) made) }
@@ -74,10 +77,10 @@ fn answer_ending(
     ensures err { OnErr result (out.new.items ≡ out.old.items) }
 {
     if line.is_empty() {
-        return answer(alloc, ending, out);
+        return answer_with(alloc, ending, scratch, out);
     }
     line.extend_from_slice(ending)?;
-    answer(alloc, line, out)?;
+    answer_with(alloc, line, scratch, out)?;
     line.clear();
     Ok(())
 }
@@ -87,6 +90,7 @@ fn serve_piece<K: Sink>(
     alloc: Global,
     piece: &[u8],
     line: &mut Vec<u8>,
+    scratch: &mut Scratch,
     out: &mut Vec<u8>,
     sink: &mut K,
 ) -> Result<(), RunFault>
@@ -98,7 +102,7 @@ fn serve_piece<K: Sink>(
     ensures write_fault { IsErrOf result RunFault.Write ↔ (K.has_failed sink.new ≡ true) }
 {
     out.clear();
-    let answered = answer_piece(alloc, piece, line, out);
+    let answered = answer_piece(alloc, piece, line, scratch, out);
     if write_all(sink, out).is_err() {
         return Err(RunFault::Write);
     }
@@ -110,6 +114,7 @@ fn serve_piece<K: Sink>(
 fn serve_last<K: Sink>(
     alloc: Global,
     line: &[u8],
+    scratch: &mut Scratch,
     out: &mut Vec<u8>,
     sink: &mut K,
 ) -> Result<(), RunFault>
@@ -123,7 +128,7 @@ fn serve_last<K: Sink>(
         return Ok(());
     }
     out.clear();
-    answer(alloc, line, out)?;
+    answer_with(alloc, line, scratch, out)?;
     if write_all(sink, out).is_err() {
         return Err(RunFault::Write);
     }
@@ -170,15 +175,23 @@ pub fn run<S: Source, K: Sink>(alloc: Global, source: &mut S, sink: &mut K) -> R
 {
     let mut piece = piece_room(alloc)?;
     let mut line = Vec::new(alloc);
+    let mut scratch = Scratch::new(alloc);
     let mut out = Vec::new(alloc);
     for turn in 0..u64::MAX {
         let Ok(count) = source.read(&mut piece) else {
             return Err(RunFault::Read);
         };
         if count == 0 {
-            return serve_last(alloc, &line, &mut out, sink);
+            return serve_last(alloc, &line, &mut scratch, &mut out, sink);
         }
-        serve_piece(alloc, &piece[..count], &mut line, &mut out, sink)?;
+        serve_piece(
+            alloc,
+            &piece[..count],
+            &mut line,
+            &mut scratch,
+            &mut out,
+            sink,
+        )?;
     }
     Err(RunFault::TooLong)
 }

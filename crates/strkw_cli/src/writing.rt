@@ -3,7 +3,6 @@
 ghost use Rattle.std.specs.Prelude.{◌≡◌, ℕ, List, ◌++◌, Some, false, OnOk, OnErr, codes, option_map};
 ghost use Rattle.std.specs.List.{flat_map};
 ghost use Rattle.serde_json.specs.Data.{string};
-ghost use Rattle.serde_json.specs.Find.{as_str};
 ghost use Rattle.serde_json.specs.View.{view};
 ghost use Rattle.serde_json.specs.Written.{compact_text, has_float};
 ghost use Rattle.strkw_report.specs.Failures.{kind_failed};
@@ -134,18 +133,16 @@ fn push_value(alloc: Global, value: &Value, out: &mut Vec<u8>) -> Result<(), All
 fn push_errors_of<E: RegexEngine>(
     alloc: Global,
     validator: &Validator<E>,
-    node: &Value,
     text: &str,
     checks: &Checks,
     out: &mut Vec<u8>,
 ) -> Result<(), AllocError>
-    requires in_use { IsInUse (assertions_of E.outcome validator.now) (lists_of admits accepted encoded decoding checks.now) }
-    requires is_text { as_str (view node.now) ≡ Some text.now }
+    requires { IsInUse (assertions_of E.outcome validator.now) (lists_of admits accepted encoded decoding checks.now) }
     ensures ok { OnOk result (AppendsLines (NodeReports (assertions_of E.outcome validator.now)
-        (lists_of admits accepted encoded decoding checks.now) root_site (as_str (view node.now))) out.old.items out.new.items) }
+        (lists_of admits accepted encoded decoding checks.now) root_site (Some text.now)) out.old.items out.new.items) }
     ensures err { OnErr result ((more : List ℕ) × (out.new.items ≡ out.old.items ++ more)) }
 {
-    let found = validator.findings(alloc, node, text, checks)?;
+    let found = validator.findings(alloc, &text, text, checks)?;
     let origin = validator.origin();
     push_found_line(alloc, origin, text, &found.first, out)?;
     push_found_line(alloc, origin, text, &found.second, out)
@@ -176,19 +173,17 @@ impl<E: RegexEngine> StringKeywords<E> {
     fn push_errors(
         &self,
         alloc: Global,
-        node: &Value,
         text: &str,
         checks: &Checks,
         out: &mut Vec<u8>,
     ) -> Result<(), AllocError>
-        requires in_use { IsInUse (keywords_assertions E.outcome self.now) (lists_of admits accepted encoded decoding checks.now) }
-        requires is_text { as_str (view node.now) ≡ Some text.now }
+        requires { IsInUse (keywords_assertions E.outcome self.now) (lists_of admits accepted encoded decoding checks.now) }
         ensures ok { OnOk result (AppendsLines (NodeReports (keywords_assertions E.outcome self.now)
-            (lists_of admits accepted encoded decoding checks.now) root_site (as_str (view node.now))) out.old.items out.new.items) }
+            (lists_of admits accepted encoded decoding checks.now) root_site (Some text.now)) out.old.items out.new.items) }
         ensures err { OnErr result ((more : List ℕ) × (out.new.items ≡ out.old.items ++ more)) }
     {
         for validator in &self.validators {
-            push_errors_of(alloc, validator, node, text, checks, out)?;
+            push_errors_of(alloc, validator, text, checks, out)?;
         }
         Ok(())
     }
@@ -209,31 +204,30 @@ impl<E: RegexEngine> StringKeywords<E> {
     fn push_verdict(
         &self,
         alloc: Global,
-        node: &Value,
         text: &str,
         checks: &Checks,
         out: &mut Vec<u8>,
     ) -> Result<(), AllocError>
-        requires in_use { IsInUse (keywords_assertions E.outcome self.now) (lists_of admits accepted encoded decoding checks.now) }
-        requires is_text { as_str (view node.now) ≡ Some text.now }
+        requires { IsInUse (keywords_assertions E.outcome self.now) (lists_of admits accepted encoded decoding checks.now) }
         ensures ok { OnOk result ((errors : List Report) × (out.new.items ≡ out.old.items ++ verdict_lines errors)
             × NodeReports (keywords_assertions E.outcome self.now) (lists_of admits accepted encoded decoding checks.now) root_site
-            (as_str (view node.now)) errors) }
+            (Some text.now) errors) }
         ensures err { OnErr result ((more : List ℕ) × (out.new.items ≡ out.old.items ++ more)) }
     {
         let before = out.len();
-        self.push_errors(alloc, node, text, checks, out)?;
+        self.push_errors(alloc, text, checks, out)?;
         if out.len() > before {
             return Ok(());
         }
         out.extend_from_slice(b"valid\n")
     }
 
-    /// Appends the lines of the errors of an instance, or that it has none, then of what is noted of it, and the end.
+    /// Appends the lines of the errors of an instance, or that it has none, then of what is noted of it, and the end. The
+    /// instance is its text, or `None` where it is another value.
     pub(super) fn push_found(
         &self,
         alloc: Global,
-        node: &Value,
+        instance: Option<&str>,
         checks: &Checks,
         out: &mut Vec<u8>,
     ) -> Result<(), AllocError>
@@ -241,15 +235,15 @@ impl<E: RegexEngine> StringKeywords<E> {
         requires printable { ArePrintable (keywords_remarks self.now) }
         ensures ok { OnOk result ((errors : List Report)
             × (out.new.items ≡ out.old.items
-            ++ (verdict_lines errors ++ note_lines (remarks_on (as_str (view node.now)) (keywords_remarks self.now)) ++ codes "end\n"))
+            ++ (verdict_lines errors ++ note_lines (remarks_on (option_map (λ text. text.now) instance.entry) (keywords_remarks self.now)) ++ codes "end\n"))
             × NodeReports (keywords_assertions E.outcome self.now) (lists_of admits accepted encoded decoding checks.now) root_site
-            (as_str (view node.now)) errors) }
+            (option_map (λ text. text.now) instance.entry) errors) }
         ensures err { OnErr result ((more : List ℕ) × (out.new.items ≡ out.old.items ++ more)) }
     {
-        match node.as_str() {
+        match instance {
             None => out.extend_from_slice(b"valid\nend\n"),
             Some(text) => {
-                self.push_verdict(alloc, node, text, checks, out)?;
+                self.push_verdict(alloc, text, checks, out)?;
                 self.push_notes(alloc, out)?;
                 out.extend_from_slice(b"end\n")
             }

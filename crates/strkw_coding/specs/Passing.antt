@@ -1,10 +1,9 @@
--- What is left of a text's tokens behind what `serde_json` reads of them. None of it stands in a public contract.
-use Rattle.std.specs.Prelude.{ℕ, Bool, List, length, Option, option_and_then, option_map, is_some}
-use Rattle.fast_float.specs.Text.{Parts}
+-- What is left of a text's tokens behind what `serde_json` reads of them.
+use Rattle.std.specs.Prelude.{ℕ, List, length, Option, option_and_then, option_map}
 use Rattle.json.specs.Token.{Token}
 use Rattle.json.specs.Json.{value, items, members}
 use Rattle.serde_json.specs.Data.{no_members}
-use Rattle.serde_json.specs.Read.{of_json, of_items, of_members, number_from}
+use Rattle.serde_json.specs.Read.{of_json, of_items, of_members}
 
 -- the tokens behind what was parsed, where it has a reading
 abbrev pub behind : {A B : Type 0} → (A → Option B) → Option (A × List Token) → Option (List Token)
@@ -21,7 +20,3 @@ after_items depth ts = behind of_items (items (value depth) (length ts) ts)
 -- .. behind the members that are left of an object, and its end
 abbrev pub after_members : ℕ → List Token → Option (List Token)
 after_members depth ts = behind (λ ms. of_members ms no_members) (members (value depth) (length ts) ts)
-
--- the number has a reading
-abbrev pub has_range : Bool → Parts → Bool
-has_range minus p = is_some (number_from minus p)

@@ -1,13 +1,16 @@
 //! JSON passed over, token by token, and not kept: what `serde_json` reads.
 
 ghost use Rattle.std.specs.Bool.{MatchBool};
-ghost use Rattle.std.specs.Prelude.{◌≡◌, ◌↔◌, ◌<◌, ◌==◌, IfOk, IsTrue, None, Some, false, is_some, length, slice_index, true};
-ghost use Rattle.serde_json.specs.Read.{number_of};
+ghost use Rattle.std.specs.Prelude.{◌≡◌, ◌↔◌, ◌<◌, ◌≤◌, ◌==◌, ◌∷◌, IfOk, IsTrue, None, Some, false, length, option_map, slice_index, true};
+ghost use Rattle.json.specs.Reads.{token_of};
+ghost use Rattle.serde_json.specs.Read.{number_of, number_from};
+ghost use Rattle.serde_json.specs.View.{number_view};
 ghost use Rattle.strkw_coding.specs.Json.{IsJson};
-ghost use Rattle.strkw_coding.specs.Passing.{after_items, after_members, after_value, has_range};
+ghost use Rattle.strkw_coding.specs.Passing.{after_items, after_members, after_value};
 
 use fast_float::Numeral;
 use json::{Reader, Scratch, Token};
+use serde_json::Number;
 use std::alloc::{AllocError, Global};
 
 // How deep arrays and objects may nest.
@@ -28,17 +31,34 @@ pub fn is_json(alloc: Global, text: &str) -> Result<bool, AllocError>
 
 // Passes over the value that comes first, if one does that nests no deeper than `depth`.
 #[cycle(pass)]
+#[inline(always)]
 #[tactic(auto, using(crate::proofs::Passing::by_first_token))]
 fn passes_value(tokens: &mut Reader<'_>, depth: usize) -> bool
     ensures passed { MatchBool result (after_value depth tokens.old ≡ Some tokens.new) (after_value depth tokens.old ≡ None) }
     ensures shorter { IsTrue result → length tokens.new < length tokens.old }
 {
     match tokens.next() {
-        Some(Token::String(_) | Token::Bool(_) | Token::Null) => true,
-        Some(Token::Number(text)) => is_in_range(text),
-        Some(Token::BeginArray) => depth > 0 && passes_items(tokens, depth - 1),
-        Some(Token::BeginObject) => depth > 0 && passes_members(tokens, depth - 1),
-        _ => false,
+        Some(token) => passes_json(token, tokens, depth),
+        None => false,
+    }
+}
+
+/// Passes over the JSON value that begins with this token and goes on with these: whether one does that nests no deeper
+/// than `depth`, each number within the range of an `f64`, as `serde_json` reads it. No value is built, and it takes no
+/// memory.
+#[cycle(pass)]
+#[tactic(auto, using(crate::proofs::Passing::by_first_token))]
+pub fn passes_json(token: Token<'_>, tokens: &mut Reader<'_>, depth: usize) -> bool
+    ensures passed { MatchBool result (after_value depth (token_of token.entry ∷ tokens.old) ≡ Some tokens.new)
+        (after_value depth (token_of token.entry ∷ tokens.old) ≡ None) }
+    ensures no_longer { IsTrue result → length tokens.new ≤ length tokens.old }
+{
+    match token {
+        Token::String(_) | Token::Bool(_) | Token::Null => true,
+        Token::Number(text) => json_number(text).is_some(),
+        Token::BeginArray => depth > 0 && passes_items(tokens, depth - 1),
+        Token::BeginObject => depth > 0 && passes_members(tokens, depth - 1),
+        Token::EndArray | Token::EndObject | Token::Key(_) | Token::Bad => false,
     }
 }
 
@@ -75,16 +95,17 @@ fn passes_members(tokens: &mut Reader<'_>, depth: usize) -> bool
     false
 }
 
-// Whether the number that a token writes is in range.
+/// The number that a token of JSON writes, as `serde_json` reads it: one of 64 bits, or else the nearest `f64`, where that
+/// is finite.
 #[tactic(auto, unfolding(serde_json::specs::Read::number_of))]
-fn is_in_range(text: &str) -> bool
-    ensures { result ≡ is_some (number_of text.now) }
+pub fn json_number(text: &str) -> Option<Number>
+    ensures { option_map number_view result ≡ number_of text.now }
 {
     let bytes = text.as_bytes();
     if begins_with_minus(bytes) {
-        is_negative_in_range(&Numeral::scan(&bytes[1..]))
+        negative_number(&Numeral::scan(&bytes[1..]))
     } else {
-        is_positive_in_range(&Numeral::scan(bytes))
+        positive_number(&Numeral::scan(bytes))
     }
 }
 
@@ -98,19 +119,23 @@ fn begins_with_minus(bytes: &[u8]) -> bool
     }
 }
 
-// Whether the number without a sign is one of 64 bits, or has a nearest float.
 #[inline(always)]
-fn is_positive_in_range(numeral: &Numeral<'_>) -> bool
-    ensures { result ≡ has_range false numeral.now }
+fn positive_number(numeral: &Numeral<'_>) -> Option<Number>
+    ensures { option_map number_view result ≡ number_from false numeral.now }
 {
-    numeral.to_u64().is_some() || numeral.to_float::<f64>(false).is_finite()
+    match numeral.to_u64() {
+        Some(whole) => Some(Number::from(whole)),
+        None => Number::from_f64(numeral.to_float::<f64>(false)),
+    }
 }
 
-// The same of a number behind a minus.
+// The number behind a minus.
 #[inline(always)]
-fn is_negative_in_range(numeral: &Numeral<'_>) -> bool
-    ensures { result ≡ has_range true numeral.now }
+fn negative_number(numeral: &Numeral<'_>) -> Option<Number>
+    ensures { option_map number_view result ≡ number_from true numeral.now }
 {
-    matches!(numeral.to_i64(true), Some(number) if number < 0)
-        || numeral.to_float::<f64>(true).is_finite()
+    match numeral.to_i64(true) {
+        Some(whole) if whole < 0 => Some(Number::from(whole)),
+        _ => Number::from_f64(numeral.to_float::<f64>(true)),
+    }
 }

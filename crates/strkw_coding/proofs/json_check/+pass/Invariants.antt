@@ -6,13 +6,16 @@ use Rattle.strkw_coding.specs.Passing.{behind, after_items, after_members}
 use Rattle.strkw_coding.proofs.json_check.+pass.Given as goal
 
 abbrev pub decreases-passes_value : goal.decreases-passes_value
-decreases-passes_value l = 2 * l.depth
+decreases-passes_value l = 3 * l.depth + 1
+
+abbrev pub decreases-passes_json : goal.decreases-passes_json
+decreases-passes_json l = 3 * l.depth
 
 abbrev pub decreases-passes_items : goal.decreases-passes_items
-decreases-passes_items l = 2 * l.depth + 1
+decreases-passes_items l = 3 * l.depth + 2
 
 abbrev pub decreases-passes_members : goal.decreases-passes_members
-decreases-passes_members l = 2 * l.depth + 1
+decreases-passes_members l = 3 * l.depth + 2
 
 abbrev pub invariant-passes_items-loop-tokens : goal.invariant-passes_items-loop-tokens
 invariant-passes_items-loop-tokens l = record {

@@ -1,5 +1,4 @@
-use Rattle.serde_json.specs.Find.{as_str}
-use Rattle.serde_json.specs.View.{view}
+use Rattle.std.proofs.Common.{Some}
 use Rattle.strkw_keywords.specs.Handed.{lists_of}
 use Rattle.std.specs.List.{flat_map}
 use Rattle.strkw_cli.specs.Printed.{error_line}
@@ -11,20 +10,20 @@ use Rattle.strkw_cli.proofs.strings.StringKeywords.push_errors.Goals as goal
 pub loop-validator-init : goal.loop-validator-init
 loop-validator-init g c =
     let checks = (lists_of (λ b. (goal.Format-dyn g b).admits b.1) (λ b. (goal.MediaTypeCheck-dyn g b).accepted b.1) (λ b. (goal.ContentCodec-dyn g b).encoded b.1) (λ b. (goal.ContentCodec-dyn g b).decoding b.1) c.args.checks.now) in
-    nothing_written checks (as_str (view c.args.node.now)) c.args.out.now.items
+    nothing_written checks (Some c.args.text.now) c.args.out.now.items
 
-pub push_errors_of-requires-clause-in_use : goal.push_errors_of-requires-clause-in_use
-push_errors_of-requires-clause-in_use g c =
+pub push_errors_of-requires : goal.push_errors_of-requires
+push_errors_of-requires g c =
     let checks = (lists_of (λ b. (goal.Format-dyn g b).admits b.1) (λ b. (goal.MediaTypeCheck-dyn g b).accepted b.1) (λ b. (goal.ContentCodec-dyn g b).encoded b.1) (λ b. (goal.ContentCodec-dyn g b).decoding b.1) c.args.checks.now) in
     in_use_at g.E.RegexEngine.outcome checks c.args.self.now.validators.items c.loop-validator.validator-index c.validator-item.result
     (rw c.deref-validator-items.ensures.value at c.loop-validator-test.true)
     (rw c.deref-validator-items.ensures.value at c.validator-item.is)
-    c.requires.in_use
+    c.requires
 
 pub loop-validator-preserved : goal.loop-validator-preserved
 loop-validator-preserved g c =
     let checks = (lists_of (λ b. (goal.Format-dyn g b).admits b.1) (λ b. (goal.MediaTypeCheck-dyn g b).accepted b.1) (λ b. (goal.ContentCodec-dyn g b).encoded b.1) (λ b. (goal.ContentCodec-dyn g b).decoding b.1) c.args.checks.now) in
-    written_more g.E.RegexEngine.outcome checks (as_str (view c.args.node.now)) c.args.self.now.validators.items c.loop-validator.validator-index c.validator-item.result
+    written_more g.E.RegexEngine.outcome checks (Some c.args.text.now) c.args.self.now.validators.items c.loop-validator.validator-index c.validator-item.result
     _ _ _
     (rw c.deref-validator-items.ensures.value at c.loop-validator-test.true)
     (rw c.deref-validator-items.ensures.value at c.validator-item.is)

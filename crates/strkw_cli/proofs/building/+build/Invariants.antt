@@ -1,0 +1,44 @@
+use Rattle.std.proofs.Common.{◌≡◌, ℕ, ◌+◌, ◌*◌, ◌≤◌, length}
+use Rattle.json.specs.Json.{items, members, value, parse_map}
+use Rattle.serde_json.specs.Data.{no_members}
+use Rattle.serde_json.specs.Read.{of_items, of_members, converted}
+use Rattle.serde_json.specs.View.{members_view}
+use Rattle.strkw_cli.proofs.Reading.{behind_built}
+use Rattle.strkw_cli.proofs.building.+build.Given as goal
+
+abbrev pub decreases-build_value : goal.decreases-build_value
+decreases-build_value l = 3 * l.depth + 1
+
+abbrev pub decreases-build_from : goal.decreases-build_from
+decreases-build_from l = 3 * l.depth
+
+abbrev pub decreases-build_items : goal.decreases-build_items
+decreases-build_items l = 3 * l.depth + 2
+
+abbrev pub decreases-build_members : goal.decreases-build_members
+decreases-build_members l = 3 * l.depth + 2
+
+-- what is built stands before the items that are to come
+abbrev pub invariant-build_items-items : goal.invariant-build_items-items
+invariant-build_items-items l = record {
+  turns : ℕ;
+  enough : length l.tokens ≤ turns;
+  same : converted of_items (items (value l.depth) (length l.initial.tokens) l.initial.tokens) ≡ parse_map (behind_built l.built.items) (converted of_items (items (value l.depth) turns l.tokens));
+  fewer : length l.tokens ≤ length l.initial.tokens;
+}
+
+abbrev pub decreases-build_items-items : goal.decreases-build_items-items
+decreases-build_items-items l = length l.tokens
+
+-- the members that are to come go into what is built
+abbrev pub invariant-build_members-members : goal.invariant-build_members-members
+invariant-build_members-members l = record {
+  turns : ℕ;
+  enough : length l.tokens ≤ turns;
+  same : converted (λ ms. of_members ms no_members) (members (value l.depth) (length l.initial.tokens) l.initial.tokens)
+      ≡ converted (λ ms. of_members ms (members_view l.built.entries)) (members (value l.depth) turns l.tokens);
+  fewer : length l.tokens ≤ length l.initial.tokens;
+}
+
+abbrev pub decreases-build_members-members : goal.decreases-build_members-members
+decreases-build_members-members l = length l.tokens

@@ -1,0 +1,20 @@
+use Rattle.std.proofs.Common.{◌≡◌, ℕ, ◌≤◌, length}
+use Rattle.json.specs.Json.{members, value}
+use Rattle.serde_json.specs.Data.{Members, no_members}
+use Rattle.serde_json.specs.Read.{of_members, converted}
+use Rattle.strkw_cli.specs.Parts.{AreParts, member_depth}
+use Rattle.strkw_cli.proofs.request.parts_in.Given as goal
+
+-- the parts are those of what was read, and the members that are to come go into it
+abbrev pub invariant-members : goal.invariant-members
+invariant-members l = record {
+  turns : ℕ;
+  enough : length l.tokens ≤ turns;
+  found : Members;
+  same : converted (λ js. of_members js no_members) (members (value member_depth) (length l.initial.tokens) l.initial.tokens)
+      ≡ converted (λ js. of_members js found) (members (value member_depth) turns l.tokens);
+  are : AreParts l.parts found;
+}
+
+abbrev pub decreases-members : goal.decreases-members
+decreases-members l = length l.tokens
