@@ -156,10 +156,9 @@ fn piece_room(alloc: Global) -> Result<Vec<u8>, AllocError>
 /// is written after `Read`, `Memory` and `TooLong` are whole answers, to lines whose line feed was read.
 ///
 /// The run holds the longest line so far, a piece of 64 KiB, the answers to the lines that end in one piece, and what
-/// one request takes: its JSON value, and its answer. What that comes to goes by the kind of content more than by the
-/// line's length. Measured on the program, in bytes of memory at the peak for each byte of a long line: 2 where it is no
-/// JSON, 3 where it is one valid text, 7 where that text has four errors, 18 for an array of digits, 118 for an array of
-/// objects `{"a":1}` (some 940 for each object).
+/// one request takes: a byte for each byte of the longest line, its schema object, and its answer. Measured on the program,
+/// in bytes of memory at the peak for each byte of a long line: 2 where it is no JSON, and where its instance is valid,
+/// whatever it is, and 6 where that is a text with four errors.
 pub fn run<S: Source, K: Sink>(alloc: Global, source: &mut S, sink: &mut K) -> Result<(), RunFault>
     requires source_works { S.has_failed source.old ≡ false }
     requires sink_works { K.has_failed sink.old ≡ false }
