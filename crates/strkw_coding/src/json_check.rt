@@ -1,7 +1,8 @@
 //! JSON passed over, token by token, and not kept: what `serde_json` reads.
 
 ghost use Rattle.std.specs.Bool.{MatchBool};
-ghost use Rattle.std.specs.Prelude.{◌≡◌, ◌↔◌, ◌<◌, ◌≤◌, ◌==◌, ◌∷◌, IfOk, IsTrue, None, Some, false, length, option_map, slice_index, true};
+ghost use Rattle.std.specs.Prelude.{◌≡◌, ◌↔◌, ◌<◌, ◌≤◌, ◌==◌, ◌∷◌};
+ghost use Rattle.std.specs.Prelude.{IfOk, IsTrue, None, Some, false, length, option_map, slice_index, true};
 ghost use Rattle.json.specs.Reads.{token_of};
 ghost use Rattle.serde_json.specs.Read.{number_of, number_from};
 ghost use Rattle.serde_json.specs.View.{number_view};

@@ -1,6 +1,7 @@
 //! base32 and base32hex: five bits a letter, blocks of eight letters. Written once, over the alphabet.
 
-ghost use Rattle.std.specs.Prelude.{◌≡◌, ◌↔◌, ◌<◌, ◌≤◌, ◌-◌, ◌++◌, ℕ, List, length, take, drop, replicate, slice_index, if◌then◌else◌, IsTrue, IfOk, IfSome, IsSomeAnd, MatchOption};
+ghost use Rattle.std.specs.Prelude.{◌≡◌, ◌↔◌, ◌<◌, ◌≤◌, ◌-◌, ◌++◌, if◌then◌else◌};
+ghost use Rattle.std.specs.Prelude.{ℕ, List, length, take, drop, replicate, slice_index, IsTrue, IfOk, IfSome, IsSomeAnd, MatchOption};
 ghost use Rattle.std.specs.List.{list_all};
 ghost use Rattle.std.specs.Str.{byte};
 ghost use Rattle.strkw_coding.specs.Blocks.{BeginsWithBlock, IsBlockOf, IsCode32, block_bytes, code32, group_len, is_alphabet, is_letter, is_table, value_of};

@@ -1,6 +1,7 @@
 //! How the table of a pattern is made, and that it is right: each entry is compared with a step of the marks.
 
-ghost use Rattle.std.specs.Prelude.{◌≡◌, ◌^◌, ◌==◌, ◌≤◌, ◌<◌, ℕ, suc, List, length, true, false, IsTrue, IfOk, None, Some, get_or, slice_get};
+ghost use Rattle.std.specs.Prelude.{◌≡◌, ◌^◌, ◌==◌, ◌≤◌, ◌<◌};
+ghost use Rattle.std.specs.Prelude.{ℕ, suc, List, length, true, false, IsTrue, IfOk, None, Some, get_or, slice_get};
 ghost use Rattle.strkw_ecma.specs.Meaning.{is_word as spec_is_word, is_edge as spec_is_edge};
 ghost use Rattle.strkw_ecma.specs.Shape.{pattern_of};
 ghost use Rattle.strkw_ecma.specs.Table.{class_of as spec_class_of, entry_at as spec_entry_at, row_after as spec_row_after, found, has, has_if_some as spec_has_if_some, covers as spec_covers, covers_set as spec_covers_set, covers_sets as spec_covers_sets, stride, IsRowOf, IsBehind, IsEntry, IsRow, IsTable};

@@ -6,7 +6,7 @@ use Rattle.std.specs.List.{list_all, AllByRecursion, join_with_byte}
 use Rattle.std.proofs.lemmas.Bool.Decides.{nat_tests}
 use Rattle.std.proofs.lemmas.List.Sums.{AllPass-from_list_all}
 use Rattle.strkw_text.proofs.Separated.{separated-from_joined}
-use Rattle.strkw_net.specs.HostName.{is_letter_digit_hyphen}
+use Rattle.strkw_net.specs.HostName.{is_letter_digit_hyphen, letters, longest_name}
 use Rattle.strkw_label.specs.HostName.{IsHostName, IsHostNameLabel}
 use Rattle.strkw_label.proofs.XnLabels.{prefix_and_payload, hyphen_of_prefix}
 
@@ -48,20 +48,14 @@ example_com =
 pub shortest : IsHostName (codes "a")
 shortest = host_name_of (codes "a" ∷ []) (codes "a") (omega arith) (plain_label (codes "a") refl (omega arith) (omega arith) (λ e. absurd (omega (arith, e))), tt) refl (omega arith)
 
-abbrev letters_63 : List ℕ
-letters_63 = codes "aaaaaaaaaaaaaaaaaaaaaaaaaaaaaaaaaaaaaaaaaaaaaaaaaaaaaaaaaaaaaaa"
+label_63 : IsHostNameLabel (letters 63)
+label_63 = plain_label (letters 63) refl (omega arith) (omega arith) (λ e. absurd (omega (arith, e)))
 
-abbrev letters_61 : List ℕ
-letters_61 = codes "aaaaaaaaaaaaaaaaaaaaaaaaaaaaaaaaaaaaaaaaaaaaaaaaaaaaaaaaaaaaa"
-
-label_63 : IsHostNameLabel letters_63
-label_63 = plain_label letters_63 refl (omega arith) (omega arith) (λ e. absurd (omega (arith, e)))
-
-label_61 : IsHostNameLabel letters_61
-label_61 = plain_label letters_61 refl (omega arith) (omega arith) (λ e. absurd (omega (arith, e)))
+label_61 : IsHostNameLabel (letters 61)
+label_61 = plain_label (letters 61) refl (omega arith) (omega arith) (λ e. absurd (omega (arith, e)))
 
 -- labels of 63, 63, 63 and 61 letters
-pub longest : IsHostName (codes "aaaaaaaaaaaaaaaaaaaaaaaaaaaaaaaaaaaaaaaaaaaaaaaaaaaaaaaaaaaaaaa.aaaaaaaaaaaaaaaaaaaaaaaaaaaaaaaaaaaaaaaaaaaaaaaaaaaaaaaaaaaaaaa.aaaaaaaaaaaaaaaaaaaaaaaaaaaaaaaaaaaaaaaaaaaaaaaaaaaaaaaaaaaaaaa.aaaaaaaaaaaaaaaaaaaaaaaaaaaaaaaaaaaaaaaaaaaaaaaaaaaaaaaaaaaaa")
+pub longest : IsHostName longest_name
 longest =
-    host_name_of (letters_63 ∷ letters_63 ∷ letters_63 ∷ letters_61 ∷ []) (codes "aaaaaaaaaaaaaaaaaaaaaaaaaaaaaaaaaaaaaaaaaaaaaaaaaaaaaaaaaaaaaaa.aaaaaaaaaaaaaaaaaaaaaaaaaaaaaaaaaaaaaaaaaaaaaaaaaaaaaaaaaaaaaaa.aaaaaaaaaaaaaaaaaaaaaaaaaaaaaaaaaaaaaaaaaaaaaaaaaaaaaaaaaaaaaaa.aaaaaaaaaaaaaaaaaaaaaaaaaaaaaaaaaaaaaaaaaaaaaaaaaaaaaaaaaaaaa") (omega arith)
+    host_name_of (letters 63 ∷ letters 63 ∷ letters 63 ∷ letters 61 ∷ []) longest_name (omega arith)
     (label_63, (label_63, (label_63, (label_61, tt)))) refl (omega arith)

@@ -1,6 +1,6 @@
 //! Laws over the definitions that the calls of this crate name. Each function has an empty body, and its clause is the law.
 ghost use Rattle.std.specs.Prelude.{◌≡◌, ◌≤◌, ◌++◌, ℕ, List, [], ◌∷◌, length, codes};
-ghost use Rattle.strkw_net.specs.HostName.{IsAsciiHostName};
+ghost use Rattle.strkw_net.specs.HostName.{IsAsciiHostName, letters, longest_name};
 ghost use Rattle.strkw_label.specs.HostName.{IsHostName};
 ghost use Rattle.strkw_label.specs.Punycode.{AreDigitsOf, digits_of, punycode, encoded_part, SameUpToCase};
 
@@ -28,7 +28,7 @@ pub fn encodings_of_single_characters()
     ensures none { punycode (codes "abc") ≡ codes "abc-" }
     ensures middle_dot { punycode (codes "l·l") ≡ codes "ll-0ea" }
     ensures least { punycode (0x80 ∷ []) ≡ codes "a" }
-    ensures greatest { punycode (codes "aaaaaaaaaaaaaaaaaaaaaaaaaaaaaaaaaaaaaaaaaaaaaaaaaaa" ++ 0x10FFFF ∷ []) ≡ codes "aaaaaaaaaaaaaaaaaaaaaaaaaaaaaaaaaaaaaaaaaaaaaaaaaaa-6q1048b" }
+    ensures greatest { punycode (letters 51 ++ 0x10FFFF ∷ []) ≡ letters 51 ++ codes "-6q1048b" }
 {}
 
 /// The last hyphen of a payload delimits, unless it is the first character.
@@ -50,7 +50,7 @@ pub fn example_is_a_host_name()
 /// Host names of least and of greatest length: one letter, and labels of 63, 63, 63 and 61 letters.
 pub fn ends_of_the_length_window_are_host_names()
     ensures shortest { IsHostName (codes "a") }
-    ensures longest { IsHostName (codes "aaaaaaaaaaaaaaaaaaaaaaaaaaaaaaaaaaaaaaaaaaaaaaaaaaaaaaaaaaaaaaa.aaaaaaaaaaaaaaaaaaaaaaaaaaaaaaaaaaaaaaaaaaaaaaaaaaaaaaaaaaaaaaa.aaaaaaaaaaaaaaaaaaaaaaaaaaaaaaaaaaaaaaaaaaaaaaaaaaaaaaaaaaaaaaa.aaaaaaaaaaaaaaaaaaaaaaaaaaaaaaaaaaaaaaaaaaaaaaaaaaaaaaaaaaaaa") }
+    ensures longest { IsHostName longest_name }
 {}
 
 /// A host name has 1 to 253 characters.

@@ -10,7 +10,8 @@
 //! it, so the places read are those of the text. No 32-bit test refuses an encoding of at most 59
 //! bytes: it places fewer than 60 characters below 0x110000, so each running sum stays below
 //! 60 * 0x110000, and a digit's weight below 35 times that, which is below 2^32.
-ghost use Rattle.std.specs.Prelude.{[], ◌≡◌, ◌≢◌, ℕ, List, ◌+◌, ◌<◌, ◌≤◌, ◌++◌, IfSome, IsSomeAnd, MatchOption, map, length, All, ⊤};
+ghost use Rattle.std.specs.Prelude.{[], ◌≡◌, ◌≢◌, ◌+◌, ◌<◌, ◌≤◌, ◌++◌};
+ghost use Rattle.std.specs.Prelude.{ℕ, List, IfSome, IsSomeAnd, MatchOption, map, length, All, ⊤};
 ghost use Rattle.std.specs.Char.{to_ascii_lowercase, IsScalar};
 ghost use Rattle.std.specs.Str.{chars};
 ghost use Rattle.strkw_label.specs.Punycode.{Insertion, SameUpToCase};

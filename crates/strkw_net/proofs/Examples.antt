@@ -8,7 +8,7 @@ use Rattle.strkw_text.proofs.Classes.{hexdigits_between}
 use Rattle.strkw_text.proofs.Laws.{then}
 use Rattle.strkw_text.proofs.Separated.{separated-from_joined}
 use Rattle.strkw_net.specs.Addresses.{IsIpv4, IsIpv6, Groups, H16}
-use Rattle.strkw_net.specs.HostName.{IsAsciiHostName, IsLabel, is_letter_digit_hyphen}
+use Rattle.strkw_net.specs.HostName.{IsAsciiHostName, IsLabel, is_letter_digit_hyphen, longest_name}
 use Rattle.strkw_net.specs.Uuid.{IsUuid}
 use Rattle.strkw_net.proofs.UuidLemmas.{uuid_at}
 
@@ -59,9 +59,9 @@ label_63 = record { size = (omega arith, omega arith); letters = AllPass-from_li
 label_61 : IsLabel (replicate 61 97)
 label_61 = record { size = (omega arith, omega arith); letters = AllPass-from_list_all is_letter_digit_hyphen (replicate 61 97) refl; first = λ e. omega arith; last = λ e. omega arith }
 
-pub hostname_longest : IsAsciiHostName (codes "aaaaaaaaaaaaaaaaaaaaaaaaaaaaaaaaaaaaaaaaaaaaaaaaaaaaaaaaaaaaaaa.aaaaaaaaaaaaaaaaaaaaaaaaaaaaaaaaaaaaaaaaaaaaaaaaaaaaaaaaaaaaaaa.aaaaaaaaaaaaaaaaaaaaaaaaaaaaaaaaaaaaaaaaaaaaaaaaaaaaaaaaaaaaaaa.aaaaaaaaaaaaaaaaaaaaaaaaaaaaaaaaaaaaaaaaaaaaaaaaaaaaaaaaaaaaa")
+pub hostname_longest : IsAsciiHostName longest_name
 hostname_longest = record {
-  labels = separated-from_joined 46 IsLabel (codes "aaaaaaaaaaaaaaaaaaaaaaaaaaaaaaaaaaaaaaaaaaaaaaaaaaaaaaaaaaaaaaa.aaaaaaaaaaaaaaaaaaaaaaaaaaaaaaaaaaaaaaaaaaaaaaaaaaaaaaaaaaaaaaa.aaaaaaaaaaaaaaaaaaaaaaaaaaaaaaaaaaaaaaaaaaaaaaaaaaaaaaaaaaaaaaa.aaaaaaaaaaaaaaaaaaaaaaaaaaaaaaaaaaaaaaaaaaaaaaaaaaaaaaaaaaaaa") (record { parts = replicate 63 97 ∷ replicate 63 97 ∷ replicate 63 97 ∷ replicate 61 97 ∷ []; some = omega arith; each = (label_63, (label_63, (label_63, (label_61, tt)))); spelled = refl });
+  labels = separated-from_joined 46 IsLabel longest_name (record { parts = replicate 63 97 ∷ replicate 63 97 ∷ replicate 63 97 ∷ replicate 61 97 ∷ []; some = omega arith; each = (label_63, (label_63, (label_63, (label_61, tt)))); spelled = refl });
   size = omega arith;
 }
 

@@ -1,5 +1,5 @@
 -- ASCII host names, RFC 1034 section 3.5, as RFC 1123 section 2.1 changed it: a label may begin with a digit.
-use Rattle.std.specs.Prelude.{◌≢◌, ℕ, ◌-◌, ◌≤◌, Bool, ◌||◌, ◌==◌, List, length, slice_index}
+use Rattle.std.specs.Prelude.{◌≢◌, ℕ, ◌-◌, ◌≤◌, Bool, ◌||◌, ◌==◌, List, ◌∷◌, ◌++◌, length, replicate, slice_index}
 use Rattle.std.specs.List.{AllPass}
 use Rattle.std.specs.Str.{byte}
 use Rattle.std.specs.Char.{is_ascii_alphanumeric}
@@ -21,3 +21,10 @@ pub record IsLabel (label : List ℕ) : Type 0 where
 pub record IsAsciiHostName (text : List ℕ) : Type 0 where
   pub labels : SeparatedBy (byte ".") IsLabel text
   pub size : length text ≤ 253
+
+-- Examples: so many times the letter a, and labels of 63, 63, 63 and 61 of them, a host name of greatest length.
+abbrev pub letters : ℕ → List ℕ
+letters n = replicate n (byte "a")
+
+abbrev pub longest_name : List ℕ
+longest_name = letters 63 ++ byte "." ∷ (letters 63 ++ byte "." ∷ (letters 63 ++ byte "." ∷ letters 61))
