@@ -105,7 +105,7 @@ pub(super) fn json(alloc: Global, text: &str) -> Result<Value, Fail> {
 }
 
 /// A refusal as out of memory stands at the root, and is an error here.
-pub(super) fn no_memory_at_the_root(refusal: &CompileError) -> Result<(), Fail> {
+fn no_memory_at_the_root(refusal: &CompileError) -> Result<(), Fail> {
     if !matches!(refusal.kind, CompileErrorKind::Memory) {
         return Ok(());
     }
@@ -113,6 +113,30 @@ pub(super) fn no_memory_at_the_root(refusal: &CompileError) -> Result<(), Fail> 
         Err(AllocError.into())
     } else {
         Err(Fail::new("out of memory, but not at the root"))
+    }
+}
+
+/// What a compilation was lent is as it was. A refusal as out of memory stands at the root, and is an error here.
+pub(super) fn ended_well<T>(
+    alloc: Global,
+    (ctx, draft): (&Context<'_, ScriptedBuilder<'static>>, Draft),
+    (schema, before): (&Value, &Value),
+    outcome: &Result<T, CompileError>,
+) -> Result<(), Fail> {
+    if schema != before || !is_as_made(alloc, ctx, draft) {
+        return Err(Fail::new("something lent was changed"));
+    }
+    match outcome {
+        Ok(_compiled) => Ok(()),
+        Err(refusal) => no_memory_at_the_root(refusal),
+    }
+}
+
+/// Whether an outcome is a refusal at this place, or none where there is no place.
+pub(super) fn is_at<T>(outcome: &Result<T, CompileError>, place: Option<&str>) -> bool {
+    match outcome {
+        Ok(_compiled) => place.is_none(),
+        Err(refusal) => Some(refusal.location.as_str()) == place,
     }
 }
 

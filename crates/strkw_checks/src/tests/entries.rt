@@ -2,8 +2,8 @@
 //! refused in turn too: then it ends as out of memory, once it has shown that what the refused call was lent is as it was.
 
 use super::context::{
-    Call, are_lent, builder, collects, context, error_lines, even_format, gives_the_first,
-    is_as_made, json, lent_errors, no_memory_at_the_root, root_site,
+    Call, are_lent, builder, collects, context, ended_well, error_lines, even_format,
+    gives_the_first, is_as_made, is_at, json, lent_errors, root_site,
 };
 use crate::{ScriptedBuilder, ScriptedEngine, compiled};
 use serde_json::Value;
@@ -96,6 +96,20 @@ const ENTRIES_AND_PLACES: [(Draft, Keyword, &str, Option<&str>); 15] = [
     ),
 ];
 
+type Outcome = Result<Validator<ScriptedEngine<'static>>, CompileError>;
+
+fn compiled_of(
+    alloc: Global,
+    ctx: &Context<'_, ScriptedBuilder<'static>>,
+    keyword: Keyword,
+    schema: &Value,
+) -> Result<Outcome, Fail> {
+    match compiled(alloc, ctx, keyword, schema.as_object().ok_or("no object")?) {
+        Some(outcome) => Ok(outcome),
+        None => Err(Fail::new("it adds nothing")),
+    }
+}
+
 // What is compiled of an entry. A refusal as out of memory stands at the root, and leaves the context and the schema
 // object as they were; it is an error here.
 fn outcome_of(
@@ -103,16 +117,10 @@ fn outcome_of(
     ctx: &Context<'_, ScriptedBuilder<'static>>,
     keyword: Keyword,
     schema: &str,
-) -> Result<Result<Validator<ScriptedEngine<'static>>, CompileError>, Fail> {
+) -> Result<Outcome, Fail> {
     let (schema, before, draft) = (json(alloc, schema)?, json(alloc, schema)?, ctx.draft);
-    let object = schema.as_object().ok_or("no object")?;
-    let outcome = compiled(alloc, ctx, keyword, object).ok_or("it adds nothing")?;
-    if schema != before || !is_as_made(alloc, ctx, draft) {
-        return Err(Fail::new("something lent was changed"));
-    }
-    if let Err(refusal) = &outcome {
-        no_memory_at_the_root(refusal)?;
-    }
+    let outcome = compiled_of(alloc, ctx, keyword, &schema)?;
+    ended_well(alloc, (ctx, draft), (&schema, &before), &outcome)?;
     Ok(outcome)
 }
 
@@ -127,10 +135,8 @@ fn is_refused_at(
     let builder = builder();
     let formats = [even_format(alloc)?];
     let ctx = context(alloc, draft, &builder, &formats)?;
-    match outcome_of(alloc, &ctx, keyword, schema)? {
-        Ok(_validator) => Ok(place.is_none()),
-        Err(refusal) => Ok(Some(refusal.location.as_str()) == place),
-    }
+    let outcome = outcome_of(alloc, &ctx, keyword, schema)?;
+    Ok(is_at(&outcome, place))
 }
 
 #[test]
@@ -268,21 +274,44 @@ fn answers(
     }
 }
 
-// Asks of each entry whether a call answers as it is to. What the call was lent is as it was, whatever it answered.
-fn asked_of_entries(alloc: Global, call: Call) -> Result<(), Fail> {
+// Whether a call answers of a text as it is to. The text and the place are as they were, whatever it answered.
+fn is_answered_so(
+    alloc: Global,
+    call: Call,
+    validator: &Validator<ScriptedEngine<'static>>,
+    checks: &Checks,
+    (text, wanted): (&str, &str),
+) -> Result<bool, AllocError> {
+    let (node, site) = (Value::try_from_str(alloc, text)?, root_site(alloc));
+    let answer = answers(alloc, call, validator, checks, (&node, &site), wanted);
+    Ok(are_lent(&node, text, &site) && answer?)
+}
+
+// The same of an entry in a draft, which the call leaves as it was.
+fn is_asked_so(
+    alloc: Global,
+    call: Call,
+    (draft, keyword, schema): (Draft, Keyword, &str),
+    (text, wanted): (&str, &str),
+    is_quiet: bool,
+) -> Result<bool, Fail> {
     let builder = builder();
     let formats = [even_format(alloc)?];
+    let ctx = context(alloc, draft, &builder, &formats)?;
+    match outcome_of(alloc, &ctx, keyword, schema)? {
+        Ok(validator) => {
+            let answer = is_answered_so(alloc, call, &validator, &ctx.checks, (text, wanted));
+            let is_as_told = validator.takes_no_memory() == is_quiet;
+            Ok(is_as_told && is_as_made(alloc, &ctx, draft) && answer?)
+        }
+        Err(_refusal) => Ok(false),
+    }
+}
+
+fn asked_of_entries(alloc: Global, call: Call) -> Result<(), Fail> {
     for (draft, keyword, schema, text, wanted, is_quiet) in ENTRIES_AND_LINES {
-        let ctx = context(alloc, draft, &builder, &formats)?;
-        let Ok(validator) = outcome_of(alloc, &ctx, keyword, schema)? else {
-            return Err(Fail::new(schema));
-        };
-        let (node, site) = (Value::try_from_str(alloc, text)?, root_site(alloc));
-        let answer = answers(alloc, call, &validator, &ctx.checks, (&node, &site), wanted);
-        let is_as_lent = are_lent(&node, text, &site)
-            && is_as_made(alloc, &ctx, draft)
-            && validator.takes_no_memory() == is_quiet;
-        if !is_as_lent || !answer? {
+        let entry = (draft, keyword, schema);
+        if !is_asked_so(alloc, call, entry, (text, wanted), is_quiet)? {
             return Err(Fail::new(schema));
         }
     }

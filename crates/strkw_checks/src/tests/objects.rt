@@ -3,8 +3,8 @@
 //! call was lent is as it was.
 
 use super::context::{
-    Call, are_lent, builder, collects, context, error_lines, even_format, gives_the_first,
-    is_as_made, json, lent_errors, no_memory_at_the_root, root_site,
+    Call, are_lent, builder, collects, context, ended_well, error_lines, even_format,
+    gives_the_first, is_as_made, is_at, json, lent_errors, root_site,
 };
 use super::devices::{answers, ends, script};
 use crate::{ScriptedBuilder, ScriptedEngine};
@@ -28,12 +28,7 @@ fn outcome_of(
 ) -> Result<Result<Keywords, CompileError>, Fail> {
     let (schema, before, draft) = (json(alloc, schema)?, json(alloc, schema)?, ctx.draft);
     let outcome = compile_strings(alloc, ctx, schema.as_object().ok_or("no object")?);
-    if schema != before || !is_as_made(alloc, ctx, draft) {
-        return Err(Fail::new("something lent was changed"));
-    }
-    if let Err(refusal) = &outcome {
-        no_memory_at_the_root(refusal)?;
-    }
+    ended_well(alloc, (ctx, draft), (&schema, &before), &outcome)?;
     Ok(outcome)
 }
 
@@ -56,14 +51,6 @@ fn schemas_and_places() -> [(&'static str, Option<&'static str>); 9] {
         (r#"{"pattern":5}"#, Some("/a/pattern")),
         (r#"{"pattern":"b+"}"#, Some("/a/pattern")),
     ]
-}
-
-// Whether the outcome is a refusal at this place, or none where there is no place.
-fn is_at(outcome: &Result<Keywords, CompileError>, place: Option<&str>) -> bool {
-    match outcome {
-        Ok(_keywords) => place.is_none(),
-        Err(refusal) => Some(refusal.location.as_str()) == place,
-    }
 }
 
 // Whether a schema object is compiled, or refused at its place.
@@ -287,7 +274,7 @@ fn evaluate_of_objects_under_refusal(rt: HostRuntime) -> Result<(), Fail> {
 // Whether a run ended as it is to: what was written is a beginning of the answers, all of them where it ended well, and
 // whole ones where there was no memory for the next. The fault is one of writing only where the sink itself was refused
 // its growth. Out of memory is an error here.
-fn ended_well(ended: Result<(), RunFault>, sink: &MemorySink) -> Result<bool, AllocError> {
+fn wrote_so(ended: Result<(), RunFault>, sink: &MemorySink) -> Result<bool, AllocError> {
     let bytes = sink.bytes();
     let is_as_faulted = match ended {
         Ok(()) => return Ok(bytes == answers()),
@@ -310,7 +297,7 @@ fn run_under_refusal(rt: HostRuntime) -> Result<(), Fail> {
     let mut source = MemorySource::new(script().to_vec(rt.alloc())?);
     let mut sink = MemorySink::new(rt.alloc());
     let ended = run(rt.alloc(), &mut source, &mut sink);
-    if ended_well(ended, &sink)? {
+    if wrote_so(ended, &sink)? {
         Ok(())
     } else {
         Err(Fail::new("another ending"))
