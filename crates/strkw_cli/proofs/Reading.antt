@@ -12,7 +12,7 @@ use Rattle.serde_json.specs.Find.{as_str, as_object}
 use Rattle.serde_json.specs.Read.{of_json, of_items, of_members, converted, number_of, read as read_text}
 use Rattle.strkw_coding.specs.Passing.{behind, after_value}
 use Rattle.strkw_cli.specs.Request.{IsReading, request_in, request_of_members}
-use Rattle.strkw_cli.specs.Parts.{text_of_token, begins_object}
+use Rattle.strkw_cli.specs.Tokens.{value_read, items_read, members_read, text_of_token, begins_object}
 use Rattle.serde_json.specs.View.{view, number_view, items_view}
 use Rattle.serde_json.specs.declared.number.Number as declared
 use Rattle.serde_json.specs.declared.value.Value.{Value, Null, the_lemmas}
@@ -123,17 +123,11 @@ converted-object : (r : Option (json.Members × List Token)) → converted of_js
 converted-object None = refl
 converted-object (Some p) = map_last object p.1 (of_members p.0 no_members)
 
-abbrev pub read_items : ℕ → List Token → Option (Items × List Token)
-read_items depth ts = converted of_items (items (value depth) (length ts) ts)
-
-abbrev pub read_members : ℕ → List Token → Option (Members × List Token)
-read_members depth ts = converted (λ ms. of_members ms no_members) (members (value depth) (length ts) ts)
-
 abbrev first_read : ℕ → List Token → Option (Data × List Token)
 first_read depth [] = None
-first_read depth (Token.begin_object ∷ ts) = if nat_lt 0 depth then parse_map object (read_members (depth - 1) ts) else None
+first_read depth (Token.begin_object ∷ ts) = if nat_lt 0 depth then parse_map object (members_read (depth - 1) ts) else None
 first_read depth (Token.end_object ∷ ts) = None
-first_read depth (Token.begin_array ∷ ts) = if nat_lt 0 depth then parse_map array (read_items (depth - 1) ts) else None
+first_read depth (Token.begin_array ∷ ts) = if nat_lt 0 depth then parse_map array (items_read (depth - 1) ts) else None
 first_read depth (Token.end_array ∷ ts) = None
 first_read depth (Token.key s ∷ ts) = None
 first_read depth (Token.string s ∷ ts) = Some (string s, ts)
@@ -146,20 +140,20 @@ number_read : (ts : List Token) (o : Option Num) → option_map {U = Data × Lis
 number_read ts None = refl
 number_read ts (Some n) = refl
 
-pub by_first_token : (depth : ℕ) (ts : List Token) → converted of_json (value depth ts) ≡ first_read depth ts
+pub by_first_token : (depth : ℕ) (ts : List Token) → value_read depth ts ≡ first_read depth ts
 unfolding value
 by_first_token depth [] = ap (converted of_json) (value_is depth [])
 by_first_token zero (Token.begin_object ∷ ts) = refl
 by_first_token (suc depth) (Token.begin_object ∷ ts) =
     let less : suc depth - 1 ≡ depth = omega arith in
-    converted-object (members (value depth) (length ts) ts) ∙ ap (λ d. parse_map object (read_members d ts)) (sym less)
-    ∙ ap (λ b. if b then parse_map object (read_members (suc depth - 1) ts) else None) (sym (lt-ltb 0 (suc depth) (omega arith)))
+    converted-object (members (value depth) (length ts) ts) ∙ ap (λ d. parse_map object (members_read d ts)) (sym less)
+    ∙ ap (λ b. if b then parse_map object (members_read (suc depth - 1) ts) else None) (sym (lt-ltb 0 (suc depth) (omega arith)))
 by_first_token depth (Token.end_object ∷ ts) = ap (converted of_json) (value_is depth (Token.end_object ∷ ts))
 by_first_token zero (Token.begin_array ∷ ts) = refl
 by_first_token (suc depth) (Token.begin_array ∷ ts) =
     let less : suc depth - 1 ≡ depth = omega arith in
-    converted-array (items (value depth) (length ts) ts) ∙ ap (λ d. parse_map array (read_items d ts)) (sym less)
-    ∙ ap (λ b. if b then parse_map array (read_items (suc depth - 1) ts) else None) (sym (lt-ltb 0 (suc depth) (omega arith)))
+    converted-array (items (value depth) (length ts) ts) ∙ ap (λ d. parse_map array (items_read d ts)) (sym less)
+    ∙ ap (λ b. if b then parse_map array (items_read (suc depth - 1) ts) else None) (sym (lt-ltb 0 (suc depth) (omega arith)))
 by_first_token depth (Token.end_array ∷ ts) = ap (converted of_json) (value_is depth (Token.end_array ∷ ts))
 by_first_token depth (Token.key s ∷ ts) = ap (converted of_json) (value_is depth (Token.key s ∷ ts))
 by_first_token depth (Token.string s ∷ ts) = ap (converted of_json) (value_is depth (Token.string s ∷ ts))
@@ -170,17 +164,17 @@ by_first_token depth (Token.bad ∷ ts) = ap (converted of_json) (value_is depth
 
 -- where the items that are left of an array were read, it is read
 pub array_read : (depth : ℕ) (ts : List Token) (t : Token) → t ≡ Token.begin_array → 0 < depth → (is : Items) (rest : List Token)
-    → read_items (depth - 1) ts ≡ Some (is, rest) → converted of_json (value depth (t ∷ ts)) ≡ Some (array is, rest)
+    → items_read (depth - 1) ts ≡ Some (is, rest) → value_read depth (t ∷ ts) ≡ Some (array is, rest)
 array_read depth ts t first some is rest read =
     ap (λ x. converted of_json (value depth (x ∷ ts))) first ∙ by_first_token depth (Token.begin_array ∷ ts)
-    ∙ ap (λ b. if b then parse_map array (read_items (depth - 1) ts) else None) (lt-ltb 0 depth some) ∙ ap (parse_map array) read
+    ∙ ap (λ b. if b then parse_map array (items_read (depth - 1) ts) else None) (lt-ltb 0 depth some) ∙ ap (parse_map array) read
 
 -- the same of an object
 pub object_read : (depth : ℕ) (ts : List Token) (t : Token) → t ≡ Token.begin_object → 0 < depth → (ms : Members) (rest : List Token)
-    → read_members (depth - 1) ts ≡ Some (ms, rest) → converted of_json (value depth (t ∷ ts)) ≡ Some (object ms, rest)
+    → members_read (depth - 1) ts ≡ Some (ms, rest) → value_read depth (t ∷ ts) ≡ Some (object ms, rest)
 object_read depth ts t first some ms rest read =
     ap (λ x. converted of_json (value depth (x ∷ ts))) first ∙ by_first_token depth (Token.begin_object ∷ ts)
-    ∙ ap (λ b. if b then parse_map object (read_members (depth - 1) ts) else None) (lt-ltb 0 depth some) ∙ ap (parse_map object) read
+    ∙ ap (λ b. if b then parse_map object (members_read (depth - 1) ts) else None) (lt-ltb 0 depth some) ∙ ap (parse_map object) read
 
 -- ---- a value that is built, by what it is made of
 
@@ -267,9 +261,9 @@ module _ {B : Type 0} (part : Data → Option B) where
   none_in_number none ts (Some n) = none n
 
 first_text : (depth : ℕ) (t : Token) (ts : List Token) → seen as_str (first_read depth (t ∷ ts)) ≡ text_of_token t
-first_text depth Token.begin_object ts = none_seen_if as_str (nat_lt 0 depth) _ (none_seen as_str object (λ ms. refl) (read_members (depth - 1) ts))
+first_text depth Token.begin_object ts = none_seen_if as_str (nat_lt 0 depth) _ (none_seen as_str object (λ ms. refl) (members_read (depth - 1) ts))
 first_text depth Token.end_object ts = refl
-first_text depth Token.begin_array ts = none_seen_if as_str (nat_lt 0 depth) _ (none_seen as_str array (λ is. refl) (read_items (depth - 1) ts))
+first_text depth Token.begin_array ts = none_seen_if as_str (nat_lt 0 depth) _ (none_seen as_str array (λ is. refl) (items_read (depth - 1) ts))
 first_text depth Token.end_array ts = refl
 first_text depth (Token.key s) ts = refl
 first_text depth (Token.string s) ts = refl
@@ -282,7 +276,7 @@ no_object_first : (depth : ℕ) (ts : List Token) → begins_object ts ≡ false
 no_object_first depth [] none = refl
 no_object_first depth (Token.begin_object ∷ ts) none = absurd (true≢false none)
 no_object_first depth (Token.end_object ∷ ts) none = refl
-no_object_first depth (Token.begin_array ∷ ts) none = none_seen_if as_object (nat_lt 0 depth) _ (none_seen as_object array (λ is. refl) (read_items (depth - 1) ts))
+no_object_first depth (Token.begin_array ∷ ts) none = none_seen_if as_object (nat_lt 0 depth) _ (none_seen as_object array (λ is. refl) (items_read (depth - 1) ts))
 no_object_first depth (Token.end_array ∷ ts) none = refl
 no_object_first depth (Token.key s ∷ ts) none = refl
 no_object_first depth (Token.string s ∷ ts) none = refl
@@ -293,7 +287,7 @@ no_object_first depth (Token.bad ∷ ts) none = refl
 
 -- the value that was passed over is a text exactly where its first token is one
 pub text_passed : (depth : ℕ) (t : Token) (ts rest : List Token) → after_value depth (t ∷ ts) ≡ Some rest
-    → (d : Data) × (converted of_json (value depth (t ∷ ts)) ≡ Some (d, rest)) × (as_str d ≡ text_of_token t)
+    → (d : Data) × (value_read depth (t ∷ ts) ≡ Some (d, rest)) × (as_str d ≡ text_of_token t)
 text_passed depth t ts rest is =
     let (d, read) = passed (value depth (t ∷ ts)) rest is in
     (d, read, sym (ap (seen as_str) (sym (by_first_token depth (t ∷ ts)) ∙ read)) ∙ first_text depth t ts)
@@ -325,17 +319,17 @@ read_by_tokens text = whole (value 127 (tokens text)) ∙ ap at_end (by_first_to
 -- ---- the request that a text is, by its tokens
 
 module _ (text : List ℕ) where
-  by_object : (ts : List Token) → tokens text ≡ Token.begin_object ∷ ts → option_and_then request_in (read_text text) ≡ option_and_then request_in (at_end (parse_map object (read_members 126 ts)))
+  by_object : (ts : List Token) → tokens text ≡ Token.begin_object ∷ ts → option_and_then request_in (read_text text) ≡ option_and_then request_in (at_end (parse_map object (members_read 126 ts)))
   by_object ts first = ap (option_and_then request_in) (read_by_tokens text ∙ ap (λ x. at_end (first_read 127 x)) first)
 
-  pub asked : (ts : List Token) (ms : Members) → tokens text ≡ Token.begin_object ∷ ts → read_members 126 ts ≡ Some (ms, []) → option_and_then request_in (read_text text) ≡ request_of_members ms
+  pub asked : (ts : List Token) (ms : Members) → tokens text ≡ Token.begin_object ∷ ts → members_read 126 ts ≡ Some (ms, []) → option_and_then request_in (read_text text) ≡ request_of_members ms
   asked ts ms first read = by_object ts first ∙ ap (λ r. option_and_then request_in (at_end (parse_map object r))) read
 
-  pub asked_with_more : (ts : List Token) (ms : Members) (t : Token) (more : List Token) → tokens text ≡ Token.begin_object ∷ ts → read_members 126 ts ≡ Some (ms, t ∷ more)
+  pub asked_with_more : (ts : List Token) (ms : Members) (t : Token) (more : List Token) → tokens text ≡ Token.begin_object ∷ ts → members_read 126 ts ≡ Some (ms, t ∷ more)
       → option_and_then request_in (read_text text) ≡ None
   asked_with_more ts ms t more first read = by_object ts first ∙ ap (λ r. option_and_then request_in (at_end (parse_map object r))) read
 
-  pub no_members_read : (ts : List Token) → tokens text ≡ Token.begin_object ∷ ts → read_members 126 ts ≡ None → option_and_then request_in (read_text text) ≡ None
+  pub no_members_read : (ts : List Token) → tokens text ≡ Token.begin_object ∷ ts → members_read 126 ts ≡ None → option_and_then request_in (read_text text) ≡ None
   no_members_read ts first none = by_object ts first ∙ ap (λ r. option_and_then request_in (at_end (parse_map object r))) none
 
   no_object : (r : Option (Data × List Token)) → seen as_object r ≡ None → option_and_then request_in (at_end r) ≡ None

@@ -10,4 +10,5 @@ pub mod Serving
 pub mod Faults
 pub mod HostDevices
 pub mod Written
+pub mod Tokens
 pub mod Parts

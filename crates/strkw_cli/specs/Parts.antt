@@ -1,43 +1,12 @@
 -- What the members of a request come to, as they are read. The functions below `read_request` speak of it, and no public
 -- clause does.
-use Rattle.std.specs.Prelude.{◌≡◌, ◌&&◌, ℕ, Bool, true, false, List, [], ◌∷◌, Option, Some, None, option_map, option_and_then, codes, if◌then◌else◌}
+use Rattle.std.specs.Prelude.{◌≡◌, ◌&&◌, ℕ, List, Option, Some, option_map, option_and_then, codes, if◌then◌else◌}
 use Rattle.std.specs.Str.{bytes_eq}
-use Rattle.json.specs.Token.{Token}
 use Rattle.serde_json.specs.Data.{Data, Members}
 use Rattle.serde_json.specs.Find.{get_member, as_str, as_object}
 use Rattle.serde_json.specs.View.{members_view}
 use Rattle.strkw_cli.specs.Request.{draft_in, flag_in, is_request_key, has_only_request_keys}
 use Rattle.strkw_cli.specs.declared.request.Parts.{Parts}
-
--- a line nests one level deeper than the value of a member
-abbrev pub member_depth : ℕ
-member_depth = 126
-
--- the text that a token is, where it is one
-abbrev pub text_of_token : Token → Option (List ℕ)
-text_of_token Token.begin_object = None
-text_of_token Token.end_object = None
-text_of_token Token.begin_array = None
-text_of_token Token.end_array = None
-text_of_token (Token.key s) = None
-text_of_token (Token.string s) = Some s
-text_of_token (Token.number s) = None
-text_of_token (Token.boolean b) = None
-text_of_token Token.null = None
-text_of_token Token.bad = None
-
-abbrev pub begins_object : List Token → Bool
-begins_object [] = false
-begins_object (Token.begin_object ∷ ts) = true
-begins_object (Token.end_object ∷ ts) = false
-begins_object (Token.begin_array ∷ ts) = false
-begins_object (Token.end_array ∷ ts) = false
-begins_object (Token.key s ∷ ts) = false
-begins_object (Token.string s ∷ ts) = false
-begins_object (Token.number s ∷ ts) = false
-begins_object (Token.boolean b ∷ ts) = false
-begins_object (Token.null ∷ ts) = false
-begins_object (Token.bad ∷ ts) = false
 
 -- the schema object, and the text of the instance, that parts hold
 abbrev pub schema_of : Parts → Option Members
@@ -66,6 +35,7 @@ pub record Takes (name : List ℕ) (d : Data) (p q : Parts) : Type 0 where
   pub schema : schema_of q ≡ after (codes "schema") name (as_object d) (schema_of p)
   pub instance : instance_of q ≡ after (codes "instance") name (Some (as_str d)) (instance_of p)
   pub validate_formats : q.validate_formats ≡ after (codes "validate_formats") name (flag_in (Some d)) p.validate_formats
-  pub ignore_unknown_formats : q.ignore_unknown_formats ≡ after (codes "ignore_unknown_formats") name (flag_in (Some d)) p.ignore_unknown_formats
+  pub ignore_unknown_formats : q.ignore_unknown_formats ≡ after (codes "ignore_unknown_formats") name (flag_in (Some d))
+      p.ignore_unknown_formats
   pub fold : q.fold ≡ after (codes "fold") name (flag_in (Some d)) p.fold
   pub known : q.has_only_request_keys ≡ (is_request_key name && p.has_only_request_keys)

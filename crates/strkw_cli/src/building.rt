@@ -2,13 +2,11 @@
 //! text is wanted.
 
 ghost use Rattle.std.specs.Prelude.{◌≡◌, ◌∷◌, ◌<◌, ◌≤◌, Some, None, IfOk, OnOk, IsErrOf, length, option_map};
-ghost use Rattle.json.specs.Json.{value, items, members};
 ghost use Rattle.json.specs.Reads.{token_of};
-ghost use Rattle.serde_json.specs.Data.{Data, no_members};
+ghost use Rattle.serde_json.specs.Data.{Data};
 ghost use Rattle.serde_json.specs.Find.{as_str};
-ghost use Rattle.serde_json.specs.Read.{of_json, of_items, of_members, converted};
 ghost use Rattle.serde_json.specs.View.{view, items_view, members_view};
-ghost use Rattle.strkw_cli.specs.Parts.{text_of_token};
+ghost use Rattle.strkw_cli.specs.Tokens.{value_read, items_read, members_read, text_of_token};
 ghost use Rattle.strkw_cli.specs.declared.building.NoValue.TheVariants.{NotJson, Memory};
 
 use json::{Invalid, Reader, Token};
@@ -58,8 +56,8 @@ pub(super) fn build_value(
     tokens: &mut Reader<'_>,
     depth: usize,
 ) -> Result<Value, NoValue>
-    ensures ok { IfOk result (λ v. converted of_json (value depth tokens.old) ≡ Some (view v, tokens.new)) }
-    ensures none { IsErrOf result NoValue.NotJson → converted of_json (value depth tokens.old) ≡ None }
+    ensures ok { IfOk result (λ v. value_read depth tokens.old ≡ Some (view v, tokens.new)) }
+    ensures none { IsErrOf result NoValue.NotJson → value_read depth tokens.old ≡ None }
     ensures shorter { OnOk result (length tokens.new < length tokens.old) }
 {
     match tokens.next() {
@@ -71,9 +69,9 @@ pub(super) fn build_value(
 /// The text that the value is which comes first, or `None` where it is another one, which is not built. It may nest `depth`
 /// deep.
 pub(super) fn text_in<'a>(tokens: &mut Reader<'a>, depth: usize) -> Result<Option<&'a str>, NoValue>
-    ensures ok { IfOk result (λ text. (d : Data) × (converted of_json (value depth tokens.old) ≡ Some (d, tokens.new))
-        × (as_str d ≡ option_map (λ s. s.now) text)) }
-    ensures none { IsErrOf result NoValue.NotJson → converted of_json (value depth tokens.old) ≡ None }
+    ensures ok { IfOk result (λ text. (d : Data)
+        × (value_read depth tokens.old ≡ Some (d, tokens.new)) × (as_str d ≡ option_map (λ s. s.now) text)) }
+    ensures none { IsErrOf result NoValue.NotJson → value_read depth tokens.old ≡ None }
     ensures shorter { OnOk result (length tokens.new < length tokens.old) }
 {
     let token = tokens.next().ok_or(NoValue::NotJson)?;
@@ -103,8 +101,10 @@ fn build_from(
     tokens: &mut Reader<'_>,
     depth: usize,
 ) -> Result<Value, NoValue>
-    ensures ok { IfOk result (λ v. converted of_json (value depth (token_of token.entry ∷ tokens.old)) ≡ Some (view v, tokens.new)) }
-    ensures none { IsErrOf result NoValue.NotJson → converted of_json (value depth (token_of token.entry ∷ tokens.old)) ≡ None }
+    ensures ok { IfOk result (λ v.
+        value_read depth (token_of token.entry ∷ tokens.old) ≡ Some (view v, tokens.new)) }
+    ensures none { IsErrOf result NoValue.NotJson
+        → value_read depth (token_of token.entry ∷ tokens.old) ≡ None }
     ensures no_longer { OnOk result (length tokens.new ≤ length tokens.old) }
 {
     match token {
@@ -124,10 +124,8 @@ fn build_from(
 #[cycle(build)]
 #[inline(never)]
 fn build_items(alloc: Global, tokens: &mut Reader<'_>, depth: usize) -> Result<Vec<Value>, NoValue>
-    ensures ok { IfOk result (λ vs. converted of_items (items (value depth) (length tokens.old) tokens.old)
-        ≡ Some (items_view vs.items, tokens.new)) }
-    ensures none { IsErrOf result NoValue.NotJson
-        → converted of_items (items (value depth) (length tokens.old) tokens.old) ≡ None }
+    ensures ok { IfOk result (λ vs. items_read depth tokens.old ≡ Some (items_view vs.items, tokens.new)) }
+    ensures none { IsErrOf result NoValue.NotJson → items_read depth tokens.old ≡ None }
     ensures shorter { OnOk result (length tokens.new < length tokens.old) }
 {
     let mut built = Vec::new(alloc);
@@ -146,10 +144,8 @@ fn build_members(
     tokens: &mut Reader<'_>,
     depth: usize,
 ) -> Result<Map<String, Value>, NoValue>
-    ensures ok { IfOk result (λ m. converted (λ ms. of_members ms no_members) (members (value depth) (length tokens.old) tokens.old)
-        ≡ Some (members_view m.entries, tokens.new)) }
-    ensures none { IsErrOf result NoValue.NotJson
-        → converted (λ ms. of_members ms no_members) (members (value depth) (length tokens.old) tokens.old) ≡ None }
+    ensures ok { IfOk result (λ m. members_read depth tokens.old ≡ Some (members_view m.entries, tokens.new)) }
+    ensures none { IsErrOf result NoValue.NotJson → members_read depth tokens.old ≡ None }
     ensures shorter { OnOk result (length tokens.new < length tokens.old) }
 {
     let mut built = Map::new(alloc);

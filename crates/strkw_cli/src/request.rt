@@ -3,14 +3,14 @@
 ghost use Rattle.std.specs.Prelude.{◌≡◌, ◌<◌, ◌∷◌, Option, Some, None, false, IfOk, OnOk, IsErrOf, length, option_map, option_and_then};
 ghost use Rattle.std.specs.Bool.{MatchBool};
 ghost use Rattle.json.specs.Token.{begin_object};
-ghost use Rattle.json.specs.Json.{value, members};
 ghost use Rattle.serde_json.specs.Data.{Data, Members, no_members};
-ghost use Rattle.serde_json.specs.Read.{of_json, of_members, converted, read as read_text};
+ghost use Rattle.serde_json.specs.Read.{read as read_text};
 ghost use Rattle.serde_json.specs.Find.{as_object};
 ghost use Rattle.serde_json.specs.View.{view, members_view};
 ghost use Rattle.strkw_cli.specs.Request.{IsReading, draft_numbered, draft_in, flag_in, request_in, request_of_members};
 ghost use Rattle.strkw_cli.specs.Borrowed.{request_view};
-ghost use Rattle.strkw_cli.specs.Parts.{AreParts, Takes, begins_object, member_depth};
+ghost use Rattle.strkw_cli.specs.Parts.{AreParts, Takes};
+ghost use Rattle.strkw_cli.specs.Tokens.{value_read, members_read, begins_object, member_depth};
 
 use super::building::{NoValue, build_value, text_in};
 use json::{Reader, Scratch, Token};
@@ -114,9 +114,10 @@ impl<'a> Parts<'a> {
         name: &str,
         tokens: &mut Reader<'a>,
     ) -> Result<(), NoValue>
-        ensures ok { OnOk result ((d : Data) × (converted of_json (value member_depth tokens.old) ≡ Some (d, tokens.new))
-            × Takes name.now d self.old self.new) }
-        ensures none { IsErrOf result NoValue.NotJson → converted of_json (value member_depth tokens.old) ≡ None }
+        ensures ok { OnOk result ((d : Data)
+            × (value_read member_depth tokens.old ≡ Some (d, tokens.new)) × Takes name.now d self.old self.new) }
+        ensures none { IsErrOf result NoValue.NotJson
+            → value_read member_depth tokens.old ≡ None }
         ensures shorter { OnOk result (length tokens.new < length tokens.old) }
     {
         match name {
@@ -140,7 +141,8 @@ impl<'a> Parts<'a> {
 
     // The request that these are the parts of.
     fn into_request(self) -> Option<Request<'a>>
-        ensures { (ms : Members) → AreParts self.entry ms → option_map request_view result ≡ request_of_members ms }
+        ensures { (ms : Members) → AreParts self.entry ms
+            → option_map request_view result ≡ request_of_members ms }
     {
         if !self.has_only_request_keys {
             return None;
@@ -165,10 +167,8 @@ impl<'a> Parts<'a> {
 // What the members that are left of an object come to, up to its end.
 fn parts_in<'a>(alloc: Global, tokens: &mut Reader<'a>) -> Result<Parts<'a>, NoValue>
     ensures ok { IfOk result (λ parts. (ms : Members)
-        × (converted (λ js. of_members js no_members) (members (value member_depth) (length tokens.old) tokens.old) ≡ Some (ms, tokens.new))
-        × AreParts parts ms) }
-    ensures none { IsErrOf result NoValue.NotJson
-        → converted (λ js. of_members js no_members) (members (value member_depth) (length tokens.old) tokens.old) ≡ None }
+        × (members_read member_depth tokens.old ≡ Some (ms, tokens.new)) × AreParts parts ms) }
+    ensures none { IsErrOf result NoValue.NotJson → members_read member_depth tokens.old ≡ None }
 {
     let mut parts = Parts::of_no_members();
     'members: while let Some(name) = tokens.next_key()? {
@@ -179,7 +179,8 @@ fn parts_in<'a>(alloc: Global, tokens: &mut Reader<'a>) -> Result<Parts<'a>, NoV
 
 // Takes a token, and whether an object begins with it.
 fn takes_begin_object(tokens: &mut Reader<'_>) -> bool
-    ensures { MatchBool result (tokens.old ≡ begin_object ∷ tokens.new) (begins_object tokens.old ≡ false) }
+    ensures { MatchBool result (tokens.old ≡ begin_object ∷ tokens.new)
+        (begins_object tokens.old ≡ false) }
 {
     matches!(tokens.next(), Some(Token::BeginObject))
 }
@@ -190,7 +191,8 @@ fn request_in<'a>(
     text: &'a str,
     scratch: &'a mut Scratch,
 ) -> Result<Option<Request<'a>>, AllocError>
-    ensures { IfOk result (λ request. option_map request_view request ≡ option_and_then request_in (read_text text.now)) }
+    ensures { IfOk result (λ request.
+        option_map request_view request ≡ option_and_then request_in (read_text text.now)) }
 {
     let mut tokens = Reader::new(text, scratch)?;
     if !takes_begin_object(&mut tokens) {

@@ -6,7 +6,8 @@ use Rattle.serde_json.specs.Data.{put}
 use Rattle.serde_json.specs.Read.{of_items, of_members, converted}
 use Rattle.serde_json.specs.View.{view, members_view}
 use Rattle.serde_json.proofs.Views.{view-Array, view-Object, members_view-insert_entry}
-use Rattle.strkw_cli.proofs.Reading.{array_read, object_read, items_end, next_item, no_next_item, members_end, next_member, no_next_member, no_key, behind_built, all_built, none_built, one_more_built, read_items}
+use Rattle.strkw_cli.proofs.Reading.{array_read, object_read, items_end, next_item, no_next_item, members_end, next_member, no_next_member, no_key, behind_built, all_built, none_built, one_more_built}
+use Rattle.strkw_cli.specs.Tokens.{items_read}
 use Rattle.strkw_cli.proofs.building.+build.Goals as goal
 
 pub build_from-returns-in_ok-build_items-in-BeginArray-clause-ok :
@@ -25,7 +26,7 @@ build_from-returns-in_ok-build_members-in-BeginObject-clause-ok t c =
 
 pub build_items-items-init : goal.build_items-items-init
 build_items-items-init t c =
-    let all = read_items c.args.depth c.args.tokens.now in
+    let all = items_read c.args.depth c.args.tokens.now in
     record {
       turns = length c.args.tokens.now;
       enough = omega arith;

@@ -1,8 +1,8 @@
 use Rattle.std.proofs.Common.{◌≡◌, ℕ, ◌+◌, ◌*◌, ◌≤◌, length}
 use Rattle.json.specs.Json.{items, members, value, parse_map}
-use Rattle.serde_json.specs.Data.{no_members}
 use Rattle.serde_json.specs.Read.{of_items, of_members, converted}
 use Rattle.serde_json.specs.View.{members_view}
+use Rattle.strkw_cli.specs.Tokens.{items_read, members_read}
 use Rattle.strkw_cli.proofs.Reading.{behind_built}
 use Rattle.strkw_cli.proofs.building.+build.Given as goal
 
@@ -23,7 +23,7 @@ abbrev pub invariant-build_items-items : goal.invariant-build_items-items
 invariant-build_items-items l = record {
   turns : ℕ;
   enough : length l.tokens ≤ turns;
-  same : converted of_items (items (value l.depth) (length l.initial.tokens) l.initial.tokens) ≡ parse_map (behind_built l.built.items) (converted of_items (items (value l.depth) turns l.tokens));
+  same : items_read l.depth l.initial.tokens ≡ parse_map (behind_built l.built.items) (converted of_items (items (value l.depth) turns l.tokens));
   fewer : length l.tokens ≤ length l.initial.tokens;
 }
 
@@ -35,8 +35,7 @@ abbrev pub invariant-build_members-members : goal.invariant-build_members-member
 invariant-build_members-members l = record {
   turns : ℕ;
   enough : length l.tokens ≤ turns;
-  same : converted (λ ms. of_members ms no_members) (members (value l.depth) (length l.initial.tokens) l.initial.tokens)
-      ≡ converted (λ ms. of_members ms (members_view l.built.entries)) (members (value l.depth) turns l.tokens);
+  same : members_read l.depth l.initial.tokens ≡ converted (λ ms. of_members ms (members_view l.built.entries)) (members (value l.depth) turns l.tokens);
   fewer : length l.tokens ≤ length l.initial.tokens;
 }
 

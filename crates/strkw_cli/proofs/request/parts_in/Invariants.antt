@@ -1,8 +1,9 @@
 use Rattle.std.proofs.Common.{◌≡◌, ℕ, ◌≤◌, length}
 use Rattle.json.specs.Json.{members, value}
-use Rattle.serde_json.specs.Data.{Members, no_members}
+use Rattle.serde_json.specs.Data.{Members}
 use Rattle.serde_json.specs.Read.{of_members, converted}
-use Rattle.strkw_cli.specs.Parts.{AreParts, member_depth}
+use Rattle.strkw_cli.specs.Parts.{AreParts}
+use Rattle.strkw_cli.specs.Tokens.{members_read, member_depth}
 use Rattle.strkw_cli.proofs.request.parts_in.Given as goal
 
 -- the parts are those of what was read, and the members that are to come go into it
@@ -11,8 +12,7 @@ invariant-members l = record {
   turns : ℕ;
   enough : length l.tokens ≤ turns;
   found : Members;
-  same : converted (λ js. of_members js no_members) (members (value member_depth) (length l.initial.tokens) l.initial.tokens)
-      ≡ converted (λ js. of_members js found) (members (value member_depth) turns l.tokens);
+  same : members_read member_depth l.initial.tokens ≡ converted (λ js. of_members js found) (members (value member_depth) turns l.tokens);
   are : AreParts l.parts found;
 }
 

@@ -2,7 +2,7 @@ use Rattle.std.proofs.Common.{◌≡◌, ◌∷◌, [], false, Some, sym, ap, �
 use Rattle.json.specs.Token.{begin_object}
 use Rattle.json.specs.Lex.{tokens}
 use Rattle.json.specs.Reads.{token_of}
-use Rattle.strkw_cli.specs.Parts.{begins_object}
+use Rattle.strkw_cli.specs.Tokens.{begins_object}
 use Rattle.strkw_cli.proofs.Reading.{asked, asked_with_more, no_members_read, no_object_read}
 use Rattle.strkw_cli.proofs.request.request_in.Goals as goal
 

@@ -1,0 +1,48 @@
+-- What is read of the tokens of a line, with what is left of them. No public clause speaks of it.
+use Rattle.std.specs.Prelude.{ℕ, Bool, true, false, List, [], ◌∷◌, length, Option, Some, None}
+use Rattle.json.specs.Token.{Token}
+use Rattle.json.specs.Json.{value, items, members}
+use Rattle.serde_json.specs.Data.{Data, Items, Members, no_members}
+use Rattle.serde_json.specs.Read.{of_json, of_items, of_members, converted}
+
+-- the value that comes first
+abbrev pub value_read : ℕ → List Token → Option (Data × List Token)
+value_read depth ts = converted of_json (value depth ts)
+
+-- the items that are left of an array
+abbrev pub items_read : ℕ → List Token → Option (Items × List Token)
+items_read depth ts = converted of_items (items (value depth) (length ts) ts)
+
+-- the members that are left of an object
+abbrev pub members_read : ℕ → List Token → Option (Members × List Token)
+members_read depth ts = converted (λ ms. of_members ms no_members) (members (value depth) (length ts) ts)
+
+-- a line nests one level deeper than the value of a member
+abbrev pub member_depth : ℕ
+member_depth = 126
+
+-- the text that a token is, where it is one
+abbrev pub text_of_token : Token → Option (List ℕ)
+text_of_token Token.begin_object = None
+text_of_token Token.end_object = None
+text_of_token Token.begin_array = None
+text_of_token Token.end_array = None
+text_of_token (Token.key s) = None
+text_of_token (Token.string s) = Some s
+text_of_token (Token.number s) = None
+text_of_token (Token.boolean b) = None
+text_of_token Token.null = None
+text_of_token Token.bad = None
+
+abbrev pub begins_object : List Token → Bool
+begins_object [] = false
+begins_object (Token.begin_object ∷ ts) = true
+begins_object (Token.end_object ∷ ts) = false
+begins_object (Token.begin_array ∷ ts) = false
+begins_object (Token.end_array ∷ ts) = false
+begins_object (Token.key s ∷ ts) = false
+begins_object (Token.string s ∷ ts) = false
+begins_object (Token.number s ∷ ts) = false
+begins_object (Token.boolean b ∷ ts) = false
+begins_object (Token.null ∷ ts) = false
+begins_object (Token.bad ∷ ts) = false
