@@ -16,5 +16,6 @@ pub mod RunLemmas
 pub mod Folding
 pub mod AnswerExistence
 pub mod Lines
-pub mod Reading
+pub mod Built
+pub mod Asked
 pub mod Parts

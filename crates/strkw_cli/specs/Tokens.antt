@@ -1,21 +1,6 @@
--- What is read of the tokens of a line, with what is left of them. No public clause speaks of it.
-use Rattle.std.specs.Prelude.{ℕ, Bool, true, false, List, [], ◌∷◌, length, Option, Some, None}
+-- The tokens of a line. No public clause speaks of them.
+use Rattle.std.specs.Prelude.{ℕ, Bool, true, false, List, [], ◌∷◌, Option, Some, None}
 use Rattle.json.specs.Token.{Token}
-use Rattle.json.specs.Json.{value, items, members}
-use Rattle.serde_json.specs.Data.{Data, Items, Members, no_members}
-use Rattle.serde_json.specs.Read.{of_json, of_items, of_members, converted}
-
--- the value that comes first
-abbrev pub value_read : ℕ → List Token → Option (Data × List Token)
-value_read depth ts = converted of_json (value depth ts)
-
--- the items that are left of an array
-abbrev pub items_read : ℕ → List Token → Option (Items × List Token)
-items_read depth ts = converted of_items (items (value depth) (length ts) ts)
-
--- the members that are left of an object
-abbrev pub members_read : ℕ → List Token → Option (Members × List Token)
-members_read depth ts = converted (λ ms. of_members ms no_members) (members (value depth) (length ts) ts)
 
 -- a line nests one level deeper than the value of a member
 abbrev pub member_depth : ℕ

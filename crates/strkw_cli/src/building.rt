@@ -6,7 +6,8 @@ ghost use Rattle.json.specs.Reads.{token_of};
 ghost use Rattle.serde_json.specs.Data.{Data};
 ghost use Rattle.serde_json.specs.Find.{as_str};
 ghost use Rattle.serde_json.specs.View.{view, items_view, members_view};
-ghost use Rattle.strkw_cli.specs.Tokens.{value_read, items_read, members_read, text_of_token};
+ghost use Rattle.strkw_coding.specs.Passing.{value_read, items_read, members_read};
+ghost use Rattle.strkw_cli.specs.Tokens.{text_of_token};
 ghost use Rattle.strkw_cli.specs.declared.building.NoValue.TheVariants.{NotJson, Memory};
 
 use json::{Invalid, Reader, Token};
@@ -50,7 +51,7 @@ impl From<Invalid> for NoValue {
 /// The value that comes first, which may nest `depth` deep.
 #[cycle(build)]
 #[inline(always)]
-#[tactic(auto, using(crate::proofs::Reading::by_first_token))]
+#[tactic(auto, using(strkw_coding::proofs::Reading::by_first_token))]
 pub(super) fn build_value(
     alloc: Global,
     tokens: &mut Reader<'_>,
@@ -94,7 +95,7 @@ fn text_of_token<'a>(token: &Token<'a>) -> Option<&'a str>
 
 // The value that begins with this token.
 #[cycle(build)]
-#[tactic(auto, using(crate::proofs::Reading::by_first_token, crate::proofs::Reading::null_built, crate::proofs::Reading::bool_built, crate::proofs::Reading::number_built, crate::proofs::Reading::string_built))]
+#[tactic(auto, using(strkw_coding::proofs::Reading::by_first_token, crate::proofs::Built::null_built, crate::proofs::Built::bool_built, crate::proofs::Built::number_built, crate::proofs::Built::string_built))]
 fn build_from(
     alloc: Global,
     token: Token<'_>,

@@ -10,7 +10,8 @@ ghost use Rattle.serde_json.specs.View.{view, members_view};
 ghost use Rattle.strkw_cli.specs.Request.{IsReading, draft_numbered, draft_in, flag_in, request_in, request_of_members};
 ghost use Rattle.strkw_cli.specs.Borrowed.{request_view};
 ghost use Rattle.strkw_cli.specs.Parts.{AreParts, Takes};
-ghost use Rattle.strkw_cli.specs.Tokens.{value_read, members_read, begins_object, member_depth};
+ghost use Rattle.strkw_coding.specs.Passing.{value_read, members_read};
+ghost use Rattle.strkw_cli.specs.Tokens.{begins_object, member_depth};
 
 use super::building::{NoValue, build_value, text_in};
 use json::{Reader, Scratch, Token};

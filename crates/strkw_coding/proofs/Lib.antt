@@ -1,5 +1,6 @@
 pub mod Encoders
 pub mod Passes
+pub mod Reading
 pub mod Passing
 pub mod Base16
 pub mod Codes32

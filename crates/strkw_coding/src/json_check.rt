@@ -33,7 +33,7 @@ pub fn is_json(alloc: Global, text: &str) -> Result<bool, AllocError>
 // Passes over the value that comes first, if one does that nests no deeper than `depth`.
 #[cycle(pass)]
 #[inline(always)]
-#[tactic(auto, using(crate::proofs::Passing::by_first_token))]
+#[tactic(auto, using(crate::proofs::Reading::by_first_token, crate::proofs::Passing::behind_map))]
 fn passes_value(tokens: &mut Reader<'_>, depth: usize) -> bool
     ensures passed { MatchBool result (after_value depth tokens.old ≡ Some tokens.new) (after_value depth tokens.old ≡ None) }
     ensures shorter { IsTrue result → length tokens.new < length tokens.old }
@@ -48,7 +48,7 @@ fn passes_value(tokens: &mut Reader<'_>, depth: usize) -> bool
 /// than `depth`, each number within the range of an `f64`, as `serde_json` reads it. No value is built, and it takes no
 /// memory.
 #[cycle(pass)]
-#[tactic(auto, using(crate::proofs::Passing::by_first_token))]
+#[tactic(auto, using(crate::proofs::Reading::by_first_token, crate::proofs::Passing::behind_map))]
 pub fn passes_json(token: Token<'_>, tokens: &mut Reader<'_>, depth: usize) -> bool
     ensures passed { MatchBool result (after_value depth (token_of token.entry ∷ tokens.old) ≡ Some tokens.new)
         (after_value depth (token_of token.entry ∷ tokens.old) ≡ None) }

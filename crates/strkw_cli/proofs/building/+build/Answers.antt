@@ -6,8 +6,9 @@ use Rattle.serde_json.specs.Data.{put}
 use Rattle.serde_json.specs.Read.{of_items, of_members, converted}
 use Rattle.serde_json.specs.View.{view, members_view}
 use Rattle.serde_json.proofs.Views.{view-Array, view-Object, members_view-insert_entry}
-use Rattle.strkw_cli.proofs.Reading.{array_read, object_read, items_end, next_item, no_next_item, members_end, next_member, no_next_member, no_key, behind_built, all_built, none_built, one_more_built}
-use Rattle.strkw_cli.specs.Tokens.{items_read}
+use Rattle.strkw_coding.proofs.Reading.{array_read, object_read, items_end, next_item, no_next_item, members_end, next_member, no_next_member, no_key}
+use Rattle.strkw_cli.proofs.Built.{behind_built, all_built, none_built, one_more_built}
+use Rattle.strkw_coding.specs.Passing.{items_read}
 use Rattle.strkw_cli.proofs.building.+build.Goals as goal
 
 pub build_from-returns-in_ok-build_items-in-BeginArray-clause-ok :

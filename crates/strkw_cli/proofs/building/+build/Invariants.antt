@@ -2,8 +2,8 @@ use Rattle.std.proofs.Common.{◌≡◌, ℕ, ◌+◌, ◌*◌, ◌≤◌, lengt
 use Rattle.json.specs.Json.{items, members, value, parse_map}
 use Rattle.serde_json.specs.Read.{of_items, of_members, converted}
 use Rattle.serde_json.specs.View.{members_view}
-use Rattle.strkw_cli.specs.Tokens.{items_read, members_read}
-use Rattle.strkw_cli.proofs.Reading.{behind_built}
+use Rattle.strkw_coding.specs.Passing.{items_read, members_read}
+use Rattle.strkw_cli.proofs.Built.{behind_built}
 use Rattle.strkw_cli.proofs.building.+build.Given as goal
 
 abbrev pub decreases-build_value : goal.decreases-build_value

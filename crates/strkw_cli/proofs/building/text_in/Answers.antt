@@ -2,7 +2,8 @@ use Rattle.std.proofs.Common.{◌≡◌, [], ◌∷◌, sym, ap, ◌∙◌, arit
 use Rattle.json.specs.Json.{value}
 use Rattle.json.specs.Reads.{token_of}
 use Rattle.serde_json.specs.Read.{of_json, converted}
-use Rattle.strkw_cli.proofs.Reading.{by_first_token, text_passed}
+use Rattle.strkw_coding.proofs.Reading.{by_first_token}
+use Rattle.strkw_cli.proofs.Asked.{text_passed}
 use Rattle.strkw_cli.proofs.building.text_in.Goals as goal
 
 pub returns-in_err-token-clause-none : goal.returns-in_err-token-clause-none

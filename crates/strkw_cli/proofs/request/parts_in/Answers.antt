@@ -3,7 +3,7 @@ use Rattle.json.specs.Json.{read_key, value}
 use Rattle.json.proofs.Grammar.{read_key-shorter}
 use Rattle.serde_json.specs.Data.{no_members, put}
 use Rattle.strkw_cli.specs.Tokens.{member_depth}
-use Rattle.strkw_cli.proofs.Reading.{members_end, next_member, no_next_member, no_key}
+use Rattle.strkw_coding.proofs.Reading.{members_end, next_member, no_next_member, no_key}
 use Rattle.strkw_cli.proofs.Parts.{parts_taken}
 use Rattle.strkw_cli.proofs.request.parts_in.Goals as goal
 

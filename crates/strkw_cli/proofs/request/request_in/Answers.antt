@@ -3,7 +3,7 @@ use Rattle.json.specs.Token.{begin_object}
 use Rattle.json.specs.Lex.{tokens}
 use Rattle.json.specs.Reads.{token_of}
 use Rattle.strkw_cli.specs.Tokens.{begins_object}
-use Rattle.strkw_cli.proofs.Reading.{asked, asked_with_more, no_members_read, no_object_read}
+use Rattle.strkw_cli.proofs.Asked.{asked, asked_with_more, no_members_read, no_object_read}
 use Rattle.strkw_cli.proofs.request.request_in.Goals as goal
 
 pub returns-in-None : goal.returns-in-None

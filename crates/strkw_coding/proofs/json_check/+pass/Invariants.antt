@@ -1,7 +1,7 @@
 use Rattle.std.proofs.Common.{◌≡◌, ℕ, ◌+◌, ◌*◌, ◌≤◌, length}
 use Rattle.json.specs.Json.{items, members, value}
-use Rattle.serde_json.specs.Data.{no_members}
-use Rattle.serde_json.specs.Read.{of_items, of_members}
+use Rattle.serde_json.specs.Data.{Members}
+use Rattle.serde_json.specs.Read.{of_items, of_members, converted}
 use Rattle.strkw_coding.specs.Passing.{behind, after_items, after_members}
 use Rattle.strkw_coding.proofs.json_check.+pass.Given as goal
 
@@ -21,7 +21,7 @@ abbrev pub invariant-passes_items-loop-tokens : goal.invariant-passes_items-loop
 invariant-passes_items-loop-tokens l = record {
   turns : ℕ;
   enough : length l.tokens ≤ turns;
-  same : after_items l.depth l.initial.tokens ≡ behind of_items (items (value l.depth) turns l.tokens);
+  same : after_items l.depth l.initial.tokens ≡ behind (converted of_items (items (value l.depth) turns l.tokens));
   fewer : length l.tokens ≤ length l.initial.tokens;
 }
 
@@ -32,7 +32,8 @@ abbrev pub invariant-passes_members-loop-key : goal.invariant-passes_members-loo
 invariant-passes_members-loop-key l = record {
   turns : ℕ;
   enough : length l.tokens ≤ turns;
-  same : after_members l.depth l.initial.tokens ≡ behind (λ ms. of_members ms no_members) (members (value l.depth) turns l.tokens);
+  found : Members;
+  same : after_members l.depth l.initial.tokens ≡ behind (converted (λ ms. of_members ms found) (members (value l.depth) turns l.tokens));
   fewer : length l.tokens ≤ length l.initial.tokens;
 }
 

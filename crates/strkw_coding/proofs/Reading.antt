@@ -1,21 +1,13 @@
--- Reading a value, an array or an object token by token, where what is read is kept.
-use Rattle.std.proofs.Common.{◌≡◌, ℕ, zero, suc, ◌-◌, ◌<◌, ◌≤◌, nat_lt, lt-ltb, if◌then◌else◌, List, [], ◌∷◌, ◌++◌, length, Bool, String, Global, true, false, string_bytes, Option, Some, None, option_map, option_and_then, refl, sym, ap, ◌∙◌, subst, true≢false, arith, rules}
-use Rattle.std.specs.Prelude.{⊤}
-use Rattle.std.specs.Str.{IsUtf8}
+-- Reading a value, an array or an object token by token.
+use Rattle.std.proofs.Common.{◌≡◌, ℕ, zero, suc, ◌-◌, ◌<◌, ◌≤◌, nat_lt, lt-ltb, if◌then◌else◌, List, [], ◌∷◌, length, Option, Some, None, option_map, option_and_then, refl, sym, ap, ◌∙◌, arith}
 use Rattle.json.specs.Token.{Token}
 use Rattle.json.specs.Lex.{tokens}
 use Rattle.json.specs.Json as json
 use Rattle.json.specs.Json.{Json, Parse, parse_map, after_end_array, read_key, items_step, members_step, items, members, value}
 use Rattle.json.proofs.Grammar.{after_end_array-shorter, read_key-shorter, value_is}
 use Rattle.serde_json.specs.Data.{Num, Data, null, boolean, number, string, array, object, Items, no_items, item, Members, no_members, put}
-use Rattle.serde_json.specs.Find.{as_str, as_object}
 use Rattle.serde_json.specs.Read.{of_json, of_items, of_members, converted, number_of, read as read_text}
-use Rattle.strkw_coding.specs.Passing.{behind, after_value}
-use Rattle.strkw_cli.specs.Request.{IsReading, request_in, request_of_members}
-use Rattle.strkw_cli.specs.Tokens.{value_read, items_read, members_read, text_of_token, begins_object}
-use Rattle.serde_json.specs.View.{view, number_view, items_view}
-use Rattle.serde_json.specs.declared.number.Number as declared
-use Rattle.serde_json.specs.declared.value.Value.{Value, Null, the_lemmas}
+use Rattle.strkw_coding.specs.Passing.{value_read, items_read, members_read}
 
 -- ---- what was read, and what is left
 
@@ -123,7 +115,7 @@ converted-object : (r : Option (json.Members × List Token)) → converted of_js
 converted-object None = refl
 converted-object (Some p) = map_last object p.1 (of_members p.0 no_members)
 
-abbrev first_read : ℕ → List Token → Option (Data × List Token)
+abbrev pub first_read : ℕ → List Token → Option (Data × List Token)
 first_read depth [] = None
 first_read depth (Token.begin_object ∷ ts) = if nat_lt 0 depth then parse_map object (members_read (depth - 1) ts) else None
 first_read depth (Token.end_object ∷ ts) = None
@@ -176,122 +168,6 @@ object_read depth ts t first some ms rest read =
     ap (λ x. converted of_json (value depth (x ∷ ts))) first ∙ by_first_token depth (Token.begin_object ∷ ts)
     ∙ ap (λ b. if b then parse_map object (members_read (depth - 1) ts) else None) (lt-ltb 0 depth some) ∙ ap (parse_map object) read
 
--- ---- a value that is built, by what it is made of
-
-pub null_built : view Null ≡ null
-null_built = search (rules, the_lemmas)
-
-pub bool_built : (b : Bool) → view (Value.Bool b) ≡ boolean b
-bool_built b = search (rules, the_lemmas)
-
-pub number_built : (x : declared.Number) → view (Value.Number x) ≡ number (number_view x)
-number_built x = search (rules, the_lemmas)
-
-pub string_built : (s : String Global) → view (Value.String s) ≡ string (string_bytes s)
-string_built s = search (rules, the_lemmas)
-
--- ---- items that are built one after the other
-
--- values, and then what is to come
-abbrev pub behind_built : List Value → Items → Items
-behind_built [] rest = rest
-behind_built (v ∷ vs) rest = item (view v) (behind_built vs rest)
-
-pub all_built : (vs : List Value) → behind_built vs no_items ≡ items_view vs
-all_built [] = refl
-all_built (v ∷ vs) = ap (item (view v)) (all_built vs)
-
-pub none_built : (r : Option (Items × List Token)) → r ≡ parse_map (behind_built []) r
-none_built None = refl
-none_built (Some p) = refl
-
-pub one_more_built : (vs : List Value) (v : Value) (r : Option (Items × List Token)) → parse_map (behind_built vs) (parse_map (item (view v)) r) ≡ parse_map (behind_built (vs ++ v ∷ [])) r
-one_more_built vs v None = refl
-one_more_built vs v (Some p) = ap (λ ds. Some (ds, p.1)) (at_end vs)
-  where
-    at_end : (ws : List Value) → behind_built ws (item (view v) p.0) ≡ behind_built (ws ++ v ∷ []) p.0
-    at_end [] = refl
-    at_end (w ∷ ws) = ap (item (view w)) (at_end ws)
-
--- ---- a value that is passed over
-
-abbrev IsThere : Option (List Token) → Type 0
-IsThere None = ⊥
-IsThere (Some ts) = ⊤
-
-none_is : (rest : List Token) → None ≡ Some rest → ⊥
-none_is rest is = subst IsThere (sym is) tt
-
-some_is : (rest : List Token) → Some rest ≡ None → ⊥
-some_is rest is = subst IsThere is tt
-
-pub passed : (o : Option (Json × List Token)) (rest : List Token) → behind of_json o ≡ Some rest → (d : Data) × (converted of_json o ≡ Some (d, rest))
-passed None rest is = absurd (none_is rest is)
-passed (Some (j, ts)) rest is = of_value (of_json j) is
-  where
-    of_value : (o : Option Data) → option_map (λ _. ts) o ≡ Some rest → (d : Data) × (option_map {U = Data × List Token} (λ x. (x, ts)) o ≡ Some (d, rest))
-    of_value None is = absurd (none_is rest is)
-    of_value (Some d) is = (d, ap (option_map (λ r. (d, r))) is)
-
-pub not_passed : (o : Option (Json × List Token)) → behind of_json o ≡ None → converted of_json o ≡ None
-not_passed None none = refl
-not_passed (Some (j, ts)) none = of_value (of_json j) none
-  where
-    of_value : (o : Option Data) → option_map (λ _. ts) o ≡ None → option_map {U = Data × List Token} (λ x. (x, ts)) o ≡ None
-    of_value None none = refl
-    of_value (Some d) none = absurd (some_is ts none)
-
--- ---- of what kind a value is, by its first token
-
--- the part of what was read
-abbrev seen : {A : Type 0} → (Data → Option A) → Option (Data × List Token) → Option A
-seen part r = option_and_then (λ p. part p.0) r
-
-module _ {B : Type 0} (part : Data → Option B) where
-  none_seen : {A : Type 0} (f : A → Data) → ((a : A) → part (f a) ≡ None) → (r : Option (A × List Token)) → seen part (parse_map f r) ≡ None
-  none_seen f none None = refl
-  none_seen f none (Some p) = none p.0
-
-  none_seen_if : (b : Bool) (r : Option (Data × List Token)) → seen part r ≡ None → seen part (if b then r else None) ≡ None
-  none_seen_if true r none = none
-  none_seen_if false r none = refl
-
-  none_in_number : ((n : Num) → part (number n) ≡ None) → (ts : List Token) (o : Option Num) → seen part (option_map (λ n. (number n, ts)) o) ≡ None
-  none_in_number none ts None = refl
-  none_in_number none ts (Some n) = none n
-
-first_text : (depth : ℕ) (t : Token) (ts : List Token) → seen as_str (first_read depth (t ∷ ts)) ≡ text_of_token t
-first_text depth Token.begin_object ts = none_seen_if as_str (nat_lt 0 depth) _ (none_seen as_str object (λ ms. refl) (members_read (depth - 1) ts))
-first_text depth Token.end_object ts = refl
-first_text depth Token.begin_array ts = none_seen_if as_str (nat_lt 0 depth) _ (none_seen as_str array (λ is. refl) (items_read (depth - 1) ts))
-first_text depth Token.end_array ts = refl
-first_text depth (Token.key s) ts = refl
-first_text depth (Token.string s) ts = refl
-first_text depth (Token.number s) ts = none_in_number as_str (λ n. refl) ts (number_of s)
-first_text depth (Token.boolean b) ts = refl
-first_text depth Token.null ts = refl
-first_text depth Token.bad ts = refl
-
-no_object_first : (depth : ℕ) (ts : List Token) → begins_object ts ≡ false → seen as_object (first_read depth ts) ≡ None
-no_object_first depth [] none = refl
-no_object_first depth (Token.begin_object ∷ ts) none = absurd (true≢false none)
-no_object_first depth (Token.end_object ∷ ts) none = refl
-no_object_first depth (Token.begin_array ∷ ts) none = none_seen_if as_object (nat_lt 0 depth) _ (none_seen as_object array (λ is. refl) (items_read (depth - 1) ts))
-no_object_first depth (Token.end_array ∷ ts) none = refl
-no_object_first depth (Token.key s ∷ ts) none = refl
-no_object_first depth (Token.string s ∷ ts) none = refl
-no_object_first depth (Token.number s ∷ ts) none = none_in_number as_object (λ n. refl) ts (number_of s)
-no_object_first depth (Token.boolean b ∷ ts) none = refl
-no_object_first depth (Token.null ∷ ts) none = refl
-no_object_first depth (Token.bad ∷ ts) none = refl
-
--- the value that was passed over is a text exactly where its first token is one
-pub text_passed : (depth : ℕ) (t : Token) (ts rest : List Token) → after_value depth (t ∷ ts) ≡ Some rest
-    → (d : Data) × (value_read depth (t ∷ ts) ≡ Some (d, rest)) × (as_str d ≡ text_of_token t)
-text_passed depth t ts rest is =
-    let (d, read) = passed (value depth (t ∷ ts)) rest is in
-    (d, read, sym (ap (seen as_str) (sym (by_first_token depth (t ∷ ts)) ∙ read)) ∙ first_text depth t ts)
-
 -- ---- a whole text
 
 -- what was read, where nothing is left
@@ -300,7 +176,7 @@ at_end None = None
 at_end (Some (d, [])) = Some d
 at_end (Some (d, t ∷ ts)) = None
 
-whole : (o : Option (Json × List Token)) → option_and_then of_json (option_and_then (λ p. json.if_last p.0 p.1) o) ≡ at_end (converted of_json o)
+pub whole : (o : Option (Json × List Token)) → option_and_then of_json (option_and_then (λ p. json.if_last p.0 p.1) o) ≡ at_end (converted of_json o)
 whole None = refl
 whole (Some (j, [])) = of_value (of_json j)
   where
@@ -313,37 +189,5 @@ whole (Some (j, t ∷ ts)) = of_value (of_json j)
     of_value None = refl
     of_value (Some d) = refl
 
-read_by_tokens : (text : List ℕ) → read_text text ≡ at_end (first_read 127 (tokens text))
+pub read_by_tokens : (text : List ℕ) → read_text text ≡ at_end (first_read 127 (tokens text))
 read_by_tokens text = whole (value 127 (tokens text)) ∙ ap at_end (by_first_token 127 (tokens text))
-
--- ---- the request that a text is, by its tokens
-
-module _ (text : List ℕ) where
-  by_object : (ts : List Token) → tokens text ≡ Token.begin_object ∷ ts → option_and_then request_in (read_text text) ≡ option_and_then request_in (at_end (parse_map object (members_read 126 ts)))
-  by_object ts first = ap (option_and_then request_in) (read_by_tokens text ∙ ap (λ x. at_end (first_read 127 x)) first)
-
-  pub asked : (ts : List Token) (ms : Members) → tokens text ≡ Token.begin_object ∷ ts → members_read 126 ts ≡ Some (ms, []) → option_and_then request_in (read_text text) ≡ request_of_members ms
-  asked ts ms first read = by_object ts first ∙ ap (λ r. option_and_then request_in (at_end (parse_map object r))) read
-
-  pub asked_with_more : (ts : List Token) (ms : Members) (t : Token) (more : List Token) → tokens text ≡ Token.begin_object ∷ ts → members_read 126 ts ≡ Some (ms, t ∷ more)
-      → option_and_then request_in (read_text text) ≡ None
-  asked_with_more ts ms t more first read = by_object ts first ∙ ap (λ r. option_and_then request_in (at_end (parse_map object r))) read
-
-  pub no_members_read : (ts : List Token) → tokens text ≡ Token.begin_object ∷ ts → members_read 126 ts ≡ None → option_and_then request_in (read_text text) ≡ None
-  no_members_read ts first none = by_object ts first ∙ ap (λ r. option_and_then request_in (at_end (parse_map object r))) none
-
-  no_object : (r : Option (Data × List Token)) → seen as_object r ≡ None → option_and_then request_in (at_end r) ≡ None
-  no_object None none = refl
-  no_object (Some (d, [])) none = ap (option_and_then request_of_members) none
-  no_object (Some (d, t ∷ ts)) none = refl
-
-  pub no_object_read : begins_object (tokens text) ≡ false → option_and_then request_in (read_text text) ≡ None
-  no_object_read none = ap (option_and_then request_in) (read_by_tokens text) ∙ no_object (first_read 127 (tokens text)) (no_object_first 127 (tokens text) none)
-
-  -- UTF-8 text has the reading that is meant
-  pub reading : IsUtf8 text → IsReading text (read_text text)
-  reading utf8 = of_text (read_text text) refl
-    where
-      of_text : (o : Option Data) → read_text text ≡ o → IsReading text o
-      of_text None is = λ u. is
-      of_text (Some d) is = (utf8, is)
