@@ -33,7 +33,7 @@ REFUSED = "is not a \"regex\""
 BY_DESIGN = [
     ("lookaround", re.compile(r"\(\?<?[=!]")),
     ("back reference", re.compile(r"\\[1-9]|\\k<")),
-    ("property", re.compile(r"\\[pP]\{")),
+    ("property", re.compile(r"\\[pP]\{(Any|ASCII|Assigned|Alpha|Alphabetic|Emoji|White_Space|scx=|Script_Extensions=)")),
     ("name twice", re.compile(r"\(\?<(\w+)>.*\(\?<\1>", re.DOTALL)),
     ("lone surrogate", re.compile(r"\\u(\{0*)?[dD][89a-fA-F]")),
 ]
@@ -59,10 +59,16 @@ console.log(JSON.stringify([told, within]));
 """
 # Characters near the borders of what classes and assertions tell apart.
 LETTERS = "abcxyzABZ019_-"
-OTHERS = " \t\n\r\u2028\u2029\u00a0\ufeff\u0085\u00e9\u017f\u212a\u4e2d\U0001f600\U0001f601/:@[`{.,=!#&~\"'<>;%"
+OTHERS = " \t\n\r\u2028\u2029\u00a0\ufeff\u0085\u00e9\u017f\u212a\u0391\u03c9\u0301\u0663\u01c5\u4e2d\U0001f600\U0001f601/:@[`{.,=!#&~\"'<>;%"
 SYNTAX = "^$\\.*+?()[]{}|/"
 ESCAPES = ["\\d", "\\D", "\\s", "\\S", "\\w", "\\W", "\\n", "\\t", "\\r", "\\f", "\\v", "\\0", "\\cA", "\\x41", "\\u0061",
            "\\u{62}", "\\u{1F600}", "\\uD83D\\uDE00", "\\u2028"]
+# Properties, whose answers on the characters here are the same in each version of Unicode since 15.
+PROPERTIES = ["\\p{Lu}", "\\p{Uppercase_Letter}", "\\P{Ll}", "\\p{L}", "\\P{Letter}", "\\p{LC}", "\\p{N}", "\\p{Nd}", "\\p{digit}",
+              "\\P{punct}", "\\p{Sm}", "\\p{S}", "\\p{Zs}", "\\P{Z}", "\\p{cntrl}", "\\p{C}", "\\p{gc=Lo}", "\\P{General_Category=Mn}",
+              "\\p{sc=Grek}", "\\P{Script=Greek}", "\\p{Script=Latin}", "\\p{sc=Han}", "\\p{sc=Zyyy}", "\\P{sc=Zinh}"]
+# Others: of properties that are not taken, and some that are none.
+OTHER_PROPERTIES = ["\\p{Any}", "\\p{Alphabetic}", "\\P{Emoji}", "\\p{scx=Grek}", "\\p{Greek}", "\\p{lu}", "\\p{gc=Greek}", "\\p{}", "\\pL"]
 QUANTIFIERS = ["*", "+", "?", "*?", "+?", "??", "{2}", "{0}", "{1,}", "{0,2}", "{1,3}?", "{2,2}", "{0,0}", "{3}?", "{2,}?"]
 
 
@@ -84,7 +90,9 @@ class Maker:
         kind = self.random.random()
         if kind < 0.2:
             return self.random.choice(ESCAPES)
-        if kind < 0.28:
+        if kind < 0.26:
+            return self.random.choice(PROPERTIES)
+        if kind < 0.34:
             return self.random.choice(["\\b", "\\-", "\\]", "\\^", "^", "-", ".", "$", "(", "*", "\\\\"])
         return self.random.choice(LETTERS + OTHERS.replace("[", ""))
 
@@ -108,8 +116,10 @@ class Maker:
             return "."
         if kind < 0.62:
             return self.random.choice(ESCAPES)
-        if kind < 0.635:
-            return self.random.choice(["\\1", "\\k<n1>", "\\p{Lu}", "\\P{Script=Greek}", "\\p{L}", "\\p{Alphabetic}", "\\uD83D"])
+        if kind < 0.68:
+            return self.random.choice(PROPERTIES)
+        if kind < 0.695:
+            return self.random.choice(["\\1", "\\k<n1>", "\\uD83D"] + OTHER_PROPERTIES)
         return self.character()
 
     def term(self, depth):

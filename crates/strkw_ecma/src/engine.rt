@@ -67,6 +67,8 @@ impl RegexEngine for EcmaMatcher {
 ///   `\d \D \s \S \w \W`;
 /// - `\0` where no decimal digit follows; `\c` and a letter; `\x` and two digits of base 16; `\u` and four, or two of these for
 ///   a leading and a trailing surrogate; `\u{ }` with digits up to 10FFFF, of no surrogate;
+/// - `\p{ }` and `\P{ }` with a value of General_Category, alone or behind `General_Category=` or `gc=`, or of Script, behind
+///   `Script=` or `sc=`, each named as in Unicode's tables of aliases, letter case and `_` included;
 /// - classes with `[ ]` and `[^ ]`, of characters, ranges and those escapes, with `\-`, and `\b` for the backspace.
 ///
 /// Any other text is not taken, nor is a pattern with groups more than 250 deep, with more than 2,000 characters, with a count
@@ -75,7 +77,8 @@ impl RegexEngine for EcmaMatcher {
 ///
 /// A match is a search for the pattern in the text (section 22.2.7.2), with no flag but `u`: characters are Unicode scalar
 /// values; `^` and `$` stand for the two ends of the text, `.` for each character but U+000A, U+000D, U+2028 and U+2029,
-/// `\d` and `\w` for ASCII digits and word characters, `\s` for white space and ends of lines (sections 12.2 and 12.3).
+/// `\d` and `\w` for ASCII digits and word characters, `\s` for white space and ends of lines (sections 12.2 and 12.3), and
+/// properties are those of Unicode 18.
 pub struct EcmaPatterns;
 
 impl EngineBuilder for EcmaPatterns {

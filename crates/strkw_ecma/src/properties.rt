@@ -106,12 +106,12 @@ impl Expression {
     }
 
     // Behind an equals sign.
-    fn parted(self, alloc: Global, negated: bool) -> PropertyRead
-        ensures { property_read_of result ≡ on_equals negated (expression_of self) }
+    fn parted(self, alloc: Global, lacked: bool) -> PropertyRead
+        ensures { property_read_of result ≡ on_equals lacked (expression_of self) }
     {
         match self {
             Expression::Alone(name) => PropertyRead::Goes(PropertyPart::InBraces(
-                negated,
+                lacked,
                 Expression::Valued(name, Vec::new(alloc)),
             )),
             Expression::Valued(..) => PropertyRead::Fails,
@@ -147,20 +147,20 @@ impl PropertyPart {
         ensures { IfOk result (λ r. property_read_of r ≡ property_next (part_of self) c) }
     {
         match self {
-            PropertyPart::BraceAwaited(negated) if c == '{' => {
+            PropertyPart::BraceAwaited(lacked) if c == '{' => {
                 let nothing = Expression::Alone(Vec::new(alloc));
-                Ok(PropertyRead::Goes(PropertyPart::InBraces(negated, nothing)))
+                Ok(PropertyRead::Goes(PropertyPart::InBraces(lacked, nothing)))
             }
             PropertyPart::BraceAwaited(_) => Ok(PropertyRead::Fails),
-            PropertyPart::InBraces(negated, expression) if c == '}' => {
-                Ok(PropertyRead::Ends(negated, expression))
+            PropertyPart::InBraces(lacked, expression) if c == '}' => {
+                Ok(PropertyRead::Ends(lacked, expression))
             }
-            PropertyPart::InBraces(negated, expression) if c == '=' => {
-                Ok(expression.parted(alloc, negated))
+            PropertyPart::InBraces(lacked, expression) if c == '=' => {
+                Ok(expression.parted(alloc, lacked))
             }
-            PropertyPart::InBraces(negated, expression) if is_property_char(c) => {
+            PropertyPart::InBraces(lacked, expression) if is_property_char(c) => {
                 let longer = expression.with_char(c)?;
-                Ok(PropertyRead::Goes(PropertyPart::InBraces(negated, longer)))
+                Ok(PropertyRead::Goes(PropertyPart::InBraces(lacked, longer)))
             }
             PropertyPart::InBraces(..) => Ok(PropertyRead::Fails),
         }

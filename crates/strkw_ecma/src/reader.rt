@@ -424,14 +424,8 @@ impl Reader {
             Mode::ClassEscaping(class) => so_far.class_escaped(class, c),
             Mode::Coding(coding) => so_far.coded(alloc, coding.next(c)),
             Mode::ClassCoding(class, coding) => so_far.class_coded(class, coding.next(c)),
-            Mode::Property(part) => {
-                let read = part.next(alloc, c)?;
-                so_far.property_read(alloc, read)
-            }
-            Mode::ClassProperty(class, part) => {
-                let read = part.next(alloc, c)?;
-                so_far.class_property_read(class, read)
-            }
+            Mode::Property(part) => so_far.in_property(alloc, part, c),
+            Mode::ClassProperty(class, part) => so_far.in_class_property(alloc, class, part, c),
             Mode::Naming(name) => so_far.in_name(alloc, name, c),
             Mode::NameEscaping(name) => so_far.name_escaped(name, c),
             Mode::NameCoding(name, coding) => so_far.name_coded(name, coding.next(c)),

@@ -1,23 +1,26 @@
 //! How a property is read, in a pattern and in a class.
 
 ghost use Rattle.std.specs.Prelude.{◌≡◌, IfOk, option_map};
-ghost use Rattle.strkw_ecma.specs.Parts.{parts_of, class_of, property_read_of, after_property, after_class_property};
+ghost use Rattle.strkw_ecma.specs.PropertyReading.{property_next};
+ghost use Rattle.strkw_ecma.specs.Parts.{parts_of, class_of, part_of, after_property, after_class_property};
 
 use super::{Mode, Reader};
 use crate::classes::{ClassReader, Item};
-use crate::properties::PropertyRead;
+use crate::properties::{PropertyPart, PropertyRead};
 use crate::sets::having;
 use std::alloc::{AllocError, Global};
 
 impl Reader {
-    pub(super) fn property_read(
+    pub(super) fn in_property(
         self,
         alloc: Global,
-        read: PropertyRead,
+        part: PropertyPart,
+        c: char,
     ) -> Result<Option<Reader>, AllocError>
-        ensures { IfOk result (λ r. option_map parts_of r ≡ after_property (parts_of self) (property_read_of read)) }
+        ensures { IfOk result (λ r. option_map parts_of r
+            ≡ after_property (parts_of self) (property_next (part_of part) c)) }
     {
-        match read {
+        match part.next(alloc, c)? {
             PropertyRead::Fails => Ok(None),
             PropertyRead::Goes(part) => Ok(Some(self.with_mode(Mode::Property(part)))),
             PropertyRead::Ends(lacked, expression) => match expression.property() {
@@ -30,15 +33,17 @@ impl Reader {
         }
     }
 
-    pub(super) fn class_property_read(
+    pub(super) fn in_class_property(
         self,
+        alloc: Global,
         class: ClassReader,
-        read: PropertyRead,
+        part: PropertyPart,
+        c: char,
     ) -> Result<Option<Reader>, AllocError>
         ensures { IfOk result (λ r. option_map parts_of r
-            ≡ after_class_property (parts_of self) (class_of class) (property_read_of read)) }
+            ≡ after_class_property (parts_of self) (class_of class) (property_next (part_of part) c)) }
     {
-        match read {
+        match part.next(alloc, c)? {
             PropertyRead::Fails => Ok(None),
             PropertyRead::Goes(part) => Ok(Some(self.with_mode(Mode::ClassProperty(class, part)))),
             PropertyRead::Ends(lacked, expression) => match expression.property() {
