@@ -1,6 +1,5 @@
 -- The request that a text is, by its tokens.
 use Rattle.std.proofs.Common.{◌≡◌, ℕ, ◌-◌, nat_lt, if◌then◌else◌, List, [], ◌∷◌, Bool, true, false, Option, Some, None, option_map, option_and_then, refl, sym, ap, ◌∙◌, true≢false}
-use Rattle.std.specs.Str.{IsUtf8}
 use Rattle.json.specs.Token.{Token}
 use Rattle.json.specs.Lex.{tokens}
 use Rattle.json.specs.Json.{parse_map}
@@ -10,7 +9,7 @@ use Rattle.serde_json.specs.Find.{as_str, as_object}
 use Rattle.serde_json.specs.Read.{number_of, read as read_text}
 use Rattle.strkw_coding.specs.Passing.{value_read, items_read, members_read, after_value}
 use Rattle.strkw_coding.proofs.Reading.{first_read, by_first_token, at_end, read_by_tokens}
-use Rattle.strkw_cli.specs.Request.{IsReading, request_in, request_of_members}
+use Rattle.strkw_cli.specs.Request.{request_in, request_of_members}
 use Rattle.strkw_cli.specs.Tokens.{text_of_token, begins_object}
 
 -- ---- of what kind a value is, by its first token
@@ -87,11 +86,3 @@ module _ (text : List ℕ) where
 
   pub no_object_read : begins_object (tokens text) ≡ false → option_and_then request_in (read_text text) ≡ None
   no_object_read none = ap (option_and_then request_in) (read_by_tokens text) ∙ no_object (first_read 127 (tokens text)) (no_object_first 127 (tokens text) none)
-
-  -- UTF-8 text has the reading that is meant
-  pub reading : IsUtf8 text → IsReading text (read_text text)
-  reading utf8 = of_text (read_text text) refl
-    where
-      of_text : (o : Option Data) → read_text text ≡ o → IsReading text o
-      of_text None is = λ u. is
-      of_text (Some d) is = (utf8, is)
