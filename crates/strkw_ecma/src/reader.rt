@@ -2,7 +2,7 @@
 
 ghost use Rattle.std.specs.Prelude.{◌≡◌, false, IfOk, is_some, option_map, nat_lt, length, ◌==◌};
 ghost use Rattle.std.specs.Str.{chars, byte};
-ghost use Rattle.strkw_ecma.specs.Patterns.{pattern};
+ghost use Rattle.strkw_ecma.specs.Patterns.{pattern, one_char as spec_one_char};
 ghost use Rattle.strkw_ecma.specs.Shape.{pattern_of};
 ghost use Rattle.strkw_ecma.specs.Syntax.{token as spec_token};
 ghost use Rattle.strkw_ecma.specs.Names.{extension as spec_extension};
@@ -147,6 +147,12 @@ impl Reader {
             last: Last::Atom(atom),
             mode: Mode::Between,
         })
+    }
+
+    fn with_char(self, alloc: Global, c: char) -> Result<Reader, AllocError>
+        ensures { IfOk result (λ r. parts_of r ≡ after_atom (parts_of self) (spec_one_char c)) }
+    {
+        self.with_atom(alloc, one_char(alloc, c)?)
     }
 
     fn with_term(self, alloc: Global, term: Tree) -> Result<Reader, AllocError>
@@ -307,30 +313,29 @@ impl Reader {
     fn escaped(self, alloc: Global, c: char) -> Result<Option<Reader>, AllocError>
         ensures { IfOk result (λ r. option_map parts_of r ≡ after_escape (parts_of self) c (spec_escape c)) }
     {
-        let atom = match Escape::of(c) {
-            Escape::Boundary => return Ok(Some(self.with_term(alloc, Tree::Boundary)?)),
-            Escape::NoBoundary => return Ok(Some(self.with_term(alloc, Tree::NoBoundary)?)),
-            Escape::Itself => one_char(alloc, c)?,
-            Escape::Control => one_char(alloc, control_char(c))?,
-            Escape::Set => set(alloc, c)?,
-            Escape::Null => one_char(alloc, '\0')?,
-            Escape::Letter => return Ok(Some(self.with_mode(Mode::Coding(Coding::Letter)))),
+        match Escape::of(c) {
+            Escape::Boundary => Ok(Some(self.with_term(alloc, Tree::Boundary)?)),
+            Escape::NoBoundary => Ok(Some(self.with_term(alloc, Tree::NoBoundary)?)),
+            Escape::Itself => Ok(Some(self.with_char(alloc, c)?)),
+            Escape::Control => Ok(Some(self.with_char(alloc, control_char(c))?)),
+            Escape::Set => Ok(Some(self.with_atom(alloc, set(alloc, c)?)?)),
+            Escape::Null => Ok(Some(self.with_char(alloc, '\0')?)),
+            Escape::Letter => Ok(Some(self.with_mode(Mode::Coding(Coding::Letter)))),
             Escape::Hexadecimal => {
                 let coding = Coding::Digits(Width::Byte, Wanted::Two, 0);
-                return Ok(Some(self.with_mode(Mode::Coding(coding))));
+                Ok(Some(self.with_mode(Mode::Coding(coding))))
             }
-            Escape::Unicode => return Ok(Some(self.with_mode(Mode::Coding(Coding::UnitOpened)))),
+            Escape::Unicode => Ok(Some(self.with_mode(Mode::Coding(Coding::UnitOpened)))),
             Escape::Property => {
                 let part = PropertyPart::BraceAwaited(false);
-                return Ok(Some(self.with_mode(Mode::Property(part))));
+                Ok(Some(self.with_mode(Mode::Property(part))))
             }
             Escape::NoProperty => {
                 let part = PropertyPart::BraceAwaited(true);
-                return Ok(Some(self.with_mode(Mode::Property(part))));
+                Ok(Some(self.with_mode(Mode::Property(part))))
             }
-            Escape::Unknown => return Ok(None),
-        };
-        Ok(Some(self.with_atom(alloc, atom)?))
+            Escape::Unknown => Ok(None),
+        }
     }
 
     fn with_mode(self, mode: Mode) -> Reader
@@ -353,23 +358,22 @@ impl Reader {
     fn plain(self, alloc: Global, c: char) -> Result<Option<Reader>, AllocError>
         ensures { IfOk result (λ r. option_map parts_of r ≡ after_token (parts_of self) c (spec_token c)) }
     {
-        let atom = match Token::of(c) {
-            Token::Bar => return Ok(Some(self.with_alternative(alloc)?)),
-            Token::Asterisk => return self.with_quantifier(alloc, Quantifier::ZeroOrMore),
-            Token::Plus => return self.with_quantifier(alloc, Quantifier::OneOrMore),
-            Token::Question => return self.questioned(alloc),
-            Token::Caret => return Ok(Some(self.with_term(alloc, Tree::Start)?)),
-            Token::Dollar => return Ok(Some(self.with_term(alloc, Tree::End)?)),
-            Token::Closing => return self.closed(alloc),
-            Token::Opening => return Ok(Some(self.with_mode(Mode::Opening))),
-            Token::Backslash => return Ok(Some(self.with_mode(Mode::Escaping))),
-            Token::Brace => return Ok(Some(self.with_mode(Mode::Counting(Count::Low(None))))),
-            Token::Bracket => return Ok(Some(self.with_mode(Mode::ClassOpened))),
-            Token::Other => return Ok(None),
-            Token::Point => dot(alloc)?,
-            Token::Character => one_char(alloc, c)?,
-        };
-        Ok(Some(self.with_atom(alloc, atom)?))
+        match Token::of(c) {
+            Token::Bar => Ok(Some(self.with_alternative(alloc)?)),
+            Token::Asterisk => self.with_quantifier(alloc, Quantifier::ZeroOrMore),
+            Token::Plus => self.with_quantifier(alloc, Quantifier::OneOrMore),
+            Token::Question => self.questioned(alloc),
+            Token::Caret => Ok(Some(self.with_term(alloc, Tree::Start)?)),
+            Token::Dollar => Ok(Some(self.with_term(alloc, Tree::End)?)),
+            Token::Closing => self.closed(alloc),
+            Token::Opening => Ok(Some(self.with_mode(Mode::Opening))),
+            Token::Backslash => Ok(Some(self.with_mode(Mode::Escaping))),
+            Token::Brace => Ok(Some(self.with_mode(Mode::Counting(Count::Low(None))))),
+            Token::Bracket => Ok(Some(self.with_mode(Mode::ClassOpened))),
+            Token::Other => Ok(None),
+            Token::Point => Ok(Some(self.with_atom(alloc, dot(alloc)?)?)),
+            Token::Character => Ok(Some(self.with_char(alloc, c)?)),
+        }
     }
 
     // Behind `(`.

@@ -32,18 +32,12 @@ impl Reader {
         ensures { IfOk result (λ r. option_map parts_of r
             ≡ after_class_token (parts_of self) (class_of class) c (spec_class_token c)) }
     {
-        let class = match ClassToken::of(c) {
-            ClassToken::Closing => {
-                let atom = class.closed()?;
-                return Ok(Some(self.with_atom(alloc, atom)?));
-            }
-            ClassToken::Backslash => {
-                return Ok(Some(self.with_mode(Mode::ClassEscaping(class))));
-            }
-            ClassToken::Dash => class.with_dash()?,
-            ClassToken::Character => class.with_item(Item::Char(c))?,
-        };
-        Ok(self.with_class(class))
+        match ClassToken::of(c) {
+            ClassToken::Closing => Ok(Some(self.with_atom(alloc, class.closed()?)?)),
+            ClassToken::Backslash => Ok(Some(self.with_mode(Mode::ClassEscaping(class)))),
+            ClassToken::Dash => Ok(self.with_class(class.with_dash()?)),
+            ClassToken::Character => Ok(self.with_class(class.with_item(Item::Char(c))?)),
+        }
     }
 
     pub(super) fn class_escaped(

@@ -7,7 +7,6 @@ ghost use Rattle.strkw_ecma.specs.Parts.{parts_of, class_of, after_coding, after
 use super::{Mode, Reader};
 use crate::classes::{ClassReader, Item};
 use crate::codes::Coded;
-use crate::sets::one_char;
 use std::alloc::{AllocError, Global};
 
 impl Reader {
@@ -17,10 +16,7 @@ impl Reader {
         match coded {
             Coded::Fails => Ok(None),
             Coded::Goes(coding) => Ok(Some(self.with_mode(Mode::Coding(coding)))),
-            Coded::Makes(c) => {
-                let atom = one_char(alloc, c)?;
-                Ok(Some(self.with_atom(alloc, atom)?))
-            }
+            Coded::Makes(c) => Ok(Some(self.with_char(alloc, c)?)),
         }
     }
 
