@@ -222,14 +222,16 @@ fn analyze_pattern_under_refusal(rt: HostRuntime) -> Result<(), Fail> {
 }
 
 // A pattern of ECMA-262, a text, and whether it is found there; nothing where the pattern is not taken.
-const SEARCHES: [(&str, &str, Option<bool>); 7] = [
+const SEARCHES: [(&str, &str, Option<bool>); 9] = [
     ("^(a|b)*\\x2Ec", "ab.c", Some(true)),
     ("(a+?|.)*$", "ab", Some(true)),
     ("\\S\\d?\\b", "a1", Some(true)),
+    ("^\\P{Lu}[\\d\\p{sc=Grek}]$", "a\u{3B1}", Some(true)),
     ("", "", Some(true)),
     ("(a+|b?", "", None),
     ("a**", "", None),
     ("\\w[\\cA-\\cB\\s]{2", "", None),
+    ("[\\p{gc=Grek}]", "", None),
 ];
 
 // Whether the engine of a pattern answers so; out of memory is an error here.
