@@ -358,22 +358,23 @@ impl Reader {
     fn plain(self, alloc: Global, c: char) -> Result<Option<Reader>, AllocError>
         ensures { IfOk result (λ r. option_map parts_of r ≡ after_token (parts_of self) c (spec_token c)) }
     {
-        match Token::of(c) {
-            Token::Bar => Ok(Some(self.with_alternative(alloc)?)),
-            Token::Asterisk => self.with_quantifier(alloc, Quantifier::ZeroOrMore),
-            Token::Plus => self.with_quantifier(alloc, Quantifier::OneOrMore),
-            Token::Question => self.questioned(alloc),
-            Token::Caret => Ok(Some(self.with_term(alloc, Tree::Start)?)),
-            Token::Dollar => Ok(Some(self.with_term(alloc, Tree::End)?)),
-            Token::Closing => self.closed(alloc),
-            Token::Opening => Ok(Some(self.with_mode(Mode::Opening))),
-            Token::Backslash => Ok(Some(self.with_mode(Mode::Escaping))),
-            Token::Brace => Ok(Some(self.with_mode(Mode::Counting(Count::Low(None))))),
-            Token::Bracket => Ok(Some(self.with_mode(Mode::ClassOpened))),
-            Token::Other => Ok(None),
-            Token::Point => Ok(Some(self.with_atom(alloc, dot(alloc)?)?)),
-            Token::Character => Ok(Some(self.with_char(alloc, c)?)),
-        }
+        let atom = match Token::of(c) {
+            Token::Bar => return Ok(Some(self.with_alternative(alloc)?)),
+            Token::Asterisk => return self.with_quantifier(alloc, Quantifier::ZeroOrMore),
+            Token::Plus => return self.with_quantifier(alloc, Quantifier::OneOrMore),
+            Token::Question => return self.questioned(alloc),
+            Token::Caret => return Ok(Some(self.with_term(alloc, Tree::Start)?)),
+            Token::Dollar => return Ok(Some(self.with_term(alloc, Tree::End)?)),
+            Token::Closing => return self.closed(alloc),
+            Token::Opening => return Ok(Some(self.with_mode(Mode::Opening))),
+            Token::Backslash => return Ok(Some(self.with_mode(Mode::Escaping))),
+            Token::Brace => return Ok(Some(self.with_mode(Mode::Counting(Count::Low(None))))),
+            Token::Bracket => return Ok(Some(self.with_mode(Mode::ClassOpened))),
+            Token::Other => return Ok(None),
+            Token::Point => dot(alloc)?,
+            Token::Character => one_char(alloc, c)?,
+        };
+        Ok(Some(self.with_atom(alloc, atom)?))
     }
 
     // Behind `(`.
