@@ -23,7 +23,7 @@ pub fn text_at(items: &Value, place: usize) -> &str {
 
 /// The draft of a row.
 pub fn draft(row: &Value) -> Option<Draft> {
-    row.get("draft").and_then(draft_in)
+    draft_in(row.get("draft")?)
 }
 
 /// The keyword of a name.

@@ -42,7 +42,7 @@ fn main(rt: HostRuntime) -> Result<()> {
         )?;
     }
     print_matches(&rt, alloc)?;
-    print_slugs(&rt, alloc)?;
+    print_patterns(&rt, alloc)?;
     print_registered(&rt, alloc)?;
     print_answers(&rt, alloc)
 }
@@ -83,14 +83,29 @@ fn print_matches(rt: &impl Print, alloc: Global) -> Result<()> {
     Ok(())
 }
 
-// A slug, and two texts that are none.
-fn print_slugs(rt: &impl Print, alloc: Global) -> Result<()> {
-    let schema = Value::from_str(alloc, r#"{"pattern":"^[a-z]+(-[a-z]+)*$"}"#)?;
+const SLUG: &str = r#"{"pattern":"^[a-z]+(-[a-z]+)*$"}"#;
+
+const NAME: &str = r#"{"pattern":"^\\p{Lu}[\\w-]{2,8}(\\.[a-z]+)*$"}"#;
+
+// A slug, and two texts that are none; a name with a capital, and one without.
+fn print_patterns(rt: &impl Print, alloc: Global) -> Result<()> {
+    for (schema, text) in [
+        (SLUG, "a-slug"),
+        (SLUG, "a--slug"),
+        (SLUG, "a-slug\n"),
+        (NAME, "Élan-1.rs"),
+        (NAME, "élan-1.rs"),
+    ] {
+        print_errors_by(rt, alloc, schema, text)?;
+    }
+    Ok(())
+}
+
+fn print_errors_by(rt: &impl Print, alloc: Global, schema: &str, text: &str) -> Result<()> {
+    let schema = Value::from_str(alloc, schema)?;
     let object = schema.as_object().context("the schema is no object")?;
-    for text in ["a-slug", "a--slug", "a-slug\n"] {
-        for error in patterns::errors_by(alloc, object, text)? {
-            println!(rt; "{error}")?;
-        }
+    for error in patterns::errors_by(alloc, object, text)? {
+        println!(rt; "{error}")?;
     }
     Ok(())
 }
