@@ -6,4 +6,5 @@ mod entries;
 mod kept;
 mod leaves;
 mod objects;
+mod owned;
 mod reports;

@@ -6,7 +6,7 @@ use Rattle.serde_json.specs.Data.{Members}
 use Rattle.strkw_report.specs.declared.error.Site.{Site}
 use Rattle.strkw_pattern.specs.declared.engine.Outcome.{Outcome}
 use Rattle.strkw_keywords.specs.Meanings.{Lists}
-use Rattle.strkw_keywords.specs.Formats.{Window, bounds}
+use Rattle.strkw_formats.specs.Formats.{Window, bounds}
 use Rattle.strkw_keywords.specs.Errors.{Assertion, NodeReports}
 use Rattle.strkw_keywords.specs.Object.{Settings, Errors}
 use Rattle.strkw_keywords.specs.Lengths.{IsEmpty, interval, OutsideIsAnError}

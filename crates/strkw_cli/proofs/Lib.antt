@@ -8,7 +8,6 @@ pub mod Notes
 pub mod Printable
 pub mod AnswerCases
 pub mod AnswerMeaning
-pub mod MoveLemmas
 pub mod LineLemmas
 pub mod AnswerLemmas
 pub mod OutcomeLemmas
@@ -16,6 +15,5 @@ pub mod RunLemmas
 pub mod Folding
 pub mod AnswerExistence
 pub mod Lines
-pub mod Built
 pub mod Asked
 pub mod Parts

@@ -11,7 +11,7 @@ use Rattle.strkw_keywords.specs.Remarks.{Remark}
 use Rattle.strkw_keywords.specs.Object.{Settings, Errors, asserted, remarked, FirstRefusal, remarks_on, Notes}
 use Rattle.strkw_keywords.specs.Laws.{CompiledIsInUse}
 use Rattle.strkw_cli.specs.declared.strings.StringKeywords.{StringKeywords}
-use Rattle.strkw_keywords.specs.FormatLaws.{IsInside}
+use Rattle.strkw_formats.specs.FormatLaws.{IsInside}
 use Rattle.strkw_keywords.specs.Lengths.{IsEmpty, interval}
 use Rattle.strkw_keywords.specs.Folding.{IsInInterval, FoldsToFalse, IntervalIsLeft}
 use Rattle.strkw_cli.specs.Compiled.{keywords_assertions, keywords_interval, keywords_remarks, IsCompiledFrom}

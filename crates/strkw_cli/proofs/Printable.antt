@@ -13,7 +13,7 @@ use Rattle.strkw_keywords.specs.Compiled.{out_of_memory}
 use Rattle.strkw_keywords.specs.Object.{FirstRefusal, remarks_on, Notes, Settings, Entry, nothing, malformed, gives, Keyed, of_string, of_text, known_media_type, known_codec, known_format, ContentRule, ignored, checked, noted, content_rule, encoded_check, media_type_beside, media_type_check, encoding_check, encoding_beside, noted_text, schema_beside, media_type_entry, encoding_entry, schema_entry, checks_formats, ignores_unknown, checked_format, format_entry, limit_entry, as_limit, min_entry, max_entry, engine_entry, value_at, keywords, IsEntryAt, IsPatternEntry, IsPatternValue, AreEntries, remark_by, remarked, refusal_or, refusal, no_string}
 use Rattle.strkw_coding.specs.declared.codec.Codec.{Codec}
 use Rattle.strkw_coding.specs.declared.media_type.BuiltinMediaType.{BuiltinMediaType}
-use Rattle.strkw_keywords.specs.declared.builtin.BuiltinFormat.{BuiltinFormat}
+use Rattle.strkw_formats.specs.declared.builtin.BuiltinFormat.{BuiltinFormat}
 use Rattle.strkw_keywords.specs.declared.keyword.Keyword.{Keyword}
 use Rattle.strkw_keywords.specs.declared.keyword.Keyword.TheVariants.{ContentMediaType, ContentEncoding, ContentSchema, Format, MinLength, MaxLength, Pattern}
 use Rattle.strkw_keywords.specs.Keywords.{keyword_name}

@@ -1,16 +1,14 @@
 -- Steps of the compilation, one after another.
-use Rattle.std.proofs.Common.{◌≡◌, ℕ, List, [], ◌∷◌, ◌++◌, Option, Some, None, Result, Ok, Err, refl, sym, ap, ◌∙◌, inl, inr, append_assoc}
+use Rattle.std.proofs.Common.{◌≡◌, ℕ, List, [], ◌∷◌, ◌++◌, Option, Some, None, refl, sym, ap, ◌∙◌, append_assoc}
 use Rattle.std.proofs.lemmas.List.{append-nil}
-use Rattle.strkw_report.specs.Refusals.{Refusal, refusal_of}
-use Rattle.strkw_report.specs.declared.refusal.CompileError.{CompileError}
+use Rattle.strkw_report.specs.Refusals.{Refusal}
 use Rattle.strkw_pattern.specs.declared.engine.Outcome.{Outcome}
 use Rattle.strkw_keywords.specs.declared.validator.Validator.{Validator}
 use Rattle.strkw_keywords.specs.Places.{Place}
 use Rattle.strkw_keywords.specs.Errors.{placed}
 use Rattle.strkw_keywords.specs.Validators.{assertions_of, assertions_in, remarks_in, listed_remark, remark_made}
 use Rattle.strkw_keywords.specs.Object.{Entry, nothing, malformed, gives, Keyed, refusal, refusal_or, asserted, demands_by, remarked, remark_by}
-use Rattle.strkw_keywords.specs.Compiled.{IsCompiled, StandsFor}
-use Rattle.strkw_cli.specs.Steps.{IsRefused, Stand, Adds}
+use Rattle.strkw_keywords.specs.Compiled.{AddsNothing, StandsFor}
 use Rattle.strkw_cli.proofs.Many.{in-append, noted-append}
 
 -- ---- entries, one list behind another
@@ -46,42 +44,27 @@ remarked-append place [] fs = refl
 remarked-append place (e ∷ es) fs =
     ap (λ l. remark_by place e.keyword e.entry ++ l) (remarked-append place es fs) ∙ sym (append_assoc (remark_by place e.keyword e.entry) (remarked place es) (remarked place fs))
 
--- ---- steps
+-- ---- what stands for entries
+
+-- none of these entries is refused, and the validators assert and note what they do
+pub record Stand {E : Type 0} (outcome : E → List ℕ → Outcome) (place : Place) (es : List Keyed) (vs : List (Validator E)) : Type 0 where
+  pub good : refusal place es ≡ None
+  pub asserts : assertions_in outcome vs ≡ asserted place es
+  pub notes : remarks_in vs ≡ remarked place es
 
 module _ {E : Type 0} (outcome : E → List ℕ → Outcome) (place : Place) where
-  -- a validator more stands for its entries
-  one_stands : (es : List Keyed) (old new : List (Validator E)) (v : Validator E) → new ≡ old ++ v ∷ [] → StandsFor outcome place es v → Stand outcome place es old new
-  one_stands es old new v e c = record {
-    good = c.good;
-    asserts = rw (e, in-append outcome old (v ∷ []), append-nil (assertions_of outcome v), c.asserts) refl;
-    notes = rw (e, noted-append outcome old (v ∷ []), append-nil (listed_remark (remark_made v)), c.notes) refl;
-  }
-
-  -- what was compiled of entries is kept
-  pub kept : (es : List Keyed) (old new : List (Validator E)) (v : Validator E) → new ≡ old ++ v ∷ [] → IsCompiled outcome place es (Some (Ok v)) → Adds outcome place es old new (Ok tt)
-  kept es old new v e c = record { answer = one_stands es old new v e c.answer }
-
-  -- what stands for entries, and what stands for those behind them
-  pub stand_both : (es fs : List Keyed) (old mid new : List (Validator E)) → Stand outcome place es old mid → Stand outcome place fs mid new → Stand outcome place (es ++ fs) old new
-  stand_both es fs old mid new a b = record {
+  -- entries more that add nothing
+  pub stand_still : (es fs : List Keyed) (vs : List (Validator E)) → Stand outcome place es vs → AddsNothing place fs → Stand outcome place (es ++ fs) vs
+  stand_still es fs vs a b = record {
     good = refusal-passed place es fs a.good ∙ b.good;
-    asserts = b.asserts ∙ ap (λ l. l ++ asserted place fs) a.asserts ∙ append_assoc (assertions_in outcome old) (asserted place es) (asserted place fs) ∙ ap (λ l. assertions_in outcome old ++ l) (sym (asserted-append place es fs));
-    notes = b.notes ∙ ap (λ l. l ++ remarked place fs) a.notes ∙ append_assoc (remarks_in old) (remarked place es) (remarked place fs) ∙ ap (λ l. remarks_in old ++ l) (sym (remarked-append place es fs));
+    asserts = rw (a.asserts, asserted-append place es fs, b.asserts, append-nil (asserted place es)) refl;
+    notes = rw (a.notes, remarked-append place es fs, b.notes, append-nil (remarked place es)) refl;
   }
 
-  refused_on : (es fs : List Keyed) (e : CompileError) → IsRefused e (refusal place es) → IsRefused e (refusal place (es ++ fs))
-  refused_on es fs e (inl none) = inl none
-  refused_on es fs e (inr first) = inr (refusal-found place es fs (refusal_of e) first)
-
-  refused_behind : (es fs : List Keyed) (e : CompileError) → refusal place es ≡ None → IsRefused e (refusal place fs) → IsRefused e (refusal place (es ++ fs))
-  refused_behind es fs e good (inl none) = inl none
-  refused_behind es fs e good (inr first) = inr (refusal-passed place es fs good ∙ first)
-
-  -- a step that is refused refuses all that was to follow
-  pub refused_first : (es fs : List Keyed) (old mid new : List (Validator E)) (e : CompileError) → Adds outcome place es old mid (Err e) → Adds outcome place (es ++ fs) old new (Err e)
-  refused_first es fs old mid new e a = record { answer = refused_on es fs e a.answer }
-
-  -- a step and the next one
-  pub and_then : (es fs : List Keyed) (old mid new : List (Validator E)) (r : Result (Unit {0}) CompileError) → Adds outcome place es old mid (Ok tt) → Adds outcome place fs mid new r → Adds outcome place (es ++ fs) old new r
-  and_then es fs old mid new (Ok x) a b = record { answer = stand_both es fs old mid new a.answer b.answer }
-  and_then es fs old mid new (Err e) a b = record { answer = refused_behind es fs e a.answer.good b.answer }
+  -- entries more for which one validator stands
+  pub stand_more : (es fs : List Keyed) (vs : List (Validator E)) (v : Validator E) → Stand outcome place es vs → StandsFor outcome place fs v → Stand outcome place (es ++ fs) (vs ++ v ∷ [])
+  stand_more es fs vs v a b = record {
+    good = refusal-passed place es fs a.good ∙ b.good;
+    asserts = rw (in-append outcome vs (v ∷ []), append-nil (assertions_of outcome v), a.asserts, b.asserts, asserted-append place es fs) refl;
+    notes = rw (noted-append outcome vs (v ∷ []), append-nil (listed_remark (remark_made v)), a.notes, b.notes, remarked-append place es fs) refl;
+  }

@@ -6,7 +6,7 @@ use Rattle.strkw_keywords.specs.Errors.{Assertion}
 use Rattle.strkw_keywords.specs.Remarks.{Remark}
 use Rattle.strkw_keywords.specs.Validators.{assertions_in, remarks_in}
 use Rattle.strkw_keywords.specs.Object.{Settings, Keyed, AreEntries, refusal, asserted, remarked}
-use Rattle.strkw_keywords.specs.Formats.{Window}
+use Rattle.strkw_formats.specs.Formats.{Window}
 use Rattle.strkw_keywords.specs.Lengths.{interval}
 use Rattle.strkw_cli.specs.declared.strings.StringKeywords.{StringKeywords}
 

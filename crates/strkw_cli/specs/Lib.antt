@@ -1,5 +1,4 @@
 pub mod Compiled
-pub mod Steps
 pub mod Request
 pub mod Borrowed
 pub mod Printed
@@ -8,7 +7,6 @@ pub mod Lines
 pub mod Outcome
 pub mod Serving
 pub mod Faults
-pub mod HostDevices
 pub mod Written
 pub mod Tokens
 pub mod Parts

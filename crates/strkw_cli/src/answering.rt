@@ -1,14 +1,14 @@
 //! The answer to one line.
 
-ghost use Rattle.std.specs.Prelude.{◌≡◌, ℕ, List, ◌++◌, Some, OnOk, OnErr};
+ghost use Rattle.std.specs.Prelude.{◌++◌, ◌≡◌, ℕ, List, OnErr, OnOk, Some};
 ghost use Rattle.strkw_keywords.specs.Handed.{settings_of};
+ghost use Rattle.strkw_keywords.specs.Lengths.{IsEmpty};
+ghost use Rattle.strkw_cli.specs.Answer.{Answers, IsAnswer, settings_for};
 ghost use Rattle.strkw_cli.specs.Borrowed.{request_view};
-ghost use Rattle.strkw_cli.specs.Answer.{IsAnswer, Answers, settings_for};
 ghost use Rattle.strkw_cli.specs.Compiled.{keywords_interval};
 ghost use Rattle.strkw_cli.specs.Printed.{TellsFold};
-ghost use Rattle.strkw_keywords.specs.Lengths.{IsEmpty};
 
-use super::compile::compile_strings;
+use super::compile::compile_owned;
 use super::printing::{push_bad_request, push_refusal};
 use super::request::{Request, read_request};
 use super::strings::StringKeywords;
@@ -55,20 +55,20 @@ fn answer_line(
     ensures err { OnErr result ((more : List ℕ) × (out.new.items ≡ out.old.items ++ more)) }
 {
     match read_request(alloc, line, scratch)? {
-        Some(request) => answer_request(alloc, &request, out),
+        Some(request) => answer_request(alloc, request, out),
         None => push_bad_request(out),
     }
 }
 
 // Appends the answer to a request: the refusal of its schema object, or whether that folds to false, where this is asked,
 // with the errors and the notes of its instance.
-fn answer_request(alloc: Global, request: &Request<'_>, out: &mut Vec<u8>) -> Result<(), AllocError>
-    ensures ok { OnOk result ((made : List ℕ) × (out.new.items ≡ out.old.items ++ made) × Answers (Some (request_view request.now)) made) }
+fn answer_request(alloc: Global, request: Request<'_>, out: &mut Vec<u8>) -> Result<(), AllocError>
+    ensures ok { OnOk result ((made : List ℕ) × (out.new.items ≡ out.old.items ++ made) × Answers (Some (request_view request.entry)) made) }
     ensures err { OnErr result ((more : List ℕ) × (out.new.items ≡ out.old.items ++ more)) }
 {
     let builder = NoPatterns;
-    let ctx = context_of(alloc, request, &builder);
-    match compile_strings(alloc, &ctx, &request.schema) {
+    let ctx = context_of(alloc, &request, &builder);
+    match compile_owned(alloc, &ctx, request.schema) {
         Ok(keywords) => {
             push_fold(request.fold, &keywords, out)?;
             keywords.push_found(alloc, request.instance, &ctx.checks, out)

@@ -1,23 +1,22 @@
 //! The compilation of a schema object's string keywords.
 
-ghost use Rattle.std.specs.Prelude.{◌≡◌, ◌⊎◌, ◌++◌, [], ◌∷◌, List, Some, false, IfOk, IfErr, OnOk};
+ghost use Rattle.std.specs.Prelude.{◌≡◌, ◌⊎◌, IfErr, IfOk, Some, false};
+ghost use Rattle.serde_json.specs.Data.{Members};
 ghost use Rattle.serde_json.specs.View.{members_view};
-ghost use Rattle.strkw_report.specs.Refusals.{refusal_of, reason_of, prints_float};
-ghost use Rattle.strkw_keywords.specs.Places.{Place};
+ghost use Rattle.strkw_report.specs.Refusals.{prints_float, reason_of, refusal_of};
+ghost use Rattle.strkw_keywords.specs.Compiled.{IsCompiledAt, out_of_memory};
 ghost use Rattle.strkw_keywords.specs.Errors.{IsInUse};
-ghost use Rattle.strkw_keywords.specs.Settings.{place_in};
-ghost use Rattle.strkw_keywords.specs.Object.{Keyed, AreEntries, FirstRefusal};
-ghost use Rattle.strkw_keywords.specs.Compiled.{out_of_memory, IsCompiled};
 ghost use Rattle.strkw_keywords.specs.Handed.{lists_of, settings_of};
-ghost use Rattle.strkw_cli.specs.Compiled.{keywords_assertions, IsCompiledFrom};
-ghost use Rattle.strkw_cli.specs.Steps.{Adds};
+ghost use Rattle.strkw_keywords.specs.Object.{FirstRefusal};
+ghost use Rattle.strkw_keywords.specs.Without.{KeepsOthers};
+ghost use Rattle.strkw_cli.specs.Compiled.{IsCompiledFrom, keywords_assertions};
 
 use crate::strings::StringKeywords;
 use serde_json::{Map, Value};
-use std::alloc::{AllocError, Global};
+use std::alloc::Global;
 use strkw_keywords::laws::compiled_is_in_use;
-use strkw_keywords::{Context, Keyword, Validator, compile_entry};
-use strkw_pattern::{EngineBuilder, RegexEngine};
+use strkw_keywords::{Context, Keyword, Validator, compile_entry, take_content_schema};
+use strkw_pattern::EngineBuilder;
 use strkw_report::{CompileError, CompileErrorKind, Location};
 
 /// Compiles the string keywords of a schema object: `contentMediaType`, `contentEncoding`, `contentSchema`, `format`,
@@ -47,61 +46,61 @@ pub fn compile_strings<B: EngineBuilder>(
     ensures printable { IfErr result (λ e. prints_float (reason_of e.kind) ≡ false) }
 {
     compiled_is_in_use();
-    let mut validators = Vec::new(alloc);
-    add_entries(alloc, ctx, object, &mut validators)?;
-    Ok(StringKeywords { validators })
+    let schema = compile_entry(alloc, ctx, object, Keyword::ContentSchema);
+    compile_beside(alloc, ctx, object, schema)
 }
 
-// What stands for all entries, in their order.
-fn add_entries<B: EngineBuilder>(
+/// What `compile_strings` answers for an object that is given up: its value at `contentSchema` is moved into the compiled
+/// keywords, and not copied.
+pub fn compile_owned<B: EngineBuilder>(
     alloc: Global,
     ctx: &Context<'_, B>,
-    object: &Map<String, Value>,
-    validators: &mut Vec<Validator<B::Engine>>,
-) -> Result<(), CompileError>
-    ensures { (es : List Keyed) × AreEntries (settings_of B.takes B.outcome admits accepted encoded decoding ctx.now)
-        (members_view object.now.entries) es × Adds B.Engine.outcome (place_in ctx.now) es validators.old.items validators.new.items result }
+    mut object: Map<String, Value>,
+) -> Result<StringKeywords<B::Engine>, CompileError>
+    ensures compiled { IfOk result (λ k. IsCompiledFrom B.Engine.outcome
+        (settings_of B.takes B.outcome admits accepted encoded decoding ctx.now) (members_view object.entries) k) }
+    ensures in_use { IfOk result (λ k. IsInUse (keywords_assertions B.Engine.outcome k) (lists_of admits accepted encoded decoding ctx.now.checks)) }
+    ensures refused { IfErr result (λ e. (refusal_of e ≡ out_of_memory) ⊎ FirstRefusal
+        (settings_of B.takes B.outcome admits accepted encoded decoding ctx.now) (members_view object.entries) (Some (refusal_of e))) }
+    // So each refusal has its text.
+    ensures printable { IfErr result (λ e. prints_float (reason_of e.kind) ≡ false) }
 {
-    for keyword in Keyword::VARIANTS {
-        keep(
-            alloc,
-            compile_entry(alloc, ctx, object, *keyword),
-            validators,
-        )?;
-    }
-    Ok(())
+    compiled_is_in_use();
+    let schema = take_content_schema(alloc, ctx, &mut object);
+    compile_beside(alloc, ctx, &object, schema)
 }
 
-// ---- one entry
-
-// Keeps what was compiled of some entries, if anything was.
-fn keep<E: RegexEngine>(
+// Compiles the keywords of an object by what its entry at `contentSchema` is compiled to, and by its other members.
+fn compile_beside<B: EngineBuilder>(
     alloc: Global,
-    compiled: Option<Result<Validator<E>, CompileError>>,
-    validators: &mut Vec<Validator<E>>,
-) -> Result<(), CompileError>
-    ensures { (place : Place) (es : List Keyed) → IsCompiled E.outcome place es compiled
-        → Adds E.outcome place es validators.old.items validators.new.items result }
+    ctx: &Context<'_, B>,
+    others: &Map<String, Value>,
+    mut schema: Option<Result<Validator<B::Engine>, CompileError>>,
+) -> Result<StringKeywords<B::Engine>, CompileError>
+    ensures compiled { (ms : Members) → KeepsOthers ms (members_view others.now.entries)
+        → IsCompiledAt B.Engine.outcome (settings_of B.takes B.outcome admits accepted encoded decoding ctx.now) ms Keyword.ContentSchema schema
+        → IfOk result (λ k. IsCompiledFrom B.Engine.outcome (settings_of B.takes B.outcome admits accepted encoded decoding ctx.now) ms k) }
+    ensures refused { (ms : Members) → KeepsOthers ms (members_view others.now.entries)
+        → IsCompiledAt B.Engine.outcome (settings_of B.takes B.outcome admits accepted encoded decoding ctx.now) ms Keyword.ContentSchema schema
+        → IfErr result (λ e. (refusal_of e ≡ out_of_memory) ⊎ FirstRefusal (settings_of B.takes B.outcome admits accepted encoded decoding ctx.now) ms (Some (refusal_of e))) }
 {
-    match compiled {
-        None => Ok(()),
-        Some(Ok(validator)) => match push(validator, validators) {
-            Ok(()) => Ok(()),
-            Err(_) => Err(CompileError {
+    let mut validators = Vec::new(alloc);
+    for keyword in Keyword::VARIANTS {
+        let compiled = match keyword {
+            Keyword::ContentSchema => schema.take(),
+            _ => compile_entry(alloc, ctx, others, *keyword),
+        };
+        let Some(compiled) = compiled else {
+            continue;
+        };
+        let validator = compiled?;
+        let Ok(()) = validators.reserve(1) else {
+            return Err(CompileError {
                 kind: CompileErrorKind::Memory,
                 location: Location::root(alloc),
-            }),
-        },
-        Some(Err(refusal)) => Err(refusal),
+            });
+        };
+        validators.push_reserved(validator);
     }
-}
-
-fn push<E: RegexEngine>(
-    validator: Validator<E>,
-    validators: &mut Vec<Validator<E>>,
-) -> Result<(), AllocError>
-    ensures { OnOk result (validators.new.items ≡ validators.old.items ++ validator ∷ []) }
-{
-    validators.push(validator)?;
-    Ok(())
+    Ok(StringKeywords { validators })
 }

@@ -1,8 +1,8 @@
 //! Why a run ended before the end of its input.
 
 ghost use Rattle.std.specs.Prelude.{◌≡◌};
-ghost use Rattle.strkw_cli.specs.declared.faults.RunFault.TheVariants.{Memory};
 ghost use Rattle.strkw_cli.specs.Faults.{fault_text};
+ghost use Rattle.strkw_cli.specs.declared.faults.RunFault.TheVariants.{Memory};
 
 use std::alloc::AllocError;
 use std::error::Error;

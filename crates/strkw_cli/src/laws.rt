@@ -1,21 +1,21 @@
 //! Laws of the definitions. Each is a fact that a caller gains by the call; the calls do nothing.
 
-ghost use Rattle.std.specs.Prelude.{◌≡◌, ◌↔◌, List, [], ℕ, Option, None, Some, false};
+ghost use Rattle.std.specs.Prelude.{◌↔◌, ◌≡◌, ℕ, List, None, Option, Some, [], false};
 ghost use Rattle.serde_json.specs.Data.{Members};
 ghost use Rattle.strkw_report.specs.Kinds.{Report};
 ghost use Rattle.strkw_report.specs.Refusals.{Refusal, prints_float};
 ghost use Rattle.strkw_report.specs.declared.error.Site.{Site};
-ghost use Rattle.strkw_keywords.specs.Meanings.{Lists};
-ghost use Rattle.strkw_keywords.specs.FormatLaws.{IsInside};
+ghost use Rattle.strkw_formats.specs.FormatLaws.{IsInside};
+ghost use Rattle.strkw_keywords.specs.Errors.{IsInUse, NodeReports};
+ghost use Rattle.strkw_keywords.specs.Folding.{AcceptAlike, FoldsToFalse, IsInInterval, RefusesTexts};
 ghost use Rattle.strkw_keywords.specs.Lengths.{IsEmpty};
-ghost use Rattle.strkw_keywords.specs.Folding.{IsInInterval, FoldsToFalse, RefusesTexts, AcceptAlike};
-ghost use Rattle.strkw_keywords.specs.Errors.{NodeReports, IsInUse};
+ghost use Rattle.strkw_keywords.specs.Meanings.{Lists};
+ghost use Rattle.strkw_keywords.specs.Object.{Errors, FirstRefusal, Notes, Settings, remarks_on};
 ghost use Rattle.strkw_keywords.specs.Remarks.{Remark};
-ghost use Rattle.strkw_keywords.specs.Object.{Settings, Errors, FirstRefusal, remarks_on, Notes};
-ghost use Rattle.strkw_cli.specs.declared.strings.StringKeywords.{StringKeywords};
-ghost use Rattle.strkw_cli.specs.Printed.{ArePrintable};
 ghost use Rattle.strkw_cli.specs.Answer.{IsAnswer, IsOutput};
-ghost use Rattle.strkw_cli.specs.Compiled.{keywords_assertions, keywords_interval, keywords_remarks, IsCompiledFrom};
+ghost use Rattle.strkw_cli.specs.Compiled.{IsCompiledFrom, keywords_assertions, keywords_interval, keywords_remarks};
+ghost use Rattle.strkw_cli.specs.Printed.{ArePrintable};
+ghost use Rattle.strkw_cli.specs.declared.strings.StringKeywords.{StringKeywords};
 
 use strkw_keywords::laws::{
     compiled_is_in_use, interval_is_what_demands_leave, lengths_outside_are_errors,

@@ -4,13 +4,9 @@
 #![tactic(auto)]
 
 mod answering;
-mod building;
 mod compile;
-mod devices;
 mod faults;
-mod host_devices;
 pub mod laws;
-mod memory_devices;
 mod printing;
 mod request;
 mod running;
@@ -18,12 +14,12 @@ mod strings;
 mod writing;
 
 pub use answering::answer;
-pub use compile::compile_strings;
-pub use devices::{DeviceFailed, Sink, Source};
+pub use compile::{compile_owned, compile_strings};
 pub use faults::RunFault;
-pub use host_devices::{HostSink, HostSource};
-pub use memory_devices::{MemorySink, MemorySource};
 pub use request::{draft_in, draft_numbered, read_value};
 pub use running::run;
 pub use strings::{ObjectEvaluation, StringKeywords};
+pub use strkw_devices::{
+    DeviceFailed, HostSink, HostSource, MemorySink, MemorySource, Sink, Source,
+};
 pub use strkw_keywords::Note;

@@ -1,7 +1,7 @@
 //! The lines of an answer to what is no request, and of a refusal. Each call appends them, or a beginning of them where it is out of memory.
 
-ghost use Rattle.std.specs.Prelude.{◌≡◌, ◌↔◌, ℕ, List, ◌++◌, ◌≢◌, false, IsTrue, OnOk, OnErr, codes};
-ghost use Rattle.strkw_report.specs.Refusals.{refusal_of, reason_of, prints_float, memory};
+ghost use Rattle.std.specs.Prelude.{◌++◌, ◌↔◌, ◌≡◌, ◌≢◌, ℕ, IsTrue, List, OnErr, OnOk, codes, false};
+ghost use Rattle.strkw_report.specs.Refusals.{memory, prints_float, reason_of, refusal_of};
 ghost use Rattle.strkw_cli.specs.Printed.{printed, refused_line};
 
 use std::alloc::{AllocError, Global};

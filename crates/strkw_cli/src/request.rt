@@ -1,22 +1,22 @@
 //! The request that a line is.
 
-ghost use Rattle.std.specs.Prelude.{◌≡◌, ◌<◌, ◌∷◌, Option, Some, None, false, IfOk, OnOk, IsErrOf, length, option_map, option_and_then};
+ghost use Rattle.std.specs.Prelude.{◌<◌, ◌∷◌, ◌≡◌, IfOk, IsErrOf, None, OnOk, Option, Some, false, length, option_and_then, option_map};
 ghost use Rattle.std.specs.Bool.{MatchBool};
 ghost use Rattle.json.specs.Token.{begin_object};
 ghost use Rattle.serde_json.specs.Data.{Data, Members, no_members};
-ghost use Rattle.serde_json.specs.Read.{read as read_text};
 ghost use Rattle.serde_json.specs.Find.{as_object};
-ghost use Rattle.serde_json.specs.View.{view, members_view};
-ghost use Rattle.strkw_cli.specs.Request.{IsReading, draft_numbered, draft_in, flag_in, request_in, request_of_members};
+ghost use Rattle.serde_json.specs.Read.{read as read_text};
+ghost use Rattle.serde_json.specs.View.{members_view, view};
+ghost use Rattle.strkw_coding.specs.Passing.{members_read, value_read};
 ghost use Rattle.strkw_cli.specs.Borrowed.{request_view};
 ghost use Rattle.strkw_cli.specs.Parts.{AreParts, Takes};
-ghost use Rattle.strkw_coding.specs.Passing.{value_read, members_read};
+ghost use Rattle.strkw_cli.specs.Request.{IsReading, draft_in, draft_numbered, flag_in, request_in, request_of_members};
 ghost use Rattle.strkw_cli.specs.Tokens.{begins_object, member_depth};
 
-use super::building::{NoValue, build_value, text_in};
 use json::{Reader, Scratch, Token};
 use serde_json::{Map, Value};
 use std::alloc::{AllocError, Global};
+use strkw_coding::{JsonError, build_json, json_text};
 use strkw_report::Draft;
 
 /// A request. The text of its instance stands in its line, or unescaped in the scratch that its line was read with.
@@ -114,26 +114,26 @@ impl<'a> Parts<'a> {
         alloc: Global,
         name: &str,
         tokens: &mut Reader<'a>,
-    ) -> Result<(), NoValue>
+    ) -> Result<(), JsonError>
         ensures ok { OnOk result ((d : Data)
             × (value_read member_depth tokens.old ≡ Some (d, tokens.new)) × Takes name.now d self.old self.new) }
-        ensures none { IsErrOf result NoValue.NotJson
+        ensures none { IsErrOf result JsonError.NotJson
             → value_read member_depth tokens.old ≡ None }
         ensures shorter { OnOk result (length tokens.new < length tokens.old) }
     {
         match name {
-            "draft" => self.draft = draft_in(&build_value(alloc, tokens, MEMBER_DEPTH)?),
-            "schema" => self.schema = object_in(build_value(alloc, tokens, MEMBER_DEPTH)?),
-            "instance" => self.instance = Some(text_in(tokens, MEMBER_DEPTH)?),
+            "draft" => self.draft = draft_in(&build_json(alloc, tokens, MEMBER_DEPTH)?),
+            "schema" => self.schema = object_in(build_json(alloc, tokens, MEMBER_DEPTH)?),
+            "instance" => self.instance = Some(json_text(tokens, MEMBER_DEPTH)?),
             "validate_formats" => {
-                self.validate_formats = flag_in(&build_value(alloc, tokens, MEMBER_DEPTH)?)
+                self.validate_formats = flag_in(&build_json(alloc, tokens, MEMBER_DEPTH)?)
             }
             "ignore_unknown_formats" => {
-                self.ignore_unknown_formats = flag_in(&build_value(alloc, tokens, MEMBER_DEPTH)?)
+                self.ignore_unknown_formats = flag_in(&build_json(alloc, tokens, MEMBER_DEPTH)?)
             }
-            "fold" => self.fold = flag_in(&build_value(alloc, tokens, MEMBER_DEPTH)?),
+            "fold" => self.fold = flag_in(&build_json(alloc, tokens, MEMBER_DEPTH)?),
             _ => {
-                text_in(tokens, MEMBER_DEPTH)?;
+                json_text(tokens, MEMBER_DEPTH)?;
                 self.has_only_request_keys = false;
             }
         }
@@ -166,10 +166,10 @@ impl<'a> Parts<'a> {
 }
 
 // What the members that are left of an object come to, up to its end.
-fn parts_in<'a>(alloc: Global, tokens: &mut Reader<'a>) -> Result<Parts<'a>, NoValue>
+fn parts_in<'a>(alloc: Global, tokens: &mut Reader<'a>) -> Result<Parts<'a>, JsonError>
     ensures ok { IfOk result (λ parts. (ms : Members)
         × (members_read member_depth tokens.old ≡ Some (ms, tokens.new)) × AreParts parts ms) }
-    ensures none { IsErrOf result NoValue.NotJson → members_read member_depth tokens.old ≡ None }
+    ensures none { IsErrOf result JsonError.NotJson → members_read member_depth tokens.old ≡ None }
 {
     let mut parts = Parts::of_no_members();
     'members: while let Some(name) = tokens.next_key()? {
@@ -204,8 +204,8 @@ fn request_in<'a>(
             None => Ok(parts.into_request()),
             Some(_) => Ok(None),
         },
-        Err(NoValue::NotJson) => Ok(None),
-        Err(NoValue::Memory) => Err(AllocError),
+        Err(JsonError::NotJson) => Ok(None),
+        Err(JsonError::Memory) => Err(AllocError),
     }
 }
 

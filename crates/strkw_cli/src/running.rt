@@ -1,36 +1,21 @@
 //! The loop over the pieces of the input.
 
-ghost use Rattle.std.specs.Prelude.{[], ◌≡◌, ◌↔◌, ℕ, ◌<◌, List, ◌++◌, true, false, length, take, vec_len, IfOk, OnOk, OnErr, IsErrOf, position};
+ghost use Rattle.std.specs.Prelude.{◌++◌, ◌<◌, ◌↔◌, ◌≡◌, ℕ, IfOk, IsErrOf, List, OnErr, OnOk, [], false, length, position, take, true, vec_len};
 ghost use Rattle.std.specs.Io.KnownBytes.{Appends, Consumes, IsAtEnd};
-ghost use Rattle.strkw_cli.specs.Lines.{is_line_feed, ended_lines, last_part, lines};
 ghost use Rattle.strkw_cli.specs.Answer.{AreAnswers, IsAnswer};
+ghost use Rattle.strkw_cli.specs.Lines.{ended_lines, is_line_feed, last_part, lines};
 ghost use Rattle.strkw_cli.specs.Outcome.{AnswersSome, IsOutcome};
 ghost use Rattle.strkw_cli.specs.Serving.{Serves};
 
 use super::answering::answer_with;
-use super::devices::{DeviceFailed, Sink, Source};
 use super::faults::RunFault;
 use json::Scratch;
 use memchr::memchr;
 use std::alloc::{AllocError, Global};
+use strkw_devices::{Sink, Source};
 
 // The room for a piece of the input.
 const PIECE_LEN: usize = 65536;
-
-// Writes all the bytes. An `Err` comes where the sink fails, before it has taken all.
-fn write_all<K: Sink>(sink: &mut K, bytes: &[u8]) -> Result<(), DeviceFailed>
-    ensures ok { OnOk result (Appends (K.taken sink.old) (K.taken sink.new) bytes.now) }
-    ensures short { OnErr result ((count : ℕ) × (count < length bytes.now)
-        × Appends (K.taken sink.old) (K.taken sink.new) (take count bytes.now)) }
-    ensures works { OnOk result (K.has_failed sink.new ≡ K.has_failed sink.old) }
-    ensures failed { OnErr result (K.has_failed sink.new ≡ true) }
-{
-    let mut at = 0;
-    while at < bytes.len() {
-        at += sink.write(&bytes[at..])?;
-    }
-    Ok(())
-}
 
 // The place of the first line feed.
 fn find_line_feed(bytes: &[u8]) -> Option<usize>
@@ -103,7 +88,7 @@ fn serve_piece<K: Sink>(
 {
     out.clear();
     let answered = answer_piece(alloc, piece, line, scratch, out);
-    if write_all(sink, out).is_err() {
+    if sink.write_all(out).is_err() {
         return Err(RunFault::Write);
     }
     answered?;
@@ -129,7 +114,7 @@ fn serve_last<K: Sink>(
     }
     out.clear();
     answer_with(alloc, line, scratch, out)?;
-    if write_all(sink, out).is_err() {
+    if sink.write_all(out).is_err() {
         return Err(RunFault::Write);
     }
     Ok(())

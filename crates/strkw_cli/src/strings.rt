@@ -1,17 +1,19 @@
 //! A compiled schema object, and what it says of instances.
 
-ghost use Rattle.std.specs.Prelude.{◌≡◌, ◌↔◌, [], ◌++◌, true, map, IfOk, IsOk, IsTrue, OnOk, OnErr};
+ghost use Rattle.std.specs.Prelude.{◌++◌, ◌↔◌, ◌≡◌, IfOk, IsOk, IsTrue, List, OnErr, OnOk, Some, [], map, true};
+ghost use Rattle.strkw_report.specs.Kinds.{Report};
 ghost use Rattle.strkw_report.specs.declared.error.Site.{Site};
-ghost use Rattle.strkw_keywords.specs.Errors.{NodeReports, IsInUse, Appends, all_quiet};
-ghost use Rattle.strkw_keywords.specs.Remarks.{remark_of};
+ghost use Rattle.strkw_keywords.specs.Errors.{Appends, IsInUse, NodeReports, all_quiet};
+ghost use Rattle.strkw_keywords.specs.Handed.{lists_of};
 ghost use Rattle.strkw_keywords.specs.Lengths.{IsEmpty};
+ghost use Rattle.strkw_keywords.specs.Object.{remarks_on};
+ghost use Rattle.strkw_keywords.specs.Remarks.{remark_of};
 ghost use Rattle.strkw_keywords.specs.Validators.{listed_remark, remark_made};
 ghost use Rattle.strkw_keywords.specs.Verdicts.{IsVerdict};
-ghost use Rattle.strkw_keywords.specs.Handed.{lists_of};
-ghost use Rattle.strkw_keywords.specs.Object.{remarks_on};
 ghost use Rattle.strkw_cli.specs.Compiled.{keywords_assertions, keywords_interval, keywords_remarks};
 
 use std::alloc::{AllocError, Global};
+use strkw_coding::laws::encodes_once;
 use strkw_keywords::{Checks, Fault, Note, Uses, Validate, Validator};
 use strkw_pattern::RegexEngine;
 use strkw_report::{Node, Site, ValidationError};
@@ -92,8 +94,12 @@ impl<E: RegexEngine> StringKeywords<E> {
             ↔ NodeReports (keywords_assertions E.outcome self.now) (lists_of admits accepted encoded decoding checks.now) site (N.text node.now) [])) }
         ensures answers { all_quiet (keywords_assertions E.outcome self.now) ≡ true → IsOk result }
     {
+        encodes_once();
+        let Some(text) = node.as_text() else {
+            return Ok(true);
+        };
         for validator in &self.validators {
-            if !validator.is_valid(alloc, node, checks)? {
+            if !validator.findings(alloc, node, text, checks)?.is_empty() {
                 return Ok(false);
             }
         }
@@ -117,17 +123,15 @@ impl<E: RegexEngine> StringKeywords<E> {
             errors.old.items errors.new.items) }
         ensures kept { OnErr result (errors.new.items ≡ errors.old.items) }
     {
+        let Some(text) = node.as_text() else {
+            return Ok(());
+        };
         let held = errors.len();
-        for validator in &self.validators {
-            match validator.collect_errors(alloc, node, site, checks, errors) {
-                Ok(()) => {}
-                Err(e) => {
-                    errors.truncate(held);
-                    return Err(e);
-                }
-            }
+        let result = self.append_errors(alloc, node, text, site, checks, errors);
+        if result.is_err() {
+            errors.truncate(held);
         }
-        Ok(())
+        result
     }
 
     /// `Ok` where an instance has no errors, under lists of which `uses` is true.
@@ -145,8 +149,11 @@ impl<E: RegexEngine> StringKeywords<E> {
         ensures { IsVerdict (keywords_assertions E.outcome self.now) (lists_of admits accepted encoded decoding checks.now) site.now
             (N.text node.now) result }
     {
+        let Some(text) = node.as_text() else {
+            return Ok(());
+        };
         for validator in &self.validators {
-            match validator.validate(alloc, node, site, checks) {
+            match validator.validate_text(alloc, node, text, site, checks) {
                 Ok(()) => {}
                 Err(fault) => return Err(fault),
             }
@@ -169,12 +176,35 @@ impl<E: RegexEngine> StringKeywords<E> {
         ensures notes { IfOk result (λ r. map remark_of r.notes.items ≡ remarks_on (N.text node.now) (keywords_remarks self.now)) }
     {
         let mut errors = Vec::new(alloc);
-        self.collect_errors(alloc, node, site, checks, &mut errors)?;
-        let notes = match node.as_text() {
-            Some(_) => self.notes(alloc)?,
-            None => Vec::new(alloc),
-        };
+        let mut notes = Vec::new(alloc);
+        if let Some(text) = node.as_text() {
+            self.append_errors(alloc, node, text, site, checks, &mut errors)?;
+            notes = self.notes(alloc)?;
+        }
         Ok(ObjectEvaluation { errors, notes })
+    }
+
+    // Appends the errors of a node that is this text, or some of them where it is out of memory.
+    fn append_errors<N: Node>(
+        &self,
+        alloc: Global,
+        node: &N,
+        text: &str,
+        site: &Site,
+        checks: &Checks,
+        errors: &mut Vec<ValidationError>,
+    ) -> Result<(), AllocError>
+        requires in_use { IsInUse (keywords_assertions E.outcome self.now) (lists_of admits accepted encoded decoding checks.now) }
+        requires is_text { N.text node.now ≡ Some text.now }
+        ensures appended { OnOk result (Appends
+            (NodeReports (keywords_assertions E.outcome self.now) (lists_of admits accepted encoded decoding checks.now) site.now (N.text node.now))
+            errors.old.items errors.new.items) }
+        ensures err { OnErr result ((more : List Report) × (errors.new.items ≡ errors.old.items ++ more)) }
+    {
+        for validator in &self.validators {
+            validator.push_errors(alloc, node, text, site, checks, errors)?;
+        }
+        Ok(())
     }
 
     // What is noted of texts.

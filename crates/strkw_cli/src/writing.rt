@@ -1,6 +1,6 @@
 //! The lines of an instance, written where they are found: no error is built, and no note.
 
-ghost use Rattle.std.specs.Prelude.{◌≡◌, ℕ, List, ◌++◌, Some, false, OnOk, OnErr, codes, option_map};
+ghost use Rattle.std.specs.Prelude.{◌++◌, ◌≡◌, ℕ, List, OnErr, OnOk, Some, codes, false, option_map};
 ghost use Rattle.std.specs.List.{flat_map};
 ghost use Rattle.serde_json.specs.Data.{string};
 ghost use Rattle.serde_json.specs.View.{view};
@@ -8,7 +8,7 @@ ghost use Rattle.serde_json.specs.Written.{compact_text, has_float};
 ghost use Rattle.strkw_report.specs.Failures.{kind_failed};
 ghost use Rattle.strkw_report.specs.Kinds.{Report, message};
 ghost use Rattle.strkw_report.specs.Paths.{below};
-ghost use Rattle.strkw_keywords.specs.Errors.{reported, IsInUse, NodeReports};
+ghost use Rattle.strkw_keywords.specs.Errors.{IsInUse, NodeReports, reported};
 ghost use Rattle.strkw_keywords.specs.Findings.{finding_of};
 ghost use Rattle.strkw_keywords.specs.Handed.{lists_of};
 ghost use Rattle.strkw_keywords.specs.Keywords.{keyword_name};
@@ -18,7 +18,7 @@ ghost use Rattle.strkw_keywords.specs.Places.{standing};
 ghost use Rattle.strkw_keywords.specs.Validators.{assertions_of, listed_remark, remark_made};
 ghost use Rattle.strkw_cli.specs.Answer.{root_site};
 ghost use Rattle.strkw_cli.specs.Compiled.{keywords_assertions, keywords_remarks};
-ghost use Rattle.strkw_cli.specs.Printed.{printed, error_line, verdict_lines, note_lines, ArePrintable};
+ghost use Rattle.strkw_cli.specs.Printed.{ArePrintable, error_line, note_lines, printed, verdict_lines};
 ghost use Rattle.strkw_cli.specs.Written.{AppendsLines};
 
 use super::printing::{is_plain, push_printed};

@@ -1,5 +1,5 @@
 -- What `serde_json` reads of a text's tokens, and what is left of them behind it.
-use Rattle.std.specs.Prelude.{ℕ, List, length, Option, option_map}
+use Rattle.std.specs.Prelude.{ℕ, List, length, Option, Some, None, option_map}
 use Rattle.json.specs.Token.{Token}
 use Rattle.json.specs.Json.{value, items, members}
 use Rattle.serde_json.specs.Data.{Data, Items, Members, no_members}
@@ -29,3 +29,16 @@ after_items depth ts = behind (items_read depth ts)
 
 abbrev pub after_members : ℕ → List Token → Option (List Token)
 after_members depth ts = behind (members_read depth ts)
+
+-- the text that a token is, where it is one
+abbrev pub text_of_token : Token → Option (List ℕ)
+text_of_token Token.begin_object = None
+text_of_token Token.end_object = None
+text_of_token Token.begin_array = None
+text_of_token Token.end_array = None
+text_of_token (Token.key s) = None
+text_of_token (Token.string s) = Some s
+text_of_token (Token.number s) = None
+text_of_token (Token.boolean b) = None
+text_of_token Token.null = None
+text_of_token Token.bad = None

@@ -6,9 +6,11 @@ ghost use Rattle.strkw_coding.specs.Groups.{EncodedByGroups};
 ghost use Rattle.strkw_coding.specs.Tables.{AlphabetsAsPublished};
 ghost use Rattle.strkw_coding.specs.declared.codec.Codec.{Codec};
 ghost use Rattle.strkw_coding.specs.declared.codec.DecodeError.{DecodeError};
+ghost use Rattle.strkw_coding.specs.declared.json_build.JsonError.{JsonError};
 ghost use Rattle.strkw_coding.specs.declared.media_type.BuiltinMediaType.{BuiltinMediaType};
 
 use crate::codec::{Codec, DecodeError};
+use crate::json_build::JsonError;
 use crate::media_type::BuiltinMediaType;
 
 /// A text encodes at most one list of bytes.
@@ -52,6 +54,11 @@ pub fn codecs_equal_by_variant()
 /// Two reasons why a text was not decoded are equal by `==` exactly where they are the same reason.
 pub fn decode_errors_equal_by_variant()
     ensures { (a b : DecodeError) → IsTrue (⟦<DecodeError as PartialEq>⟧.eq a b) ↔ (a ≡ b) }
+{}
+
+/// Two reasons why no JSON value was read are equal by `==` exactly where they are the same reason.
+pub fn json_errors_equal_by_variant()
+    ensures { (a b : JsonError) → IsTrue (⟦<JsonError as PartialEq>⟧.eq a b) ↔ (a ≡ b) }
 {}
 
 /// Two media types are equal by `==` exactly where they are the same media type.

@@ -8,12 +8,12 @@ use Rattle.strkw_coding.specs.declared.codec.Codec.{Codec}
 use Rattle.strkw_coding.specs.declared.media_type.BuiltinMediaType.{BuiltinMediaType}
 use Rattle.strkw_keywords.specs.declared.keyword.Keyword.{Keyword}
 use Rattle.strkw_keywords.specs.declared.keyword.Keyword.TheVariants.{ContentMediaType, ContentEncoding, ContentSchema, Format, MinLength, MaxLength, Pattern}
-use Rattle.strkw_keywords.specs.declared.builtin.BuiltinFormat.{BuiltinFormat}
+use Rattle.strkw_formats.specs.declared.builtin.BuiltinFormat.{BuiltinFormat}
 use Rattle.strkw_keywords.specs.Keywords.{keyword_name}
 use Rattle.strkw_keywords.specs.Meanings.{Choice}
 use Rattle.strkw_keywords.specs.Places.{Place}
-use Rattle.strkw_keywords.specs.Formats.{Window}
-use Rattle.strkw_keywords.specs.FormatLaws.{IsInside}
+use Rattle.strkw_formats.specs.Formats.{Window}
+use Rattle.strkw_formats.specs.FormatLaws.{IsInside}
 use Rattle.strkw_keywords.specs.Demands.{at_least, at_most}
 use Rattle.strkw_keywords.specs.Errors.{placed}
 use Rattle.strkw_keywords.specs.Object.{Settings, Entry, nothing, malformed, gives, of_string, of_text, known_media_type, known_codec, known_format, ContentRule, ignored, checked, noted, content_rule, encoded_check, media_type_beside, media_type_check, encoding_check, encoding_beside, noted_text, schema_beside, media_type_entry, encoding_entry, schema_entry, checks_formats, ignores_unknown, checked_format, limit_entry, as_limit, min_entry, max_entry, engine_entry, no_string, IsPatternEntry, IsPatternValue, format_entry, IsEntryAt, entry_of, value_at, Keyed, keywords, AreEntriesOf, demands_by, asserted}

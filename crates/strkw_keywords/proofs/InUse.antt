@@ -10,9 +10,9 @@ use Rattle.strkw_coding.specs.declared.codec.Codec.{Codec}
 use Rattle.strkw_coding.specs.declared.media_type.BuiltinMediaType.{BuiltinMediaType}
 use Rattle.strkw_keywords.specs.declared.keyword.Keyword.{Keyword}
 use Rattle.strkw_keywords.specs.declared.keyword.Keyword.TheVariants.{ContentMediaType, ContentEncoding, ContentSchema, Format, MinLength, MaxLength, Pattern}
-use Rattle.strkw_keywords.specs.declared.builtin.BuiltinFormat.{BuiltinFormat}
+use Rattle.strkw_formats.specs.declared.builtin.BuiltinFormat.{BuiltinFormat}
 use Rattle.strkw_keywords.specs.Keywords.{keyword_name}
-use Rattle.strkw_keywords.specs.Formats.{builtin_named}
+use Rattle.strkw_formats.specs.Formats.{builtin_named}
 use Rattle.strkw_keywords.specs.Meanings.{Choice, builtin, row, row_names, codec_names, first_named}
 use Rattle.strkw_keywords.specs.Demands.{Demand, at_least, at_most, KeepsFirst, KeepsRows}
 use Rattle.strkw_keywords.specs.Errors.{Assertion, placed, IsInUse}

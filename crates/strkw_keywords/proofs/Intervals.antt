@@ -8,11 +8,11 @@ use Rattle.std.proofs.lemmas.Bool.Decides.{nat_tests}
 use Rattle.std.proofs.lemmas.Str.{chars-IsAscii, IsUtf8-from_ascii}
 use Rattle.std.proofs.lemmas.Str.Ascii.{IsAscii-nil, IsAscii-cons}
 use Rattle.strkw_report.specs.declared.error.Site.{Site}
-use Rattle.strkw_keywords.specs.declared.builtin.BuiltinFormat.{BuiltinFormat}
+use Rattle.strkw_formats.specs.declared.builtin.BuiltinFormat.{BuiltinFormat}
 use Rattle.strkw_keywords.specs.Meanings.{Lists, builtin, row}
 use Rattle.strkw_keywords.specs.Places.{standing}
-use Rattle.strkw_keywords.specs.Formats.{IsOfBuiltin, Window, window_of, bounds}
-use Rattle.strkw_keywords.specs.FormatLaws.{IsInside}
+use Rattle.strkw_formats.specs.Formats.{IsOfBuiltin, Window, window_of, bounds}
+use Rattle.strkw_formats.specs.FormatLaws.{IsInside}
 use Rattle.strkw_keywords.specs.Demands.{Demand, is_media_type, is_encoded, encodes_media_type, is_format, at_least, at_most, compares, matches, HasFinding}
 use Rattle.strkw_keywords.specs.Errors.{Assertion, AllReport}
 use Rattle.strkw_keywords.specs.Lengths.{any_length, IsEmpty, lesser_end, common, window_left, interval, IsLimit, AreLimits, IsTextOfLength, CommonIsInBoth, EmptyByItsEnds, OutsideIsAnError}

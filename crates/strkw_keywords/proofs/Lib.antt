@@ -7,10 +7,11 @@ pub mod InTurn
 pub mod Determined
 pub mod InUse
 pub mod FirstRow
-pub mod BuiltinNames
+pub mod FormatEntry
 pub mod Existence
 pub mod Intervals
 pub mod Folding
 pub mod First
 pub mod Entries
 pub mod EntriesOf
+pub mod Without

@@ -13,7 +13,7 @@ use Rattle.strkw_keywords.specs.declared.keyword.Keyword.TheVariants.{ContentMed
 use Rattle.strkw_keywords.specs.Keywords.{keyword_name}
 use Rattle.strkw_keywords.specs.Demands.{Demand, is_media_type, is_encoded, encodes_media_type, is_format, at_least, at_most, compares, matches, Finding, HasFinding, FoundUnless, IsContentFinding, Decodes, CodecDecodes, listed, Finds, IsEncoded, IsOfFormat, IsOfMediaType}
 use Rattle.strkw_keywords.specs.Choices.{chosen_codec_name, chosen_media_type_name, chosen_format_name}
-use Rattle.strkw_keywords.specs.declared.builtin.BuiltinFormat.{BuiltinFormat}
+use Rattle.strkw_formats.specs.declared.builtin.BuiltinFormat.{BuiltinFormat}
 use Rattle.strkw_keywords.specs.Places.{Place, standing}
 use Rattle.strkw_keywords.specs.Errors.{placed, reported, AllReport, NodeReports, Appends}
 

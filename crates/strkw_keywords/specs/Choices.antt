@@ -3,10 +3,10 @@ use Rattle.std.specs.Prelude.{ℕ, List, string_bytes}
 use Rattle.strkw_coding.specs.declared.codec.Codec.{Codec}
 use Rattle.strkw_coding.specs.declared.media_type.BuiltinMediaType.{BuiltinMediaType}
 use Rattle.strkw_coding.specs.Names.{codec_name, media_type_name}
-use Rattle.strkw_keywords.specs.declared.builtin.BuiltinFormat.{BuiltinFormat}
+use Rattle.strkw_formats.specs.declared.builtin.BuiltinFormat.{BuiltinFormat}
 use Rattle.strkw_keywords.specs.declared.checks.Choice.{Choice as KeptChoice}
 use Rattle.strkw_keywords.specs.declared.checks.Choice.TheVariants as kept
-use Rattle.strkw_keywords.specs.Formats.{format_name}
+use Rattle.strkw_formats.specs.Formats.{format_name}
 use Rattle.strkw_keywords.specs.Meanings.{Choice, builtin, row}
 
 -- a choice as the code keeps it

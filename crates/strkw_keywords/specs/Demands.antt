@@ -10,8 +10,8 @@ use Rattle.strkw_pattern.specs.declared.engine.Outcome.{Outcome}
 use Rattle.strkw_pattern.specs.declared.engine.Outcome.TheVariants as outcome
 use Rattle.strkw_keywords.specs.declared.keyword.Keyword.{Keyword}
 use Rattle.strkw_keywords.specs.declared.keyword.Keyword.TheVariants.{ContentMediaType, ContentEncoding, Format, MinLength, MaxLength, Pattern}
-use Rattle.strkw_keywords.specs.declared.builtin.BuiltinFormat.{BuiltinFormat}
-use Rattle.strkw_keywords.specs.Formats.{IsOfBuiltin}
+use Rattle.strkw_formats.specs.declared.builtin.BuiltinFormat.{BuiltinFormat}
+use Rattle.strkw_formats.specs.Formats.{IsOfBuiltin}
 use Rattle.strkw_keywords.specs.Meanings.{Decoded, no_encoding, no_text, decoded, Row, CodecRow, Lists, Choice, builtin, row, row_names, codec_names, first_named}
 use Rattle.strkw_keywords.specs.Choices.{chosen_format_name, chosen_media_type_name, chosen_codec_name}
 

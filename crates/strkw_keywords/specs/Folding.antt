@@ -6,10 +6,10 @@ use Rattle.serde_json.specs.Find.{as_str}
 use Rattle.strkw_report.specs.declared.error.Site.{Site}
 use Rattle.strkw_keywords.specs.declared.keyword.Keyword.{Keyword}
 use Rattle.strkw_keywords.specs.declared.keyword.Keyword.TheVariants.{Format, MinLength, MaxLength}
-use Rattle.strkw_keywords.specs.declared.builtin.BuiltinFormat.{BuiltinFormat}
+use Rattle.strkw_formats.specs.declared.builtin.BuiltinFormat.{BuiltinFormat}
 use Rattle.strkw_keywords.specs.declared.options.Options.{Options}
 use Rattle.strkw_keywords.specs.Meanings.{Lists, Choice}
-use Rattle.strkw_keywords.specs.FormatLaws.{IsInside}
+use Rattle.strkw_formats.specs.FormatLaws.{IsInside}
 use Rattle.strkw_keywords.specs.Object.{Settings, Keyed, AreEntries, Errors, asserted, value_at, as_limit, checks_formats, known_format}
 use Rattle.strkw_keywords.specs.Lengths.{window_at, interval, AreLimits, IsTextOfLength}
 

@@ -3,10 +3,10 @@ use Rattle.std.specs.Prelude.{◌≡◌, ◌↔◌, ◌<◌, ℕ, List, [], ◌�
 use Rattle.std.specs.List.{AllByRecursion}
 use Rattle.std.specs.Str.{chars, IsUtf8}
 use Rattle.strkw_report.specs.declared.error.Site.{Site}
-use Rattle.strkw_keywords.specs.declared.builtin.BuiltinFormat.{BuiltinFormat}
+use Rattle.strkw_formats.specs.declared.builtin.BuiltinFormat.{BuiltinFormat}
 use Rattle.strkw_keywords.specs.Meanings.{Lists, Choice, builtin, row}
-use Rattle.strkw_keywords.specs.Formats.{Window, window_of}
-use Rattle.strkw_keywords.specs.FormatLaws.{IsInside}
+use Rattle.strkw_formats.specs.Formats.{Window, window_of}
+use Rattle.strkw_formats.specs.FormatLaws.{IsInside}
 use Rattle.strkw_keywords.specs.Demands.{Demand, is_media_type, is_encoded, encodes_media_type, is_format, at_least, at_most, compares, matches}
 use Rattle.strkw_keywords.specs.Errors.{Assertion, AllReport}
 

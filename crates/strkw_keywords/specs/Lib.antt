@@ -1,8 +1,6 @@
 pub mod Keywords
 pub mod Meanings
 pub mod Lists
-pub mod Formats
-pub mod FormatLaws
 pub mod Choices
 pub mod Demands
 pub mod Places
@@ -19,6 +17,7 @@ pub mod Rules
 pub mod Settings
 pub mod Handed
 pub mod Compiled
+pub mod Without
 pub mod Laws
 pub mod Lengths
 pub mod Folding

@@ -21,10 +21,10 @@ use Rattle.strkw_pattern.specs.Literal.{Literal, IsWellFormed, spelling, IsLiter
 use Rattle.strkw_pattern.specs.Matcher.{IsSearch}
 use Rattle.strkw_keywords.specs.declared.keyword.Keyword.{Keyword}
 use Rattle.strkw_keywords.specs.declared.keyword.Keyword.TheVariants.{ContentMediaType, ContentEncoding, ContentSchema, Format, MinLength, MaxLength, Pattern}
-use Rattle.strkw_keywords.specs.declared.builtin.BuiltinFormat.{BuiltinFormat}
+use Rattle.strkw_formats.specs.declared.builtin.BuiltinFormat.{BuiltinFormat}
 use Rattle.strkw_keywords.specs.declared.options.Options.{Options}
 use Rattle.strkw_keywords.specs.Keywords.{keyword_name, keyword_place}
-use Rattle.strkw_keywords.specs.Formats.{builtin_named}
+use Rattle.strkw_formats.specs.Formats.{builtin_named}
 use Rattle.strkw_keywords.specs.Meanings.{Lists, Choice, builtin, row, row_names, codec_names, first_named}
 use Rattle.strkw_keywords.specs.Places.{Place}
 use Rattle.strkw_keywords.specs.Demands.{Demand, is_media_type, is_encoded, encodes_media_type, is_format, at_least, at_most, compares, matches}

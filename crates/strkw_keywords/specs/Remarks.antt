@@ -5,7 +5,7 @@ use Rattle.serde_json.specs.View.{view}
 use Rattle.strkw_report.specs.Paths.{below}
 use Rattle.strkw_keywords.specs.declared.keyword.Keyword.{Keyword}
 use Rattle.strkw_keywords.specs.Keywords.{keyword_name}
-use Rattle.strkw_keywords.specs.declared.note.Note.{Note}
+use Rattle.strkw_keywords.specs.declared.parts.Note.{Note}
 
 pub record Remark : Type 0 where
   pub schema_path : List ℕ

@@ -1,6 +1,6 @@
 -- The rule of content, as the code keeps it.
-use Rattle.strkw_keywords.specs.declared.entry.ContentRule.{ContentRule as KeptRule}
-use Rattle.strkw_keywords.specs.declared.entry.ContentRule.TheVariants as kept
+use Rattle.strkw_keywords.specs.declared.compile.ContentRule.{ContentRule as KeptRule}
+use Rattle.strkw_keywords.specs.declared.compile.ContentRule.TheVariants as kept
 use Rattle.strkw_keywords.specs.Object.{ContentRule, ignored, checked, noted}
 
 abbrev pub rule_of : KeptRule → ContentRule

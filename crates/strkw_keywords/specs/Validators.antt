@@ -5,7 +5,7 @@ use Rattle.serde_json.specs.View.{view}
 use Rattle.strkw_pattern.specs.declared.engine.Outcome.{Outcome}
 use Rattle.strkw_pattern.specs.Matcher.{literal_outcome}
 use Rattle.strkw_keywords.specs.declared.keyword.Keyword.TheVariants.{ContentMediaType, ContentEncoding, ContentSchema, Format}
-use Rattle.strkw_keywords.specs.Formats.{format_name}
+use Rattle.strkw_formats.specs.Formats.{format_name}
 use Rattle.strkw_keywords.specs.Meanings.{builtin, row}
 use Rattle.strkw_keywords.specs.Choices.{choice_of}
 use Rattle.strkw_keywords.specs.Places.{Place}

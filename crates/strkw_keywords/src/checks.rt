@@ -1,18 +1,21 @@
 //! The caller's own checks: the traits that they implement, their rows, and the first row of a name.
 
-ghost use Rattle.std.specs.Prelude.{◌≡◌, ◌↔◌, List, ℕ, Bool, IfOk, IfErr, IsErrOf, MatchOption, IsTrue, string_bytes};
+ghost use Rattle.std.specs.Prelude.{◌↔◌, ◌≡◌, ℕ, Bool, IfErr, IfOk, IsErrOf, IsTrue, List, MatchOption, slice_get, string_bytes};
 ghost use Rattle.std.specs.List.{position_from};
-ghost use Rattle.std.specs.Str.{chars, bytes_eq};
-ghost use Rattle.strkw_keywords.specs.Meanings.{no_encoding, no_text, decoded, row_names, codec_names, first_named};
-ghost use Rattle.strkw_keywords.specs.Lists.{lists_of};
-ghost use Rattle.strkw_keywords.specs.Demands.{Admits, Takes, KeepsFirst};
+ghost use Rattle.std.specs.Str.{bytes_eq, chars};
 ghost use Rattle.strkw_keywords.specs.Choices.{choice_of};
 ghost use Rattle.strkw_keywords.specs.Decodings.{decoded_of};
+ghost use Rattle.strkw_keywords.specs.Demands.{KeepsFirst};
+ghost use Rattle.strkw_keywords.specs.Lists.{lists_of};
+ghost use Rattle.strkw_keywords.specs.Meanings.{codec_names, decoded, first_named, no_encoding, no_text, row_names};
 ghost use Rattle.strkw_keywords.specs.Parts.{IsFirst};
 
 use crate::parts::RowRef;
 use std::alloc::{AllocError, Global};
 use strkw_coding::DecodeError;
+
+// What a check says of a text, or that it was out of memory.
+pub(crate) type Asked = Result<bool, AllocError>;
 
 /// A check of a format that the caller registers. It says by `admits` which texts it admits, a text being the list of
 /// its characters.
@@ -120,29 +123,7 @@ impl<A> Choice<A> {
     }
 }
 
-impl NamedFormat {
-    fn ask(&self, alloc: Global, text: &str) -> Result<bool, AllocError>
-        ensures { IfOk result (λ b. b ≡ admits self.now.check (chars text.now)) }
-    {
-        self.check.is_valid(alloc, text)
-    }
-}
-
-impl NamedMediaType {
-    fn ask(&self, alloc: Global, text: &str) -> Result<bool, AllocError>
-        ensures { IfOk result (λ b. b ≡ accepted self.now.check (chars text.now)) }
-    {
-        self.check.accepts(alloc, text)
-    }
-}
-
 impl NamedCodec {
-    fn ask(&self, alloc: Global, text: &str) -> Result<bool, AllocError>
-        ensures { IfOk result (λ b. b ≡ encoded self.now.codec (chars text.now)) }
-    {
-        self.codec.is_encoded(alloc, text)
-    }
-
     pub(crate) fn decode(&self, alloc: Global, text: &str) -> Result<Option<String>, DecodeError>
         ensures text { IfOk result (λ o. decoded_of o ≡ decoding self.now.codec (chars text.now)) }
         ensures not_utf8 { IsErrOf result DecodeError.NotUtf8 → no_text ≡ decoding self.now.codec (chars text.now) }
@@ -151,41 +132,65 @@ impl NamedCodec {
     }
 }
 
-// ---- the first row of a name
+// ---- a row of any list
 
-// What has a name.
-trait Named {
+// A row of the caller: a name, and a test of texts.
+pub(crate) trait Row {
     ghost called: { Self → List ℕ };
+
+    ghost admitted: { Self → List ℕ → Bool };
 
     fn name(&self) -> &str
         ensures { result.now ≡ called self.now };
+
+    fn ask(&self, alloc: Global, text: &str) -> Asked
+        ensures { IfOk result (λ b. b ≡ admitted self.now (chars text.now)) };
 }
 
-impl Named for NamedFormat {
+impl Row for NamedFormat {
     ghost called = { λ r. string_bytes r.name };
+
+    ghost admitted = { λ r. (Format-box r.check).admits r.check.value };
 
     fn name(&self) -> &str {
         self.name.as_str()
     }
+
+    fn ask(&self, alloc: Global, text: &str) -> Asked {
+        self.check.is_valid(alloc, text)
+    }
 }
 
-impl Named for NamedMediaType {
+impl Row for NamedMediaType {
     ghost called = { λ r. string_bytes r.name };
+
+    ghost admitted = { λ r. (MediaTypeCheck-box r.check).accepted r.check.value };
 
     fn name(&self) -> &str {
         self.name.as_str()
     }
+
+    fn ask(&self, alloc: Global, text: &str) -> Asked {
+        self.check.accepts(alloc, text)
+    }
 }
 
-impl Named for NamedCodec {
+impl Row for NamedCodec {
     ghost called = { λ r. string_bytes r.name };
+
+    ghost admitted = { λ r. (ContentCodec-box r.codec).encoded r.codec.value };
 
     fn name(&self) -> &str {
         self.name.as_str()
     }
+
+    fn ask(&self, alloc: Global, text: &str) -> Asked {
+        self.codec.is_encoded(alloc, text)
+    }
 }
 
-fn first_named<R: Named>(rows: &[R], name: &str) -> Option<usize>
+// Where the first row of a name stands.
+fn first_named<R: Row>(rows: &[R], name: &str) -> Option<usize>
     ensures { result ≡ position_from (λ r. bytes_eq (R.called r) name.now) 0 rows.now }
 {
     for (i, row) in rows.iter().enumerate() {
@@ -194,6 +199,16 @@ fn first_named<R: Named>(rows: &[R], name: &str) -> Option<usize>
         }
     }
     None
+}
+
+// What the row at a position says of a text; where there is none, nothing is admitted.
+pub(crate) fn ask_row<R: Row>(alloc: Global, rows: &[R], position: usize, text: &str) -> Asked
+    ensures { IfOk result (λ b. IsTrue b ↔ MatchOption (slice_get rows.now position) ⊥ (λ r. IsTrue (R.admitted r (chars text.now)))) }
+{
+    match rows.get(position) {
+        Some(row) => row.ask(alloc, text),
+        None => Ok(false),
+    }
 }
 
 impl Checks<'_> {
@@ -213,52 +228,5 @@ impl Checks<'_> {
         ensures { result ≡ first_named name.now (codec_names (lists_of admits accepted encoded decoding self.now).codecs) }
     {
         first_named(self.codecs, name)
-    }
-}
-
-// ---- what the row at a position says; where there is none, nothing is admitted
-
-pub(crate) fn ask_format(
-    alloc: Global,
-    checks: &Checks,
-    position: usize,
-    text: &str,
-) -> Result<bool, AllocError>
-    ensures { IfOk result (λ b. IsTrue b ↔ Admits (lists_of admits accepted encoded decoding checks.now).formats position text.now) }
-{
-    if position < checks.formats.len() {
-        checks.formats[position].ask(alloc, text)
-    } else {
-        Ok(false)
-    }
-}
-
-pub(crate) fn ask_media_type(
-    alloc: Global,
-    checks: &Checks,
-    position: usize,
-    text: &str,
-) -> Result<bool, AllocError>
-    ensures { IfOk result (λ b. IsTrue b ↔ Admits (lists_of admits accepted encoded decoding checks.now).media_types position text.now) }
-{
-    if position < checks.media_types.len() {
-        checks.media_types[position].ask(alloc, text)
-    } else {
-        Ok(false)
-    }
-}
-
-pub(crate) fn ask_codec(
-    alloc: Global,
-    checks: &Checks,
-    position: usize,
-    text: &str,
-) -> Result<bool, AllocError>
-    ensures { IfOk result (λ b. IsTrue b ↔ Takes (lists_of admits accepted encoded decoding checks.now).codecs position text.now) }
-{
-    if position < checks.codecs.len() {
-        checks.codecs[position].ask(alloc, text)
-    } else {
-        Ok(false)
     }
 }

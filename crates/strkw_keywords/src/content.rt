@@ -1,36 +1,30 @@
 //! What a media type and a codec say of a text, and the validators of the three content keywords.
-ghost use Rattle.std.specs.Prelude.{◌≡◌, ◌↔◌, IfOk, IsErrOf, IsTrue};
-ghost use Rattle.strkw_keywords.specs.Lists.{lists_of};
-ghost use Rattle.strkw_keywords.specs.Choices.{choice_of, chosen_media_type_name, chosen_codec_name};
-ghost use Rattle.strkw_keywords.specs.Demands.{IsOfMediaType, IsEncoded, Decodes, RowDecodes};
-ghost use Rattle.strkw_keywords.specs.Meanings.{no_text};
+ghost use Rattle.std.specs.Prelude.{◌↔◌, ◌≡◌, IfOk, IsErrOf, IsTrue};
+ghost use Rattle.strkw_keywords.specs.Choices.{choice_of, chosen_codec_name, chosen_media_type_name};
 ghost use Rattle.strkw_keywords.specs.Decodings.{decoded_of};
+ghost use Rattle.strkw_keywords.specs.Demands.{Decodes, IsEncoded, IsOfMediaType};
+ghost use Rattle.strkw_keywords.specs.Lists.{lists_of};
+ghost use Rattle.strkw_keywords.specs.Meanings.{no_text};
 
 mod annotations;
-mod build;
 mod checks;
 
-use crate::checks::{
-    Checks, Choice, ContentCodec, Format, MediaTypeCheck, ask_codec, ask_media_type,
-};
+use crate::checks::{Asked, Checks, Choice, ContentCodec, Format, MediaTypeCheck, ask_row};
 pub use annotations::{
     ContentEncodingAnnotationValidator, ContentMediaTypeAnnotationValidator,
-    ContentSchemaAnnotationValidator,
+    ContentSchemaAnnotationValidator, compile_content_schema_annotation, take_content_schema,
+};
+pub(crate) use annotations::{
+    build_encoding_annotation, build_media_type_annotation, build_schema_annotation,
 };
 // `.._annotation` are the same calls, by names that tell what they make from draft 2019-09 on.
-pub use build::{
-    compile_content_encoding, compile_content_encoding as compile_content_encoding_annotation,
-    compile_content_schema_annotation, compile_media_type,
-    compile_media_type as compile_media_type_annotation,
-};
-pub(crate) use build::{
-    build_encoding, build_encoding_annotation, build_media_type, build_media_type_annotation,
-    build_schema_annotation,
-};
 pub use checks::{
     ContentEncodingValidator, ContentMediaTypeAndEncodingValidator, ContentMediaTypeValidator,
+    compile_content_encoding, compile_content_encoding as compile_content_encoding_annotation,
+    compile_media_type, compile_media_type as compile_media_type_annotation,
 };
-use std::alloc::{AllocError, Global};
+pub(crate) use checks::{build_encoding, build_media_type};
+use std::alloc::Global;
 use strkw_coding::{BuiltinMediaType, Codec, DecodeError};
 
 fn chosen_media_type(choice: &Choice<BuiltinMediaType>) -> &str
@@ -42,17 +36,12 @@ fn chosen_media_type(choice: &Choice<BuiltinMediaType>) -> &str
     }
 }
 
-fn accepts(
-    alloc: Global,
-    choice: &Choice<BuiltinMediaType>,
-    checks: &Checks,
-    text: &str,
-) -> Result<bool, AllocError>
+fn accepts(alloc: Global, choice: &Choice<BuiltinMediaType>, checks: &Checks, text: &str) -> Asked
     ensures { IfOk result (λ b. IsTrue b ↔ IsOfMediaType (choice_of choice.now) (lists_of admits accepted encoded decoding checks.now) text.now) }
 {
     match choice {
         Choice::Builtin(media_type) => media_type.accepts(alloc, text),
-        Choice::Row { position, .. } => ask_media_type(alloc, checks, *position, text),
+        Choice::Row { position, .. } => ask_row(alloc, checks.media_types, *position, text),
     }
 }
 
@@ -65,17 +54,12 @@ fn chosen_codec(choice: &Choice<Codec>) -> &str
     }
 }
 
-fn is_encoding(
-    alloc: Global,
-    choice: &Choice<Codec>,
-    checks: &Checks,
-    text: &str,
-) -> Result<bool, AllocError>
+fn is_encoding(alloc: Global, choice: &Choice<Codec>, checks: &Checks, text: &str) -> Asked
     ensures { IfOk result (λ b. IsTrue b ↔ IsEncoded (choice_of choice.now) (lists_of admits accepted encoded decoding checks.now) text.now) }
 {
     match choice {
         Choice::Builtin(codec) => codec.is_encoded(alloc, text),
-        Choice::Row { position, .. } => ask_codec(alloc, checks, *position, text),
+        Choice::Row { position, .. } => ask_row(alloc, checks.codecs, *position, text),
     }
 }
 
@@ -92,24 +76,9 @@ fn decode(
 {
     match choice {
         Choice::Builtin(codec) => codec.decode(alloc, text),
-        Choice::Row { position, .. } => decode_by_row(alloc, checks, *position, text),
-    }
-}
-
-// The same by the row at a position; where there is none, nothing is an encoding.
-fn decode_by_row(
-    alloc: Global,
-    checks: &Checks,
-    position: usize,
-    text: &str,
-) -> Result<Option<String>, DecodeError>
-    ensures text { IfOk result (λ o. RowDecodes (lists_of admits accepted encoded decoding checks.now).codecs position text.now (decoded_of o)) }
-    ensures not_utf8 { IsErrOf result DecodeError.NotUtf8
-        → RowDecodes (lists_of admits accepted encoded decoding checks.now).codecs position text.now no_text }
-{
-    if position < checks.codecs.len() {
-        checks.codecs[position].decode(alloc, text)
-    } else {
-        Ok(None)
+        Choice::Row { position, .. } => match checks.codecs.get(*position) {
+            Some(row) => row.decode(alloc, text),
+            None => Ok(None),
+        },
     }
 }

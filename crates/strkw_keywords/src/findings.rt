@@ -1,12 +1,12 @@
 //! What a validator finds of a text, and the errors that are built of it.
 
-ghost use Rattle.std.specs.Prelude.{◌≡◌, ◌↔◌, [], ◌∷◌, ◌++◌, Some, None, IfOk, OnOk, OnErr, IsTrue, option_map};
+ghost use Rattle.std.specs.Prelude.{◌++◌, ◌↔◌, ◌∷◌, ◌≡◌, IfOk, IsTrue, None, OnErr, OnOk, Some, [], option_map, option_to_list};
+ghost use Rattle.strkw_keywords.specs.Errors.{reported};
 ghost use Rattle.strkw_keywords.specs.Findings.{finding_of, findings_of, first_of};
 ghost use Rattle.strkw_keywords.specs.Places.{standing};
-ghost use Rattle.strkw_keywords.specs.Errors.{reported};
 
 use crate::keyword::Keyword;
-use crate::origin::Origin;
+use crate::parts::Origin;
 use std::alloc::{AllocError, Global};
 use strkw_report::{Failure, Site, ValidationError, error_at};
 
@@ -78,45 +78,47 @@ pub(crate) fn error_of(
     )
 }
 
-// Adds the error of a finding on a text, if there is one.
-fn push_finding(
+// The error of a text that failed so, if it failed.
+fn error_found(
     alloc: Global,
     origin: &Origin,
     text: &str,
     site: &Site,
-    finding: Option<Failure>,
-    errors: &mut Vec<ValidationError>,
-) -> Result<(), AllocError>
-    ensures ok { OnOk result (errors.new.items ≡ errors.old.items ++ reported (standing origin.now site.now) text.now (option_map finding_of finding.entry)) }
-    ensures err { OnErr result (errors.new.items ≡ errors.old.items) }
+    failure: &Option<Failure>,
+) -> Result<Option<ValidationError>, AllocError>
+    ensures { IfOk result (λ e. reported (standing origin.now site.now) text.now (option_map finding_of failure.now) ≡ option_to_list e) }
 {
-    let Some(finding) = finding else {
-        return Ok(());
-    };
-    let error = error_of(alloc, &finding, origin, text, site)?;
-    errors.push(error)?;
-    Ok(())
+    match failure {
+        None => Ok(None),
+        Some(failure) => Ok(Some(error_of(alloc, failure, origin, text, site)?)),
+    }
 }
 
-// Adds the errors of what a validator finds: all of them, or none.
+// Adds the errors of what a validator finds: all of them, or none. Each is made, and has its room, before the first is added.
 pub(crate) fn push_findings(
     alloc: Global,
     origin: &Origin,
     text: &str,
     site: &Site,
-    findings: Findings,
+    findings: &Findings,
     errors: &mut Vec<ValidationError>,
 ) -> Result<(), AllocError>
     ensures ok { OnOk result (errors.new.items ≡ errors.old.items
-        ++ reported (standing origin.now site.now) text.now (option_map finding_of findings.entry.first)
-        ++ reported (standing origin.now site.now) text.now (option_map finding_of findings.entry.second)) }
+        ++ reported (standing origin.now site.now) text.now (option_map finding_of findings.now.first)
+        ++ reported (standing origin.now site.now) text.now (option_map finding_of findings.now.second)) }
     ensures err { OnErr result (errors.new.items ≡ errors.old.items) }
 {
-    let held = errors.len();
-    push_finding(alloc, origin, text, site, findings.first, errors)?;
-    let outcome = push_finding(alloc, origin, text, site, findings.second, errors);
-    if outcome.is_err() {
-        errors.truncate(held);
+    if findings.is_empty() {
+        return Ok(());
     }
-    outcome
+    let first = error_found(alloc, origin, text, site, &findings.first)?;
+    let second = error_found(alloc, origin, text, site, &findings.second)?;
+    errors.reserve(2)?;
+    if let Some(first) = first {
+        errors.push_reserved(first);
+    }
+    if let Some(second) = second {
+        errors.push_reserved(second);
+    }
+    Ok(())
 }

@@ -1,27 +1,31 @@
-//! The validators of `format`.
+//! The keyword `format`: its validators, and its entry.
 
-ghost use Rattle.std.specs.Prelude.{[], ◌∷◌, Some, option_map, string_bytes};
+ghost use Rattle.std.specs.Prelude.{◌∷◌, ◌≡◌, Some, [], option_map, string_bytes};
 ghost use Rattle.serde_json.specs.Data.{string};
-ghost use Rattle.strkw_keywords.specs.Meanings.{no_lists, builtin, row};
-ghost use Rattle.strkw_keywords.specs.Formats.{format_name};
-ghost use Rattle.strkw_keywords.specs.Demands.{is_format, HasFinding};
+ghost use Rattle.serde_json.specs.View.{members_view, view};
+ghost use Rattle.strkw_formats.specs.Formats.{format_name};
+ghost use Rattle.strkw_keywords.specs.Compiled.{IsBuilt, IsCompiledAt, alone};
+ghost use Rattle.strkw_keywords.specs.Demands.{HasFinding, is_format};
 ghost use Rattle.strkw_keywords.specs.Findings.{finding_of};
+ghost use Rattle.strkw_keywords.specs.Meanings.{builtin, no_lists, row};
+ghost use Rattle.strkw_keywords.specs.Object.{checks_formats, format_entry, ignores_unknown, value_at};
 ghost use Rattle.strkw_keywords.specs.Remarks.{remark_at};
+ghost use Rattle.strkw_keywords.specs.Settings.{place_in, settings_of};
 ghost use Rattle.strkw_keywords.specs.declared.keyword.Keyword.TheVariants as keyword;
 
-mod build;
-
-use crate::builtin::BuiltinFormat;
-use crate::checks::{Checks, ask_format};
+use crate::checks::{Checks, ContentCodec, Format, MediaTypeCheck, ask_row};
+use crate::compile::{Refused, compile_value, no_string, origin_of};
 use crate::findings::{Findings, Found};
 use crate::keyword::Keyword;
-use crate::origin::Origin;
-use crate::parts::{Noted, Parts, RowRef};
+use crate::options::{Context, Options};
+use crate::parts::{Noted, Origin, Parts, RowRef};
 use crate::validate::{Uses, Validate};
-pub(crate) use build::build_format;
-pub use build::compile;
+use crate::validator::Validator;
+use serde_json::{Map, Value};
 use std::alloc::Global;
-use strkw_report::{Failure, Node};
+use strkw_formats::{BuiltinFormat, builtin_format};
+use strkw_pattern::EngineBuilder;
+use strkw_report::{CompileError, CompileErrorKind, Draft, Failure, Node};
 
 /// Demands that a text is of a built-in format, and notes the name of the format (2020-12, section 7.3).
 #[derive(Drop)]
@@ -94,12 +98,9 @@ impl Uses for CustomFormatValidator {
 
 impl<N: Node> Validate<N> for CustomFormatValidator {
     fn findings(&self, alloc: Global, _node: &N, text: &str, checks: &Checks) -> Found<'_> {
-        let failure = if ask_format(alloc, checks, self.position, text)? {
-            None
-        } else {
-            Some(Failure::Format(self.name.as_str()))
-        };
-        Ok(Findings::one(failure))
+        let is_admitted = ask_row(alloc, checks.formats, self.position, text)?;
+        let failure = Failure::Format(self.name.as_str());
+        Ok(Findings::one((!is_admitted).then_some(failure)))
     }
 }
 
@@ -127,4 +128,89 @@ impl<N: Node> Validate<N> for AnnotationOnlyFormatValidator {
     fn findings(&self, _alloc: Global, _node: &N, _text: &str, _checks: &Checks) -> Found<'_> {
         Ok(Findings::one(None))
     }
+}
+
+pub(crate) fn build_format<B: EngineBuilder>(
+    alloc: Global,
+    ctx: &Context<'_, B>,
+    value: &Value,
+) -> Result<Option<Validator<B::Engine>>, Refused>
+    ensures { IsBuilt B.Engine.outcome (place_in ctx.now) (alone Keyword.Format
+        (format_entry (settings_of B.takes B.outcome admits accepted encoded decoding ctx.now) (view value.now))) result }
+{
+    let Some(name) = value.as_str() else {
+        return Err(no_string(value, Keyword::Format));
+    };
+    if !checks_formats(&ctx.options, ctx.draft) {
+        return Ok(Some(Validator::AnnotationOnlyFormat(AnnotationOnlyFormatValidator {
+            origin: origin_of(ctx)?,
+            name: String::from_str(alloc, name)?,
+        })));
+    }
+    if let Some(position) = ctx.checks.format_named(name) {
+        return Ok(Some(Validator::CustomFormat(CustomFormatValidator {
+            origin: origin_of(ctx)?,
+            position,
+            name: String::from_str(alloc, name)?,
+        })));
+    }
+    match builtin_format(ctx.draft, name) {
+        Some(format) => Ok(Some(Validator::Format(FormatValidator {
+            origin: origin_of(ctx)?,
+            format,
+        }))),
+        None => {
+            if ignores_unknown(&ctx.options) {
+                Ok(None)
+            } else {
+                Err(Refused::Malformed {
+                    kind: CompileErrorKind::UnknownFormat {
+                        name: String::from_str(alloc, name)?,
+                        by_dialect: ctx.options.formats_by_dialect,
+                    },
+                    keyword: Keyword::Format,
+                })
+            }
+        }
+    }
+}
+
+/// The validator of the entry `format` (2020-12, section 7; draft 7, section 7). Where formats are not checked it notes
+/// the name alone. Otherwise the first of the caller's rows of that name is checked, or else the built-in format of the
+/// name in the draft.
+///
+/// `value` is the parent's value at `format`, which is not overridden. `None` means that the entry adds nothing: the
+/// format is unknown, and that is ignored.
+///
+/// Refusals: `NotString` at that keyword for a value that is no string, or `FractionalNumber` in its place where that
+/// value holds a number that is no whole number of 64 bits; `UnknownFormat` there for an unknown format that is not
+/// ignored; `Memory`, at the root, where it is out of memory.
+pub fn compile<B: EngineBuilder>(
+    alloc: Global,
+    ctx: &Context<'_, B>,
+    parent: &Map<String, Value>,
+    value: &Value,
+) -> Option<Result<Validator<B::Engine>, CompileError>>
+    requires { value_at ctx.now.options Keyword.Format (members_view parent.now.entries) ≡ Some (view value.now) }
+    ensures { IsCompiledAt B.Engine.outcome (settings_of B.takes B.outcome admits accepted encoded decoding ctx.now)
+        (members_view parent.now.entries) Keyword.Format result }
+{
+    compile_value(alloc, ctx, parent, value, Keyword::Format)
+}
+
+// Whether formats are checked, or only noted.
+fn checks_formats(options: &Options, draft: Draft) -> bool
+    ensures { result ≡ checks_formats options.now draft }
+{
+    match options.validate_formats {
+        Some(wanted) => wanted,
+        None => draft <= Draft::Draft7 || options.formats_by_dialect,
+    }
+}
+
+// Whether a format that is not known adds nothing.
+fn ignores_unknown(options: &Options) -> bool
+    ensures { result ≡ ignores_unknown options.now }
+{
+    options.ignore_unknown_formats && !options.formats_by_dialect
 }

@@ -1,8 +1,8 @@
 //! The seven keywords.
 
 ghost use Rattle.std.specs.Prelude.{◌≡◌};
-ghost use Rattle.strkw_keywords.specs.Keywords.{keyword_name, keyword_place};
 ghost use Rattle.strkw_keywords.specs.Findings.{keyword_failed};
+ghost use Rattle.strkw_keywords.specs.Keywords.{keyword_name, keyword_place};
 
 use strkw_report::Failure;
 

@@ -1,22 +1,27 @@
-//! The validators of `minLength`, of `maxLength`, and of both at once.
+//! The keywords `minLength` and `maxLength`: the validators of each and of both at once, and their entries.
 
-ghost use Rattle.std.specs.Prelude.{◌≡◌, ℕ, List, [], ◌∷◌, Some, None, option_map, length};
+ghost use Rattle.std.specs.Prelude.{◌∷◌, ◌≡◌, ℕ, List, MatchOption, None, Some, [], false, length, option_map};
 ghost use Rattle.std.specs.Str.{chars};
-ghost use Rattle.strkw_keywords.specs.Demands.{at_least, at_most, HasFinding};
-ghost use Rattle.strkw_keywords.specs.Meanings.{no_lists};
+ghost use Rattle.serde_json.specs.View.{members_view, view};
+ghost use Rattle.strkw_keywords.specs.Compiled.{IsBuilt, IsCompiledAt, max_share, min_share};
+ghost use Rattle.strkw_keywords.specs.Demands.{HasFinding, at_least, at_most};
 ghost use Rattle.strkw_keywords.specs.Findings.{finding_of};
+ghost use Rattle.strkw_keywords.specs.Meanings.{no_lists};
+ghost use Rattle.strkw_keywords.specs.Object.{as_limit, gives, greatest_entry, is_given, least_entry, value_at};
+ghost use Rattle.strkw_keywords.specs.Settings.{place_in, settings_of};
 
-mod build;
-
-use crate::checks::Checks;
+use crate::checks::{Checks, ContentCodec, Format, MediaTypeCheck};
+use crate::compile::{Refused, compile_value, origin_of, value_at};
 use crate::findings::{Findings, Found};
-use crate::origin::Origin;
-use crate::parts::Parts;
+use crate::keyword::Keyword;
+use crate::options::{Context, Options};
+use crate::parts::{Origin, Parts};
 use crate::validate::{Uses, Validate};
-pub(crate) use build::{build_max, build_min};
-pub use build::{compile_max, compile_min};
+use crate::validator::Validator;
+use serde_json::{Map, Value};
 use std::alloc::Global;
-use strkw_report::{Failure, Node};
+use strkw_pattern::EngineBuilder;
+use strkw_report::{CompileError, CompileErrorKind, Failure, Node};
 
 /// Demands that a text has so many characters or more (2020-12, section 6.3.2).
 #[derive(Drop)]
@@ -46,22 +51,14 @@ fn too_short(limit: u64, characters: Option<u64>) -> Option<Failure<'static>>
     ensures { (text : List ℕ) → characters ≡ Some (length (chars text))
         → HasFinding (at_least limit) no_lists text (option_map finding_of result) }
 {
-    if characters? < limit {
-        Some(Failure::MinLength(limit))
-    } else {
-        None
-    }
+    (characters? < limit).then_some(Failure::MinLength(limit))
 }
 
 fn too_long(limit: u64, characters: Option<u64>) -> Option<Failure<'static>>
     ensures { (text : List ℕ) → characters ≡ Some (length (chars text))
         → HasFinding (at_most limit) no_lists text (option_map finding_of result) }
 {
-    if characters? > limit {
-        Some(Failure::MaxLength(limit))
-    } else {
-        None
-    }
+    (characters? > limit).then_some(Failure::MaxLength(limit))
 }
 
 // ---- what each demands, and finds
@@ -116,4 +113,115 @@ impl<N: Node> Validate<N> for LengthRangeValidator {
             second: too_long(self.max, length),
         })
     }
+}
+
+// A limit that is a whole number of 64 bits.
+fn limit_of(value: &Value) -> Option<u64>
+    ensures { result ≡ as_limit (view value.now) }
+{
+    value.as_u64()
+}
+
+// The limit of `minLength`, where its entry is good.
+fn least_in(options: &Options, parent: &Map<String, Value>) -> Option<u64>
+    ensures { MatchOption result (is_given (least_entry options.now (members_view parent.now.entries)) ≡ false)
+        (λ n. (least_entry options.now (members_view parent.now.entries)) ≡ gives (at_least n ∷ []) None) }
+{
+    limit_of(value_at(options, parent, Keyword::MinLength)?)
+}
+
+// The limit of `maxLength`, where its entry is good.
+fn greatest_in(options: &Options, parent: &Map<String, Value>) -> Option<u64>
+    ensures { MatchOption result (is_given (greatest_entry options.now (members_view parent.now.entries)) ≡ false)
+        (λ n. (greatest_entry options.now (members_view parent.now.entries)) ≡ gives (at_most n ∷ []) None) }
+{
+    limit_of(value_at(options, parent, Keyword::MaxLength)?)
+}
+
+// A limit is refused that is no whole number of 64 bits.
+fn refused_limit(keyword: Keyword) -> Refused
+    ensures { result ≡ Refused.Malformed keyword CompileErrorKind.Size }
+{
+    Refused::Malformed {
+        keyword,
+        kind: CompileErrorKind::Size,
+    }
+}
+
+// The validator of `minLength` stands for `maxLength` too, where the limit of `maxLength` is there and good.
+pub(crate) fn build_min<B: EngineBuilder>(
+    ctx: &Context<'_, B>,
+    parent: &Map<String, Value>,
+    value: &Value,
+) -> Result<Option<Validator<B::Engine>>, Refused>
+    requires { value_at ctx.now.options Keyword.MinLength (members_view parent.now.entries) ≡ Some (view value.now) }
+    ensures { IsBuilt B.Engine.outcome (place_in ctx.now) (min_share ctx.now.options (members_view parent.now.entries)) result }
+{
+    let limit = limit_of(value).ok_or(refused_limit(Keyword::MinLength))?;
+    let origin = origin_of(ctx)?;
+    match greatest_in(&ctx.options, parent) {
+        Some(max) => Ok(Some(Validator::LengthRange(LengthRangeValidator {
+            origin,
+            min: limit,
+            max,
+        }))),
+        None => Ok(Some(Validator::MinLength(MinLengthValidator { origin, limit }))),
+    }
+}
+
+pub(crate) fn build_max<B: EngineBuilder>(
+    ctx: &Context<'_, B>,
+    parent: &Map<String, Value>,
+    value: &Value,
+) -> Result<Option<Validator<B::Engine>>, Refused>
+    requires { value_at ctx.now.options Keyword.MaxLength (members_view parent.now.entries) ≡ Some (view value.now) }
+    ensures { IsBuilt B.Engine.outcome (place_in ctx.now) (max_share ctx.now.options (members_view parent.now.entries)) result }
+{
+    let limit = limit_of(value).ok_or(refused_limit(Keyword::MaxLength))?;
+    if least_in(&ctx.options, parent).is_some() {
+        return Ok(None);
+    }
+    Ok(Some(Validator::MaxLength(MaxLengthValidator {
+        origin: origin_of(ctx)?,
+        limit,
+    })))
+}
+
+/// The validator of the entry `minLength` (2020-12, section 6.3.2). It is a `LengthRangeValidator`, which stands for
+/// `maxLength` too, where the limit of `maxLength` is there, good and not overridden.
+///
+/// `value` is the parent's value at `minLength`, which is not overridden. The answer is never `None`.
+///
+/// Refusals: `Size` at that keyword for a value that is no whole number from 0 to 18446744073709551615; `Memory`, at
+/// the root, where it is out of memory.
+pub fn compile_min<B: EngineBuilder>(
+    alloc: Global,
+    ctx: &Context<'_, B>,
+    parent: &Map<String, Value>,
+    value: &Value,
+) -> Option<Result<Validator<B::Engine>, CompileError>>
+    requires { value_at ctx.now.options Keyword.MinLength (members_view parent.now.entries) ≡ Some (view value.now) }
+    ensures { IsCompiledAt B.Engine.outcome (settings_of B.takes B.outcome admits accepted encoded decoding ctx.now)
+        (members_view parent.now.entries) Keyword.MinLength result }
+{
+    compile_value(alloc, ctx, parent, value, Keyword::MinLength)
+}
+
+/// The validator of the entry `maxLength` (2020-12, section 6.3.1).
+///
+/// `value` is the parent's value at `maxLength`, which is not overridden. `None` means that `minLength` stands for this
+/// entry: both limits are good, and `minLength` is not overridden.
+///
+/// Refusals: as of `min_length::compile`.
+pub fn compile_max<B: EngineBuilder>(
+    alloc: Global,
+    ctx: &Context<'_, B>,
+    parent: &Map<String, Value>,
+    value: &Value,
+) -> Option<Result<Validator<B::Engine>, CompileError>>
+    requires { value_at ctx.now.options Keyword.MaxLength (members_view parent.now.entries) ≡ Some (view value.now) }
+    ensures { IsCompiledAt B.Engine.outcome (settings_of B.takes B.outcome admits accepted encoded decoding ctx.now)
+        (members_view parent.now.entries) Keyword.MaxLength result }
+{
+    compile_value(alloc, ctx, parent, value, Keyword::MaxLength)
 }

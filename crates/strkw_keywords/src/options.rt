@@ -3,7 +3,7 @@
 ghost use Rattle.std.specs.Prelude.{◌≡◌, None, []};
 ghost use Rattle.strkw_keywords.specs.Lists.{lists_of};
 ghost use Rattle.strkw_keywords.specs.Meanings.{no_lists};
-ghost use Rattle.strkw_keywords.specs.Object.{default_options, is_on, is_overridden, has_codec};
+ghost use Rattle.strkw_keywords.specs.Object.{default_options, has_codec, is_on, is_overridden};
 
 use crate::checks::{Checks, ContentCodec, Format, MediaTypeCheck};
 use crate::keyword::Keyword;

@@ -1,17 +1,44 @@
-//! What a validator is beside its test of a text: where it stands, what it notes, which rows it keeps.
+//! What a validator is beside its test of a text: where its schema object stands, what it notes, which rows it keeps.
 
-ghost use Rattle.std.specs.Prelude.{◌≡◌, ◌↔◌, None, Some, true, false, IfOk, IsTrue};
+ghost use Rattle.std.specs.Prelude.{◌↔◌, ◌≡◌, IfOk, IsTrue, None, Some, false, option_map, string_bytes, true};
 ghost use Rattle.strkw_keywords.specs.Lists.{lists_of};
+ghost use Rattle.strkw_keywords.specs.Parts.{RowsAreFirst, noted_remark};
+ghost use Rattle.strkw_keywords.specs.Places.{Place};
 ghost use Rattle.strkw_keywords.specs.Remarks.{remark_of};
-ghost use Rattle.strkw_keywords.specs.Parts.{noted_remark, RowsAreFirst};
 
 use crate::checks::{Checks, ContentCodec, Format, MediaTypeCheck};
 use crate::keyword::Keyword;
-use crate::note::Note;
-use crate::origin::Origin;
 use serde_json::Value;
 use std::alloc::{AllocError, Global};
+use std::marker::Model;
 use strkw_report::Location;
+
+/// Where a schema object stands.
+#[derive(Drop)]
+pub struct Origin {
+    /// Its location in its document.
+    pub location: Location,
+    /// What stands before the `#` in the absolute locations of that document, if it has any.
+    pub absolute: Option<String>,
+}
+
+impl Model for Origin {
+    ghost use Rattle.std.specs.Prelude.{option_map, string_bytes};
+    ghost use Rattle.strkw_keywords.specs.Places.{Place};
+
+    ghost Value = { Place };
+
+    ghost view = { λ o. record { schema = o.location; prefix = option_map string_bytes o.absolute } };
+}
+
+/// What is noted of a text.
+#[derive(Drop)]
+pub struct Note {
+    /// The place of the keyword that notes it, in its document.
+    pub schema_path: Location,
+    /// The value that it notes.
+    pub value: Value,
+}
 
 /// What a validator is, beside its test of a text.
 #[derive(Clone, Copy)]
@@ -108,6 +135,15 @@ impl<'a> Parts<'a> {
             is_quiet: false,
             ..Parts::plain(origin)
         }
+    }
+}
+
+impl Origin {
+    /// The place with this location and this prefix.
+    pub fn new(location: Location, absolute: Option<String>) -> Origin
+        ensures { result ≡ record { schema = location; prefix = option_map string_bytes absolute } }
+    {
+        Origin { location, absolute }
     }
 }
 

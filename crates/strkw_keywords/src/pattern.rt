@@ -12,8 +12,7 @@ mod build;
 
 use crate::checks::Checks;
 use crate::findings::{Findings, Found};
-use crate::origin::Origin;
-use crate::parts::Parts;
+use crate::parts::{Origin, Parts};
 use crate::validate::{Uses, Validate};
 pub(crate) use build::build_pattern;
 pub use build::compile;
@@ -33,11 +32,8 @@ impl Literal {
         ensures { HasFinding (compares (string_bytes self.now.pattern) (literal_outcome self.now.matcher)) no_lists text.now
             (option_map finding_of result) }
     {
-        if is_matched(alloc, &self.matcher, text) {
-            None
-        } else {
-            Some(Failure::Pattern(self.pattern.as_str()))
-        }
+        let is_found = is_matched(alloc, &self.matcher, text);
+        (!is_found).then_some(Failure::Pattern(self.pattern.as_str()))
     }
 }
 

@@ -1,23 +1,21 @@
 //! What every validator answers. An implementor gives two methods, `parts` and `findings`; the others rest on them.
 
-ghost use Rattle.std.specs.Prelude.{◌≡◌, ◌↔◌, List, [], true, Option, Some, None, IfOk, IsOk, OnOk, OnErr, IsTrue, option_map};
+ghost use Rattle.std.specs.Prelude.{◌↔◌, ◌≡◌, IfOk, IsOk, IsTrue, List, None, OnErr, OnOk, Option, Some, [], option_map, true};
 ghost use Rattle.serde_json.specs.View.{view};
 ghost use Rattle.strkw_report.specs.declared.error.Site.{Site};
-ghost use Rattle.strkw_keywords.specs.Lists.{lists_of};
 ghost use Rattle.strkw_keywords.specs.Demands.{Demand, Finds};
-ghost use Rattle.strkw_keywords.specs.Places.{Place};
-ghost use Rattle.strkw_keywords.specs.Errors.{placed, NodeReports, IsInUse, all_quiet, Appends};
+ghost use Rattle.strkw_keywords.specs.Errors.{Appends, IsInUse, NodeReports, all_quiet, placed};
 ghost use Rattle.strkw_keywords.specs.Findings.{findings_of};
+ghost use Rattle.strkw_keywords.specs.Lists.{lists_of};
 ghost use Rattle.strkw_keywords.specs.Meanings.{Lists};
-ghost use Rattle.strkw_keywords.specs.Parts.{noted_remark, RowsAreFirst};
-ghost use Rattle.strkw_keywords.specs.Remarks.{Remark, remark_of, annotation_of};
+ghost use Rattle.strkw_keywords.specs.Parts.{RowsAreFirst, noted_remark};
+ghost use Rattle.strkw_keywords.specs.Places.{Place};
+ghost use Rattle.strkw_keywords.specs.Remarks.{Remark, annotation_of, remark_of};
 ghost use Rattle.strkw_keywords.specs.Verdicts.{IsVerdict};
 
 use crate::checks::{Checks, ContentCodec, Format, MediaTypeCheck};
 use crate::findings::{Found, error_of, push_findings};
-use crate::note::Note;
-use crate::origin::Origin;
-use crate::parts::Parts;
+use crate::parts::{Note, Origin, Parts};
 use std::alloc::{AllocError, Global};
 use std::error::Error;
 use std::fmt;
@@ -154,11 +152,32 @@ pub trait Validate<N: Node>: Uses {
             errors.old.items errors.new.items) }
         ensures kept { OnErr result (errors.new.items ≡ errors.old.items) }
     {
-        let Some(text) = node.as_text() else {
-            return Ok(());
-        };
+        match node.as_text() {
+            Some(text) => self.push_errors(alloc, node, text, site, checks, errors),
+            None => Ok(()),
+        }
+    }
+
+    /// Appends the errors of a node that is this text, as `collect_errors` does of any.
+    final fn push_errors(
+        &self,
+        alloc: Global,
+        node: &N,
+        text: &str,
+        site: &Site,
+        checks: &Checks,
+        errors: &mut Vec<ValidationError>,
+    ) -> Result<(), AllocError>
+        requires in_use { IsInUse (placed (Self.place self.now) (Self.demands self.now)) (lists_of admits accepted encoded decoding checks.now) }
+        requires is_text { N.text node.now ≡ Some text.now }
+        ensures appended { OnOk result (Appends
+            (NodeReports (placed (Self.place self.now) (Self.demands self.now)) (lists_of admits accepted encoded decoding checks.now)
+            site.now (N.text node.now))
+            errors.old.items errors.new.items) }
+        ensures kept { OnErr result (errors.new.items ≡ errors.old.items) }
+    {
         let findings = self.findings(alloc, node, text, checks)?;
-        push_findings(alloc, self.origin(), text, site, findings, errors)
+        push_findings(alloc, self.origin(), text, site, &findings, errors)
     }
 
     /// `Ok` where the node has no errors.
@@ -176,10 +195,29 @@ pub trait Validate<N: Node>: Uses {
         ensures { IsVerdict (placed (Self.place self.now) (Self.demands self.now)) (lists_of admits accepted encoded decoding checks.now)
             site.now (N.text node.now) result }
     {
+        match node.as_text() {
+            Some(text) => self.validate_text(alloc, node, text, site, checks),
+            None => Ok(()),
+        }
+    }
+
+    /// `Ok` where a node that is this text has no errors.
+    ///
+    /// Errors: those of `validate`.
+    final fn validate_text(
+        &self,
+        alloc: Global,
+        node: &N,
+        text: &str,
+        site: &Site,
+        checks: &Checks,
+    ) -> Result<(), Fault>
+        requires in_use { IsInUse (placed (Self.place self.now) (Self.demands self.now)) (lists_of admits accepted encoded decoding checks.now) }
+        requires is_text { N.text node.now ≡ Some text.now }
+        ensures { IsVerdict (placed (Self.place self.now) (Self.demands self.now)) (lists_of admits accepted encoded decoding checks.now)
+            site.now (N.text node.now) result }
+    {
         encodes_once();
-        let Some(text) = node.as_text() else {
-            return Ok(());
-        };
         let findings = self.findings(alloc, node, text, checks)?;
         match findings.first() {
             None => Ok(()),
@@ -205,11 +243,11 @@ pub trait Validate<N: Node>: Uses {
         ensures annotation { IfOk result (λ r. option_map view r.annotation ≡ annotation_of (Self.remark self.now) (N.text node.now)) }
     {
         let mut errors = Vec::new(alloc);
-        self.collect_errors(alloc, node, site, checks, &mut errors)?;
-        let annotation = match node.as_text() {
-            Some(_) => self.note(alloc)?.map(|note| note.value),
-            None => None,
-        };
+        let mut annotation = None;
+        if let Some(text) = node.as_text() {
+            self.push_errors(alloc, node, text, site, checks, &mut errors)?;
+            annotation = self.note(alloc)?.map(|note| note.value);
+        }
         Ok(EvaluationResult { errors, annotation })
     }
 }

@@ -1,9 +1,9 @@
 //! One type over the seventeen validators.
 
 ghost use Rattle.std.specs.Prelude.{◌≡◌};
-ghost use Rattle.strkw_keywords.specs.Formats.{bounds};
+ghost use Rattle.strkw_formats.specs.Formats.{bounds};
 ghost use Rattle.strkw_keywords.specs.Lengths.{interval};
-ghost use Rattle.strkw_keywords.specs.Validators.{place_of, demands_of, remark_made, assertions_of};
+ghost use Rattle.strkw_keywords.specs.Validators.{assertions_of, demands_of, place_of, remark_made};
 
 use crate::checks::Checks;
 use crate::content::{
@@ -82,6 +82,31 @@ impl<E: RegexEngine> Validator<E> {
     }
 }
 
+// The same call of each of the seventeen.
+macro_rules! of_each {
+    ($validator:expr, $v:ident => $call:expr) => {
+        match $validator {
+            Validator::ContentMediaType($v) => $call,
+            Validator::ContentEncoding($v) => $call,
+            Validator::ContentMediaTypeAndEncoding($v) => $call,
+            Validator::ContentMediaTypeAnnotation($v) => $call,
+            Validator::ContentEncodingAnnotation($v) => $call,
+            Validator::ContentSchemaAnnotation($v) => $call,
+            Validator::Format($v) => $call,
+            Validator::CustomFormat($v) => $call,
+            Validator::AnnotationOnlyFormat($v) => $call,
+            Validator::MinLength($v) => $call,
+            Validator::MaxLength($v) => $call,
+            Validator::LengthRange($v) => $call,
+            Validator::PrefixPattern($v) => $call,
+            Validator::ExactPattern($v) => $call,
+            Validator::AlternationPattern($v) => $call,
+            Validator::NoWhitespacePattern($v) => $call,
+            Validator::Pattern($v) => $call,
+        }
+    };
+}
+
 impl<E: RegexEngine> Uses for Validator<E> {
     ghost place = { place_of };
 
@@ -90,48 +115,12 @@ impl<E: RegexEngine> Uses for Validator<E> {
     ghost remark = { remark_made };
 
     fn parts(&self) -> Parts<'_> {
-        match self {
-            Validator::ContentMediaType(v) => v.parts(),
-            Validator::ContentEncoding(v) => v.parts(),
-            Validator::ContentMediaTypeAndEncoding(v) => v.parts(),
-            Validator::ContentMediaTypeAnnotation(v) => v.parts(),
-            Validator::ContentEncodingAnnotation(v) => v.parts(),
-            Validator::ContentSchemaAnnotation(v) => v.parts(),
-            Validator::Format(v) => v.parts(),
-            Validator::CustomFormat(v) => v.parts(),
-            Validator::AnnotationOnlyFormat(v) => v.parts(),
-            Validator::MinLength(v) => v.parts(),
-            Validator::MaxLength(v) => v.parts(),
-            Validator::LengthRange(v) => v.parts(),
-            Validator::PrefixPattern(v) => v.parts(),
-            Validator::ExactPattern(v) => v.parts(),
-            Validator::AlternationPattern(v) => v.parts(),
-            Validator::NoWhitespacePattern(v) => v.parts(),
-            Validator::Pattern(v) => v.parts(),
-        }
+        of_each!(self, v => v.parts())
     }
 }
 
 impl<E: RegexEngine, N: Node> Validate<N> for Validator<E> {
     fn findings(&self, alloc: Global, node: &N, text: &str, checks: &Checks) -> Found<'_> {
-        match self {
-            Validator::ContentMediaType(v) => v.findings(alloc, node, text, checks),
-            Validator::ContentEncoding(v) => v.findings(alloc, node, text, checks),
-            Validator::ContentMediaTypeAndEncoding(v) => v.findings(alloc, node, text, checks),
-            Validator::ContentMediaTypeAnnotation(v) => v.findings(alloc, node, text, checks),
-            Validator::ContentEncodingAnnotation(v) => v.findings(alloc, node, text, checks),
-            Validator::ContentSchemaAnnotation(v) => v.findings(alloc, node, text, checks),
-            Validator::Format(v) => v.findings(alloc, node, text, checks),
-            Validator::CustomFormat(v) => v.findings(alloc, node, text, checks),
-            Validator::AnnotationOnlyFormat(v) => v.findings(alloc, node, text, checks),
-            Validator::MinLength(v) => v.findings(alloc, node, text, checks),
-            Validator::MaxLength(v) => v.findings(alloc, node, text, checks),
-            Validator::LengthRange(v) => v.findings(alloc, node, text, checks),
-            Validator::PrefixPattern(v) => v.findings(alloc, node, text, checks),
-            Validator::ExactPattern(v) => v.findings(alloc, node, text, checks),
-            Validator::AlternationPattern(v) => v.findings(alloc, node, text, checks),
-            Validator::NoWhitespacePattern(v) => v.findings(alloc, node, text, checks),
-            Validator::Pattern(v) => v.findings(alloc, node, text, checks),
-        }
+        of_each!(self, v => v.findings(alloc, node, text, checks))
     }
 }

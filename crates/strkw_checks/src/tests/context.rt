@@ -105,7 +105,7 @@ pub(super) fn json(alloc: Global, text: &str) -> Result<Value, Fail> {
 }
 
 /// A refusal as out of memory stands at the root, and is an error here.
-fn no_memory_at_the_root(refusal: &CompileError) -> Result<(), Fail> {
+pub(super) fn no_memory_at_the_root(refusal: &CompileError) -> Result<(), Fail> {
     if !matches!(refusal.kind, CompileErrorKind::Memory) {
         return Ok(());
     }

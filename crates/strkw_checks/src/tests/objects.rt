@@ -165,8 +165,8 @@ const OBJECTS: [(Draft, &str, &str, &str, &str); 7] = [
     ),
 ];
 
-// The place and the value of each note.
-fn note_lines(alloc: Global, notes: &[Note]) -> Result<String, AllocError> {
+/// The place and the value of each note.
+pub(super) fn note_lines(alloc: Global, notes: &[Note]) -> Result<String, AllocError> {
     let mut lines = String::new(alloc);
     for note in notes {
         let (place, value) = (note.schema_path.as_str(), note.value.to_string(alloc)?);

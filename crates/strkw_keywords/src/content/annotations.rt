@@ -1,19 +1,32 @@
-//! The content keywords where they only annotate: drafts 2019-09 and 2020-12.
-ghost use Rattle.std.specs.Prelude.{Some, string_bytes};
+//! The content keywords where they only annotate, in drafts 2019-09 and 2020-12: their validators, and their entries.
+
+ghost use Rattle.std.specs.Prelude.{◌≡◌, IfErr, IfOk, Some, [], string_bytes};
+ghost use Rattle.std.specs.Bool.{MatchBool};
 ghost use Rattle.serde_json.specs.Data.{string};
-ghost use Rattle.serde_json.specs.View.{view};
+ghost use Rattle.serde_json.specs.Find.{as_str};
+ghost use Rattle.serde_json.specs.View.{members_view, view};
+ghost use Rattle.strkw_report.specs.Refusals.{fractional_number};
+ghost use Rattle.strkw_keywords.specs.Compiled.{IsBuilt, IsCompiledAt, alone};
+ghost use Rattle.strkw_keywords.specs.Object.{content_rule, gives, malformed, noted, noted_text, nothing, schema_entry, value_at};
 ghost use Rattle.strkw_keywords.specs.Remarks.{remark_at};
+ghost use Rattle.strkw_keywords.specs.Settings.{place_in, settings_of};
+ghost use Rattle.strkw_keywords.specs.Without.{IsWithoutSchema};
 ghost use Rattle.strkw_keywords.specs.declared.keyword.Keyword.TheVariants as keyword;
 
-use crate::checks::Checks;
+use crate::checks::{Checks, ContentCodec, Format, MediaTypeCheck};
+use crate::compile::{
+    ContentRule, Refused, compile_value, content_rule, located, member, origin_of,
+};
 use crate::findings::{Findings, Found};
 use crate::keyword::Keyword;
-use crate::origin::Origin;
-use crate::parts::{Noted, Parts};
+use crate::options::Context;
+use crate::parts::{Noted, Origin, Parts};
 use crate::validate::{Uses, Validate};
-use serde_json::Value;
+use crate::validator::Validator;
+use serde_json::{Map, Value};
 use std::alloc::Global;
-use strkw_report::Node;
+use strkw_pattern::EngineBuilder;
+use strkw_report::{CompileError, CompileErrorKind, Node, holds_fraction};
 
 /// Notes the media type of a text, and makes no errors (2020-12, section 8.4).
 #[derive(Drop)]
@@ -91,4 +104,139 @@ impl<N: Node> Validate<N> for ContentSchemaAnnotationValidator {
     fn findings(&self, _alloc: Global, _node: &N, _text: &str, _checks: &Checks) -> Found<'_> {
         Ok(Findings::one(None))
     }
+}
+
+pub(crate) fn build_media_type_annotation<B: EngineBuilder>(
+    alloc: Global,
+    ctx: &Context<'_, B>,
+    value: &Value,
+) -> Result<Option<Validator<B::Engine>>, Refused>
+    ensures { IsBuilt B.Engine.outcome (place_in ctx.now)
+        (alone Keyword.ContentMediaType (noted_text (view value.now) (as_str (view value.now)))) result }
+{
+    let Some(text) = value.as_str() else {
+        return Ok(None);
+    };
+    Ok(Some(Validator::ContentMediaTypeAnnotation(ContentMediaTypeAnnotationValidator {
+        origin: origin_of(ctx)?,
+        media_type: String::from_str(alloc, text)?,
+    })))
+}
+
+pub(crate) fn build_encoding_annotation<B: EngineBuilder>(
+    alloc: Global,
+    ctx: &Context<'_, B>,
+    value: &Value,
+) -> Result<Option<Validator<B::Engine>>, Refused>
+    ensures { IsBuilt B.Engine.outcome (place_in ctx.now)
+        (alone Keyword.ContentEncoding (noted_text (view value.now) (as_str (view value.now)))) result }
+{
+    let Some(text) = value.as_str() else {
+        return Ok(None);
+    };
+    Ok(Some(Validator::ContentEncodingAnnotation(ContentEncodingAnnotationValidator {
+        origin: origin_of(ctx)?,
+        encoding: String::from_str(alloc, text)?,
+    })))
+}
+
+pub(crate) fn build_schema_annotation<B: EngineBuilder>(
+    ctx: &Context<'_, B>,
+    parent: &Map<String, Value>,
+    value: &Value,
+) -> Result<Option<Validator<B::Engine>>, Refused>
+    ensures { IsBuilt B.Engine.outcome (place_in ctx.now) (alone Keyword.ContentSchema
+        (schema_entry noted (members_view parent.now.entries) (view value.now))) result }
+{
+    if !notes_schema(parent, value)? {
+        return Ok(None);
+    }
+    Ok(Some(Validator::ContentSchemaAnnotation(ContentSchemaAnnotationValidator {
+        origin: origin_of(ctx)?,
+        schema: value.clone()?,
+    })))
+}
+
+// The same of a value that is given up, by the draft: it is moved, and not copied.
+fn build_owned_schema<B: EngineBuilder>(
+    ctx: &Context<'_, B>,
+    others: &Map<String, Value>,
+    schema: Value,
+) -> Result<Option<Validator<B::Engine>>, Refused>
+    ensures { IsBuilt B.Engine.outcome (place_in ctx.now) (alone Keyword.ContentSchema
+        (schema_entry (content_rule ctx.now.draft) (members_view others.now.entries) (view schema))) result }
+{
+    if !matches!(content_rule(ctx.draft), ContentRule::Noted) || !notes_schema(others, &schema)? {
+        return Ok(None);
+    }
+    Ok(Some(Validator::ContentSchemaAnnotation(ContentSchemaAnnotationValidator {
+        origin: origin_of(ctx)?,
+        schema,
+    })))
+}
+
+// Whether a value is noted as a schema: where there is a media type beside it.
+fn notes_schema(parent: &Map<String, Value>, value: &Value) -> Result<bool, Refused>
+    ensures noted { IfOk result (λ b. MatchBool b
+        (schema_entry noted (members_view parent.now.entries) (view value.now) ≡ gives [] (Some (view value.now)))
+        (schema_entry noted (members_view parent.now.entries) (view value.now) ≡ nothing)) }
+    ensures refused { IfErr result (λ r. (schema_entry noted (members_view parent.now.entries) (view value.now)
+        ≡ malformed Keyword.ContentSchema fractional_number)
+        × (r ≡ Refused.Malformed Keyword.ContentSchema CompileErrorKind.FractionalNumber)) }
+{
+    if member(parent, Keyword::ContentMediaType.as_str()).is_none() {
+        return Ok(false);
+    }
+    if holds_fraction(value) {
+        return Err(Refused::Malformed {
+            kind: CompileErrorKind::FractionalNumber,
+            keyword: Keyword::ContentSchema,
+        });
+    }
+    Ok(true)
+}
+
+/// The validator of the entry `contentSchema`, which notes its value from draft 2019-09 on (2020-12, section 8.5).
+///
+/// `value` is the parent's value at `contentSchema`, which is not overridden. `None` means that the entry adds nothing:
+/// the draft is an earlier one, or there is no key `contentMediaType`.
+///
+/// Refusals: `FractionalNumber` at `contentSchema`, where the noted value holds a number that is no whole number of 64
+/// bits; `Memory`, at the root, where it is out of memory.
+pub fn compile_content_schema_annotation<B: EngineBuilder>(
+    alloc: Global,
+    ctx: &Context<'_, B>,
+    parent: &Map<String, Value>,
+    value: &Value,
+) -> Option<Result<Validator<B::Engine>, CompileError>>
+    requires { value_at ctx.now.options Keyword.ContentSchema (members_view parent.now.entries) ≡ Some (view value.now) }
+    ensures { IsCompiledAt B.Engine.outcome (settings_of B.takes B.outcome admits accepted encoded decoding ctx.now)
+        (members_view parent.now.entries) Keyword.ContentSchema result }
+{
+    compile_value(alloc, ctx, parent, value, Keyword::ContentSchema)
+}
+
+/// Takes the value at `contentSchema` out of an object, and makes the validator of its entry: what
+/// `compile_content_schema_annotation` answers for the object as it was. The value is moved into the validator, and not
+/// copied.
+///
+/// The value is taken out, and dropped, also where the entry adds nothing or is refused.
+pub fn take_content_schema<B: EngineBuilder>(
+    alloc: Global,
+    ctx: &Context<'_, B>,
+    object: &mut Map<String, Value>,
+) -> Option<Result<Validator<B::Engine>, CompileError>>
+    ensures compiled { IsCompiledAt B.Engine.outcome (settings_of B.takes B.outcome admits accepted encoded decoding ctx.now)
+        (members_view object.old.entries) Keyword.ContentSchema result }
+    ensures others { IsWithoutSchema (members_view object.old.entries) (members_view object.new.entries) }
+{
+    let schema = object.remove(Keyword::ContentSchema.as_str())?;
+    if ctx.options.is_overridden(Keyword::ContentSchema) {
+        return None;
+    }
+    located(
+        alloc,
+        &ctx.location,
+        build_owned_schema(ctx, object, schema),
+    )
 }

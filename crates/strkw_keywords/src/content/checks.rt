@@ -1,19 +1,29 @@
-//! The content keywords where they are checked: drafts 6 and 7.
-ghost use Rattle.std.specs.Prelude.{[], ◌∷◌, None, IfOk, option_map};
-ghost use Rattle.strkw_keywords.specs.Lists.{lists_of};
+//! The content keywords where they are checked, in drafts 6 and 7: their validators, and their entries.
+
+ghost use Rattle.std.specs.Prelude.{◌∷◌, ◌≡◌, IfOk, None, Some, [], option_map};
+ghost use Rattle.serde_json.specs.View.{members_view, view};
 ghost use Rattle.strkw_keywords.specs.Choices.{choice_of};
-ghost use Rattle.strkw_keywords.specs.Demands.{is_media_type, is_encoded, encodes_media_type, HasFinding};
+ghost use Rattle.strkw_keywords.specs.Compiled.{IsBuilt, IsCompiledAt, alone};
+ghost use Rattle.strkw_keywords.specs.Demands.{HasFinding, encodes_media_type, is_encoded, is_media_type};
 ghost use Rattle.strkw_keywords.specs.Findings.{finding_of};
+ghost use Rattle.strkw_keywords.specs.Lists.{lists_of};
+ghost use Rattle.strkw_keywords.specs.Object.{checked, codec_named, encoding_entry, known_codec, known_media_type, media_type_entry, value_at};
+ghost use Rattle.strkw_keywords.specs.Settings.{place_in, settings_of};
 
 use super::{accepts, chosen_codec, chosen_media_type, decode, is_encoding};
 use crate::checks::{Checks, Choice, ContentCodec, Format, MediaTypeCheck};
+use crate::compile::{Refused, compile_value, member, no_string, origin_of};
 use crate::findings::{Findings, Found, FoundOne};
-use crate::origin::Origin;
-use crate::parts::Parts;
+use crate::keyword::Keyword;
+use crate::options::Context;
+use crate::parts::{Origin, Parts};
 use crate::validate::{Uses, Validate};
+use crate::validator::Validator;
+use serde_json::{Map, Value};
 use std::alloc::{AllocError, Global};
 use strkw_coding::{BuiltinMediaType, Codec, DecodeError};
-use strkw_report::{Failure, Node};
+use strkw_pattern::EngineBuilder;
+use strkw_report::{CompileError, Failure, Node};
 
 /// Demands that a text is of a media type (draft 7, section 8.4).
 #[derive(Drop)]
@@ -34,12 +44,9 @@ impl Uses for ContentMediaTypeValidator {
 
 impl<N: Node> Validate<N> for ContentMediaTypeValidator {
     fn findings(&self, alloc: Global, _node: &N, text: &str, checks: &Checks) -> Found<'_> {
-        let failure = if accepts(alloc, &self.media_type, checks, text)? {
-            None
-        } else {
-            Some(Failure::ContentMediaType(chosen_media_type(&self.media_type)))
-        };
-        Ok(Findings::one(failure))
+        let is_accepted = accepts(alloc, &self.media_type, checks, text)?;
+        let failure = Failure::ContentMediaType(chosen_media_type(&self.media_type));
+        Ok(Findings::one((!is_accepted).then_some(failure)))
     }
 }
 
@@ -123,4 +130,161 @@ impl<N: Node> Validate<N> for ContentMediaTypeAndEncodingValidator {
     fn findings(&self, alloc: Global, _node: &N, text: &str, checks: &Checks) -> Found<'_> {
         Ok(Findings::one(self.finding(alloc, text, checks)?))
     }
+}
+
+// The media type of a name, if it is known.
+fn media_type_known<B>(
+    alloc: Global,
+    ctx: &Context<'_, B>,
+    name: &str,
+) -> Result<Option<Choice<BuiltinMediaType>>, AllocError>
+    ensures { IfOk result (λ o. option_map choice_of o ≡ known_media_type
+        (lists_of admits accepted encoded decoding ctx.now.checks) ctx.now.options name.now) }
+{
+    if let Some(position) = ctx.checks.media_type_named(name) {
+        return Ok(Some(Choice::Row {
+            position,
+            name: String::from_str(alloc, name)?,
+        }));
+    }
+    if ctx.options.json_media_type && name == "application/json" {
+        Ok(Some(Choice::Builtin(BuiltinMediaType::Json)))
+    } else {
+        Ok(None)
+    }
+}
+
+// The codec of a name.
+fn codec_named(name: &str) -> Option<Codec>
+    ensures { result ≡ codec_named name.now }
+{
+    Codec::by_name(name)
+}
+
+// The codec of a name, if it is known.
+fn codec_known<B>(
+    alloc: Global,
+    ctx: &Context<'_, B>,
+    name: &str,
+) -> Result<Option<Choice<Codec>>, AllocError>
+    ensures { IfOk result (λ o. option_map choice_of o ≡ known_codec (lists_of admits accepted encoded decoding ctx.now.checks) ctx.now.options name.now) }
+{
+    if let Some(position) = ctx.checks.codec_named(name) {
+        return Ok(Some(Choice::Row {
+            position,
+            name: String::from_str(alloc, name)?,
+        }));
+    }
+    match codec_named(name) {
+        Some(codec) if ctx.options.has_codec(codec) => Ok(Some(Choice::Builtin(codec))),
+        _ => Ok(None),
+    }
+}
+
+pub(crate) fn build_media_type<B: EngineBuilder>(
+    alloc: Global,
+    ctx: &Context<'_, B>,
+    parent: &Map<String, Value>,
+    value: &Value,
+) -> Result<Option<Validator<B::Engine>>, Refused>
+    ensures { IsBuilt B.Engine.outcome (place_in ctx.now) (alone Keyword.ContentMediaType
+        (media_type_entry checked (settings_of B.takes B.outcome admits accepted encoded decoding ctx.now) (members_view parent.now.entries)
+        (view value.now))) result }
+{
+    let Some(name) = value.as_str() else {
+        return Err(no_string(value, Keyword::ContentMediaType));
+    };
+    let Some(media_type) = media_type_known(alloc, ctx, name)? else {
+        return Ok(None);
+    };
+    let origin = origin_of(ctx)?;
+    let Some(encoding) = member(parent, Keyword::ContentEncoding.as_str()) else {
+        return Ok(Some(Validator::ContentMediaType(ContentMediaTypeValidator {
+            origin,
+            media_type,
+        })));
+    };
+    let Some(codec) = encoding.as_str() else {
+        return Err(no_string(encoding, Keyword::ContentEncoding));
+    };
+    match codec_known(alloc, ctx, codec)? {
+        Some(codec) => Ok(Some(Validator::ContentMediaTypeAndEncoding(
+            ContentMediaTypeAndEncodingValidator {
+                origin,
+                codec,
+                media_type,
+            },
+        ))),
+        None => Ok(None),
+    }
+}
+
+pub(crate) fn build_encoding<B: EngineBuilder>(
+    alloc: Global,
+    ctx: &Context<'_, B>,
+    parent: &Map<String, Value>,
+    value: &Value,
+) -> Result<Option<Validator<B::Engine>>, Refused>
+    ensures { IsBuilt B.Engine.outcome (place_in ctx.now) (alone Keyword.ContentEncoding
+        (encoding_entry checked (settings_of B.takes B.outcome admits accepted encoded decoding ctx.now) (members_view parent.now.entries)
+        (view value.now))) result }
+{
+    if member(parent, Keyword::ContentMediaType.as_str()).is_some() {
+        return Ok(None);
+    }
+    let Some(name) = value.as_str() else {
+        return Err(no_string(value, Keyword::ContentEncoding));
+    };
+    match codec_known(alloc, ctx, name)? {
+        Some(codec) => Ok(Some(Validator::ContentEncoding(ContentEncodingValidator {
+            origin: origin_of(ctx)?,
+            codec,
+        }))),
+        None => Ok(None),
+    }
+}
+
+/// The validator of the entry `contentMediaType`, by the draft of the context. In drafts 6 and 7 (draft 7, section 8.4)
+/// it demands that a text is of the media type or, beside a key `contentEncoding`, overridden or not, that it encodes
+/// one. From draft 2019-09 on it notes the value (2020-12, section 8.4).
+///
+/// `value` is the parent's value at `contentMediaType`, which is not overridden. `None` means that the entry adds
+/// nothing. So it is in draft 4; in drafts 6 and 7 where the media type is unknown, and then `contentEncoding` is not
+/// looked at, or the codec is; later, where the value is no string.
+///
+/// Refusals, in drafts 6 and 7: `NotString` at that keyword for a value that is no string, or `FractionalNumber` in its
+/// place where that value holds a number that is no whole number of 64 bits, and the same of `contentEncoding`, at that
+/// keyword, where the media type is known. In all drafts: `Memory`, at the root, where it is out of memory.
+pub fn compile_media_type<B: EngineBuilder>(
+    alloc: Global,
+    ctx: &Context<'_, B>,
+    parent: &Map<String, Value>,
+    value: &Value,
+) -> Option<Result<Validator<B::Engine>, CompileError>>
+    requires { value_at ctx.now.options Keyword.ContentMediaType (members_view parent.now.entries) ≡ Some (view value.now) }
+    ensures { IsCompiledAt B.Engine.outcome (settings_of B.takes B.outcome admits accepted encoded decoding ctx.now)
+        (members_view parent.now.entries) Keyword.ContentMediaType result }
+{
+    compile_value(alloc, ctx, parent, value, Keyword::ContentMediaType)
+}
+
+/// The validator of the entry `contentEncoding`, by the draft of the context. In drafts 6 and 7 (draft 7, section 8.3)
+/// it demands that a text is an encoding. From draft 2019-09 on it notes the value (2020-12, section 8.3).
+///
+/// `value` is the parent's value at `contentEncoding`, which is not overridden. `None` means that the entry adds
+/// nothing. So it is in draft 4; in drafts 6 and 7 where there is a key `contentMediaType`, overridden or not, or the
+/// codec is unknown; later, where the value is no string.
+///
+/// Refusals: as of `compile_media_type`, but none of another keyword.
+pub fn compile_content_encoding<B: EngineBuilder>(
+    alloc: Global,
+    ctx: &Context<'_, B>,
+    parent: &Map<String, Value>,
+    value: &Value,
+) -> Option<Result<Validator<B::Engine>, CompileError>>
+    requires { value_at ctx.now.options Keyword.ContentEncoding (members_view parent.now.entries) ≡ Some (view value.now) }
+    ensures { IsCompiledAt B.Engine.outcome (settings_of B.takes B.outcome admits accepted encoded decoding ctx.now)
+        (members_view parent.now.entries) Keyword.ContentEncoding result }
+{
+    compile_value(alloc, ctx, parent, value, Keyword::ContentEncoding)
 }

@@ -1,20 +1,19 @@
 //! The entry `pattern`.
 
-ghost use Rattle.std.specs.Prelude.{◌≡◌, Some, None, [], ◌∷◌, string_bytes};
-ghost use Rattle.serde_json.specs.View.{view, members_view};
+ghost use Rattle.std.specs.Prelude.{◌∷◌, ◌≡◌, None, Some, [], string_bytes};
+ghost use Rattle.serde_json.specs.View.{members_view, view};
 ghost use Rattle.strkw_pattern.specs.Matcher.{literal_outcome, matcher_of};
-ghost use Rattle.strkw_keywords.specs.Settings.{settings_of};
+ghost use Rattle.strkw_keywords.specs.Compiled.{IsCompiledAt, IsPatternBuilt};
 ghost use Rattle.strkw_keywords.specs.Demands.{compares};
-ghost use Rattle.strkw_keywords.specs.Validators.{place_of, demands_of, remark_made};
-ghost use Rattle.strkw_keywords.specs.Compiled.{IsPatternBuilt, IsCompiledAt};
 ghost use Rattle.strkw_keywords.specs.Object.{value_at};
+ghost use Rattle.strkw_keywords.specs.Settings.{settings_of};
+ghost use Rattle.strkw_keywords.specs.Validators.{demands_of, place_of, remark_made};
 
 use crate::checks::{ContentCodec, Format, MediaTypeCheck};
-use crate::compile::{Refused, no_string, origin_of};
-use crate::entry::compile_value;
+use crate::compile::{Refused, compile_value, no_string, origin_of};
 use crate::keyword::Keyword;
 use crate::options::Context;
-use crate::origin::Origin;
+use crate::parts::Origin;
 use crate::pattern::{
     AlternationPatternValidator, ExactPatternValidator, Literal, NoWhitespacePatternValidator,
     PatternValidator, PrefixPatternValidator,

@@ -8,8 +8,8 @@ loop-validator-init g c =
     let checks = (lists_of (λ b. (goal.Format-dyn g b).admits b.1) (λ b. (goal.MediaTypeCheck-dyn g b).accepted b.1) (λ b. (goal.ContentCodec-dyn g b).encoded b.1) (λ b. (goal.ContentCodec-dyn g b).decoding b.1) c.args.checks.now) in
     nothing_asserted checks c.args.site.now (g.N.Node.text c.args.node.now)
 
-pub validate-requires : goal.validate-requires
-validate-requires g c =
+pub validate_text-requires-clause-in_use : goal.validate_text-requires-clause-in_use
+validate_text-requires-clause-in_use g c =
     let checks = (lists_of (λ b. (goal.Format-dyn g b).admits b.1) (λ b. (goal.MediaTypeCheck-dyn g b).accepted b.1) (λ b. (goal.ContentCodec-dyn g b).encoded b.1) (λ b. (goal.ContentCodec-dyn g b).decoding b.1) c.args.checks.now) in
     in_use_at g.E.RegexEngine.outcome checks c.args.self.now.validators.items c.loop-validator.validator-index c.validator-item.result
     (rw c.deref-validator-items.ensures.value at c.loop-validator-test.true)

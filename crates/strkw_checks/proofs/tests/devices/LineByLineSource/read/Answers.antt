@@ -1,7 +1,7 @@
 use Rattle.std.proofs.Common.{◌≡◌, ℕ, ◌+◌, ◌-◌, min, inl, inr, ◌<◌, [], List, length, take, drop, ap, ◌∙◌, arith, length-take, length-drop, length-append}
 use Rattle.std.proofs.lemmas.List.{take_rest, nil_from_length}
 use Rattle.std.proofs.lemmas.Bool.{cases_eq}
-use Rattle.strkw_cli.proofs.MoveLemmas.{moved_front}
+use Rattle.strkw_devices.proofs.MoveLemmas.{moved_front}
 use Rattle.strkw_checks.proofs.tests.devices.LineByLineSource.read.Goals as goal
 
 -- where nothing was copied though there is room, nothing is left

@@ -1,0 +1,290 @@
+//! The formats that are checked without a registered check.
+ghost use Rattle.std.specs.Prelude.{◌≡◌, ◌↔◌, ◌-◌, ◌^◌, Some, None, IsTrue, option_map};
+ghost use Rattle.std.specs.Str.{chars};
+ghost use Rattle.strkw_formats.specs.Formats.{IsOfBuiltin, format_name, is_known, window_of, bounds, example_of, window_texts_of, format_row, builtin_named};
+
+use strkw_label::is_valid_hostname;
+use strkw_net::{is_valid_hostname_rfc1034, is_valid_ipv4, is_valid_ipv6, is_valid_uuid};
+use strkw_report::Draft;
+use strkw_time::{is_valid_date, is_valid_datetime, is_valid_duration, is_valid_time};
+use strkw_uri::{
+    is_valid_iri, is_valid_iri_reference, is_valid_json_pointer, is_valid_relative_json_pointer,
+    is_valid_uri, is_valid_uri_reference, is_valid_uri_template,
+};
+
+// A host name of 253 characters: labels of 63, 63, 63 and 61 letters.
+const LONGEST_HOST_NAME: &str =
+    "aaaaaaaaaaaaaaaaaaaaaaaaaaaaaaaaaaaaaaaaaaaaaaaaaaaaaaaaaaaaaaa.aaaaaaaaaaaaaaaaaaaaaaaaaaaaaaaaaaaaaaaaaaaaaaaaaaaaaaaaaaaaaaa.aaaaaaaaaaaaaaaaaaaaaaaaaaaaaaaaaaaaaaaaaaaaaaaaaaaaaaaaaaaaaaa.aaaaaaaaaaaaaaaaaaaaaaaaaaaaaaaaaaaaaaaaaaaaaaaaaaaaaaaaaaaaa";
+
+/// The formats that have a grammar of their own here. They are compared and hashed by their places in this order.
+#[derive(Debug, Clone, Copy, PartialEq, Eq, PartialOrd, Ord, Hash)]
+pub enum BuiltinFormat {
+    /// `date`: `full-date` of RFC 3339, section 5.6.
+    Date,
+    /// `date-time` of RFC 3339, section 5.6.
+    DateTime,
+    /// `duration` of RFC 3339, appendix A. Its letters are upper case.
+    Duration,
+    /// `hostname` from draft 7 on: ASCII host names in which only `xn--` labels have hyphens in third and fourth place,
+    /// each payload being the Punycode (RFC 3492) of a text that `validate_unicode_label` admits. The prefix counts in
+    /// any letter case.
+    Hostname,
+    /// `hostname` in drafts 4 and 6: ASCII host names of RFC 1034, section 3.5, and RFC 1123, section 2.1.
+    HostnameDraft4,
+    /// `ipv4`: `IPv4address` of RFC 3986, section 3.2.2.
+    Ipv4,
+    /// `ipv6`: RFC 4291, section 2.2.
+    Ipv6,
+    /// `iri` of RFC 3987, section 2.2.
+    Iri,
+    /// `iri-reference` of RFC 3987, section 2.2.
+    IriReference,
+    /// `json-pointer` of RFC 6901, section 3.
+    JsonPointer,
+    /// `relative-json-pointer` of draft-handrews-relative-json-pointer-02, section 3.
+    RelativeJsonPointer,
+    /// `time`: `full-time` of RFC 3339, section 5.6.
+    Time,
+    /// `uri` of RFC 3986, appendix A.
+    Uri,
+    /// `uri-reference` of RFC 3986, appendix A.
+    UriReference,
+    /// `uri-template` of RFC 6570, section 2. `'` and characters past ASCII stand in literals.
+    UriTemplate,
+    /// `uuid` of RFC 9562, section 4 (before it RFC 4122, section 3).
+    Uuid,
+}
+
+// What is told of a format beside its grammar: its name in a schema, the first draft that has it and the last, a text of it, and,
+// for the formats that tell them, the ends of its lengths, with a text of least length, and one of greatest where that end
+// is closed.
+#[derive(Clone, Copy)]
+struct FormatRow {
+    name: &'static str,
+    first: Draft,
+    last: Draft,
+    example: &'static str,
+    window: Option<(u64, u64)>,
+    window_texts: Option<(&'static str, Option<&'static str>)>,
+}
+
+impl BuiltinFormat {
+    /// Each format once, in order.
+    pub const VARIANTS: &'static [BuiltinFormat] = &[
+        BuiltinFormat::Date,
+        BuiltinFormat::DateTime,
+        BuiltinFormat::Duration,
+        BuiltinFormat::Hostname,
+        BuiltinFormat::HostnameDraft4,
+        BuiltinFormat::Ipv4,
+        BuiltinFormat::Ipv6,
+        BuiltinFormat::Iri,
+        BuiltinFormat::IriReference,
+        BuiltinFormat::JsonPointer,
+        BuiltinFormat::RelativeJsonPointer,
+        BuiltinFormat::Time,
+        BuiltinFormat::Uri,
+        BuiltinFormat::UriReference,
+        BuiltinFormat::UriTemplate,
+        BuiltinFormat::Uuid,
+    ];
+
+    /// The name of the format in a schema. Both formats of host names have the name `hostname`.
+    pub fn as_str(self) -> &'static str
+        ensures { result.now ≡ format_name self }
+    {
+        self.row().name
+    }
+
+    /// The least and the greatest number of characters of a text of the format, both inclusive.
+    ///
+    /// An open end is `u64::MAX`. `None` for IRIs, URIs, references to either, URI templates and JSON pointers.
+    pub fn length_window(self) -> Option<(u64, u64)>
+        ensures { result ≡ option_map bounds (window_of self) }
+    {
+        self.row().window
+    }
+
+    /// A text of the format.
+    pub fn example(self) -> &'static str
+        ensures { result.now ≡ example_of self }
+    {
+        self.row().example
+    }
+
+    /// A text of the least length of `length_window`, and where its upper end is closed one of the greatest.
+    ///
+    /// `None` for the formats without such a window.
+    pub fn window_texts(self) -> Option<(&'static str, Option<&'static str>)>
+        ensures { option_map (λ (shortest, longest). (shortest.now, option_map (λ it. it.now) longest)) result
+            ≡ window_texts_of self }
+    {
+        self.row().window_texts
+    }
+
+    /// Whether the format's grammar derives the text.
+    pub fn is_valid(self, text: &str) -> bool
+        ensures { IsTrue result ↔ IsOfBuiltin self (chars text.now) }
+    {
+        match self {
+            Self::Date => is_valid_date(text),
+            Self::DateTime => is_valid_datetime(text),
+            Self::Duration => is_valid_duration(text),
+            Self::Hostname => is_valid_hostname(text),
+            Self::HostnameDraft4 => is_valid_hostname_rfc1034(text),
+            Self::Ipv4 => is_valid_ipv4(text),
+            Self::Ipv6 => is_valid_ipv6(text),
+            Self::Iri => is_valid_iri(text),
+            Self::IriReference => is_valid_iri_reference(text),
+            Self::JsonPointer => is_valid_json_pointer(text),
+            Self::RelativeJsonPointer => is_valid_relative_json_pointer(text),
+            Self::Time => is_valid_time(text),
+            Self::Uri => is_valid_uri(text),
+            Self::UriReference => is_valid_uri_reference(text),
+            Self::UriTemplate => is_valid_uri_template(text),
+            Self::Uuid => is_valid_uuid(text),
+        }
+    }
+
+    /// Whether the draft has the format.
+    fn is_known_in(self, draft: Draft) -> bool
+        ensures { result ≡ is_known self draft }
+    {
+        let row = self.row();
+        row.first <= draft && draft <= row.last
+    }
+
+    // The table: a row a format.
+    fn row(self) -> FormatRow
+        ensures name { result.name.now ≡ format_name self }
+        ensures first { result.first ≡ (format_row self).first }
+        ensures last { result.last ≡ (format_row self).last }
+        ensures example { result.example.now ≡ example_of self }
+        ensures window { result.window ≡ option_map bounds (window_of self) }
+        ensures window_texts { option_map (λ (shortest, longest). (shortest.now, option_map (λ it. it.now) longest))
+            result.window_texts ≡ window_texts_of self }
+    {
+        match self {
+            Self::Date => since(Draft::Draft4, "date", "2020-01-01").exactly(10),
+            Self::DateTime => since(Draft::Draft4, "date-time", "2020-01-01T00:00:00Z").open(20),
+            Self::Duration => since(Draft::Draft201909, "duration", "P1D").open(3),
+            Self::Hostname => since(Draft::Draft7, "hostname", "example.com").closed(
+                (1, "a"),
+                (253, LONGEST_HOST_NAME),
+            ),
+            Self::HostnameDraft4 => FormatRow {
+                last: Draft::Draft6,
+                ..since(Draft::Draft4, "hostname", "example.com").closed(
+                    (1, "a"),
+                    (253, LONGEST_HOST_NAME),
+                )
+            },
+            Self::Ipv4 => since(Draft::Draft4, "ipv4", "127.0.0.1").closed(
+                (7, "0.0.0.0"),
+                (15, "255.255.255.255"),
+            ),
+            Self::Ipv6 => since(Draft::Draft4, "ipv6", "::1").closed(
+                (2, "::"),
+                (45, "0000:0000:0000:0000:0000:0000:255.255.255.255"),
+            ),
+            Self::Iri => since(Draft::Draft7, "iri", "http://example.com"),
+            Self::IriReference => since(Draft::Draft7, "iri-reference", "http://example.com"),
+            Self::JsonPointer => since(Draft::Draft6, "json-pointer", "/a"),
+            Self::RelativeJsonPointer => since(Draft::Draft7, "relative-json-pointer", "0"),
+            Self::Time => since(Draft::Draft4, "time", "00:00:00Z").open(9),
+            Self::Uri => since(Draft::Draft4, "uri", "http://example.com"),
+            Self::UriReference => since(Draft::Draft6, "uri-reference", "http://example.com"),
+            Self::UriTemplate => since(Draft::Draft6, "uri-template", "http://example.com/{id}"),
+            Self::Uuid => since(
+                Draft::Draft201909,
+                "uuid",
+                "00000000-0000-4000-8000-000000000000",
+            )
+            .exactly(36),
+        }
+    }
+}
+
+impl FormatRow {
+    // The row with a window of lengths, whose ends are a length with a text of it.
+    fn closed(self, least: (u64, &'static str), greatest: (u64, &'static str)) -> FormatRow
+        ensures { result ≡ record {
+          name = self.name;
+          first = self.first;
+          last = self.last;
+          example = self.example;
+          window = Some (least.entry.0, greatest.entry.0);
+          window_texts = Some (least.entry.1, Some greatest.entry.1);
+        } }
+    {
+        FormatRow {
+            window: Some((least.0, greatest.0)),
+            window_texts: Some((least.1, Some(greatest.1))),
+            ..self
+        }
+    }
+
+    // The row of a format whose texts all have one length.
+    fn exactly(self, length: u64) -> FormatRow
+        ensures { result ≡ record {
+          name = self.name;
+          first = self.first;
+          last = self.last;
+          example = self.example;
+          window = Some (length, length);
+          window_texts = Some (self.example, Some self.example);
+        } }
+    {
+        self.closed((length, self.example), (length, self.example))
+    }
+
+    // The row with a window of lengths whose upper end is open, and whose least length the example has.
+    fn open(self, least: u64) -> FormatRow
+        ensures { result ≡ record {
+          name = self.name;
+          first = self.first;
+          last = self.last;
+          example = self.example;
+          window = Some (least, 2 ^ 64 - 1);
+          window_texts = Some (self.example, None);
+        } }
+    {
+        FormatRow {
+            window: Some((least, u64::MAX)),
+            window_texts: Some((self.example, None)),
+            ..self
+        }
+    }
+}
+
+// The row of a format that the drafts from one on have, and of which no lengths are told.
+fn since(first: Draft, name: &'static str, example: &'static str) -> FormatRow
+    ensures { result ≡ record {
+      name = name.entry;
+      first = first;
+      last = Draft.Draft202012;
+      example = example.entry;
+      window = None;
+      window_texts = None;
+    } }
+{
+    FormatRow {
+        name,
+        first,
+        last: Draft::Draft202012,
+        example,
+        window: None,
+        window_texts: None,
+    }
+}
+
+/// The built-in format of a name in a draft, or `None` where the draft has none of that name.
+///
+/// Names are compared exactly. In drafts 4 and 6 `hostname` is `HostnameDraft4`, from draft 7 on `Hostname`.
+#[tactic(auto, unfolding(crate::specs::Formats::builtin_named))]
+pub fn builtin_format(draft: Draft, name: &str) -> Option<BuiltinFormat>
+    ensures { result ≡ builtin_named draft name.now }
+{
+    BuiltinFormat::VARIANTS.iter().copied().find(|format| format.as_str() == name
+        && format.is_known_in(draft))
+}

@@ -1,0 +1,139 @@
+-- On an object whose value at `contentSchema` was taken out.
+use Rattle.std.proofs.Common.{◌≡◌, ℕ, List, [], ◌∷◌, Bool, true, false, if◌then◌else◌, Option, Some, None, option_map, Result, String, Global, BTreeMap, string_bytes, string_cmp, nat_cmp, refl, sym, ap, ◌∙◌, subst, MatchOption}
+use Rattle.std.proofs.Math.Path.{fun_ext}
+use Rattle.std.proofs.lemmas.Map.Text.{btree_map_updates_text}
+use Rattle.std.specs.BTreeMap.{get_by, UpdatesBy}
+use Rattle.std.specs.Cmp.Lexicographic.{slice_cmp}
+use Rattle.std.specs.List.{AllByRecursion}
+use Rattle.std.specs.Str.{bytes_eq}
+use Rattle.serde_json.specs.Data.{Data, Members}
+use Rattle.serde_json.specs.Find.{get_member}
+use Rattle.serde_json.specs.View.{view, members_view}
+use Rattle.serde_json.specs.declared.value.Value.{Value}
+use Rattle.serde_json.proofs.Views.{view-lookup}
+use Rattle.strkw_report.specs.declared.refusal.CompileError.{CompileError}
+use Rattle.strkw_coding.specs.declared.media_type.BuiltinMediaType.{BuiltinMediaType}
+use Rattle.strkw_pattern.specs.declared.engine.Outcome.{Outcome}
+use Rattle.strkw_keywords.specs.declared.keyword.Keyword.{Keyword}
+use Rattle.strkw_keywords.specs.declared.keyword.Keyword.TheVariants.{ContentMediaType, ContentEncoding, ContentSchema, Format, MinLength, MaxLength, Pattern}
+use Rattle.strkw_keywords.specs.declared.validator.Validator.{Validator}
+use Rattle.strkw_keywords.specs.Keywords.{keyword_name}
+use Rattle.strkw_keywords.specs.Meanings.{Choice}
+use Rattle.strkw_keywords.specs.Object.{Settings, Entry, nothing, Keyed, ContentRule, ignored, checked, noted, content_rule, of_text, known_media_type, media_type_beside, media_type_check, media_type_entry, encoding_beside, encoding_entry, schema_entry, schema_beside, is_overridden, value_at, is_fused, share, IsEntryOf, IsEntryAt, AreEntriesOf}
+use Rattle.strkw_keywords.specs.Compiled.{alone, IsCompiled, IsCompiledAt}
+use Rattle.strkw_keywords.specs.Without.{KeepsOthers, IsWithoutSchema}
+use Rattle.strkw_keywords.proofs.EntriesOf.{absent}
+
+-- a keyword other than `contentSchema`
+abbrev pub Apart : Keyword → Type 0
+Apart k = bytes_eq (keyword_name ContentSchema) (keyword_name k) ≡ false
+
+-- an object keeps its own members
+pub keeps_itself : (ms : Members) → KeepsOthers ms ms
+keeps_itself ms = record { kept = λ name apart. refl }
+
+-- ---- the value at a name is removed, and that name is `contentSchema`
+
+module _ (m n : BTreeMap (String Global) Value) (name : List ℕ) (is : name ≡ keyword_name ContentSchema) (updates : UpdatesBy string_cmp (λ k. slice_cmp nat_cmp name (string_bytes k)) m n None) where
+  pub without : IsWithoutSchema (members_view m.entries) (members_view n.entries)
+  without = record {
+    taken =
+        let gone = btree_map_updates_text name m n None updates (keyword_name ContentSchema) in
+        sym (view-lookup (keyword_name ContentSchema) n.entries) ∙ ap (option_map view) (rw is at gone);
+    left = record {
+      kept = λ other apart.
+          let kept = btree_map_updates_text name m n None updates other in
+          sym (view-lookup other n.entries) ∙ ap (option_map view) (rw (is, apart) at kept) ∙ view-lookup other m.entries;
+    };
+  }
+
+  pub was_there : (r : Option Value) → r ≡ get_by (λ k. slice_cmp nat_cmp name (string_bytes k)) m → get_member (keyword_name ContentSchema) (members_view m.entries) ≡ option_map view r
+  was_there r value = rw (← is) (sym (ap (option_map view) value ∙ view-lookup name m.entries))
+
+-- ---- what is compiled of the parts is compiled of the object
+
+module _ {E : Type 0} (outcome : E → List ℕ → Outcome) (s : Settings) (ms : Members) where
+  unless : (b : Bool) (d : Option Data) → None ≡ d → None ≡ (if b then None else d)
+  unless true d e = refl
+  unless false d e = e
+
+  -- where there is no value, nothing is compiled
+  pub none_compiled : get_member (keyword_name ContentSchema) ms ≡ None → IsCompiledAt outcome s ms ContentSchema None
+  none_compiled e = absent outcome s ms ContentSchema (unless (is_overridden s.options ContentSchema) _ (sym e))
+
+module _ {E : Type 0} (outcome : E → List ℕ → Outcome) (s : Settings) (ms others : Members) (keeps : KeepsOthers ms others) where
+  -- ---- the schema, by what is beside it
+
+  same_schema : (rule : ContentRule) (d : Data) → schema_entry rule others d ≡ schema_entry rule ms d
+  same_schema ignored d = refl
+  same_schema checked d = refl
+  same_schema noted d = ap (λ m. schema_beside m d) (keeps.kept (keyword_name ContentMediaType) refl)
+
+  pub schema_compiled : (v : Value) (r : Option (Result (Validator E) CompileError)) → get_member (keyword_name ContentSchema) ms ≡ Some (view v) → is_overridden s.options ContentSchema ≡ false
+      → IsCompiled outcome s.place (alone ContentSchema (schema_entry (content_rule s.draft) others (view v))) r → IsCompiledAt outcome s ms ContentSchema r
+  schema_compiled v r there looked_at h =
+      let e = schema_entry (content_rule s.draft) others (view v) in
+      let value : value_at s.options ContentSchema ms ≡ Some (view v) = rw looked_at there in
+      let at = subst (λ m. MatchOption m (e ≡ nothing) (λ d. IsEntryOf s ms ContentSchema d e)) (sym value) (same_schema (content_rule s.draft) (view v)) in
+      record { entries = alone ContentSchema e; are_entries = (e, [], at, refl, refl); answer = h }
+
+  -- ---- the other keywords
+
+  same_value : (k : Keyword) → Apart k → value_at s.options k others ≡ value_at s.options k ms
+  same_value k apart = ap (λ v. if is_overridden s.options k then None else v) (keeps.kept (keyword_name k) apart)
+
+  same_check : (m : Option (Choice BuiltinMediaType)) → media_type_check s others m ≡ media_type_check s ms m
+  same_check None = refl
+  same_check (Some m) = ap (media_type_beside s m) (keeps.kept (keyword_name ContentEncoding) refl)
+
+  same_media_type : (rule : ContentRule) (d : Data) → media_type_entry rule s others d ≡ media_type_entry rule s ms d
+  same_media_type ignored d = refl
+  same_media_type checked d = ap (λ entry. of_text entry ContentMediaType d) (fun_ext (λ name. same_check (known_media_type s.lists s.options name)))
+  same_media_type noted d = refl
+
+  same_encoding : (rule : ContentRule) (d : Data) → encoding_entry rule s others d ≡ encoding_entry rule s ms d
+  same_encoding ignored d = refl
+  same_encoding checked d = ap (λ m. encoding_beside s m d) (keeps.kept (keyword_name ContentMediaType) refl)
+  same_encoding noted d = refl
+
+  same_entry : (k : Keyword) (d : Data) (e : Entry) → IsEntryOf s others k d e → IsEntryOf s ms k d e
+  same_entry ContentMediaType d e h = h ∙ same_media_type (content_rule s.draft) d
+  same_entry ContentEncoding d e h = h ∙ same_encoding (content_rule s.draft) d
+  same_entry ContentSchema d e h = h ∙ same_schema (content_rule s.draft) d
+  same_entry Format d e h = h
+  same_entry MinLength d e h = h
+  same_entry MaxLength d e h = h
+  same_entry Pattern d e h = h
+
+  same_at : (k : Keyword) (v : Option Data) (e : Entry) → MatchOption v (e ≡ nothing) (λ d. IsEntryOf s others k d e) → MatchOption v (e ≡ nothing) (λ d. IsEntryOf s ms k d e)
+  same_at k None e h = h
+  same_at k (Some d) e h = same_entry k d e h
+
+  entry_at : (k : Keyword) (e : Entry) → Apart k → IsEntryAt s others k e → IsEntryAt s ms k e
+  entry_at k e apart h = subst (λ v. MatchOption v (e ≡ nothing) (λ d. IsEntryOf s ms k d e)) (same_value k apart) (same_at k (value_at s.options k others) e h)
+
+  entries_at : (ks : List Keyword) (es : List Keyed) → AllByRecursion Apart ks → AreEntriesOf s others ks es → AreEntriesOf s ms ks es
+  entries_at [] es apart h = h
+  entries_at (k ∷ ks) es (apart, more) (e, rest, at, is, are) = (e, rest, entry_at k e apart at, is, entries_at ks rest more are)
+
+  share_apart : (fused : Bool) (k : Keyword) → Apart k → AllByRecursion Apart (share fused k)
+  share_apart fused ContentMediaType apart = (apart, tt)
+  share_apart fused ContentEncoding apart = (apart, tt)
+  share_apart fused ContentSchema apart = (apart, tt)
+  share_apart fused Format apart = (apart, tt)
+  share_apart true MinLength apart = (apart, (refl, tt))
+  share_apart false MinLength apart = (apart, tt)
+  share_apart true MaxLength apart = tt
+  share_apart false MaxLength apart = (apart, tt)
+  share_apart fused Pattern apart = (apart, tt)
+
+  same_fused : is_fused s.options others ≡ is_fused s.options ms
+  same_fused = rw (same_value MinLength refl, same_value MaxLength refl) refl
+
+  pub other_compiled : (k : Keyword) (r : Option (Result (Validator E) CompileError)) → Apart k → IsCompiledAt outcome s others k r → IsCompiledAt outcome s ms k r
+  other_compiled k r apart h = record {
+    entries = h.entries;
+    are_entries = subst (λ b. AreEntriesOf s ms (share b k) h.entries) same_fused
+        (entries_at _ h.entries (share_apart (is_fused s.options others) k apart) h.are_entries);
+    answer = h.answer;
+  }

@@ -1,9 +1,0 @@
-use Rattle.std.proofs.Common.{rules}
-use Rattle.serde_json.specs.View.{view}
-use Rattle.strkw_keywords.specs.declared.keyword.Keyword.TheVariants.{ContentEncoding}
-use Rattle.strkw_keywords.specs.Object.{no_string}
-use Rattle.strkw_keywords.proofs.Refusals.{refused_value}
-use Rattle.strkw_keywords.proofs.content.build.build_encoding.Goals as goal
-
-pub returns-in_default : goal.returns-in_default
-returns-in_default g c = refused_value _ _ _ ContentEncoding _ (no_string (view c.args.value.now)) c.no_string.result (search rules) c.no_string.ensures

@@ -1,5 +1,0 @@
-use Rattle.std.proofs.Common.{refl}
-use Rattle.strkw_keywords.proofs.entry.compile_value.Goals as goal
-
-pub returns : goal.returns
-returns g c = record { entries = c.build.ensures.entries; are_entries = c.build.ensures.are_entries; answer = c.located.ensures _ _ refl c.build.ensures.answer }

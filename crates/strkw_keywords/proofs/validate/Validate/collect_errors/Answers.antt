@@ -1,5 +1,0 @@
-use Rattle.strkw_keywords.proofs.Reports.{collected_ok}
-use Rattle.strkw_keywords.proofs.validate.Validate.collect_errors.Goals as goal
-
-pub returns-clause-appended : goal.returns-clause-appended
-returns-clause-appended g c = collected_ok c.push_findings.result _ _ _ _ _ _ _ _ _ _ c.in-Some.ensures c.in_ok-findings.ensures.found (rw c.origin.ensures at c.push_findings.ensures.ok)
