@@ -2,7 +2,7 @@
 """Runs built tests and the program with one call failing at a time: each growth, and each read and write.
 
     python3 tools/refusals.py           on the binaries that the last `rt ci` left in crates/*/out
-    python3 tools/refusals.py --gate    first `rt ci` itself; the last line counts both
+    python3 tools/refusals.py --gate    first `rt ci` itself, and last tools/programs.py; the last line counts all three
 
 A *row* is a test whose name ends in `_under_refusal`. With ample memory it passes only where its calls answer what
 they are to answer. Here it is run alone, once with nothing refused, when it has to pass, and then with growth 1, 2, ..
@@ -48,10 +48,10 @@ def say(line):
     print(line, flush=True)
 
 
-def gate():
-    """Runs `rt ci`, passes its lines on but for the last, and answers how many passed and failed."""
+def counted(words, called):
+    """Runs what ends with a line of counts, passes the lines before it on, and answers how many passed and failed."""
     last = ""
-    with subprocess.Popen(["rt", "ci"], cwd=TOP, stdin=subprocess.DEVNULL, stdout=subprocess.PIPE, text=True,
+    with subprocess.Popen(words, cwd=TOP, stdin=subprocess.DEVNULL, stdout=subprocess.PIPE, text=True,
                           errors="replace") as run:
         for line in run.stdout:
             if line.strip():
@@ -61,12 +61,12 @@ def gate():
     counts = COUNTS.fullmatch(last.strip())
     if counts is None:
         say(last)
-        say(f"refusals: `rt ci` ended with status {run.returncode} and no counts")
+        say(f"refusals: {called} ended with status {run.returncode} and no counts")
         return 0, 1
     passed, failed = map(int, counts.groups())
-    say(f"refusals: `rt ci`: {passed} passed, {failed} failed")
+    say(f"refusals: {called}: {passed} passed, {failed} failed")
     if failed == 0 and (run.returncode != 0 or passed == 0):
-        say(f"refusals: `rt ci` ended with status {run.returncode}")
+        say(f"refusals: {called} ended with status {run.returncode}")
         failed = 1
     return passed, failed
 
@@ -190,7 +190,8 @@ def program(made):
 
 
 def main():
-    passed, failed = gate() if "--gate" in sys.argv[1:] else (0, 0)
+    is_gate = "--gate" in sys.argv[1:]
+    counts = [counted(["rt", "ci"], "`rt ci`")] if is_gate else []
     with tempfile.TemporaryDirectory() as folder:
         try:
             made = preload(folder)
@@ -204,7 +205,10 @@ def main():
         rows = [False]
     say(f"refusals: {rows.count(True)} rows and {programs.count(True)} runs of the program passed, "
         f"{rows.count(False)} and {programs.count(False)} failed")
-    passed, failed = passed + (rows + programs).count(True), failed + (rows + programs).count(False)
+    counts.append(((rows + programs).count(True), (rows + programs).count(False)))
+    if is_gate:
+        counts.append(counted([sys.executable, "tools/programs.py"], "tools/programs.py"))
+    passed, failed = map(sum, zip(*counts))
     say(f"{passed} passed, {failed} failed")
     return 1 if failed else 0
 

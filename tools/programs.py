@@ -1,0 +1,190 @@
+#!/usr/bin/env python3
+"""Runs the built programs and the scripts of examples/ on rows, and compares all that they write and leave.
+
+    python3 tools/programs.py             the rows of all files in tools/programs, on what the last `rt ci` left built
+    python3 tools/programs.py NAME ..     those of tools/programs/NAME.toml
+
+A file names its programs, as `strkw` (crates/strkw/out/strkw) or `examples/parallel`, and has a table `[[row]]` for
+each run. A run is in an empty folder of its own and has to end in 20 seconds. A row has these keys; all but `name` may
+be left out:
+
+    name          what is tried
+    arguments     the words behind the program's name
+    input         the bytes of standard input
+    files         names to bytes: the files in the folder
+    executables   the same, for files that can be run; the folder is the first place on PATH
+    folders, fifos, links     names of folders and fifos, and names of further links to files
+    environment   variables to their values
+    to            where standard output goes: "full" for /dev/full, "closed" for a pipe that nobody reads
+    status, output, errors    what the run has to end with and to write, exactly: 0 and no bytes where nothing is said
+    leaves        names to bytes: the files that the run adds or changes; all others have to be there as before
+
+Bytes are a string, as UTF-8 (`"a\\r\\n\\u0000"`), or an array of strings and single bytes (`["a,", 0xff, "\\n"]`). In
+`errors` the word `{program}` is the program's own name. The table `[every]` has keys for all rows of a file; a row's own
+tables are added to its. The last line is `N passed, M failed`; the gate counts it.
+"""
+import os
+import signal
+import subprocess
+import sys
+import tempfile
+import tomllib
+from concurrent.futures import ThreadPoolExecutor
+from dataclasses import dataclass, field, fields
+from pathlib import Path
+
+TOP = Path(__file__).resolve().parent.parent
+ROWS = TOP / "tools" / "programs"
+SECONDS_FOR_A_RUN = 20
+
+
+@dataclass
+class Row:
+    """A run of a program, and what comes of it."""
+    name: str
+    arguments: list = field(default_factory=list)
+    input: object = ""
+    files: dict = field(default_factory=dict)
+    executables: dict = field(default_factory=dict)
+    folders: list = field(default_factory=list)
+    fifos: list = field(default_factory=list)
+    links: dict = field(default_factory=dict)
+    environment: dict = field(default_factory=dict)
+    to: str = ""
+    status: int = 0
+    output: object = ""
+    errors: object = ""
+    leaves: dict = field(default_factory=dict)
+
+
+def bytes_of(value):
+    parts = value if isinstance(value, list) else [value]
+    return b"".join(part.encode() if isinstance(part, str) else bytes([part]) for part in parts)
+
+
+def rows_of(text):
+    """The programs that a file names, and its rows."""
+    read = tomllib.loads(text)
+    every = read.get("every", {})
+    known = {it.name for it in fields(Row)}
+    rows = []
+    for told in read["row"]:
+        unknown = sorted((told.keys() | every.keys()) - known)
+        if unknown:
+            raise ValueError(f"row {told.get('name')!r} has the unknown key {unknown[0]!r}")
+        joined = {key: {**every[key], **told[key]} for key in told.keys() & every.keys() if isinstance(told[key], dict)}
+        rows.append(Row(**{**every, **told, **joined}))
+    return read["programs"], rows
+
+
+def words_of(program):
+    """How a program is started: a script of Python by the Python that runs this."""
+    if "/" not in program:
+        return [TOP / "crates" / program / "out" / program]
+    path = TOP / program
+    is_python = b"python" in path.read_bytes().partition(b"\n")[0]
+    return [sys.executable, path] if is_python else [path]
+
+
+def lay_out(row, folder):
+    """Makes what stands in the folder before the run."""
+    for name, value in {**row.files, **row.executables}.items():
+        (folder / name).parent.mkdir(parents=True, exist_ok=True)
+        (folder / name).write_bytes(bytes_of(value))
+    for name in row.executables:
+        (folder / name).chmod(0o755)
+    for name in row.folders:
+        (folder / name).mkdir()
+    for name in row.fifos:
+        os.mkfifo(folder / name)
+    for name, other in row.links.items():
+        os.link(folder / other, folder / name)
+
+
+def output_of(row):
+    """Where standard output goes: a pipe to this script, or what takes nothing."""
+    if row.to == "full":
+        return os.open("/dev/full", os.O_WRONLY)
+    if row.to == "closed":
+        read_end, write_end = os.pipe()
+        os.close(read_end)
+        return write_end
+    return subprocess.PIPE
+
+
+def ran(row, words, folder):
+    """The status, the output and the errors of the run; no status where it does not end in time."""
+    path = os.pathsep.join([str(folder), os.environ.get("PATH", os.defpath)])
+    environment = {"PATH": path, "LANG": "C.UTF-8", "PYTHONDONTWRITEBYTECODE": "1", **row.environment}
+    output = output_of(row)
+    with subprocess.Popen([*words, *row.arguments], cwd=folder, env=environment, stdin=subprocess.PIPE, stdout=output,
+                          stderr=subprocess.PIPE, start_new_session=True) as run:
+        if output != subprocess.PIPE:
+            os.close(output)
+        try:
+            written, errors = run.communicate(bytes_of(row.input), timeout=SECONDS_FOR_A_RUN)
+            return run.returncode, written or b"", errors
+        except subprocess.TimeoutExpired:
+            os.killpg(run.pid, signal.SIGKILL)
+            return None, b"", b"the run did not end in time"
+
+
+def left_in(folder):
+    return {str(path.relative_to(folder)): path.read_bytes() for path in folder.glob("**/*") if path.is_file()}
+
+
+def wrongs(row, words):
+    """What differs from the row."""
+    errors_wanted = bytes_of(row.errors).replace(b"{program}", words[-1].name.encode())
+    with tempfile.TemporaryDirectory() as name:
+        folder = Path(name)
+        lay_out(row, folder)
+        left = {**left_in(folder), **{name: bytes_of(value) for name, value in row.leaves.items()}}
+        status, written, errors = ran(row, words, folder)
+        found = {"status": status, "output": written, "errors": errors, "files": left_in(folder)}
+    wanted = {"status": row.status, "output": bytes_of(row.output), "errors": errors_wanted, "files": left}
+    return [f"{what} {str(found[what])[:400]}, wanted {str(wanted[what])[:400]}"
+            for what in wanted if found[what] != wanted[what]]
+
+
+def is_right(program, row, words):
+    try:
+        wrong = wrongs(row, words)
+    except (OSError, TypeError, ValueError) as why:
+        wrong = [str(why)]
+    for line in wrong:
+        print(f"programs: {program}: {row.name}: {line}", flush=True)
+    return not wrong
+
+
+def tried(program, rows, pool):
+    """Whether each row was right; a program that is not there is one wrong row."""
+    words = words_of(program)
+    if not os.access(words[-1], os.X_OK):
+        print(f"programs: {program} is not built: run `rt ci` first", flush=True)
+        return [False]
+    answers = list(pool.map(lambda row: is_right(program, row, words), rows))
+    print(f"programs: {program}: {answers.count(True)} rows passed, {answers.count(False)} failed", flush=True)
+    return answers
+
+
+def tried_of(file, pool):
+    """Whether each row of a file was right; a file that cannot be read is one wrong row."""
+    try:
+        programs, rows = rows_of(file.read_text(encoding="utf-8"))
+        return [answer for program in programs for answer in tried(program, rows, pool)]
+    except (OSError, ValueError, KeyError, TypeError) as why:
+        print(f"programs: {file.stem}: {type(why).__name__}: {why}", flush=True)
+        return [False]
+
+
+def main():
+    files = [ROWS / f"{name}.toml" for name in sys.argv[1:]] or sorted(ROWS.glob("*.toml"))
+    with ThreadPoolExecutor() as pool:
+        answers = [answer for file in files for answer in tried_of(file, pool)]
+    print(f"{answers.count(True)} passed, {answers.count(False)} failed")
+    return 0 if all(answers) and answers else 1
+
+
+if __name__ == "__main__":
+    sys.exit(main())
