@@ -1,8 +1,14 @@
-/* The string checks of Neldrafi, from C. Link libstrkw_c.a and liblibc_c.a, or libstrkw.so; ./build makes all three.
+/* The string checks of Neldrafi, from C. Link libstrkw.a or libstrkw.so, which ./build makes.
 
-   A text is bytes and their count: no zero byte ends it, and one may stand in it. Where the count is 0, the pointer is
-   any that is not null. Bytes that are not UTF-8 have no format and are no encoding. Each function keeps nothing between
-   calls, may be called from any thread, and is not to be called from a signal handler. */
+   email, idn-email, idn-hostname and regex are formats that the library does not know.
+
+   A text is bytes and their count: no zero byte ends it, and it may hold zero bytes. Bytes that are not UTF-8 have no
+   format and are no encoding. NULL with a count of 0 is an empty text, list or buffer everywhere. NULL with another
+   count is refused: a format and an encoding answer no, the other functions STRKW_NULL.
+
+   Nothing is kept between calls and nothing is shared between threads: any number of them may call at once, each with
+   buffers of its own. A fork changes nothing of that. The formats take no memory. All other functions call malloc,
+   realloc and free: call them from no signal handler, nor in the forked child of a process with several threads. */
 #ifndef STRKW_H
 #define STRKW_H
 
@@ -40,25 +46,49 @@ uint8_t strkw_is_base32hex(const uint8_t *text, size_t count);
 uint8_t strkw_is_base16(const uint8_t *text, size_t count);
 uint8_t strkw_is_json(const uint8_t *text, size_t count);
 
+/* What the functions below answer. Where several hold, strkw_check tells the first of 7, 2, 3, 6, 1, 4, 5, and
+   strkw_refusal the first of 7, 3, 6, 1, 4, 2, 5. */
+enum {
+    STRKW_DONE = 0,
+    STRKW_OUT_OF_MEMORY = 1, /* nothing was written */
+    STRKW_NO_ROOM = 2,       /* too little room; of strkw_check: no texts have these ends, or room is not ends_count */
+    STRKW_NO_DRAFT = 3,      /* the draft is none of 4, 6, 7, 201909, 202012 */
+    STRKW_NO_SCHEMA = 4,     /* the schema is no JSON object, or not UTF-8 */
+    STRKW_REFUSED = 5,       /* the schema object is refused; strkw_refusal tells why */
+    STRKW_NO_OPTION = 6,     /* a bit of the options is none of the two below */
+    STRKW_NULL = 7           /* a pointer is NULL, and its count is not 0 */
+};
+
 /* Answers requests, one a line, as the program strkw does. requests, out and written do not overlap.
-   0: the answers are at the head of out, and their count of bytes is in *written.
-   1: out of memory; out and *written are as they were.
-   2: out has too little room and is as it was; *written is the room that is needed. */
+   STRKW_DONE: the answers are at the head of out, and their count of bytes is in *written.
+   STRKW_NO_ROOM: out is as it was; *written is the room that is needed.
+   After any other, out and *written are as they were. written is never NULL. */
 uint8_t strkw_answer(const uint8_t *requests, size_t count, uint8_t *out, size_t room, size_t *written);
 
-/* Checks many texts by one schema object, which is compiled once: JSON, of draft 4, 6, 7, 201909 or 202012. Options are the
-   default ones: formats are checked as the draft says, and unknown ones are ignored. Patterns are literal ones alone.
-   The texts stand one after the other: text i is texts[ends[i - 1]] up to texts[ends[i]], and the first begins at texts[0].
+/* Options of the two functions below. By 0 the formats are checked in every draft, and an unknown one is refused. */
+#define STRKW_FORMATS_AS_DRAFT ((uint32_t)1)       /* drafts 4, 6 and 7 check formats, 2019-09 and 2020-12 do not */
+#define STRKW_IGNORE_UNKNOWN_FORMATS ((uint32_t)2) /* an unknown format lets every text pass */
+
+/* Checks many texts by one schema object, which is compiled once: JSON, of a draft. Patterns are literal ones alone.
+   The texts stand one after the other: text i begins at texts[ends[i - 1]], the first at texts[0], and ends before
+   texts[ends[i]].
    verdicts has as much room as there are ends, and overlaps nothing else.
-   0: verdicts has 1 for each text that is valid, 0 for one that is not, 2 for bytes that are not UTF-8.
-   After any other, verdicts is as it was; where several hold, it is the first of 2, 3, 4, 5.
-   1: out of memory; not where 2 or 3 holds.
-   2: an end is less than the one before it or more than texts_count, or room is not ends_count.
-   3: there is no such draft.
-   4: the schema is no JSON object, or not UTF-8.
-   5: the schema object is refused, as for a limit that is no whole number, or a pattern that is not literal. */
-uint8_t strkw_check(uint32_t draft, const uint8_t *schema, size_t schema_count, const uint8_t *texts, size_t texts_count,
-                    const size_t *ends, size_t ends_count, uint8_t *verdicts, size_t room);
+   STRKW_DONE: verdicts has 1 for each text that is valid, 0 for one that is not, 2 for bytes that are not UTF-8.
+   STRKW_NO_ROOM: an end is less than the one before it or more than texts_count, or room is not ends_count.
+   After any but STRKW_DONE, verdicts is as it was. */
+uint8_t strkw_check(uint32_t draft, uint32_t options, const uint8_t *schema, size_t schema_count, const uint8_t *texts,
+                    size_t texts_count, const size_t *ends, size_t ends_count, uint8_t *verdicts, size_t room);
+
+/* Tells why strkw_check refuses a schema object. schema, out and written do not overlap.
+   STRKW_REFUSED: the text is at the head of out, and its count of bytes is in *written. It is UTF-8: the JSON pointer
+   of the keyword, a colon, a space and the reason, as
+       /pattern: the pattern "a+" is not taken: only literal patterns are
+   The name of an unknown format stands in it as it is, with a zero byte or a line feed if it has one.
+   STRKW_DONE: the schema object is not refused; *written is 0.
+   STRKW_NO_ROOM: it is refused, and out is as it was; *written is the room that is needed.
+   After any other, out and *written are as they were. written is never NULL. */
+uint8_t strkw_refusal(uint32_t draft, uint32_t options, const uint8_t *schema, size_t schema_count, uint8_t *out,
+                      size_t room, size_t *written);
 
 #ifdef __cplusplus
 }

@@ -1,4 +1,5 @@
-/* Calls the library from C: every row of a table, a file of requests against its stored answers, and texts by one schema.
+/* Calls the library from C: every row of a table, a file of requests against its stored answers, texts by one schema, why
+   a schema is refused, and NULL.
    caller FORMATS REQUESTS ANSWERS; status 0 where all is as it is stored. */
 #include "strkw.h"
 
@@ -102,32 +103,114 @@ static void check_answers(const char *requests_path, const char *answers_path) {
     free(out);
 }
 
-static uint8_t check_dates(uint32_t draft, const char *schema, const size_t *ends, uint8_t *verdicts) {
+static uint8_t check_dates(uint32_t draft, uint32_t options, const char *schema, const size_t *ends,
+                           uint8_t *verdicts) {
     static const uint8_t texts[] = "2024-02-292023-02-29\xFF";
-    return strkw_check(draft, (const uint8_t *)schema, strlen(schema), texts, sizeof texts - 1, ends, 4, verdicts, 4);
+    const uint8_t *bytes = (const uint8_t *)schema;
+    return strkw_check(draft, options, bytes, strlen(schema), texts, sizeof texts - 1, ends, 4, verdicts, 4);
 }
 
 /* Four texts: a date, one that is none, bytes that are not UTF-8, and no byte at all. */
 static void check_many(void) {
     static const char *date = "{\"format\":\"date\"}";
+    static const char *mail = "{\"format\":\"email\"}";
     static const size_t ends[] = {10, 20, 21, 21};
     static const size_t falling[] = {10, 9, 21, 21};
     static const size_t past[] = {10, 20, 21, 22};
     uint8_t verdicts[] = {7, 7, 7, 7};
-    expect(check_dates(7, date, falling, verdicts) == 2, "ends that fall are status 2");
-    expect(check_dates(7, date, past, verdicts) == 2, "an end past the texts is status 2");
-    expect(check_dates(5, date, ends, verdicts) == 3, "draft 5 is status 3");
-    expect(check_dates(7, "[]", ends, verdicts) == 4, "a schema that is no object is status 4");
-    expect(check_dates(7, "{\"maxLength\":-1}", ends, verdicts) == 5, "a negative limit is status 5");
+    expect(check_dates(5, 4, "[]", falling, verdicts) == STRKW_NO_ROOM, "ends that fall");
+    expect(check_dates(7, 0, date, past, verdicts) == STRKW_NO_ROOM, "an end past the texts");
+    expect(check_dates(5, 4, "[]", ends, verdicts) == STRKW_NO_DRAFT, "draft 5");
+    expect(check_dates(7, 4, "[]", ends, verdicts) == STRKW_NO_OPTION, "an option that is none");
+    expect(check_dates(7, 0, "[]", ends, verdicts) == STRKW_NO_SCHEMA, "a schema that is no object");
+    expect(check_dates(7, 0, "{\"maxLength\":-1}", ends, verdicts) == STRKW_REFUSED, "a negative limit");
+    expect(check_dates(7, 0, mail, ends, verdicts) == STRKW_REFUSED, "draft 7 knows no email");
+    expect(check_dates(202012, 0, mail, ends, verdicts) == STRKW_REFUSED, "nor does draft 2020-12");
     expect(memcmp(verdicts, "\7\7\7\7", 4) == 0, "these leave the verdicts as they were");
-    expect(check_dates(7, date, ends, verdicts) == 0, "draft 7 has dates");
+    expect(check_dates(7, 0, date, ends, verdicts) == STRKW_DONE, "draft 7 has dates");
     expect(memcmp(verdicts, "\1\0\2\0", 4) == 0, "draft 7 checks dates");
-    expect(check_dates(202012, date, ends, verdicts) == 0, "draft 2020-12 has dates");
+    expect(check_dates(202012, 0, date, ends, verdicts) == STRKW_DONE, "draft 2020-12 has dates");
+    expect(memcmp(verdicts, "\1\0\2\0", 4) == 0, "they are checked");
+    expect(check_dates(202012, STRKW_FORMATS_AS_DRAFT, date, ends, verdicts) == STRKW_DONE, "dates as the draft says");
     expect(memcmp(verdicts, "\1\1\2\1", 4) == 0, "draft 2020-12 only notes them");
+    expect(check_dates(7, STRKW_IGNORE_UNKNOWN_FORMATS, mail, ends, verdicts) == STRKW_DONE, "email is passed over");
+    expect(memcmp(verdicts, "\1\1\2\1", 4) == 0, "an unknown format lets every text pass");
+}
+
+static uint8_t tell(uint32_t draft, uint32_t options, const char *schema, uint8_t *out, size_t room, size_t *written) {
+    return strkw_refusal(draft, options, (const uint8_t *)schema, strlen(schema), out, room, written);
+}
+
+static void check_refusal(uint32_t options, const char *schema, const char *want) {
+    size_t count = strlen(want), written = 0;
+    uint8_t *out = malloc(count + 1);
+    if (out == NULL) exit(2);
+    memset(out, '?', count + 1);
+    expect(tell(7, options, schema, out, count - 1, &written) == STRKW_NO_ROOM && written == count, want);
+    expect(out[0] == '?', "too little room writes nothing");
+    expect(tell(7, options, schema, out, count + 1, &written) == STRKW_REFUSED && written == count, want);
+    expect(memcmp(out, want, count) == 0 && out[count] == '?', want);
+    free(out);
+}
+
+static void check_refusals(void) {
+    uint8_t out[] = {'?'};
+    size_t written = 7;
+    check_refusal(0, "{\"pattern\":\"a+\"}", "/pattern: the pattern \"a+\" is not taken: only literal patterns are");
+    check_refusal(0, "{\"minLength\":-1}", "/minLength: the limit is not a non-negative whole number of 64 bits");
+    check_refusal(1, "{\"format\":5}", "/format: 5 is not of type \"string\"");
+    check_refusal(1, "{\"format\":\"uuid\"}",
+                  "/format: Unknown format: 'uuid'. Adjust configuration to ignore unrecognized formats");
+    expect(tell(5, 4, "[]", out, 1, &written) == STRKW_NO_DRAFT, "no refusal by draft 5");
+    expect(tell(7, 4, "[]", out, 1, &written) == STRKW_NO_OPTION, "no refusal by an option that is none");
+    expect(tell(7, 0, "[]", out, 1, &written) == STRKW_NO_SCHEMA, "no refusal of what is no object");
+    expect(written == 7, "these leave the count as it was");
+    expect(tell(7, 2, "{\"format\":\"uuid\"}", out, 1, &written) == STRKW_DONE, "nothing is refused");
+    expect(written == 0 && out[0] == '?', "and nothing is written");
+}
+
+/* NULL with a count of 0 is an empty text; with another count it has no format and is no encoding. */
+static void check_null(void) {
+    static const uint8_t empty[] = {'?'};
+    for (size_t i = 0; i < sizeof formats / sizeof *formats; i++) {
+        expect(formats[i].check(NULL, 0) == formats[i].check(empty, 0), formats[i].name);
+        expect(!formats[i].check(NULL, 10), formats[i].name);
+    }
+    for (size_t i = 0; i < sizeof encodings / sizeof *encodings; i++) {
+        expect(encodings[i].check(NULL, 0) == encodings[i].check(empty, 0), encodings[i].name);
+        expect(encodings[i].check(NULL, 10) == 0, encodings[i].name);
+    }
+}
+
+/* Of each of the other functions, each pointer in turn. */
+static void check_null_apart(void) {
+    static const uint8_t object[] = {'{', '}'};
+    static const size_t ends[] = {2};
+    uint8_t out[] = {'?'};
+    size_t written = 7;
+    expect(strkw_answer(NULL, 10, out, 1, &written) == STRKW_NULL, "no requests");
+    expect(strkw_answer(object, 2, NULL, 10, &written) == STRKW_NULL, "no room for answers");
+    expect(strkw_answer(object, 2, out, 1, NULL) == STRKW_NULL, "no count of answers");
+    expect(strkw_check(7, 0, NULL, 10, object, 2, ends, 1, out, 1) == STRKW_NULL, "no schema");
+    expect(strkw_check(7, 0, object, 2, NULL, 2, ends, 1, out, 1) == STRKW_NULL, "no texts");
+    expect(strkw_check(7, 0, object, 2, object, 2, NULL, 1, out, 1) == STRKW_NULL, "no ends");
+    expect(strkw_check(7, 0, object, 2, object, 2, ends, 1, NULL, 1) == STRKW_NULL, "no verdicts");
+    expect(strkw_refusal(7, 0, NULL, 10, out, 1, &written) == STRKW_NULL, "no schema that is refused");
+    expect(strkw_refusal(7, 0, object, 2, NULL, 10, &written) == STRKW_NULL, "no room for a refusal");
+    expect(strkw_refusal(7, 0, object, 2, out, 1, NULL) == STRKW_NULL, "no count of a refusal");
+    expect(written == 7 && out[0] == '?', "NULL leaves all as it was");
+    expect(strkw_answer(object, 2, NULL, 0, &written) == STRKW_NO_ROOM && written == 16, "NULL has no room");
+    expect(strkw_answer(NULL, 0, NULL, 0, &written) == STRKW_DONE && written == 0, "NULL has no request");
+    expect(strkw_check(7, 0, NULL, 0, NULL, 0, NULL, 0, NULL, 0) == STRKW_NO_SCHEMA, "NULL is no object");
+    expect(strkw_check(7, 0, object, 2, NULL, 0, NULL, 0, NULL, 0) == STRKW_DONE, "NULL has no text");
+    expect(strkw_refusal(7, 0, object, 2, NULL, 0, &written) == STRKW_DONE, "an object that is not refused");
 }
 
 int main(int argc, char **argv) {
-    if (argc != 4) return 2;
+    if (argc != 4) {
+        fprintf(stderr, "caller FORMATS REQUESTS ANSWERS\n");
+        return 2;
+    }
     size_t rows = check_rows(argv[1]);
     static const uint8_t not_utf8[] = {'a', ':', 0xC3, 0x28};
     expect(!strkw_is_iri(not_utf8, 4) && !strkw_is_uri_template(not_utf8, 4), "bytes that are not UTF-8");
@@ -135,6 +218,9 @@ int main(int argc, char **argv) {
     expect(!strkw_is_uri((const uint8_t *)"a:\0b", 4), "a zero byte does not end a text");
     check_answers(argv[2], argv[3]);
     check_many();
+    check_refusals();
+    check_null();
+    check_null_apart();
     if (!failed) printf("caller.c: %zu rows\n", rows);
     return failed;
 }

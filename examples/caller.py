@@ -38,19 +38,22 @@ def check_refused(draft, schema):
 
 
 def check_many(rows):
-    """The rows of each format as texts by one schema object; drafts 2019-09 and 2020-12 only note formats."""
+    """The rows of each format as texts by one schema object; as the draft says, 2020-12 only notes formats."""
     for name in strkw.FORMATS + ("hostname-draft4",):
         texts = [(text, want == "yes") for row, want, text in rows if row == name]
         schema = {"format": name.removesuffix("-draft4")}
-        found = strkw.check_texts(4 if name == "hostname-draft4" else 7, schema, [text for text, _ in texts])
-        known = name not in ("duration", "uuid")
-        check(found == [want if known else True for _, want in texts], f"draft 7, {name}")
-        check(all(strkw.check_texts(202012, schema, [text for text, _ in texts])), f"draft 2020-12, {name}")
+        draft = 4 if name == "hostname-draft4" else 7 if name not in ("duration", "uuid") else 201909
+        found = strkw.check_texts(draft, schema, [text for text, _ in texts])
+        check(found == [want for _, want in texts], f"draft {draft}, {name}")
+        noted = strkw.check_texts(202012, schema, [text for text, _ in texts], formats="as-draft")
+        check(all(noted), f"draft 2020-12, {name}")
     check(strkw.check_texts(7, b'{"maxLength":1}', [b"\xff", "\ud800", "", "\u00e9", "ab"]) == [None, None, True, True, False], "texts and bytes")
     check(strkw.check_texts(7, {}, []) == [], "no text has no verdict")
     check_refused(5, {})
     check_refused(7, "[]")
     check_refused(7, {"maxLength": -1})
+    check_refused(7, {"format": "uuid"})
+    check(strkw.check_texts(7, {"format": "uuid"}, ["a"], unknown_formats="ignore") == [True], "draft 7 knows no uuid")
 
 
 def check_schemas(rows):

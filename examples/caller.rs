@@ -1,4 +1,5 @@
-//! Calls the library from Rust: every row of a table, a file of requests against its stored answers, and texts by one schema.
+//! Calls the library from Rust: every row of a table, a file of requests against its stored answers, texts by one schema,
+//! and why a schema is refused.
 //! caller FORMATS REQUESTS ANSWERS; it panics where something is not as it is stored.
 
 use std::{env, fs};
@@ -10,15 +11,19 @@ mod strkw {
 
     macro_rules! declare {
         ($($name:literal $format:ident,)*; $($encoding_name:literal $encoding:ident,)*) => {
-            #[link(name = "strkw_c", kind = "static")]
-            #[link(name = "libc_c", kind = "static")]
+            #[link(name = "strkw", kind = "static")]
             unsafe extern "C" {
                 $(fn $format(text: *const u8, count: usize) -> bool;)*
                 $(fn $encoding(text: *const u8, count: usize) -> u8;)*
                 fn strkw_answer(requests: *const u8, count: usize, out: *mut u8, room: usize, written: *mut usize) -> u8;
                 fn strkw_check(
-                    draft: u32, schema: *const u8, schema_count: usize, texts: *const u8, texts_count: usize,
+                    draft: u32, options: u32, schema: *const u8, schema_count: usize,
+                    texts: *const u8, texts_count: usize,
                     ends: *const usize, ends_count: usize, verdicts: *mut u8, room: usize,
+                ) -> u8;
+                fn strkw_refusal(
+                    draft: u32, options: u32, schema: *const u8, schema_count: usize,
+                    out: *mut u8, room: usize, written: *mut usize,
                 ) -> u8;
             }
             const FORMATS: &[(&str, FormatCheck)] = &[$(($name, $format)),*];
@@ -68,33 +73,56 @@ mod strkw {
         }
     }
 
-    /// The answers to requests, one a line; `None` where it is out of memory.
-    pub fn answer(requests: &[u8]) -> Option<Vec<u8>> {
+    // The status of a call, and what it writes, with as much room as it needs.
+    fn written(call: impl Fn(*mut u8, usize, &mut usize) -> u8) -> (u8, Vec<u8>) {
         let mut out = vec![0; 256];
         loop {
-            let mut written = 0;
-            let status = unsafe {
-                strkw_answer(requests.as_ptr(), requests.len(), out.as_mut_ptr(), out.len(), &mut written)
-            };
-            match status {
-                0 => {
-                    out.truncate(written);
-                    return Some(out);
+            let mut count = 0;
+            match call(out.as_mut_ptr(), out.len(), &mut count) {
+                2 => out.resize(count, 0),
+                status => {
+                    out.truncate(count);
+                    return (status, out);
                 }
-                1 => return None,
-                _ => out.resize(written, 0),
             }
         }
     }
 
+    /// The answers to requests, one a line; `None` where it is out of memory.
+    pub fn answer(requests: &[u8]) -> Option<Vec<u8>> {
+        let call = |out, room, count: &mut usize| unsafe {
+            strkw_answer(requests.as_ptr(), requests.len(), out, room, count)
+        };
+        match written(call) {
+            (0, answers) => Some(answers),
+            _ => None,
+        }
+    }
+
+    /// Formats are checked as the draft says, and unknown ones let every text pass.
+    pub const FORMATS_AS_DRAFT: u32 = 1;
+    pub const IGNORE_UNKNOWN_FORMATS: u32 = 2;
+
+    /// Why a schema object is refused, or `None` where it is not; or the status of the library.
+    pub fn refusal(draft: u32, options: u32, schema: &[u8]) -> Result<Option<String>, u8> {
+        let call = |out, room, count: &mut usize| unsafe {
+            strkw_refusal(draft, options, schema.as_ptr(), schema.len(), out, room, count)
+        };
+        match written(call) {
+            (0, _) => Ok(None),
+            (5, text) => Ok(String::from_utf8(text).ok()),
+            (status, _) => Err(status),
+        }
+    }
+
     /// The verdicts on texts by a schema object: 1 valid, 0 not valid, 2 not UTF-8; or the status of the library.
-    pub fn check(draft: u32, schema: &[u8], texts: &[&[u8]]) -> Result<Vec<u8>, u8> {
+    pub fn check(draft: u32, options: u32, schema: &[u8], texts: &[&[u8]]) -> Result<Vec<u8>, u8> {
         let bytes = texts.concat();
         let ends: Vec<usize> = texts.iter().scan(0, |end, text| { *end += text.len(); Some(*end) }).collect();
         let mut verdicts = vec![7; ends.len()];
         let status = unsafe {
             strkw_check(
-                draft, schema.as_ptr(), schema.len(), bytes.as_ptr(), bytes.len(),
+                draft, options, schema.as_ptr(), schema.len(), bytes.as_ptr(), bytes.len(),
                 ends.as_ptr(), ends.len(), verdicts.as_mut_ptr(), verdicts.len(),
             )
         };
@@ -104,6 +132,7 @@ mod strkw {
 
 fn main() {
     let paths: Vec<String> = env::args().skip(1).collect();
+    assert_eq!(paths.len(), 3, "caller FORMATS REQUESTS ANSWERS");
     let table = fs::read_to_string(&paths[0]).expect("the table of rows");
     let mut rows = 0;
     for row in table.lines() {
@@ -120,11 +149,20 @@ fn main() {
     assert_eq!(strkw::answer(&requests), Some(answers));
     let texts: [&[u8]; 4] = [b"2024-02-29", b"2023-02-29", b"\xFF", b""];
     let date = br#"{"format":"date"}"#;
-    assert_eq!(strkw::check(7, date, &texts), Ok(vec![1, 0, 2, 0]));
-    assert_eq!(strkw::check(202012, date, &texts), Ok(vec![1, 1, 2, 1]));
-    assert_eq!(strkw::check(7, date, &[]), Ok(vec![]));
-    assert_eq!(strkw::check(5, date, &texts), Err(3));
-    assert_eq!(strkw::check(7, b"[]", &texts), Err(4));
-    assert_eq!(strkw::check(7, br#"{"maxLength":-1}"#, &texts), Err(5));
+    assert_eq!(strkw::check(7, 0, date, &texts), Ok(vec![1, 0, 2, 0]));
+    assert_eq!(strkw::check(202012, 0, date, &texts), Ok(vec![1, 0, 2, 0]));
+    assert_eq!(strkw::check(202012, strkw::FORMATS_AS_DRAFT, date, &texts), Ok(vec![1, 1, 2, 1]));
+    assert_eq!(strkw::check(7, 0, date, &[]), Ok(vec![]));
+    assert_eq!(strkw::check(5, 0, date, &texts), Err(3));
+    assert_eq!(strkw::check(7, 4, date, &texts), Err(6));
+    assert_eq!(strkw::check(7, 0, b"[]", &texts), Err(4));
+    assert_eq!(strkw::check(7, 0, br#"{"maxLength":-1}"#, &texts), Err(5));
+    let mail = br#"{"format":"email"}"#;
+    let unknown = "/format: Unknown format: 'email'. Adjust configuration to ignore unrecognized formats";
+    assert_eq!(strkw::check(7, 0, mail, &texts), Err(5));
+    assert_eq!(strkw::refusal(7, 0, mail), Ok(Some(unknown.to_string())));
+    assert_eq!(strkw::refusal(7, strkw::IGNORE_UNKNOWN_FORMATS, mail), Ok(None));
+    assert_eq!(strkw::check(7, strkw::IGNORE_UNKNOWN_FORMATS, mail, &texts), Ok(vec![1, 1, 2, 1]));
+    assert_eq!(strkw::refusal(7, 4, mail), Err(6));
     println!("caller.rs: {rows} rows");
 }

@@ -1,2 +1,3 @@
+mod AppendLemmas
 mod TextLemmas
 mod VerdictLemmas

@@ -1,14 +1,20 @@
 -- Verdicts by a compiled object are those by its schema object.
-use Rattle.std.proofs.Common.{◌≡◌, ◌≢◌, ◌⊎◌, ◌↔◌, ap, ℕ, List, [], ◌∷◌, inl, inr, Some, None}
+use Rattle.std.proofs.Common.{◌≡◌, ◌≢◌, ◌⊎◌, ◌↔◌, ap, ℕ, List, [], ◌∷◌, inl, inr, Some, None, refl, subst}
 use Rattle.serde_json.specs.Data.{Members}
 use Rattle.strkw_report.specs.Refusals.{reason_of, refusal_of, memory}
+use Rattle.strkw_report.specs.declared.draft.Draft.{Draft}
 use Rattle.strkw_report.specs.declared.refusal.CompileError.{CompileError}
 use Rattle.strkw_pattern.specs.declared.engine.Outcome.{Outcome}
+use Rattle.strkw_keywords.specs.declared.options.Options.{Options}
 use Rattle.strkw_keywords.specs.Compiled.{out_of_memory}
 use Rattle.strkw_keywords.specs.Object.{Settings, FirstRefusal}
 use Rattle.strkw_cli.specs.declared.strings.StringKeywords.{StringKeywords}
+use Rattle.strkw_cli.specs.Request.{draft_numbered}
 use Rattle.strkw_cli.specs.Compiled.{IsCompiledFrom}
-use Rattle.strkw_c.specs.Verdicts.{IsRefused, IsVerdict, AreVerdicts}
+use Rattle.strkw_c.specs.declared.schemas.Failure.{Failure}
+use Rattle.strkw_c.specs.declared.schemas.Failure.TheVariants.{Refused}
+use Rattle.strkw_c.specs.Settings.{options_of, settings_for, settings_of}
+use Rattle.strkw_c.specs.Verdicts.{HasFirstRefusal, Fails, IsVerdict, AreVerdicts}
 
 verdict_alike : (P Q : List ℕ → Type 0) → ((text : List ℕ) → P text ↔ Q text) → (text : List ℕ) (verdict : ℕ) → IsVerdict P text verdict → IsVerdict Q text verdict
 verdict_alike P Q same text verdict (inl (is, utf8, valid)) = inl (is, utf8, (same text).0 valid)
@@ -23,11 +29,18 @@ verdicts_alike P Q same [] (v ∷ vs) are = absurd are
 verdicts_alike P Q same (t ∷ ts) [] are = absurd are
 verdicts_alike P Q same (t ∷ ts) (v ∷ vs) are = (verdict_alike P Q same t v are.0, verdicts_alike P Q same ts vs are.1)
 
--- an object that is refused, and not for want of memory, has a first refusal
-pub is_refused : (s : Settings) (object : Members) (e : CompileError) → (refusal_of e ≡ out_of_memory) ⊎ FirstRefusal s object (Some (refusal_of e)) → reason_of e.kind ≢ memory
-    → IsRefused s object
-is_refused s object e (inl none) had = absurd (had (ap (λ r. r.reason) none))
-is_refused s object e (inr first) had = (refusal_of e, first)
+-- an object that is refused, and not for want of memory, has this first refusal
+pub first_refusal : (s : Settings) (object : Members) (e : CompileError) → (refusal_of e ≡ out_of_memory) ⊎ FirstRefusal s object (Some (refusal_of e))
+    → reason_of e.kind ≢ memory → FirstRefusal s object (Some (refusal_of e))
+first_refusal s object e (inl none) had = absurd (had (ap (λ r. r.reason) none))
+first_refusal s object e (inr first) had = first
+
+-- a failure that is a refusal, under the settings of two numbers, is the first of the bytes by what the numbers set
+pub refused_under : (draft bits : ℕ) (d : Draft) (o : Options) (failure : Failure) (why : CompileError) (bytes : List ℕ)
+    → draft_numbered draft ≡ Some d → options_of bits ≡ Some o → failure ≡ Refused why → Fails failure (settings_for d o) bytes
+    → (settings_of draft bits ≡ Some (settings_for d o)) × HasFirstRefusal (settings_for d o) bytes (Some (refusal_of why))
+refused_under draft bits d o failure why bytes is_draft are_options is failed =
+    let refused = subst (λ f. Fails f (settings_for d o) bytes) is failed in (rw (is_draft, are_options) refl, refused.0)
 
 -- a compiled object is not refused
 pub not_refused : {E : Type 0} (outcome : E → List ℕ → Outcome) (s : Settings) (object : Members) (k : StringKeywords E) → IsCompiledFrom outcome s object k

@@ -1,3 +1,6 @@
+pub mod Buffers
+pub mod Refusals
+pub mod Settings
 pub mod Statuses
 pub mod Texts
 pub mod Verdicts

@@ -37,7 +37,7 @@ fn encoding_status(alloc: Global, codec: Codec, text: &[u8]) -> u8
 
 /// Whether the bytes are an encoding by base64 (RFC 4648, section 4).
 #[unsafe(no_mangle)]
-pub extern "C" fn strkw_is_base64(alloc: Global, text: &[u8]) -> u8
+pub extern "C" fn strkw_nonnull_is_base64(alloc: Global, text: &[u8]) -> u8
     ensures { TellsEncoding codec.Base64 text.now result }
 {
     encoding_status(alloc, Codec::Base64, text)
@@ -45,7 +45,7 @@ pub extern "C" fn strkw_is_base64(alloc: Global, text: &[u8]) -> u8
 
 /// Whether the bytes are an encoding by base64url (RFC 4648, section 5).
 #[unsafe(no_mangle)]
-pub extern "C" fn strkw_is_base64url(alloc: Global, text: &[u8]) -> u8
+pub extern "C" fn strkw_nonnull_is_base64url(alloc: Global, text: &[u8]) -> u8
     ensures { TellsEncoding codec.Base64Url text.now result }
 {
     encoding_status(alloc, Codec::Base64Url, text)
@@ -53,7 +53,7 @@ pub extern "C" fn strkw_is_base64url(alloc: Global, text: &[u8]) -> u8
 
 /// Whether the bytes are an encoding by base32 (RFC 4648, section 6).
 #[unsafe(no_mangle)]
-pub extern "C" fn strkw_is_base32(alloc: Global, text: &[u8]) -> u8
+pub extern "C" fn strkw_nonnull_is_base32(alloc: Global, text: &[u8]) -> u8
     ensures { TellsEncoding codec.Base32 text.now result }
 {
     encoding_status(alloc, Codec::Base32, text)
@@ -61,7 +61,7 @@ pub extern "C" fn strkw_is_base32(alloc: Global, text: &[u8]) -> u8
 
 /// Whether the bytes are an encoding by base32hex (RFC 4648, section 7).
 #[unsafe(no_mangle)]
-pub extern "C" fn strkw_is_base32hex(alloc: Global, text: &[u8]) -> u8
+pub extern "C" fn strkw_nonnull_is_base32hex(alloc: Global, text: &[u8]) -> u8
     ensures { TellsEncoding codec.Base32Hex text.now result }
 {
     encoding_status(alloc, Codec::Base32Hex, text)
@@ -69,7 +69,7 @@ pub extern "C" fn strkw_is_base32hex(alloc: Global, text: &[u8]) -> u8
 
 /// Whether the bytes are an encoding by base16 (RFC 4648, section 8).
 #[unsafe(no_mangle)]
-pub extern "C" fn strkw_is_base16(alloc: Global, text: &[u8]) -> u8
+pub extern "C" fn strkw_nonnull_is_base16(alloc: Global, text: &[u8]) -> u8
     ensures { TellsEncoding codec.Base16 text.now result }
 {
     encoding_status(alloc, Codec::Base16, text)
@@ -77,7 +77,7 @@ pub extern "C" fn strkw_is_base16(alloc: Global, text: &[u8]) -> u8
 
 /// Whether the bytes are JSON (RFC 8259) that nests 127 deep at most, as `serde_json` reads it.
 #[unsafe(no_mangle)]
-pub extern "C" fn strkw_is_json(alloc: Global, text: &[u8]) -> u8
+pub extern "C" fn strkw_nonnull_is_json(alloc: Global, text: &[u8]) -> u8
     ensures { Tells (IsUtf8 text.now × IsJson text.now) result }
 {
     match str::from_utf8(text) {

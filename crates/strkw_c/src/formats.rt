@@ -22,7 +22,7 @@ use strkw_uri::{
 
 /// Whether the bytes are a date: `full-date` of RFC 3339, section 5.6.
 #[unsafe(no_mangle)]
-pub extern "C" fn strkw_is_date(text: &[u8]) -> bool
+pub extern "C" fn strkw_nonnull_is_date(text: &[u8]) -> bool
     ensures { IsTrue result ↔ (IsUtf8 text.now × IsFullDate (chars text.now)) }
 {
     match str::from_utf8(text) {
@@ -33,7 +33,7 @@ pub extern "C" fn strkw_is_date(text: &[u8]) -> bool
 
 /// Whether the bytes are a time: `full-time` of RFC 3339, section 5.6.
 #[unsafe(no_mangle)]
-pub extern "C" fn strkw_is_time(text: &[u8]) -> bool
+pub extern "C" fn strkw_nonnull_is_time(text: &[u8]) -> bool
     ensures { IsTrue result ↔ (IsUtf8 text.now × IsFullTime (chars text.now)) }
 {
     match str::from_utf8(text) {
@@ -44,7 +44,7 @@ pub extern "C" fn strkw_is_time(text: &[u8]) -> bool
 
 /// Whether the bytes are a `date-time` of RFC 3339, section 5.6.
 #[unsafe(no_mangle)]
-pub extern "C" fn strkw_is_date_time(text: &[u8]) -> bool
+pub extern "C" fn strkw_nonnull_is_date_time(text: &[u8]) -> bool
     ensures { IsTrue result ↔ (IsUtf8 text.now × IsDateTime (chars text.now)) }
 {
     match str::from_utf8(text) {
@@ -55,7 +55,7 @@ pub extern "C" fn strkw_is_date_time(text: &[u8]) -> bool
 
 /// Whether the bytes are a duration of RFC 3339, appendix A, its letters in upper case.
 #[unsafe(no_mangle)]
-pub extern "C" fn strkw_is_duration(text: &[u8]) -> bool
+pub extern "C" fn strkw_nonnull_is_duration(text: &[u8]) -> bool
     ensures { IsTrue result ↔ (IsUtf8 text.now × IsDuration (chars text.now)) }
 {
     match str::from_utf8(text) {
@@ -66,7 +66,7 @@ pub extern "C" fn strkw_is_duration(text: &[u8]) -> bool
 
 /// Whether the bytes are an IPv4 address: `IPv4address` of RFC 3986, section 3.2.2.
 #[unsafe(no_mangle)]
-pub extern "C" fn strkw_is_ipv4(text: &[u8]) -> bool
+pub extern "C" fn strkw_nonnull_is_ipv4(text: &[u8]) -> bool
     ensures { IsTrue result ↔ (IsUtf8 text.now × IsIpv4 (chars text.now)) }
 {
     match str::from_utf8(text) {
@@ -77,7 +77,7 @@ pub extern "C" fn strkw_is_ipv4(text: &[u8]) -> bool
 
 /// Whether the bytes are an IPv6 address of RFC 4291, section 2.2.
 #[unsafe(no_mangle)]
-pub extern "C" fn strkw_is_ipv6(text: &[u8]) -> bool
+pub extern "C" fn strkw_nonnull_is_ipv6(text: &[u8]) -> bool
     ensures { IsTrue result ↔ (IsUtf8 text.now × IsIpv6 (chars text.now)) }
 {
     match str::from_utf8(text) {
@@ -86,9 +86,10 @@ pub extern "C" fn strkw_is_ipv6(text: &[u8]) -> bool
     }
 }
 
-/// Whether the bytes are a host name of drafts 7 and later: an ASCII one in which each label `xn--` encodes an admitted text (RFC 3492).
+/// Whether the bytes are a host name of drafts 7 and later: an ASCII one in which each label `xn--` encodes an admitted
+/// text (RFC 3492).
 #[unsafe(no_mangle)]
-pub extern "C" fn strkw_is_hostname(text: &[u8]) -> bool
+pub extern "C" fn strkw_nonnull_is_hostname(text: &[u8]) -> bool
     ensures { IsTrue result ↔ (IsUtf8 text.now × IsHostName (chars text.now)) }
 {
     match str::from_utf8(text) {
@@ -99,7 +100,7 @@ pub extern "C" fn strkw_is_hostname(text: &[u8]) -> bool
 
 /// Whether the bytes are a host name of drafts 4 and 6: RFC 1034, section 3.5, with RFC 1123, section 2.1.
 #[unsafe(no_mangle)]
-pub extern "C" fn strkw_is_hostname_draft4(text: &[u8]) -> bool
+pub extern "C" fn strkw_nonnull_is_hostname_draft4(text: &[u8]) -> bool
     ensures { IsTrue result ↔ (IsUtf8 text.now × IsAsciiHostName (chars text.now)) }
 {
     match str::from_utf8(text) {
@@ -110,7 +111,7 @@ pub extern "C" fn strkw_is_hostname_draft4(text: &[u8]) -> bool
 
 /// Whether the bytes are a URI of RFC 3986.
 #[unsafe(no_mangle)]
-pub extern "C" fn strkw_is_uri(text: &[u8]) -> bool
+pub extern "C" fn strkw_nonnull_is_uri(text: &[u8]) -> bool
     ensures { IsTrue result ↔ (IsUtf8 text.now × IsUri (chars text.now)) }
 {
     match str::from_utf8(text) {
@@ -121,7 +122,7 @@ pub extern "C" fn strkw_is_uri(text: &[u8]) -> bool
 
 /// Whether the bytes are a URI reference of RFC 3986.
 #[unsafe(no_mangle)]
-pub extern "C" fn strkw_is_uri_reference(text: &[u8]) -> bool
+pub extern "C" fn strkw_nonnull_is_uri_reference(text: &[u8]) -> bool
     ensures { IsTrue result ↔ (IsUtf8 text.now × IsUriReference (chars text.now)) }
 {
     match str::from_utf8(text) {
@@ -132,7 +133,7 @@ pub extern "C" fn strkw_is_uri_reference(text: &[u8]) -> bool
 
 /// Whether the bytes are an IRI of RFC 3987.
 #[unsafe(no_mangle)]
-pub extern "C" fn strkw_is_iri(text: &[u8]) -> bool
+pub extern "C" fn strkw_nonnull_is_iri(text: &[u8]) -> bool
     ensures { IsTrue result ↔ (IsUtf8 text.now × IsIri (chars text.now)) }
 {
     match str::from_utf8(text) {
@@ -143,7 +144,7 @@ pub extern "C" fn strkw_is_iri(text: &[u8]) -> bool
 
 /// Whether the bytes are an IRI reference of RFC 3987.
 #[unsafe(no_mangle)]
-pub extern "C" fn strkw_is_iri_reference(text: &[u8]) -> bool
+pub extern "C" fn strkw_nonnull_is_iri_reference(text: &[u8]) -> bool
     ensures { IsTrue result ↔ (IsUtf8 text.now × IsIriReference (chars text.now)) }
 {
     match str::from_utf8(text) {
@@ -154,7 +155,7 @@ pub extern "C" fn strkw_is_iri_reference(text: &[u8]) -> bool
 
 /// Whether the bytes are a URI template of RFC 6570, with wider literals.
 #[unsafe(no_mangle)]
-pub extern "C" fn strkw_is_uri_template(text: &[u8]) -> bool
+pub extern "C" fn strkw_nonnull_is_uri_template(text: &[u8]) -> bool
     ensures { IsTrue result ↔ (IsUtf8 text.now × IsUriTemplate (chars text.now)) }
 {
     match str::from_utf8(text) {
@@ -165,7 +166,7 @@ pub extern "C" fn strkw_is_uri_template(text: &[u8]) -> bool
 
 /// Whether the bytes are a JSON pointer of RFC 6901.
 #[unsafe(no_mangle)]
-pub extern "C" fn strkw_is_json_pointer(text: &[u8]) -> bool
+pub extern "C" fn strkw_nonnull_is_json_pointer(text: &[u8]) -> bool
     ensures { IsTrue result ↔ (IsUtf8 text.now × IsJsonPointer (chars text.now)) }
 {
     match str::from_utf8(text) {
@@ -176,7 +177,7 @@ pub extern "C" fn strkw_is_json_pointer(text: &[u8]) -> bool
 
 /// Whether the bytes are a relative JSON pointer.
 #[unsafe(no_mangle)]
-pub extern "C" fn strkw_is_relative_json_pointer(text: &[u8]) -> bool
+pub extern "C" fn strkw_nonnull_is_relative_json_pointer(text: &[u8]) -> bool
     ensures { IsTrue result ↔ (IsUtf8 text.now × IsRelativeJsonPointer (chars text.now)) }
 {
     match str::from_utf8(text) {
@@ -187,7 +188,7 @@ pub extern "C" fn strkw_is_relative_json_pointer(text: &[u8]) -> bool
 
 /// Whether the bytes are a UUID of RFC 9562, section 4.
 #[unsafe(no_mangle)]
-pub extern "C" fn strkw_is_uuid(text: &[u8]) -> bool
+pub extern "C" fn strkw_nonnull_is_uuid(text: &[u8]) -> bool
     ensures { IsTrue result ↔ (IsUtf8 text.now × IsUuid (chars text.now)) }
 {
     match str::from_utf8(text) {

@@ -1,23 +1,33 @@
 //! The checks and the answers for callers that are not Rattle: C, and what calls C. A text is a pointer and a count of
-//! bytes, and bytes that are not UTF-8 are no text. The header `bindings/strkw.h` declares each export.
+//! bytes, and bytes that are not UTF-8 are no text. No pointer is null: `bindings/strkw.c` sees to it. There each
+//! export `strkw_nonnull_NAME` is called by a function `strkw_NAME`, which the header `bindings/strkw.h` declares.
 #![tactic(auto)]
 
 mod answers;
+mod buffers;
 mod encodings;
 mod formats;
+mod refusals;
 mod schemas;
+mod settings;
+mod statuses;
+#[cfg(test)]
+mod tests;
 mod texts;
 mod verdicts;
 
-pub use answers::strkw_answer;
+pub use answers::strkw_nonnull_answer;
 pub use encodings::{
-    strkw_is_base16, strkw_is_base32, strkw_is_base32hex, strkw_is_base64, strkw_is_base64url,
-    strkw_is_json,
+    strkw_nonnull_is_base16, strkw_nonnull_is_base32, strkw_nonnull_is_base32hex,
+    strkw_nonnull_is_base64, strkw_nonnull_is_base64url, strkw_nonnull_is_json,
 };
 pub use formats::{
-    strkw_is_date, strkw_is_date_time, strkw_is_duration, strkw_is_hostname,
-    strkw_is_hostname_draft4, strkw_is_ipv4, strkw_is_ipv6, strkw_is_iri, strkw_is_iri_reference,
-    strkw_is_json_pointer, strkw_is_relative_json_pointer, strkw_is_time, strkw_is_uri,
-    strkw_is_uri_reference, strkw_is_uri_template, strkw_is_uuid,
+    strkw_nonnull_is_date, strkw_nonnull_is_date_time, strkw_nonnull_is_duration,
+    strkw_nonnull_is_hostname, strkw_nonnull_is_hostname_draft4, strkw_nonnull_is_ipv4,
+    strkw_nonnull_is_ipv6, strkw_nonnull_is_iri, strkw_nonnull_is_iri_reference,
+    strkw_nonnull_is_json_pointer, strkw_nonnull_is_relative_json_pointer, strkw_nonnull_is_time,
+    strkw_nonnull_is_uri, strkw_nonnull_is_uri_reference, strkw_nonnull_is_uri_template,
+    strkw_nonnull_is_uuid,
 };
-pub use verdicts::strkw_check;
+pub use refusals::strkw_nonnull_refusal;
+pub use verdicts::strkw_nonnull_check;

@@ -2,13 +2,14 @@ use Rattle.std.proofs.Common.{Some, []}
 use Rattle.strkw_pattern.specs.Matcher.{literal_outcome}
 use Rattle.strkw_keywords.specs.Meanings.{no_lists}
 use Rattle.strkw_cli.specs.Answer.{root_site}
-use Rattle.strkw_c.specs.Verdicts.{IsValid, Passes, settings_for}
+use Rattle.strkw_c.specs.Settings.{settings_for}
+use Rattle.strkw_c.specs.Verdicts.{IsValid, Passes}
 use Rattle.strkw_c.proofs.VerdictLemmas.{not_refused, verdicts_alike}
 use Rattle.strkw_c.proofs.verdicts.check.Goals as goal
 
 pub returns-clause-done : goal.returns-clause-done
 returns-clause-done c =
-    let s = settings_for c.args.draft in
+    let s = settings_for c.args.draft c.args.options in
     let k = c.in_ok-keywords.keywords in
     let (object, is_schema, of) = c.in_ok-keywords.ensures.compiled in
     let (list, are_texts, verdicts) = c.in_ok-verdicts_on.ensures.verdicts in (

@@ -1,0 +1,121 @@
+//! Why a schema object is refused.
+
+ghost use Rattle.std.specs.Prelude.{◌≡◌, ◌≢◌, ◌⊎◌, ◌↔◌, ◌<◌, ◌++◌, [], ℕ, List, Some, None, IsSome, OnOk, false};
+ghost use Rattle.strkw_report.specs.Refusals.{Refusal, prints_float, reason_of, refusal_of, regex};
+ghost use Rattle.strkw_keywords.specs.Object.{Settings};
+ghost use Rattle.strkw_cli.specs.Request.{draft_numbered};
+ghost use Rattle.strkw_c.specs.Buffers.{IsPut, IsTooLong};
+ghost use Rattle.strkw_c.specs.Refusals.{reason_text, refusal_text};
+ghost use Rattle.strkw_c.specs.Settings.{options_of, settings_of};
+ghost use Rattle.strkw_c.specs.Verdicts.{HasFirstRefusal, IsSchema};
+
+use crate::buffers::put;
+use crate::schemas::{Failure, compile};
+use crate::settings::options_of;
+use crate::statuses::{DONE, NO_DRAFT, NO_OPTION, NO_ROOM, NO_SCHEMA, OUT_OF_MEMORY, REFUSED};
+use std::alloc::{AllocError, Global};
+use strkw_cli::draft_numbered;
+use strkw_report::{CompileError, CompileErrorKind, push_json_string};
+
+/// Tells why a schema object is refused, under a draft and options as `strkw_nonnull_check` has them. Status 5: it is
+/// refused, and the text of its first refusal is at the head of `out`, with its count of bytes in `written`: the JSON
+/// pointer of the keyword, a colon with a space, and the reason, as `/maxLength: the limit is ..`. The text is UTF-8;
+/// the name of an unknown format stands in it as it is, with a zero byte or a line feed if it has one. Status 0: it is
+/// not refused, and `written` is 0.
+///
+/// The others: 2, `out` has too little room and is as it was, and `written` is the room that is needed; 3, the draft is
+/// none of the five; 6, a bit of the options is none of the two; 4, `schema` is no JSON object; 1, out of memory, where
+/// neither 3 nor 6 holds. After 1, 3, 4 and 6 `out` and `written` are as they were.
+#[unsafe(no_mangle)]
+pub extern "C" fn strkw_nonnull_refusal(
+    alloc: Global,
+    draft: u32,
+    options: u32,
+    schema: &[u8],
+    out: &mut [u8],
+    written: &mut usize,
+) -> u8
+    ensures status { result < 7 }
+    ensures no_draft { (result ≡ 3) ↔ (draft_numbered draft ≡ None) }
+    ensures no_option { (result ≡ 6)
+        ↔ (IsSome (draft_numbered draft) × (options_of options ≡ None)) }
+    ensures no_schema { result ≡ 4 → IsSchema schema.now None }
+    ensures taken { result ≡ 0 → (s : Settings) × (settings_of draft options ≡ Some s)
+        × HasFirstRefusal s schema.now None × IsPut [] out.old out.new written.new }
+    ensures told { result ≡ 5 → (s : Settings) × (why : Refusal)
+        × (settings_of draft options ≡ Some s) × HasFirstRefusal s schema.now (Some why)
+        × IsPut (refusal_text why) out.old out.new written.new }
+    ensures short { result ≡ 2 → (s : Settings) × (why : Refusal)
+        × (settings_of draft options ≡ Some s) × HasFirstRefusal s schema.now (Some why)
+        × IsTooLong (refusal_text why) out.old out.new written.new }
+    ensures kept { result ≢ 0 → result ≢ 2 → result ≢ 5
+        → (out.new ≡ out.old) × (written.new ≡ written.old) }
+{
+    let Some(draft) = draft_numbered(u64::from(draft)) else {
+        return NO_DRAFT;
+    };
+    let Some(options) = options_of(options) else {
+        return NO_OPTION;
+    };
+    match compile(alloc, draft, options, schema) {
+        Ok(_) => {
+            *written = 0;
+            DONE
+        }
+        Err(Failure::Refused(refusal)) => tell(alloc, &refusal, out, written),
+        Err(Failure::NoSchema) => NO_SCHEMA,
+        Err(Failure::Memory) => OUT_OF_MEMORY,
+    }
+}
+
+// Puts the text of a refusal.
+fn tell(alloc: Global, refusal: &CompileError, out: &mut [u8], written: &mut usize) -> u8
+    requires { prints_float (reason_of refusal.now.kind) ≡ false }
+    ensures status { (result ≡ 1) ⊎ (result ≡ 2) ⊎ (result ≡ 5) }
+    ensures told { result ≡ 5
+        → IsPut (refusal_text (refusal_of refusal.now)) out.old out.new written.new }
+    ensures short { result ≡ 2
+        → IsTooLong (refusal_text (refusal_of refusal.now)) out.old out.new written.new }
+    ensures kept { result ≡ 1 → (out.new ≡ out.old) × (written.new ≡ written.old) }
+{
+    let mut text = Vec::new(alloc);
+    let Ok(()) = push_refusal(alloc, refusal, &mut text) else {
+        return OUT_OF_MEMORY;
+    };
+    if put(&text, out, written) {
+        REFUSED
+    } else {
+        NO_ROOM
+    }
+}
+
+// Appends the text of a refusal. Out of memory, a beginning of it may have been appended.
+fn push_refusal(alloc: Global, refusal: &CompileError, out: &mut Vec<u8>) -> Result<(), AllocError>
+    requires { prints_float (reason_of refusal.now.kind) ≡ false }
+    ensures { OnOk result (out.new.items ≡ out.old.items ++ refusal_text (refusal_of refusal.now)) }
+{
+    out.extend_from_slice(refusal.location.as_str().as_bytes())?;
+    out.extend_from_slice(b": ")?;
+    push_reason(alloc, refusal, out)
+}
+
+// Appends the reason of a refusal.
+fn push_reason(alloc: Global, refusal: &CompileError, out: &mut Vec<u8>) -> Result<(), AllocError>
+    requires { prints_float (reason_of refusal.now.kind) ≡ false }
+    ensures { OnOk result
+        (out.new.items ≡ out.old.items ++ reason_text (reason_of refusal.now.kind)) }
+{
+    let CompileErrorKind::Regex { pattern } = &refusal.kind else {
+        return out.extend_from_slice(refusal.text(alloc)?.as_bytes());
+    };
+    push_pattern(pattern, out)
+}
+
+// Appends the reason of a pattern that is refused.
+fn push_pattern(pattern: &str, out: &mut Vec<u8>) -> Result<(), AllocError>
+    ensures { OnOk result (out.new.items ≡ out.old.items ++ reason_text (regex pattern.now)) }
+{
+    out.extend_from_slice(b"the pattern ")?;
+    push_json_string(pattern, out)?;
+    out.extend_from_slice(b" is not taken: only literal patterns are")
+}

@@ -1,0 +1,82 @@
+//! The calls on a schema object with each growth refused. With ample memory a row has to pass. `tools/refusals.py`
+//! runs it with each growth refused in turn too: then it ends as out of memory.
+
+use crate::{strkw_nonnull_check, strkw_nonnull_refusal};
+use std::alloc::{AllocError, Global};
+use std::test::Fail;
+
+// Schema objects that are refused, and the text of each refusal.
+const REFUSED: [(&str, &str); 4] = [
+    (
+        "{\"format\":\"email\"}",
+        "/format: Unknown format: 'email'. Adjust configuration to ignore unrecognized formats",
+    ),
+    (
+        "{\"maxLength\":-1}",
+        "/maxLength: the limit is not a non-negative whole number of 64 bits",
+    ),
+    (
+        "{\"pattern\":\"a+\"}",
+        "/pattern: the pattern \"a+\" is not taken: only literal patterns are",
+    ),
+    (
+        "{\"contentEncoding\":[5]}",
+        "/contentEncoding: [5] is not of type \"string\"",
+    ),
+];
+
+// Whether a schema object is refused with this text. Out of memory, the buffer and the count are as they were.
+fn is_refused_so(alloc: Global, schema: &str, want: &str) -> Result<bool, AllocError> {
+    let mut out = [7u8; 128];
+    let mut written = 7;
+    let status = strkw_nonnull_refusal(alloc, 7, 0, schema.as_bytes(), &mut out, &mut written);
+    match status {
+        1 if written == 7 && out == [7u8; 128] => Err(AllocError),
+        5 => Ok(out.get(..written) == Some(want.as_bytes())),
+        _ => Ok(false),
+    }
+}
+
+#[test]
+fn refusals_under_refusal(rt: HostRuntime) -> Result<(), Fail> {
+    for (schema, want) in REFUSED {
+        if !is_refused_so(rt.alloc(), schema, want)? {
+            return Err(Fail::new(want));
+        }
+    }
+    Ok(())
+}
+
+// Whether the three texts `2024-02-29`, `2023-02-29` and the byte 255 have these verdicts. Out of memory, the verdicts
+// are as they were.
+fn are_judged_so(alloc: Global, schema: &str, want: [u8; 3]) -> Result<bool, AllocError> {
+    let texts = b"2024-02-292023-02-29\xFF";
+    let mut verdicts = [7u8; 3];
+    let status = strkw_nonnull_check(
+        alloc,
+        202012,
+        0,
+        schema.as_bytes(),
+        texts,
+        &[10, 20, 21],
+        &mut verdicts,
+    );
+    match status {
+        0 => Ok(verdicts == want),
+        1 if verdicts == [7u8; 3] => Err(AllocError),
+        _ => Ok(false),
+    }
+}
+
+#[test]
+fn verdicts_under_refusal(rt: HostRuntime) -> Result<(), Fail> {
+    for (schema, want) in [
+        ("{\"format\":\"date\",\"minLength\":2}", [1, 0, 2]),
+        ("{\"pattern\":\"^2023\"}", [0, 1, 2]),
+    ] {
+        if !are_judged_so(rt.alloc(), schema, want)? {
+            return Err(Fail::new(schema));
+        }
+    }
+    Ok(())
+}
