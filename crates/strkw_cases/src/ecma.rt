@@ -1,10 +1,10 @@
-//! Which patterns the engine of ECMA-262 takes, which of them have a table, and where each is found.
+//! Which patterns the engine of ECMA-262 takes, why it takes no others, which have a table, and where each is found.
 
-use crate::row::{items, text_at};
+use crate::row::{items, text, text_at};
 use crate::tally::Tally;
 use serde_json::Value;
 use std::alloc::{AllocError, Global};
-use strkw_ecma::EcmaPatterns;
+use strkw_ecma::{EcmaPatterns, why_refused};
 use strkw_pattern::{BuildRefusal, EngineBuilder, RegexEngine};
 
 /// Whether a text is a pattern that is taken; `None` where memory ran out.
@@ -89,6 +89,33 @@ pub fn ask_tables(alloc: Global, row: &Value, tally: &mut Tally) -> Result<(), A
         };
         let is_expected = has_table.is_some() && has_table == pair.get(1).and_then(Value::as_bool);
         tally.count(alloc, is_expected, pattern, "the other")?;
+    }
+    Ok(())
+}
+
+// Asks why a pattern is not taken, in the words of the refusal.
+fn ask_refusal(
+    alloc: Global,
+    pattern: &str,
+    wanted: &str,
+    tally: &mut Tally,
+) -> Result<(), AllocError> {
+    let answer = match why_refused(alloc, pattern)? {
+        Some(refusal) => format!(in alloc; "{refusal}")?,
+        None => String::from_str(alloc, "taken")?,
+    };
+    tally.count(alloc, answer.as_str() == wanted, pattern, &answer)
+}
+
+/// The patterns of a row, and those that are said by their parts, all with one reason.
+pub fn ask_refusals(alloc: Global, row: &Value, tally: &mut Tally) -> Result<(), AllocError> {
+    let wanted = text(row, "of");
+    for pattern in items(row, "patterns") {
+        ask_refusal(alloc, pattern.as_str().unwrap_or(""), wanted, tally)?;
+    }
+    for row in items(row, "long") {
+        let pattern = repeated(alloc, items(row, "pattern"))?;
+        ask_refusal(alloc, &pattern, wanted, tally)?;
     }
     Ok(())
 }

@@ -77,6 +77,7 @@ fn ask(alloc: Global, row: &Value, tally: &mut Tally) -> Result<(), AllocError> 
         "searches" => ecma::ask_searches(alloc, row, tally),
         "long searches" => ecma::ask_long_searches(alloc, row, tally),
         "tables" => ecma::ask_tables(alloc, row, tally),
+        "refusals" => ecma::ask_refusals(alloc, row, tally),
         "nodes" => report::ask_nodes(alloc, row, tally),
         "fractions" => report::ask_fractions(alloc, row, tally),
         "drafts" => report::ask_drafts(alloc, tally),

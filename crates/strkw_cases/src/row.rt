@@ -22,6 +22,8 @@
 //! - `searches`: `rows` of a pattern of ECMA-262, a text, and whether it is found there; `long searches`: the same by name, each
 //!   text by its parts and how often each stands there, null where the pattern is not taken;
 //! - `tables`: `rows` of a pattern, and whether its engine reads matches off a table;
+//! - `refusals`: `of` words that tell why a pattern is not taken, or `taken`, the `patterns` of which they are told, and
+//!   `long` ones, each with its parts as its `pattern`;
 //! - `nodes`: `rows` of a value, its text and its length; `fractions`: values `yes` and `no`; `drafts`: their order.
 
 use serde_json::Value;

@@ -22,19 +22,19 @@ use Rattle.strkw_ecma.proofs.CodeReadings.{IsCoding, IsCoded, coding_formed, is_
 use Rattle.strkw_ecma.specs.Reading.{Open, Outer, Level, Last, none, atom, counted, Pending, fresh, one, dashed, Class, Mode, between, escaping, opening, extending, class_opened, Count, low, high, counting, when, with_count, longer, range_read, on_low, on_high, on_count, in_class, class_escaping, coding, class_coding, in_property, in_class_property, is_between, State, with_mode, new_level, ended, joined, level_ended, closed_in, naming, name_escaping, name_coding, with_name_char, name_read, on_naming, on_name_escape, on_name_coding, tree_if, closes, with_quantifier, questioned, opened, on_token, on_group, on_extension, on_escape, took, took_dash, ranged, class_read, within, on_class_token, on_class_escape, on_coding, on_class_coding, on_property, on_class_property, on_class, next_in, next, read_from, initial, read}
 
 -- of a level within n groups
-abbrev IsEarlier : ℕ → Option Disjunction → Type 0
+abbrev pub IsEarlier : ℕ → Option Disjunction → Type 0
 IsEarlier n None = Unit {0}
 IsEarlier n (Some d) = IsWellFormed n d
 
-abbrev IsLast : ℕ → Last → Type 0
+abbrev pub IsLast : ℕ → Last → Type 0
 IsLast n none = Unit {0}
 IsLast n (atom a) = IsAtom n a
 IsLast n (counted a q) = IsAtom n a × IsQuantifier q (size (atom_pattern a))
 
-abbrev IsLevel : ℕ → Level → Type 0
+abbrev pub IsLevel : ℕ → Level → Type 0
 IsLevel n l = IsEarlier n l.earlier × IsAlternative n l.current
 
-abbrev AreLevels : List Open → Type 0
+abbrev pub AreLevels : List Open → Type 0
 AreLevels [] = Unit {0}
 AreLevels (o ∷ ls) = ((IsEarlier (length ls) o.earlier × IsAlternative (length ls) o.current) × IsGroup o.group × (length ls < max_nesting)) × AreLevels ls
 
@@ -50,16 +50,16 @@ Any y = Unit {0}
 abbrev NoCaret : ClassAtom → Type 0
 NoCaret y = is_caret y ≡ false
 
-abbrev IsCount : Count → Type 0
+abbrev pub IsCount : Count → Type 0
 IsCount (low ds) = (are_digits ds ≡ true) × (number ds ≤ max_count)
 IsCount (high ds es) = IsNumber ds × (are_digits es ≡ true) × (number es ≤ max_count)
 
 -- the beginning of a name
-abbrev IsNamePart : List NameChar → Type 0
+abbrev pub IsNamePart : List NameChar → Type 0
 IsNamePart [] = Unit {0}
 IsNamePart (y ∷ n) = IsName (y ∷ n)
 
-abbrev IsMode : Mode → Type 0
+abbrev pub IsMode : Mode → Type 0
 IsMode (in_class k) = AreRanges k.negated k.ranges × IsPending Any k.negated k.ranges k.pending
 IsMode (class_escaping k) = AreRanges k.negated k.ranges × IsPending NoCaret k.negated k.ranges k.pending
 IsMode (class_coding k d) = (AreRanges k.negated k.ranges × IsPending NoCaret k.negated k.ranges k.pending) × IsCoding d
@@ -72,19 +72,19 @@ IsMode (name_escaping n) = IsNamePart n
 IsMode (name_coding n k) = IsNamePart n × IsCoding k × (is_unicode_coding k ≡ true)
 IsMode m = Unit {0}
 
-abbrev IsState : State → Type 0
+abbrev pub IsState : State → Type 0
 IsState s = AreLevels s.outer.groups × IsLevel (length s.outer.groups) s.level × IsLast (length s.outer.groups) s.last × IsMode s.mode
 
-abbrev Makes : Option State → Type 0
+abbrev pub Makes : Option State → Type 0
 Makes None = Unit {0}
 Makes (Some t) = IsState t
 
-ended_formed : (n : ℕ) (a : Alternative) (x : Last) → IsAlternative n a → IsLast n x → IsAlternative n (ended a x)
+pub ended_formed : (n : ℕ) (a : Alternative) (x : Last) → IsAlternative n a → IsLast n x → IsAlternative n (ended a x)
 ended_formed n a none h k = h
 ended_formed n a (atom x) h k = (h, k)
 ended_formed n a (counted x q) h k = (h, k)
 
-level_formed : (n : ℕ) (e : Option Disjunction) (a : Alternative) → IsEarlier n e → IsAlternative n a → IsWellFormed n (joined e a)
+pub level_formed : (n : ℕ) (e : Option Disjunction) (a : Alternative) → IsEarlier n e → IsAlternative n a → IsWellFormed n (joined e a)
 level_formed n None a h k = k
 level_formed n (Some d) a h k = (h, k)
 
@@ -358,7 +358,7 @@ module _ (outer : Outer) (l : Level) (x : Last) (f : AreLevels outer.groups) (g 
   bracket_formed c false e = class_token_formed NoCaret false no_ranges fresh c (class_token c) refl tt (λ y w. w) (λ y w. w) e
   bracket_formed c true e = (f, g, h, (tt, λ y w. tt))
 
-  next_formed : (m : Mode) (c : ℕ) → IsMode m → Makes (next_in outer l x m c)
+  pub next_formed : (m : Mode) (c : ℕ) → IsMode m → Makes (next_in outer l x m c)
   next_formed between c k = token_formed outer l x c _ refl f g h
   next_formed escaping c k = escape_formed outer l x c _ refl f g h
   next_formed opening c k = group_formed outer l x c _ f g h

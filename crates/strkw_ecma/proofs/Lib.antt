@@ -14,6 +14,7 @@ pub mod Spelled
 pub mod Formed
 pub mod Exact
 pub mod Parts
+pub mod Refused
 pub mod Alike
 pub mod Walks
 pub mod Tables

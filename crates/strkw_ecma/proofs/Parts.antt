@@ -30,13 +30,13 @@ use Rattle.strkw_ecma.specs.Parts.{Side, Parts, after_count, after_low, after_hi
 abbrev side : Level → Side
 side l = record { earlier = option_map pattern l.earlier; current = alternative_pattern l.current }
 
-abbrev around : Open → Side
+abbrev pub around : Open → Side
 around o = record { earlier = option_map pattern o.earlier; current = alternative_pattern o.current }
 
 abbrev outer_image : Outer → parts.Outer
 outer_image o = record { groups = map around o.groups; names = o.names }
 
-abbrev last_image : reading.Last → parts.Last
+abbrev pub last_image : reading.Last → parts.Last
 last_image reading.none = parts.none
 last_image (reading.atom a) = parts.atom (atom_pattern a)
 last_image (reading.counted a q) = parts.counted (quantified_pattern (times q) (atom_pattern a))
@@ -70,7 +70,7 @@ mode_image (reading.naming n) = parts.naming (name_value n)
 mode_image (reading.name_escaping n) = parts.name_escaping (name_value n)
 mode_image (reading.name_coding n k) = parts.name_coding (name_value n) (coding_image k)
 
-abbrev image : State → Parts
+abbrev pub image : State → Parts
 image s = record { outer = outer_image s.outer; level = side s.level; last = last_image s.last; mode = mode_image s.mode }
 
 abbrev state : Outer → Level → reading.Last → State
@@ -424,7 +424,7 @@ module _ (outer : Outer) (l : Level) (x : reading.Last) where
   bracket_image c false = class_token_image first_class c (class_token c)
   bracket_image c true = refl
 
-  next_image : (m : Mode) (c : ℕ) → option_map image (next_in outer l x m c) ≡ after_in (image (state outer l x)) (mode_image m) c
+  pub next_image : (m : Mode) (c : ℕ) → option_map image (next_in outer l x m c) ≡ after_in (image (state outer l x)) (mode_image m) c
   next_image reading.between c = token_image outer l x c (token c)
   next_image reading.escaping c = escape_image outer l x c (escape c)
   next_image reading.opening c = group_image outer l x c (c == byte "?")

@@ -36,7 +36,7 @@ module _ (outer : Outer) (l : Level) where
   term_alone : (t : Term) → spelled (with_term outer l none t) ≡ level_text ++ term_spelling t
   term_alone t = term_read none t ∙ ap (λ z. z ++ term_spelling t) (append-nil level_text)
 
-  level_whole : (x : Last) → outer_spelling outer.groups ++ spelling (level_ended l x) ≡ before outer l x
+  pub level_whole : (x : Last) → outer_spelling outer.groups ++ spelling (level_ended l x) ≡ before outer l x
   level_whole x = ap (λ z. outer_spelling outer.groups ++ z) (joined_spelling l.earlier (ended l.current x)) ∙ whole outer l x
 
   quantifier_read : (x : Last) (q : Quantifier) → HasRead (with_quantifier outer l x q) (before outer l x ++ quantifier_spelling q)
@@ -294,7 +294,7 @@ naming_read outer l x n c name_character e =
     subst (λ z. HasRead (with_name_char outer l x n (verbatim c)) ((before outer l x ++ z) ++ c ∷ [])) (append-nil (name_text n))
     (name_char_read outer l x n (verbatim c) [] c refl)
 
-next_read : (outer : Outer) (l : Level) (x : Last) (m : Mode) (c : ℕ)
+pub next_read : (outer : Outer) (l : Level) (x : Last) (m : Mode) (c : ℕ)
     → HasRead (next_in outer l x m c) (spelled (with_mode outer l x m) ++ c ∷ [])
 next_read outer l x between c =
     subst (λ z. HasRead (on_token outer l x c (token c)) (z ++ c ∷ [])) (sym (append-nil _)) (token_read outer l x c (token c) (char_of_token c))

@@ -23,4 +23,6 @@ pub mod Outcomes
 pub mod Engine
 pub mod Laws
 pub mod Parts
+pub mod Refusals
+pub mod RefusalParts
 pub mod Table

@@ -11,12 +11,12 @@ use crate::tree::Tree;
 use std::alloc::{AllocError, Global};
 
 // The greatest count, and the most nodes that come of a counted term.
-const MAX_COUNT: u32 = 1000;
+pub(crate) const MAX_COUNT: u32 = 1000;
 
-const MAX_SIZE: u32 = 2000;
+pub(crate) const MAX_SIZE: u32 = 2000;
 
 // The most nodes that a whole pattern has.
-const MAX_NODES: u32 = 20_000;
+pub(crate) const MAX_NODES: u32 = 20_000;
 
 // What has been read of a count: its first number, where it has digits yet, or both.
 #[derive(Clone, Copy)]

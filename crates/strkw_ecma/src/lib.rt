@@ -14,6 +14,7 @@ mod marks;
 mod names;
 mod properties;
 mod reader;
+mod refusals;
 mod runs;
 mod sets;
 mod states;
@@ -23,3 +24,4 @@ mod tree;
 mod values;
 
 pub use engine::{EcmaMatcher, EcmaPatterns};
+pub use refusals::{PatternRefusal, why_refused};

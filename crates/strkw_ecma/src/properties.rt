@@ -4,6 +4,7 @@ ghost use Rattle.std.specs.Prelude.{◌≡◌, true, map, IfOk};
 ghost use Rattle.ucd_sets.specs.Loose.{value_named as spec_value_named};
 ghost use Rattle.strkw_ecma.specs.Properties.{has_property, category_named as spec_category_named, script_value_named, value_of as spec_value_of, property_of, is_property_char as spec_is_property_char};
 ghost use Rattle.strkw_ecma.specs.PropertyReading.{property_next, on_equals, with_char};
+ghost use Rattle.strkw_ecma.specs.Refusals.{is_written as spec_is_written, is_unknown as spec_is_unknown};
 ghost use Rattle.strkw_ecma.specs.Parts.{expression_of, part_of, property_read_of};
 
 use crate::values::{CATEGORIES, SCRIPTS};
@@ -86,6 +87,23 @@ impl Expression {
             Expression::Alone(value) => category_named(value),
             Expression::Valued(name, value) => value_of(name, value),
         }
+    }
+
+    // Whether neither the value nor the name before it is empty.
+    fn is_written(&self) -> bool
+        ensures { result ≡ spec_is_written (expression_of self.now) }
+    {
+        match self {
+            Expression::Alone(value) => !value.is_empty(),
+            Expression::Valued(name, value) => !name.is_empty() && !value.is_empty(),
+        }
+    }
+
+    // Whether it is written, and of no property that is taken.
+    pub(crate) fn is_unknown(&self) -> bool
+        ensures { result ≡ spec_is_unknown (expression_of self.now) }
+    {
+        self.is_written() && self.property().is_none()
     }
 
     // With one more character, which is one of ASCII.

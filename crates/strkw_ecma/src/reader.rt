@@ -15,6 +15,7 @@ mod coding;
 mod counting;
 mod naming;
 mod property;
+mod refusing;
 
 use crate::classes::ClassReader;
 use crate::codes::{Coding, Wanted, Width};
@@ -25,12 +26,13 @@ use crate::properties::PropertyPart;
 use crate::sets::{control_char, dot, one_char, set};
 use crate::tokens::{Escape, Extension, Token};
 use crate::tree::Tree;
+pub(crate) use refusing::refusal_of;
 use std::alloc::{AllocError, Global};
 
 // How many groups may lie in one another, and how many characters a pattern may have.
-const MAX_NESTING: usize = 250;
+pub(crate) const MAX_NESTING: usize = 250;
 
-const MAX_LENGTH: u64 = 2000;
+pub(crate) const MAX_LENGTH: u64 = 2000;
 
 // The last term, where more may follow it: an atom, where a quantifier may, or one with its quantifier, where a `?` may.
 #[derive(Drop)]

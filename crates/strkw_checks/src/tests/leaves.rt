@@ -8,7 +8,7 @@ use strkw_coding::{
     BuiltinMediaType, Codec, DecodeError, from_base16, from_base32, from_base32hex, from_base64,
     from_base64url, is_base16, is_base32, is_base32hex, is_base64, is_base64url, is_json,
 };
-use strkw_ecma::EcmaPatterns;
+use strkw_ecma::{EcmaPatterns, PatternRefusal, why_refused};
 use strkw_pattern::{
     BuildRefusal, EngineBuilder, LiteralMatcher, PatternOptimization, RegexEngine, analyze_pattern,
 };
@@ -247,6 +247,26 @@ fn is_found_so(alloc: Global, pattern: &str, text: &str, want: Option<bool>) -> 
 fn patterns_under_refusal(rt: HostRuntime) -> Result<(), Fail> {
     for (pattern, text, want) in SEARCHES {
         if !is_found_so(rt.alloc(), pattern, text, want)? {
+            return Err(Fail::new(pattern));
+        }
+    }
+    Ok(())
+}
+
+// A pattern of ECMA-262, and why it is not taken; nothing where it is.
+const REFUSALS: [(&str, Option<PatternRefusal>); 6] = [
+    ("^\\P{Lu}[\\d\\p{sc=Grek}]$", None),
+    ("^(a|b)*(?=c)", Some(PatternRefusal::LookAhead)),
+    ("(?<n>a+?|.)\\k<n>", Some(PatternRefusal::BackReference)),
+    ("[\\p{gc=Grek}]", Some(PatternRefusal::Property)),
+    ("(?:ab){401}", Some(PatternRefusal::TermTooLarge)),
+    ("(a+|b?", Some(PatternRefusal::NotTaken)),
+];
+
+#[test]
+fn why_refused_under_refusal(rt: HostRuntime) -> Result<(), Fail> {
+    for (pattern, want) in REFUSALS {
+        if why_refused(rt.alloc(), pattern)? != want {
             return Err(Fail::new(pattern));
         }
     }

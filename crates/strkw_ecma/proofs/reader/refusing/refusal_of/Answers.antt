@@ -1,0 +1,51 @@
+use Rattle.std.proofs.Common.{◌≡◌, length, ◌∙◌, sym, ap, Some, option_map, subst, arith}
+use Rattle.std.specs.Prelude.{is_some}
+use Rattle.std.specs.Str.{chars}
+use Rattle.std.proofs.lemmas.Iterator.{YieldsList-from_chars}
+use Rattle.std.proofs.lemmas.List.{length_push}
+use Rattle.std.proofs.lemmas.Iterator.Consumers.{YieldsList-turn, YieldsList-end}
+use Rattle.strkw_ecma.specs.Shape.{pattern_of}
+use Rattle.strkw_ecma.specs.Parts.{parts_of, after_char, pattern_from}
+use Rattle.strkw_ecma.specs.Refusals.{IsReason}
+use Rattle.strkw_ecma.proofs.Parts.{goes_on, whole}
+use Rattle.strkw_ecma.proofs.Refused.{Stands, starts, stops_so, goes_so, too_large}
+use Rattle.strkw_ecma.proofs.reader.refusing.refusal_of.Goals as goal
+
+pub returns-in-None-2 : goal.returns-in-None-2
+returns-in-None-2 c =
+    let turn = YieldsList-turn (YieldsList-from_chars c.args.source.now c.utf8.source cc) c.loop-c.yielded _ c.loop-c.yielded_by _ _
+    c.in-Some.c c.in-Some.is c.next.ensures.steps in
+    let text = chars c.args.source.now in
+    subst (IsReason text) (sym c.refusal_at-refusal.ensures)
+    (stops_so text (length c.loop-c.yielded) _ c.in-Some.c turn.0 turn.1 (length_push c.loop-c.yielded c.in-Some.c ∙ omega arith)
+    (parts_of c.loop-c.reader) c.loop-c.invariant.stands
+    (ap (option_map parts_of) (sym c.in-None-2.is) ∙ c.in_ok-next.ensures))
+
+pub loop-c-preserved : goal.loop-c-preserved
+loop-c-preserved c =
+    let turn = YieldsList-turn (YieldsList-from_chars c.args.source.now c.utf8.source cc) c.loop-c.yielded _ c.loop-c.yielded_by _ _
+    c.in-Some.c c.in-Some.is c.next.ensures.steps in
+    let next = length_push c.loop-c.yielded c.in-Some.c in
+    let text = chars c.args.source.now in
+    let step : Some (parts_of c.in-Some-2.next) ≡ after_char (parts_of c.loop-c.reader) c.in-Some.c =
+    ap (option_map parts_of) (sym c.in-Some-2.is) ∙ c.in_ok-next.ensures in
+    record {
+      way = goes_on (parts_of c.loop-c.reader) text (length c.loop-c.yielded) c.in-Some.c turn.0 turn.1 c.loop-c.invariant.way _ step _ next;
+      stands = goes_so text (length c.loop-c.yielded) _ c.in-Some.c turn.0 turn.1 (next ∙ omega arith)
+          (parts_of c.loop-c.reader) c.loop-c.invariant.stands _ step;
+    }
+
+pub loop-c-init : goal.loop-c-init
+loop-c-init c = record {
+  way = ap (λ r. pattern_from r (chars c.args.source.now)) c.new-reader.ensures;
+  stands = subst (Stands (chars c.args.source.now) 0) (sym c.new-reader.ensures) (starts (chars c.args.source.now));
+}
+
+pub returns-in-Some-3 : goal.returns-in-Some-3
+returns-in-Some-3 c =
+    let text = chars c.args.source.now in
+    let end = YieldsList-end (YieldsList-from_chars c.args.source.now c.utf8.source cc) c.loop-c.yielded _ c.loop-c.yielded_by _ _
+    c.in-None.is c.next.ensures.steps in
+    let at_end = whole (parts_of c.loop-c.reader) text (length c.loop-c.yielded) (omega (arith, end.1)) c.requires.short c.loop-c.invariant.way in
+    too_large text c.requires.short (sym (ap is_some (ap (option_map pattern_of) (sym c.in-Some-3.is) ∙ c.in_ok-end.ensures ∙ at_end)))
+    (sym c.is_apart.ensures ∙ c.if-is_apart.true) c.requires.refused

@@ -1,0 +1,12 @@
+use Rattle.std.proofs.Common.{length}
+use Rattle.std.specs.Str.{chars}
+use Rattle.strkw_ecma.specs.Parts.{parts_of}
+use Rattle.strkw_ecma.proofs.Parts.{IsOnWay}
+use Rattle.strkw_ecma.proofs.Refused.{Stands}
+use Rattle.strkw_ecma.proofs.reader.refusing.refusal_of.Given as goal
+
+abbrev pub invariant-loop-c : goal.invariant-loop-c
+invariant-loop-c l = record {
+  way : IsOnWay (parts_of l.reader) (chars l.source) (length l.yielded);
+  stands : Stands (chars l.source) (length l.yielded) (parts_of l.reader);
+}

@@ -1,0 +1,145 @@
+//! What is told of a pattern that the reader refuses: by the character at which it does, and where that stands.
+
+ghost use Rattle.std.specs.Prelude.{◌≡◌, ◌≤◌, false, IfOk, length};
+ghost use Rattle.std.specs.Str.{chars};
+ghost use Rattle.strkw_ecma.specs.Syntax.{max_length};
+ghost use Rattle.strkw_ecma.specs.Numbers.{count_token as spec_count_token};
+ghost use Rattle.strkw_ecma.specs.Names.{extension as spec_extension, name_token as spec_name_token};
+ghost use Rattle.strkw_ecma.specs.Outcomes.{takes_pattern};
+ghost use Rattle.strkw_ecma.specs.Parts.{parts_of, last_of, count_of, part_of, expression_of};
+ghost use Rattle.strkw_ecma.specs.Refusals.{IsReason, is_unknown as spec_is_unknown};
+ghost use Rattle.strkw_ecma.specs.RefusalParts.{escape_refusal, depth_refusal, extension_refusal, name_refusal, term_refusal, count_refusal, part_refusal, refusal_at};
+
+use super::{Last, MAX_NESTING, Mode, Reader};
+use crate::counts::Count;
+use crate::lookahead::is_apart;
+use crate::properties::PropertyPart;
+use crate::refusals::PatternRefusal;
+use crate::tokens::{CountToken, Extension, NameToken};
+use std::alloc::{AllocError, Global};
+
+// Behind a backslash.
+fn of_escape(c: char) -> PatternRefusal
+    ensures { result ≡ escape_refusal c }
+{
+    match c {
+        '1'..='9' | 'k' => PatternRefusal::BackReference,
+        _ => PatternRefusal::NotTaken,
+    }
+}
+
+// Behind `(?`. What may stand there is refused where the group is too deep.
+fn of_extension(c: char) -> PatternRefusal
+    ensures { result ≡ extension_refusal c (spec_extension c) }
+{
+    match Extension::of(c) {
+        Extension::Uncaptured => PatternRefusal::TooDeep,
+        Extension::NameOpening => PatternRefusal::NotTaken,
+        Extension::Unknown => match c {
+            '=' | '!' => PatternRefusal::LookAhead,
+            _ => PatternRefusal::NotTaken,
+        },
+    }
+}
+
+// Behind `(?<` and this much of a name.
+fn of_name(name: &[char], c: char) -> PatternRefusal
+    ensures { result ≡ name_refusal name.now c (spec_name_token c) }
+{
+    match NameToken::of(c) {
+        NameToken::End if !name.is_empty() => PatternRefusal::TooDeep,
+        NameToken::Character if name.is_empty() && (c == '=' || c == '!') => {
+            PatternRefusal::LookBehind
+        }
+        _ => PatternRefusal::NotTaken,
+    }
+}
+
+impl PropertyPart {
+    fn refusal_at(&self, c: char) -> PatternRefusal
+        ensures { result ≡ part_refusal (part_of self.now) c }
+    {
+        match self {
+            PropertyPart::InBraces(_, expression) if c == '}' && expression.is_unknown() => {
+                PatternRefusal::Property
+            }
+            _ => PatternRefusal::NotTaken,
+        }
+    }
+}
+
+impl Last {
+    // Of a count behind it.
+    fn refusal(&self) -> PatternRefusal
+        ensures { result ≡ term_refusal (last_of self.now) }
+    {
+        match self {
+            Last::Atom(_) => PatternRefusal::TermTooLarge,
+            _ => PatternRefusal::NotTaken,
+        }
+    }
+}
+
+impl Reader {
+    // Of one group more.
+    fn depth_refusal(&self) -> PatternRefusal
+        ensures { result ≡ depth_refusal (parts_of self.now) }
+    {
+        if self.outer.groups.len() >= MAX_NESTING {
+            PatternRefusal::TooDeep
+        } else {
+            PatternRefusal::NotTaken
+        }
+    }
+
+    fn count_refusal(&self, count: Count, c: char) -> PatternRefusal
+        ensures { result
+            ≡ count_refusal (last_of self.now.last) (count_of count) (spec_count_token c) }
+    {
+        match (CountToken::of(c), count) {
+            (CountToken::Digit, _) => PatternRefusal::CountTooGreat,
+            (CountToken::Closing, Count::Low(Some(_)) | Count::High(_, None)) => self
+                .last
+                .refusal(),
+            (CountToken::Closing, Count::High(first, Some(last))) if first <= last => {
+                self.last.refusal()
+            }
+            _ => PatternRefusal::NotTaken,
+        }
+    }
+
+    // Of the next character, if it is refused.
+    fn refusal_at(&self, c: char) -> PatternRefusal
+        ensures { result ≡ refusal_at (parts_of self.now) c }
+    {
+        match &self.mode {
+            Mode::Escaping => of_escape(c),
+            Mode::Opening => self.depth_refusal(),
+            Mode::Extending => of_extension(c),
+            Mode::Counting(count) => self.count_refusal(*count, c),
+            Mode::Property(part) | Mode::ClassProperty(_, part) => part.refusal_at(c),
+            Mode::Naming(name) => of_name(name, c),
+            _ => PatternRefusal::NotTaken,
+        }
+    }
+}
+
+// Why a pattern of no more characters than may be is not taken.
+pub(crate) fn refusal_of(alloc: Global, source: &str) -> Result<PatternRefusal, AllocError>
+    requires short { length (chars source.now) ≤ max_length }
+    requires refused { takes_pattern (chars source.now) ≡ false }
+    ensures { IfOk result (IsReason (chars source.now)) }
+{
+    let mut reader = Reader::new(alloc);
+    for c in source.chars() {
+        let refusal = reader.refusal_at(c);
+        reader = match reader.next(alloc, c)? {
+            Some(next) => next,
+            None => return Ok(refusal),
+        };
+    }
+    match reader.end(alloc)? {
+        Some(_) if is_apart(source) => Ok(PatternRefusal::TooLarge),
+        _ => Ok(PatternRefusal::NotTaken),
+    }
+}

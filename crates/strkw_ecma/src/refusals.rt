@@ -1,0 +1,93 @@
+//! Why a pattern is not taken.
+
+ghost use Rattle.std.specs.Prelude.{◌≡◌, ◌↔◌, ◌≤◌, IsTrue, Some, IfOk, IfSome, is_none, length};
+ghost use Rattle.std.specs.Str.{chars};
+ghost use Rattle.strkw_ecma.specs.Syntax.{max_length};
+ghost use Rattle.strkw_ecma.specs.Outcomes.{takes_pattern};
+ghost use Rattle.strkw_ecma.specs.Refusals.{IsTooLong, IsReason};
+
+use crate::counts::{MAX_COUNT, MAX_NODES, MAX_SIZE};
+use crate::reader::{MAX_LENGTH, MAX_NESTING, read, refusal_of};
+use std::alloc::{AllocError, Global};
+use std::error::Error;
+use std::fmt;
+
+/// Why a pattern is not taken. Each tells of what stands in it; `NotTaken` tells nothing more.
+#[derive(Clone, Copy, Debug, PartialEq, Eq)]
+pub enum PatternRefusal {
+    /// `(?=` or `(?!` stands where a term may.
+    LookAhead,
+    /// `(?<=` or `(?<!` stands where a term may.
+    LookBehind,
+    /// `\` and one of `1` to `9`, or `\k`, stands where a term may.
+    BackReference,
+    /// `\p{ }` or `\P{ }` has a property that is not known here.
+    Property,
+    /// There are more than 2,000 characters.
+    TooLong,
+    /// A group opens within 250 others.
+    TooDeep,
+    /// A count is above 1,000.
+    CountTooGreat,
+    /// More than 2,000 nodes would come of a counted term.
+    TermTooLarge,
+    /// More than 20,000 nodes would come of the pattern as a whole.
+    TooLarge,
+    /// Something else: it is no pattern of ECMA-262 in Unicode mode, or of a part of it that is not taken here.
+    NotTaken,
+}
+
+/// In words that fit behind "the pattern is not taken: ", as `it has a look-ahead`.
+impl fmt::Display for PatternRefusal {
+    fn fmt<W: fmt::Write>(&self, f: &mut fmt::Formatter<W>) -> fmt::Result {
+        match self {
+            PatternRefusal::LookAhead => f.write_str("it has a look-ahead"),
+            PatternRefusal::LookBehind => f.write_str("it has a look-behind"),
+            PatternRefusal::BackReference => f.write_str("it has a back reference"),
+            PatternRefusal::Property => f.write_str("it has a property that is not known here"),
+            PatternRefusal::TooLong => write!(f, "it has more than {MAX_LENGTH} characters"),
+            PatternRefusal::TooDeep => write!(f, "its groups are more than {MAX_NESTING} deep"),
+            PatternRefusal::CountTooGreat => write!(f, "it has a count above {MAX_COUNT}"),
+            PatternRefusal::TermTooLarge => {
+                write!(f, "more than {MAX_SIZE} nodes would come of a counted term")
+            }
+            PatternRefusal::TooLarge => write!(f, "more than {MAX_NODES} nodes would come of it"),
+            PatternRefusal::NotTaken => f.write_str(
+                "it is no pattern of ECMA-262 in Unicode mode, or of a part of it that is not taken here",
+            ),
+        }
+    }
+}
+
+impl Error for PatternRefusal {}
+
+fn char_count(pattern: &str) -> usize
+    ensures { result ≡ length (chars pattern.now) }
+{
+    pattern.chars().count()
+}
+
+// Whether it has no more characters than may be.
+fn is_short(pattern: &str) -> bool
+    ensures { IsTrue result ↔ (length (chars pattern.now) ≤ max_length) }
+{
+    char_count(pattern) as u64 <= MAX_LENGTH
+}
+
+/// Why `EcmaPatterns` does not take a pattern, and `None` exactly where it takes it. Where more than one reason could be
+/// told, it is the length, and else what stands first in the pattern. `IsReason` of `specs/Refusals.antt` says what each
+/// reason means over the text. The only error is out of memory. A pattern that is not taken is read twice.
+pub fn why_refused(alloc: Global, pattern: &str) -> Result<Option<PatternRefusal>, AllocError>
+    ensures taken { IfOk result (λ why. is_none why ≡ takes_pattern (chars pattern.now)) }
+    ensures too_long { IfOk result (λ why.
+        (why ≡ Some PatternRefusal.TooLong) ↔ IsTooLong (chars pattern.now)) }
+    ensures reason { IfOk result (λ why. IfSome why (IsReason (chars pattern.now))) }
+{
+    if read(alloc, pattern)?.is_some() {
+        return Ok(None);
+    }
+    if !is_short(pattern) {
+        return Ok(Some(PatternRefusal::TooLong));
+    }
+    Ok(Some(refusal_of(alloc, pattern)?))
+}
