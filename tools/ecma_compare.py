@@ -28,7 +28,9 @@ TOP = Path(__file__).resolve().parent.parent
 PROGRAM = TOP / "crates/strkw_csv/out/strkw_csv"
 PATTERNS, SEED, TEXTS = 2000, 1, 12
 MOST_TOLD = 20
-REFUSED = "is not a \"regex\""
+REFUSED = " is not taken: "
+# The program counts lines as editors do.
+LINE_END = re.compile(r"\r\n|\r|\n")
 # What is taken by ECMA-262 and not here, by name.
 BY_DESIGN = [
     ("lookaround", re.compile(r"\(\?<?[=!]")),
@@ -177,7 +179,7 @@ def records(texts):
     writer.writerow(["place", "text"])
     starts = []
     for place, text in enumerate(texts):
-        starts.append(written.getvalue().count("\n") + 1)
+        starts.append(len(LINE_END.findall(written.getvalue())) + 1)
         writer.writerow([place, text])
     return written.getvalue().encode(), starts
 

@@ -1,66 +1,105 @@
-//! Checks the standard input, a JSON document as a configuration file is one, by a JSON file of its places to schema objects:
-//! `strkw_config PLAN.json < DOCUMENT.json`. Each error is a line of the standard output.
+//! Checks the standard input, a JSON document as a configuration file is one, by a plan, a JSON file of its places to
+//! schema objects: `strkw_config PLAN.json < DOCUMENT.json`. Each error is a line of the standard output.
 #![tactic(auto)]
 
 use serde_json::Value;
+use std::alloc::{AllocError, Global};
+use std::fmt::Display;
 use std::process::ExitCode;
-use std::{env, fs, io};
-use strkw_document::check_document;
-use strkw_ecma::EcmaPatterns;
+use std::{env, io};
+use strkw_document::{DocumentFault, check_document};
+use strkw_ecma::{EcmaPatterns, PatternRefusal, why_refused};
+use strkw_plan::{Rules, read_plan_file};
 
 const USAGE: &str = "usage: strkw_config PLAN.json < DOCUMENT.json";
 
 const FAULT: u8 = 2;
 
 // Tells of a fault, and answers its status.
-fn fault(rt: &HostRuntime, text: &str) -> ExitCode {
-    let _ = eprintln!(rt; "strkw_config: {text}");
+fn fault<D: Display>(rt: &HostRuntime, what: &D) -> ExitCode {
+    let _ = eprintln!(rt; "strkw_config: {what}");
     ExitCode::from(FAULT)
 }
 
-// The JSON value of a text that was read; or the status of a fault, which is told.
-fn value_of(rt: &HostRuntime, name: &str, text: io::Result<String>) -> Result<Value, ExitCode> {
-    let text = match text {
+// Tells that it is out of memory, and answers the status.
+fn out_of_memory(rt: &HostRuntime) -> ExitCode {
+    let _ = rt.eprintln("strkw_config: out of memory");
+    ExitCode::from(FAULT)
+}
+
+// The JSON value of a plan's file; or the status of a fault, which is told.
+fn plan_of(rt: &HostRuntime, path: &str) -> Result<Value, ExitCode> {
+    match read_plan_file(rt, path) {
+        Ok(plan) => Ok(plan),
+        Err(e) => Err(fault(rt, &e)),
+    }
+}
+
+// The JSON value of the standard input; or the status of a fault, which is told.
+fn document_of(rt: &HostRuntime) -> Result<Value, ExitCode> {
+    let text = match io::read_to_string(rt.alloc(), rt.reader()) {
         Ok(text) => text,
         Err(e) => {
             if e.kind() == io::ErrorKind::OutOfMemory {
-                return Err(fault(rt, "out of memory"));
+                return Err(out_of_memory(rt));
             }
-            let _ = eprintln!(rt; "strkw_config: {name} cannot be read: {e}");
+            let _ = eprintln!(rt; "strkw_config: the document cannot be read: {e}");
             return Err(ExitCode::from(FAULT));
         }
     };
     match Value::from_str(rt.alloc(), text.as_str()) {
-        Ok(value) => Ok(value),
+        Ok(document) => Ok(document),
         Err(e) => {
             if e.is_memory() {
-                return Err(fault(rt, "out of memory"));
+                return Err(out_of_memory(rt));
             }
-            let _ = eprintln!(rt; "strkw_config: {name} is not JSON: {e}");
+            let _ = eprintln!(rt; "strkw_config: the document is not JSON: {e}");
             Err(ExitCode::from(FAULT))
         }
+    }
+}
+
+// Why a pattern of the plan is not taken, where that is the fault.
+fn pattern_refusal(
+    alloc: Global,
+    fault: &DocumentFault,
+) -> Result<Option<PatternRefusal>, AllocError> {
+    let DocumentFault::Plan(fault) = fault else {
+        return Ok(None);
+    };
+    match fault.refused_pattern() {
+        Some(pattern) => why_refused(alloc, pattern),
+        None => Ok(None),
+    }
+}
+
+// Tells why a document was not checked, and answers the status.
+fn document_fault(rt: &HostRuntime, e: &DocumentFault) -> ExitCode {
+    match pattern_refusal(rt.alloc(), e) {
+        Ok(None) => fault(rt, e),
+        Ok(Some(why)) => {
+            let _ = eprintln!(rt; "strkw_config: {e}: {why}");
+            ExitCode::from(FAULT)
+        }
+        Err(_) => out_of_memory(rt),
     }
 }
 
 // How many errors there are; or the status of a fault, which is told.
 fn check(rt: &HostRuntime, path: &str) -> Result<u64, ExitCode> {
-    let alloc = rt.alloc();
-    let plan = value_of(rt, "the plan", fs::read_to_string(rt, path))?;
-    let text = io::read_to_string(alloc, rt.reader());
-    let document = value_of(rt, "the document", text)?;
+    let plan = plan_of(rt, path)?;
+    let document = document_of(rt)?;
+    let rules = Rules::new(&EcmaPatterns);
     let mut out = io::writer(rt);
-    match check_document(alloc, &EcmaPatterns, &plan, &document, &mut out) {
+    match check_document(rt.alloc(), &rules, &plan, &document, &mut out) {
         Ok(errors) => Ok(errors),
-        Err(e) => {
-            let _ = eprintln!(rt; "strkw_config: {e}");
-            Err(ExitCode::from(FAULT))
-        }
+        Err(e) => Err(document_fault(rt, &e)),
     }
 }
 
 fn main(rt: HostRuntime) -> ExitCode {
     let Ok(words) = env::args(&rt) else {
-        return fault(&rt, "out of memory");
+        return out_of_memory(&rt);
     };
     let mut words = words.skip(1);
     let (Some(path), None) = (words.next(), words.next()) else {

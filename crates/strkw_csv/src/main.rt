@@ -1,12 +1,15 @@
-//! Checks the standard input, a CSV file whose first record names its columns, by a JSON file of columns to schema objects:
-//! `strkw_csv COLUMNS.json [--progress] < FILE.csv`. Each error is a line of the standard output. With `--progress`, the
-//! standard error tells of every million records, and at the end how many there were.
+//! Checks the standard input, a CSV file whose first record names its columns, by a plan, a JSON file of columns to
+//! schema objects: `strkw_csv COLUMNS.json [--progress] < FILE.csv`. Each error is a line of the standard output.
+//! With `--progress`, the standard error tells of every million records, and at the end how many there were.
 #![tactic(auto)]
 
 use serde_json::Value;
+use std::alloc::{AllocError, Global};
+use std::fmt::Display;
 use std::process::ExitCode;
-use std::{env, fs, io};
-use strkw_ecma::EcmaPatterns;
+use std::{env, io};
+use strkw_ecma::{EcmaPatterns, PatternRefusal, why_refused};
+use strkw_plan::{Rules, read_plan_file};
 use strkw_table::{Checked, TableFault, Watch, check_table};
 
 const USAGE: &str = "usage: strkw_csv COLUMNS.json [--progress] < FILE.csv";
@@ -37,32 +40,48 @@ impl Progress<'_> {
 }
 
 // Tells of a fault, and answers its status.
-fn fault(rt: &HostRuntime, text: &str) -> ExitCode {
-    let _ = eprintln!(rt; "strkw_csv: {text}");
+fn fault<D: Display>(rt: &HostRuntime, what: &D) -> ExitCode {
+    let _ = eprintln!(rt; "strkw_csv: {what}");
     ExitCode::from(FAULT)
 }
 
-// The JSON value of a file; or the status of a fault, which is told.
+// Tells that it is out of memory, and answers the status.
+fn out_of_memory(rt: &HostRuntime) -> ExitCode {
+    let _ = rt.eprintln("strkw_csv: out of memory");
+    ExitCode::from(FAULT)
+}
+
+// The JSON value of a plan's file; or the status of a fault, which is told.
 fn plan_of(rt: &HostRuntime, path: &str) -> Result<Value, ExitCode> {
-    let text = match fs::read_to_string(rt, path) {
-        Ok(text) => text,
-        Err(e) => {
-            if e.kind() == io::ErrorKind::OutOfMemory {
-                return Err(fault(rt, "out of memory"));
-            }
-            let _ = eprintln!(rt; "strkw_csv: `{path}` cannot be read: {e}");
-            return Err(ExitCode::from(FAULT));
-        }
-    };
-    match Value::from_str(rt.alloc(), text.as_str()) {
+    match read_plan_file(rt, path) {
         Ok(plan) => Ok(plan),
-        Err(e) => {
-            if e.is_memory() {
-                return Err(fault(rt, "out of memory"));
-            }
-            let _ = eprintln!(rt; "strkw_csv: `{path}` is not JSON: {e}");
-            Err(ExitCode::from(FAULT))
+        Err(e) => Err(fault(rt, &e)),
+    }
+}
+
+// Why a pattern of the plan is not taken, where that is the fault.
+fn pattern_refusal(
+    alloc: Global,
+    fault: &TableFault,
+) -> Result<Option<PatternRefusal>, AllocError> {
+    let TableFault::Plan(fault) = fault else {
+        return Ok(None);
+    };
+    match fault.refused_pattern() {
+        Some(pattern) => why_refused(alloc, pattern),
+        None => Ok(None),
+    }
+}
+
+// Tells why a file was not checked to its end, and answers the status.
+fn table_fault(rt: &HostRuntime, e: &TableFault) -> ExitCode {
+    match pattern_refusal(rt.alloc(), e) {
+        Ok(None) => fault(rt, e),
+        Ok(Some(why)) => {
+            let _ = eprintln!(rt; "strkw_csv: {e}: {why}");
+            ExitCode::from(FAULT)
         }
+        Err(_) => out_of_memory(rt),
     }
 }
 
@@ -70,10 +89,11 @@ fn plan_of(rt: &HostRuntime, path: &str) -> Result<Value, ExitCode> {
 fn check(rt: &HostRuntime, path: &str, asked: bool) -> Result<Checked, ExitCode> {
     let plan = plan_of(rt, path)?;
     let mut progress = Progress { rt, asked };
+    let rules = Rules::new(&EcmaPatterns);
     let mut out = io::writer(rt);
     match check_table(
         rt.alloc(),
-        &EcmaPatterns,
+        &rules,
         &plan,
         rt.reader(),
         &mut out,
@@ -85,16 +105,13 @@ fn check(rt: &HostRuntime, path: &str, asked: bool) -> Result<Checked, ExitCode>
             }
             Ok(checked)
         }
-        Err(e) => {
-            let _ = eprintln!(rt; "strkw_csv: {e}");
-            Err(ExitCode::from(FAULT))
-        }
+        Err(e) => Err(table_fault(rt, &e)),
     }
 }
 
 fn main(rt: HostRuntime) -> ExitCode {
     let Ok(words) = env::args(&rt) else {
-        return fault(&rt, "out of memory");
+        return out_of_memory(&rt);
     };
     let mut words = words.skip(1);
     let (Some(path), option, None) = (words.next(), words.next(), words.next()) else {

@@ -1,8 +1,16 @@
-//! Reads rows, one a line of JSON: a `plan`, and what is checked by it, the text of a CSV file (`file`) or a JSON document
-//! (`document`). Prints each row, and under it the messages and how the check ended: what it counted, or why it could not
-//! be done. A line that begins with `#` is copied.
+//! Reads rows, one a line of JSON: a `plan`, and what is checked by it, the text of a CSV file (`file`) or a JSON
+//! document (`document`). Prints each row, and under it the messages and how the check ended: what it counted, or why
+//! it could not be done. A line that begins with `#` is copied.
 #![tactic(auto)]
 
+#[cfg(test)]
+mod document_tests;
+#[cfg(test)]
+mod fault_tests;
+#[cfg(test)]
+mod instance_tests;
+#[cfg(test)]
+mod table_tests;
 #[cfg(test)]
 mod tests;
 
@@ -11,6 +19,7 @@ use std::alloc::{AllocError, Global};
 use std::io;
 use strkw_document::check_document;
 use strkw_pattern::NoPatterns;
+use strkw_plan::Rules;
 use strkw_table::{Checked, Watch, check_table};
 
 #[derive(Drop)]
@@ -64,7 +73,8 @@ fn of_file(
     messages: &mut Vec<u8>,
 ) -> Result<String, AllocError> {
     let (mut watch, bytes) = (Unwatched, file.as_bytes());
-    match check_table(alloc, &NoPatterns, plan, bytes, messages, &mut watch) {
+    let rules = Rules::new(&NoPatterns);
+    match check_table(alloc, &rules, plan, bytes, messages, &mut watch) {
         Ok(Checked { records, errors }) => format!(in alloc; "{records} records, {errors} errors"),
         Err(fault) => format!(in alloc; "{fault}"),
     }
@@ -76,7 +86,7 @@ fn of_document(
     document: &Value,
     messages: &mut Vec<u8>,
 ) -> Result<String, AllocError> {
-    match check_document(alloc, &NoPatterns, plan, document, messages) {
+    match check_document(alloc, &Rules::new(&NoPatterns), plan, document, messages) {
         Ok(errors) => format!(in alloc; "{errors} errors"),
         Err(fault) => format!(in alloc; "{fault}"),
     }

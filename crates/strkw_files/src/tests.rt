@@ -1,5 +1,5 @@
-//! Both checks with each growth refused. With ample memory a row has to pass. `tools/refusals.py` runs it with each growth
-//! refused in turn too: then it ends as out of memory.
+//! The checks, and the reading of a plan, with each growth refused. With ample memory a row has to pass. `tools/refusals.py`
+//! runs it with each growth refused in turn too: then it ends as out of memory.
 
 use crate::Unwatched;
 use serde_json::Value;
@@ -7,10 +7,11 @@ use std::alloc::{AllocError, Global};
 use std::test::Fail;
 use strkw_document::{DocumentFault, check_document};
 use strkw_pattern::NoPatterns;
+use strkw_plan::{PlanTextFault, Rules, read_plan};
 use strkw_table::{Checked, TableFault, check_table};
 
 // The value of a JSON text that is one.
-fn json(alloc: Global, text: &str) -> Result<Value, Fail> {
+pub(crate) fn json(alloc: Global, text: &str) -> Result<Value, Fail> {
     match Value::from_str(alloc, text) {
         Ok(value) => Ok(value),
         Err(error) if error.is_memory() => Err(AllocError.into()),
@@ -37,7 +38,8 @@ fn check_table_under_refusal(rt: HostRuntime) -> Result<(), Fail> {
     )?;
     let file = "a,b\n2023-02-29,xy\n".as_bytes();
     let mut out = Vec::with_capacity(alloc, 100)?;
-    let checked = match check_table(alloc, &NoPatterns, &plan, file, &mut out, &mut Unwatched) {
+    let rules = Rules::new(&NoPatterns);
+    let checked = match check_table(alloc, &rules, &plan, file, &mut out, &mut Unwatched) {
         Ok(checked) => checked,
         Err(TableFault::Memory) => return Err(AllocError.into()),
         Err(_) => return Err(Fail::new("a fault where there is memory")),
@@ -59,8 +61,9 @@ fn check_document_under_refusal(rt: HostRuntime) -> Result<(), Fail> {
         "{\"draft\":7,\"places\":{\"/server/name\":{\"maxLength\":2,\"minLength\":4},\"/server/host\":{\"format\":\"ipv4\"}}}",
     )?;
     let document = json(alloc, "{\"server\":{\"host\":\"::1\"}}")?;
+    let rules = Rules::new(&NoPatterns);
     let mut out = Vec::with_capacity(alloc, 100)?;
-    let errors = match check_document(alloc, &NoPatterns, &plan, &document, &mut out) {
+    let errors = match check_document(alloc, &rules, &plan, &document, &mut out) {
         Ok(errors) => errors,
         Err(DocumentFault::Memory) => return Err(AllocError.into()),
         Err(_) => return Err(Fail::new("a fault where there is memory")),
@@ -70,4 +73,36 @@ fn check_document_under_refusal(rt: HostRuntime) -> Result<(), Fail> {
         &out,
         "/server/host: /format: \"::1\" is not a \"ipv4\"\n/server/name: missing\n",
     )
+}
+
+// The draft that the text of a plan names, or the name that stands twice in it.
+fn draft_or_name(alloc: Global, text: &str) -> Result<String, Fail> {
+    match read_plan(alloc, text) {
+        Ok(plan) => {
+            let draft = plan.get("draft").and_then(Value::as_u64).unwrap_or(0);
+            Ok(format!(in alloc; "{draft}")?)
+        }
+        Err(PlanTextFault::Twice(name)) => Ok(name),
+        Err(PlanTextFault::Memory) => Err(AllocError.into()),
+        Err(PlanTextFault::NotJson(_)) => Err(Fail::new("no JSON")),
+    }
+}
+
+// Where it had memory it reads a plan, and finds the name that stands twice, however it is written.
+#[test]
+fn read_plan_under_refusal(rt: HostRuntime) -> Result<(), Fail> {
+    let alloc = rt.alloc();
+    for (text, wanted) in [
+        ("{\"draft\":7,\"columns\":{\"born\":{},\"name\":{}}}", "7"),
+        (
+            "{\"draft\":7,\"columns\":{\"born\":{},\"\\u0062orn\":{}}}",
+            "born",
+        ),
+        ("{\"ignore\":[{\"a\":1,\"b\":2,\"a\":1}]}", "a"),
+    ] {
+        if draft_or_name(alloc, text)?.as_str() != wanted {
+            return Err(Fail::new(wanted));
+        }
+    }
+    Ok(())
 }

@@ -1,11 +1,10 @@
 -- Columns, one more at a time; and that what compiled columns say is what their schema objects mean.
 use Rattle.std.proofs.Common.{◌≡◌, ◌++◌, ◌+◌, ◌∷◌, ◌∙◌, ℕ, List, [], length, take, refl, sym, ap, subst, arith, slice_get, map, take_all}
-use Rattle.std.specs.Prelude.{zero, suc, Option, Some, None, string_bytes, IfSome}
+use Rattle.std.specs.Prelude.{zero, suc, Option, Some, None, IfSome}
 use Rattle.serde_json.specs.Data.{Members}
 use Rattle.csv.specs.Records.{field_at}
 use Rattle.strkw_report.specs.Kinds.{Report}
 use Rattle.strkw_pattern.specs.declared.engine.Outcome.{Outcome}
-use Rattle.strkw_keywords.specs.Meanings.{no_lists}
 use Rattle.strkw_keywords.specs.Errors.{IsInUse, NodeReports}
 use Rattle.strkw_keywords.specs.Object.{Settings}
 use Rattle.strkw_cli.specs.declared.strings.StringKeywords.{StringKeywords}
@@ -13,8 +12,11 @@ use Rattle.strkw_cli.specs.Compiled.{IsCompiledFrom, keywords_assertions}
 use Rattle.strkw_cli.specs.Answer.{root_site}
 use Rattle.strkw_table.specs.declared.schema_column.SchemaColumn.{SchemaColumn}
 use Rattle.strkw_table.specs.Rows.{OfField, OfFirst, OfRecords}
-use Rattle.strkw_table.specs.Plan.{FieldErrors, MessagesOf, field_place, message, schema_named}
-use Rattle.strkw_table.specs.Columns.{AreColumns, ColumnMessages, CompiledErrors, IsColumn, IsCompiledFor, IsUsable}
+use Rattle.strkw_records.specs.Records.{LinedRecord}
+use Rattle.strkw_plan.specs.Compiled.{IsCompiledFor}
+use Rattle.strkw_plan.specs.Messages.{message}
+use Rattle.strkw_table.specs.Fields.{FieldErrors, MessagesOf, field_place, schema_named}
+use Rattle.strkw_table.specs.Columns.{AreColumns, ColumnMessages, CompiledErrors, IsUsable, keywords_of}
 
 -- the names up to a place, and the name at it
 take-next : (names : List (List ℕ)) (n : ℕ) (name : List ℕ) → field_at names n ≡ Some name → take (suc n) names ≡ take n names ++ name ∷ []
@@ -37,99 +39,120 @@ take-none (x ∷ xs) (suc n) e = ap (λ l. x ∷ l) (take-none xs n e)
 
 -- what is said of columns is said of what they stand for, where that is so of each column
 module _ {C D : Type 0} (says : C → ℕ → List ℕ → List (List ℕ) → Type 0) (tells : D → ℕ → List ℕ → List (List ℕ) → Type 0) (columns : List C) (names : List D)
-    (along : (n line : ℕ) (field : Option (List ℕ)) (messages : List (List ℕ)) → OfField says line field (slice_get columns n) messages → OfField tells line field (slice_get names n) messages) where
-  of_first-along : (line : ℕ) (fields : List (List ℕ)) (n : ℕ) (messages : List (List ℕ)) → OfFirst says columns line fields n messages → OfFirst tells names line fields n messages
+    (along : (n line : ℕ) (field : Option (List ℕ)) (messages : List (List ℕ)) → OfField says line field (slice_get columns n) messages
+    → OfField tells line field (slice_get names n) messages) where
+  of_first-along : (line : ℕ) (fields : List (List ℕ)) (n : ℕ) (messages : List (List ℕ)) → OfFirst says columns line fields n messages
+      → OfFirst tells names line fields n messages
   unfolding OfFirst
   of_first-along line fields zero messages p = p
   of_first-along line fields (suc n) messages p =
       let (before, last, first, one, e) = p in
       (before, last, of_first-along line fields n before first, along n line (field_at fields n) last one, e)
 
-  pub of_records-along : length columns ≡ length names → (rows : List (List (List ℕ))) (messages : List (List ℕ)) → OfRecords says columns rows messages → OfRecords tells names rows messages
+  pub of_records-along : length columns ≡ length names → (records : List LinedRecord) (messages : List (List ℕ)) → OfRecords says columns records messages
+      → OfRecords tells names records messages
   unfolding OfRecords
   of_records-along same [] messages p = p
-  of_records-along same (row ∷ rows) messages p =
-      let (line, first, rest, one, others, e) = p in
-      (line, first, rest, subst (λ n. OfFirst tells names line row n first) same (of_first-along line row (length columns) first one), of_records-along same rows rest others, e)
+  of_records-along same (r ∷ records) messages p =
+      let (first, rest, one, others, e) = p in (
+        first,
+        rest,
+        subst (λ n. OfFirst tells names r.line r.fields n first) same (of_first-along r.line r.fields (length columns) first one),
+        of_records-along same records rest others,
+        e,
+      )
 
-module _ {E : Type 0} (outcome : E → List ℕ → Outcome) (s : Settings) (schemas : Members) where
+module _ {E : Type 0} (find : List ℕ → Option (StringKeywords E)) where
   -- no column has no name
-  pub are_columns_none : AreColumns outcome s schemas [] []
+  pub are_columns_none : AreColumns find [] []
   unfolding AreColumns
   are_columns_none = tt
 
   -- one column more
-  pub are_columns-more : (names : List (List ℕ)) (columns : List (SchemaColumn E)) (name : List ℕ) (column : SchemaColumn E) → AreColumns outcome s schemas names columns
-      → IsColumn outcome s schemas name column → AreColumns outcome s schemas (names ++ name ∷ []) (columns ++ column ∷ [])
+  are_columns-more : (names : List (List ℕ)) (columns : List (SchemaColumn E)) (name : List ℕ) (column : SchemaColumn E) → AreColumns find names columns
+      → column.name.now ≡ name → keywords_of column ≡ find name → AreColumns find (names ++ name ∷ []) (columns ++ column ∷ [])
   unfolding AreColumns
-  are_columns-more [] [] name column p q = (q, tt)
-  are_columns-more [] (c ∷ cs) name column p q = absurd p
-  are_columns-more (n ∷ ns) [] name column p q = absurd p
-  are_columns-more (n ∷ ns) (c ∷ cs) name column p q = (p.0, are_columns-more ns cs name column p.1 q)
+  are_columns-more [] [] name column p named found = (named, found, tt)
+  are_columns-more [] (c ∷ cs) name column p named found = absurd p
+  are_columns-more (n ∷ ns) [] name column p named found = absurd p
+  are_columns-more (n ∷ ns) (c ∷ cs) name column p named found = (p.0, p.1, are_columns-more ns cs name column p.2 named found)
 
-  pub are_columns_next : (names : List (List ℕ)) (n : ℕ) (name : List ℕ) (columns : List (SchemaColumn E)) (column : SchemaColumn E) → field_at names n ≡ Some name
-      → AreColumns outcome s schemas (take n names) columns → IsColumn outcome s schemas name column → AreColumns outcome s schemas (take (n + 1) names) (columns ++ column ∷ [])
-  are_columns_next names n name columns column e p q =
-      subst (λ l. AreColumns outcome s schemas l (columns ++ column ∷ [])) (sym (take-one_more names n name e)) (are_columns-more (take n names) columns name column p q)
+  pub are_columns_next : (names : List (List ℕ)) (n : ℕ) (name : List ℕ) (columns : List (SchemaColumn E)) (column : SchemaColumn E)
+      → field_at names n ≡ Some name
+      → AreColumns find (take n names) columns → column.name.now ≡ name → keywords_of column ≡ find name
+      → AreColumns find (take (n + 1) names) (columns ++ column ∷ [])
+  are_columns_next names n name columns column e p named found =
+      subst (λ l. AreColumns find l (columns ++ column ∷ [])) (sym (take-one_more names n name e))
+      (are_columns-more (take n names) columns name column p named found)
 
   -- the columns of the names before a place that has none are those of all names
-  pub are_columns_whole : (names : List (List ℕ)) (n : ℕ) (columns : List (SchemaColumn E)) → field_at names n ≡ None → AreColumns outcome s schemas (take n names) columns
-      → AreColumns outcome s schemas names columns
-  are_columns_whole names n columns e p = subst (λ l. AreColumns outcome s schemas l columns) (take-none names n e) p
+  pub are_columns_whole : (names : List (List ℕ)) (n : ℕ) (columns : List (SchemaColumn E)) → field_at names n ≡ None → AreColumns find (take n names) columns
+      → AreColumns find names columns
+  are_columns_whole names n columns e p = subst (λ l. AreColumns find l columns) (take-none names n e) p
 
-  pub are_columns_all : (names : List (List ℕ)) (columns : List (SchemaColumn E)) → AreColumns outcome s schemas (take (length names) names) columns → AreColumns outcome s schemas names columns
-  are_columns_all names columns p = subst (λ l. AreColumns outcome s schemas l columns) (take_all (length names) names (omega arith)) p
+  pub are_columns_all : (names : List (List ℕ)) (columns : List (SchemaColumn E)) → AreColumns find (take (length names) names) columns
+      → AreColumns find names columns
+  are_columns_all names columns p = subst (λ l. AreColumns find l columns) (take_all (length names) names (omega arith)) p
 
-  pub are_columns-length : (names : List (List ℕ)) (columns : List (SchemaColumn E)) → AreColumns outcome s schemas names columns → length columns ≡ length names
+  pub are_columns-length : (names : List (List ℕ)) (columns : List (SchemaColumn E)) → AreColumns find names columns → length columns ≡ length names
   unfolding AreColumns
   are_columns-length [] [] p = refl
   are_columns-length [] (c ∷ cs) p = absurd p
   are_columns-length (n ∷ ns) [] p = absurd p
-  are_columns-length (n ∷ ns) (c ∷ cs) p = ap suc (are_columns-length ns cs p.1)
+  are_columns-length (n ∷ ns) (c ∷ cs) p = ap suc (are_columns-length ns cs p.2)
 
+module _ {E : Type 0} (outcome : E → List ℕ → Outcome) (s : Settings) (schemas : Members) (find : List ℕ → Option (StringKeywords E))
+    (compiled : (name : List ℕ) → IsCompiledFor outcome s (schema_named schemas name) (find name)) where
   -- what is compiled for a schema object reports the errors that the object means
   compiled_errors : (schema : Option Members) (keywords : Option (StringKeywords E)) (field : List ℕ) (reports : List Report)
-      → IsCompiledFor outcome s schema keywords → CompiledErrors outcome keywords field reports → FieldErrors s schema field reports
+      → IsCompiledFor outcome s schema keywords → CompiledErrors outcome s.lists keywords field reports → FieldErrors s schema field reports
   compiled_errors None None field reports p q = q
   compiled_errors None (Some k) field reports p q = absurd p
   compiled_errors (Some schema) None field reports p q = absurd p
   compiled_errors (Some schema) (Some k) field reports p q =
-      (p.entries, p.are_entries, subst (λ assertions. NodeReports assertions no_lists root_site (Some field) reports) p.asserts q)
+      (p.entries, p.are_entries, subst (λ assertions. NodeReports assertions s.lists root_site (Some field) reports) p.asserts q)
 
-  compiled_usable : ((schema : Members) (k : StringKeywords E) → IsCompiledFrom outcome s schema k → IsInUse (keywords_assertions outcome k) no_lists)
-      → (schema : Option Members) (keywords : Option (StringKeywords E)) → IsCompiledFor outcome s schema keywords → IfSome keywords (λ k. IsInUse (keywords_assertions outcome k) no_lists)
+  compiled_usable : ((schema : Members) (k : StringKeywords E) → IsCompiledFrom outcome s schema k → IsInUse (keywords_assertions outcome k) s.lists)
+      → (schema : Option Members) (keywords : Option (StringKeywords E)) → IsCompiledFor outcome s schema keywords
+      → IfSome keywords (λ k. IsInUse (keywords_assertions outcome k) s.lists)
   compiled_usable law None None p = tt
   compiled_usable law None (Some k) p = absurd p
   compiled_usable law (Some schema) None p = absurd p
   compiled_usable law (Some schema) (Some k) p = law schema k p
 
-  column_messages : (name : List ℕ) (column : SchemaColumn E) (line : ℕ) (field : List ℕ) (messages : List (List ℕ)) → IsColumn outcome s schemas name column
-      → ColumnMessages outcome column line field messages → MessagesOf s schemas name line field messages
-  column_messages name column line field messages p q =
-      let (reports, errors, e) = q in
-      (reports, compiled_errors (schema_named schemas name) column.keywords field reports p.1 errors, e ∙ ap (λ n. map (message (field_place line n)) reports) p.0)
+  column_messages : (name : List ℕ) (column : SchemaColumn E) (line : ℕ) (field : List ℕ) (messages : List (List ℕ)) → column.name.now ≡ name
+      → keywords_of column ≡ find name
+      → ColumnMessages outcome s.lists column line field messages → MessagesOf s schemas name line field messages
+  column_messages name column line field messages named found q =
+      let (reports, errors, e) = q in (
+        reports,
+        compiled_errors (schema_named schemas name) (find name) field reports (compiled name) (rw found at errors),
+        e ∙ ap
+            (λ n. map (message (field_place line n)) reports) named,
+      )
 
   -- each of the columns may be asked, since it was compiled where no check is registered
-  pub columns_usable : ((schema : Members) (k : StringKeywords E) → IsCompiledFrom outcome s schema k → IsInUse (keywords_assertions outcome k) no_lists)
-      → (names : List (List ℕ)) (columns : List (SchemaColumn E)) → AreColumns outcome s schemas names columns
-      → (place : ℕ) (column : SchemaColumn E) → slice_get columns place ≡ Some column → IsUsable outcome column
+  pub columns_usable : ((schema : Members) (k : StringKeywords E) → IsCompiledFrom outcome s schema k → IsInUse (keywords_assertions outcome k) s.lists)
+      → (names : List (List ℕ)) (columns : List (SchemaColumn E)) → AreColumns find names columns
+      → (place : ℕ) (column : SchemaColumn E) → slice_get columns place ≡ Some column → IsUsable outcome s.lists column
   unfolding AreColumns
   columns_usable law [] [] p place column e = cc e
   columns_usable law [] (c ∷ cs) p place column e = absurd p
   columns_usable law (x ∷ xs) [] p place column e = absurd p
   columns_usable law (x ∷ xs) (c ∷ cs) p zero column e =
       let same : c ≡ column = cc e in
-      subst (IsUsable outcome) same (compiled_usable law (schema_named schemas x) c.keywords p.0.1)
-  columns_usable law (x ∷ xs) (c ∷ cs) p (suc n) column e = columns_usable law xs cs p.1 n column e
+      subst (IsUsable outcome s.lists) same (rw p.1 (compiled_usable law (schema_named schemas x) (find x) (compiled x)))
+  columns_usable law (x ∷ xs) (c ∷ cs) p (suc n) column e = columns_usable law xs cs p.2 n column e
 
   -- the messages of the columns are those that their names mean
-  pub column_fields : (names : List (List ℕ)) (columns : List (SchemaColumn E)) → AreColumns outcome s schemas names columns → (n line : ℕ) (field : Option (List ℕ)) (messages : List (List ℕ))
-      → OfField (ColumnMessages outcome) line field (slice_get columns n) messages → OfField (MessagesOf s schemas) line field (slice_get names n) messages
+  pub column_fields : (names : List (List ℕ)) (columns : List (SchemaColumn E)) → AreColumns find names columns
+      → (n line : ℕ) (field : Option (List ℕ)) (messages : List (List ℕ))
+      → OfField (ColumnMessages outcome s.lists) line field (slice_get columns n) messages → OfField (MessagesOf s schemas) line field (slice_get names n) messages
   unfolding AreColumns
   column_fields [] [] p n line None messages q = q
   column_fields [] [] p n line (Some field) messages q = q
   column_fields [] (c ∷ cs) p n line field messages q = absurd p
   column_fields (x ∷ xs) [] p n line field messages q = absurd p
   column_fields (x ∷ xs) (c ∷ cs) p zero line None messages q = q
-  column_fields (x ∷ xs) (c ∷ cs) p zero line (Some field) messages q = column_messages x c line field messages p.0 q
-  column_fields (x ∷ xs) (c ∷ cs) p (suc n) line field messages q = column_fields xs cs p.1 n line field messages q
+  column_fields (x ∷ xs) (c ∷ cs) p zero line (Some field) messages q = column_messages x c line field messages p.0 p.1 q
+  column_fields (x ∷ xs) (c ∷ cs) p (suc n) line field messages q = column_fields xs cs p.2 n line field messages q

@@ -1,4 +1,6 @@
-pub mod RowLemmas
+mod RowLemmas
 mod ColumnLemmas
 mod MessageLemmas
-mod InstanceLemmas
+mod MapLemmas
+mod HeaderLemmas
+mod FaultLemmas

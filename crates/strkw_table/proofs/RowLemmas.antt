@@ -1,45 +1,73 @@
 -- The messages about records, one record or one field more at a time.
-use Rattle.std.proofs.Common.{◌≡◌, ◌++◌, ◌+◌, ◌∷◌, ◌∙◌, ℕ, List, [], length, refl, sym, ap, append_assoc, append-nil, slice_get, subst, arith, map}
-use Rattle.std.specs.Prelude.{suc, Result, Ok, Err, IfOk}
-use Rattle.std.specs.List.{concat, flat_map}
+use Rattle.std.proofs.Common.{◌≡◌, ◌++◌, ◌+◌, ◌∷◌, ◌∙◌, ℕ, List, [], length, refl, sym, ap, append_assoc, append-nil, slice_get, subst, arith}
+use Rattle.std.specs.Prelude.{suc, Option, Some, None, IfSome}
+use Rattle.std.specs.List.{concat}
 use Rattle.std.proofs.lemmas.List.Folds.{concat-append}
-use Rattle.csv.specs.Reading.{Reached}
+use Rattle.csv.specs.Machine.{next_record}
+use Rattle.csv.specs.Reading.{default_config}
 use Rattle.csv.specs.Records.{field_at}
-use Rattle.csv.specs.declared.parser.Config.{Config}
-use Rattle.csv.specs.declared.parser.State.{State}
-use Rattle.strkw_table.specs.Rows.{OfField, OfFirst, OfRecord, OfRecords}
-
--- what is appended in two steps
-pub joined : (old mid new : List ℕ) (xs ys : List (List ℕ)) → mid ≡ old ++ concat xs → new ≡ mid ++ concat ys → new ≡ old ++ concat (xs ++ ys)
-joined old mid new xs ys p q =
-    q ∙ ap (λ l. l ++ concat ys) p ∙ append_assoc old (concat xs) (concat ys) ∙ ap (λ l. old ++ l) (sym (concat-append xs ys))
+use Rattle.csv.specs.declared.parser.State.TheVariants as st
+use Rattle.strkw_records.specs.declared.place.Place.{Place}
+use Rattle.strkw_records.specs.Records.{AreLinedRecords, LinedRecord, TakesRecord}
+use Rattle.strkw_table.specs.Rows.{AreFirstRecords, HaveWidth, OfField, OfFirst, OfRecord, OfRecords}
 
 -- what is written and what is left, of what was gathered and more
-pub gathered : (messages more : List (List ℕ)) (written old mid put new : List ℕ) → concat messages ≡ written ++ old → mid ≡ old ++ concat more → mid ≡ put ++ new
+pub gathered : (messages more : List (List ℕ)) (written old mid put new : List ℕ) → concat messages ≡ written ++ old → mid ≡ old ++ concat more
+    → mid ≡ put ++ new
     → concat (messages ++ more) ≡ (written ++ put) ++ new
 gathered messages more written old mid put new p q r =
-    concat-append messages more ∙ ap (λ l. l ++ concat more) p ∙ append_assoc written old (concat more) ∙ ap (λ l. written ++ l) (sym q ∙ r) ∙ sym (append_assoc written put new)
+    concat-append messages more ∙ ap (λ l. l ++ concat more) p ∙ append_assoc written old (concat more) ∙ ap (λ l. written ++ l) (sym q ∙ r) ∙ sym
+    (append_assoc written put new)
 
-pub concat-map : {A : Type 0} (f : A → List ℕ) (xs : List A) → concat (map f xs) ≡ flat_map f xs
-concat-map f [] = refl
-concat-map f (x ∷ xs) = ap (λ l. f x ++ l) (concat-map f xs)
+-- at the start no record is taken
+pub first_records-none : (place : Place) (text : List ℕ) → AreFirstRecords place text [] place text
+unfolding AreFirstRecords
+first_records-none place text = (refl, refl)
 
--- at the start no record is read
-pub no_record_yet : (cfg : Config) (s now : State) (xs : List ℕ) → s ≡ now → Reached cfg s xs [] now xs
-unfolding Reached
-no_record_yet cfg s now xs e = (e, refl)
+-- one record more is taken
+pub first_records-more : (place here behind : Place) (text rest left : List ℕ) (records : List LinedRecord) (r : LinedRecord)
+    → AreFirstRecords place text records here rest
+    → TakesRecord here rest r.line r.fields behind left → AreFirstRecords place text (records ++ r ∷ []) behind left
+unfolding AreFirstRecords
+first_records-more place here behind text rest left [] r (same, is) takes = (
+  behind,
+  left,
+  subst (λ p. TakesRecord p text r.line r.fields behind left) (sym same)
+      (subst (λ t. TakesRecord here t r.line r.fields behind left) (sym is) takes),
+  (refl, refl),
+)
+first_records-more place here behind text rest left (first ∷ records) r (next, mid, one, others) takes =
+    (next, mid, one, first_records-more next here behind mid rest left records r others takes)
 
--- the header, and the records behind it
-pub under_header : (cfg : Config) (s m t : State) (xs left ys : List ℕ) (names : List (List ℕ)) (records : List (List (List ℕ))) → Reached cfg s xs (names ∷ []) m left
-    → Reached cfg m left records t ys → Reached cfg s xs (names ∷ records) t ys
-unfolding Reached
-under_header cfg s m t xs left ys names records header rest =
-    let (p, next, is, last) = header in
-    (p, next, is, subst (λ q. Reached cfg q p.2 records t ys) (sym last.0) (subst (λ w. Reached cfg m w records t ys) (sym last.1) rest))
+-- records behind which there is none are all records
+pub all_records : (place behind : Place) (text rest : List ℕ) (records : List LinedRecord) → AreFirstRecords place text records behind rest
+    → next_record default_config st.StartRecord [] [] rest ≡ None → AreLinedRecords place text records
+unfolding AreFirstRecords AreLinedRecords
+all_records place behind text rest [] (same, is) none = rw is none
+all_records place behind text rest (r ∷ records) (next, mid, one, others) none = (next, mid, one, all_records next behind mid rest records others none)
 
-pub if_ok-map : {T E : Type 0} (r : Result T E) (P Q : T → Type 0) → ((x : T) → P x → Q x) → IfOk r P → IfOk r Q
-if_ok-map (Ok x) P Q f p = f x p
-if_ok-map (Err e) P Q f p = tt
+-- the header, and all records behind it
+pub under_header : (place behind : Place) (text rest : List ℕ) (header : LinedRecord) (records : List LinedRecord)
+    → TakesRecord place text header.line header.fields behind rest
+    → AreLinedRecords behind rest records → AreLinedRecords place text (header ∷ records)
+unfolding AreLinedRecords
+under_header place behind text rest header records one others = (behind, rest, one, others)
+
+-- one record more has the width
+pub have_width-more : (width : ℕ) (records : List LinedRecord) (r : LinedRecord) → HaveWidth width records → length r.fields ≡ width
+    → HaveWidth width (records ++ r ∷ [])
+unfolding HaveWidth
+have_width-more width [] r have one = (one, tt)
+have_width-more width (first ∷ records) r have one = (have.0, have_width-more width records r have.1 one)
+
+pub have_width-none : (width : ℕ) → HaveWidth width []
+unfolding HaveWidth
+have_width-none width = tt
+
+-- a value that is not missing is there
+pub if_some : {T : Type 0} (o : Option T) (P : T → Type 0) → IfSome o P → (o ≡ None → ⊥) → (x : T) × P x
+if_some None P p some = absurd (some refl)
+if_some (Some x) P p some = (x, p)
 
 module _ {C : Type 0} (says : C → ℕ → List ℕ → List (List ℕ) → Type 0) (columns : List C) where
   -- no field is seen yet
@@ -61,10 +89,10 @@ module _ {C : Type 0} (says : C → ℕ → List ℕ → List (List ℕ) → Typ
   of_records-none = refl
 
   -- one record more
-  pub of_records-more : (rows : List (List (List ℕ))) (row : List (List ℕ)) (messages more : List (List ℕ)) (line : ℕ) → OfRecords says columns rows messages
-      → OfRecord says columns line row more → OfRecords says columns (rows ++ row ∷ []) (messages ++ more)
+  pub of_records-more : (records : List LinedRecord) (r : LinedRecord) (messages more : List (List ℕ)) → OfRecords says columns records messages
+      → OfRecord says columns r.line r.fields more → OfRecords says columns (records ++ r ∷ []) (messages ++ more)
   unfolding OfRecords
-  of_records-more [] row messages more line p q = (line, more, [], q, refl, rw p (sym (append-nil more)))
-  of_records-more (r ∷ rs) row messages more line p q =
-      let (at, first, rest, a, b, e) = p in
-      (at, first, rest ++ more, a, of_records-more rs row rest more line b q, ap (λ l. l ++ more) e ∙ append_assoc first rest more)
+  of_records-more [] r messages more p q = (more, [], q, refl, rw p (sym (append-nil more)))
+  of_records-more (first ∷ records) r messages more p q =
+      let (said, rest, a, b, e) = p in
+      (said, rest ++ more, a, of_records-more records r rest more b q, ap (λ l. l ++ more) e ∙ append_assoc said rest more)

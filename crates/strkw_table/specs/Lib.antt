@@ -1,4 +1,5 @@
 pub mod Rows
-pub mod Plan
+pub mod Fields
 pub mod Columns
-pub mod Borrowed
+pub mod Faults
+pub mod Gives

@@ -1,50 +1,13 @@
-//! Why a check ended before the end of its file, and why a plan is refused.
+//! Why a check ended before the end of its file.
 
-use csv::{Error, ErrorKind};
+ghost use Rattle.std.specs.Prelude.{◌≡◌};
+ghost use Rattle.strkw_table.specs.declared.faults.TableFault.TheVariants.{Memory};
+ghost use Rattle.strkw_table.specs.Gives.{GivesOfPlan, GivesOfReading};
+
 use std::alloc::AllocError;
 use std::fmt;
-use strkw_report::CompileError;
-
-/// Why a plan is refused.
-#[derive(Debug, Drop)]
-pub enum PlanFault {
-    /// It is no object with `draft` (4, 6, 7, 201909 or 202012) and the member of this name, an object.
-    NoPlan(&'static str),
-    /// The schema of this name is no object.
-    NoObject(String),
-    /// A schema object is refused.
-    Refused {
-        /// The name of the schema.
-        name: String,
-        /// Why, and at which keyword.
-        refusal: CompileError,
-    },
-    /// A growth was refused.
-    Memory,
-}
-
-impl From<AllocError> for PlanFault {
-    fn from(_e: AllocError) -> PlanFault {
-        PlanFault::Memory
-    }
-}
-
-impl fmt::Display for PlanFault {
-    fn fmt<W: fmt::Write>(&self, f: &mut fmt::Formatter<W>) -> fmt::Result {
-        match self {
-            PlanFault::NoPlan(schemas) => write!(
-                f,
-                "the plan is to be an object with `draft` (4, 6, 7, 201909 or 202012) and `{schemas}`, an object"
-            ),
-            PlanFault::NoObject(name) => write!(f, "the schema of `{name}` is no object"),
-            PlanFault::Refused { name, refusal } => {
-                let place = &refusal.location;
-                write!(f, "the schema of `{name}` is refused at {place}: {refusal}")
-            }
-            PlanFault::Memory => f.write_str("out of memory"),
-        }
-    }
-}
+use strkw_plan::{PlanFault, Shown};
+use strkw_records::ReadFault;
 
 /// Why a check ended before the end of its file.
 #[derive(Debug, Drop)]
@@ -53,25 +16,47 @@ pub enum TableFault {
     Plan(PlanFault),
     /// The file has no column of this name.
     Missing(String),
+    /// The first record has a name twice, and the plan does not say that each such column is checked.
+    Twice {
+        /// The name.
+        name: String,
+        /// Its places among the fields of the first record, from 1.
+        first: usize,
+        /// The second of them.
+        second: usize,
+    },
     /// The file has no first record.
     NoHeader,
-    /// The file could not be read, or a record is broken: it has not as many fields as the first, or is not UTF-8.
-    Record(Error),
+    /// The record that begins on this line has another number of fields than the first.
+    Fields {
+        /// The line, from 1.
+        line: u64,
+        /// How many fields the first record has.
+        expected: usize,
+        /// How many this one has.
+        found: usize,
+    },
+    /// The file could not be read, or a record is broken.
+    Record(ReadFault),
     /// The messages could not be written.
     Write,
-    /// A growth was refused.
+    /// Out of memory.
     Memory,
     /// There are more messages, or more records, than a `u64` counts.
     TooLong,
 }
 
 impl From<AllocError> for TableFault {
+    ghost from_gives = { λ _ fault. fault ≡ Memory };
+
     fn from(_e: AllocError) -> TableFault {
         TableFault::Memory
     }
 }
 
 impl From<PlanFault> for TableFault {
+    ghost from_gives = { GivesOfPlan };
+
     fn from(e: PlanFault) -> TableFault {
         match e {
             PlanFault::Memory => TableFault::Memory,
@@ -80,10 +65,13 @@ impl From<PlanFault> for TableFault {
     }
 }
 
-impl From<Error> for TableFault {
-    fn from(e: Error) -> TableFault {
-        match e.kind() {
-            ErrorKind::OutOfMemory => TableFault::Memory,
+impl From<ReadFault> for TableFault {
+    ghost from_gives = { GivesOfReading };
+
+    fn from(e: ReadFault) -> TableFault {
+        match e {
+            ReadFault::Memory => TableFault::Memory,
+            ReadFault::TooLong => TableFault::TooLong,
             _ => TableFault::Record(e),
         }
     }
@@ -93,8 +81,30 @@ impl fmt::Display for TableFault {
     fn fmt<W: fmt::Write>(&self, f: &mut fmt::Formatter<W>) -> fmt::Result {
         match self {
             TableFault::Plan(e) => write!(f, "{e}"),
-            TableFault::Missing(column) => write!(f, "the file has no column `{column}`"),
+            TableFault::Missing(column) => {
+                let column = Shown(column);
+                write!(f, "the file has no column `{column}`")
+            }
+            TableFault::Twice {
+                name,
+                first,
+                second,
+            } => {
+                let name = Shown(name);
+                write!(
+                    f,
+                    "the column `{name}` stands twice in the first record: at {first} and {second}"
+                )
+            }
             TableFault::NoHeader => f.write_str("the file has no first record"),
+            TableFault::Fields {
+                line,
+                expected,
+                found,
+            } => write!(
+                f,
+                "{line}: a record of {found} fields, and the first record has {expected}"
+            ),
             TableFault::Record(e) => write!(f, "{e}"),
             TableFault::Write => f.write_str("write failed"),
             TableFault::Memory => f.write_str("out of memory"),
@@ -102,3 +112,5 @@ impl fmt::Display for TableFault {
         }
     }
 }
+
+impl std::error::Error for TableFault {}

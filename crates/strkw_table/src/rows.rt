@@ -1,18 +1,27 @@
 //! The records of a file, one after the other.
 
-ghost use Rattle.std.specs.Prelude.{◌≡◌, ◌++◌, ℕ, List, [], Some, None, true, false, length, slice_get, IfOk, IfSome, OnOk};
+ghost use Rattle.std.specs.Prelude.{◌≡◌, ◌++◌, ℕ, List, [], Some, None, length, slice_get, IfErr, IfOk, IfSome, OnOk, string_bytes};
 ghost use Rattle.std.specs.List.{concat};
 ghost use Rattle.std.specs.Io.KnownBytes.{Appends};
-ghost use Rattle.csv.specs.Reading.{AreRecords, Ready, default_config, reader_config, reader_state, reader_trim, source_of, took_first, ReadRecord};
+ghost use Rattle.csv.specs.Machine.{next_record};
+ghost use Rattle.csv.specs.Reading.{default_config};
 ghost use Rattle.csv.specs.Records.{fields_of, field_at};
-ghost use Rattle.csv.specs.declared.reader.Trim.TheVariants as trim;
-ghost use Rattle.strkw_table.specs.Rows.{OfField, OfRecord, OfRecords};
+ghost use Rattle.csv.specs.declared.parser.State.TheVariants as st;
+ghost use Rattle.strkw_keywords.specs.Handed.{lists_of};
+ghost use Rattle.strkw_records.specs.Reading.{Takes, place_of, unread_of};
+ghost use Rattle.strkw_records.specs.Records.{AreLinedRecords, LinedRecord};
+ghost use Rattle.strkw_table.specs.Columns.{AreUsable, ColumnMessages};
+ghost use Rattle.strkw_table.specs.Faults.{IsNoPlanFault, IsUnexplained, IsWhyOfNext, IsWhyOfRows};
+ghost use Rattle.strkw_table.specs.Rows.{AreFirstRecords, HaveWidth, OfField, OfRecord, OfRecords};
 
-use crate::column::Column;
 use crate::faults::TableFault;
-use csv::{Reader, StringRecord};
+use crate::schema_column::SchemaColumn;
+use csv::StringRecord;
 use std::alloc::{AllocError, Global};
 use std::io::{Read, Write};
+use strkw_keywords::Checks;
+use strkw_pattern::RegexEngine;
+use strkw_records::RecordReader;
 
 // So many bytes of messages are gathered before they are written.
 const GATHERED: usize = 65536;
@@ -33,17 +42,23 @@ pub trait Watch {
 }
 
 // Appends the messages about the field at a place, and answers how many they are.
-fn check_field<C: Column>(
+fn check_field<E: RegexEngine>(
     alloc: Global,
-    columns: &[C],
+    columns: &[SchemaColumn<'_, E>],
+    checks: &Checks<'_>,
     line: u64,
     row: &StringRecord,
     at: usize,
-    out: &mut Vec<u8>,
+    out: &mut String,
 ) -> Result<u64, AllocError>
-    requires { (place : ℕ) (c : C) → slice_get columns.now place ≡ Some c → C.is_usable c }
-    ensures { IfOk result (λ count. (messages : List (List ℕ)) × OfField C.says line (field_at (fields_of row.now) at) (slice_get columns.now at) messages
-        × (count ≡ length messages) × (out.new.items ≡ out.old.items ++ concat messages)) }
+    requires { let lists = lists_of admits accepted encoded decoding checks.now in
+        AreUsable E.outcome lists columns.now }
+    ensures { let lists = lists_of admits accepted encoded decoding checks.now in
+        IfOk result (λ count. (messages : List (List ℕ))
+        × OfField (ColumnMessages E.outcome lists) line (field_at (fields_of row.now) at)
+        (slice_get columns.now at) messages
+        × (count ≡ length messages)
+        × (string_bytes out.new ≡ string_bytes out.old ++ concat messages)) }
 {
     let Some(field) = row.get(at) else {
         return Ok(0);
@@ -51,125 +66,164 @@ fn check_field<C: Column>(
     let Some(column) = columns.get(at) else {
         return Ok(0);
     };
-    column.push_messages(alloc, line, field, out)
+    column.push_messages(alloc, checks, line, field, out)
 }
 
 // Appends the messages about a record, and answers how many they are.
-fn check_record<C: Column>(
+fn check_record<E: RegexEngine>(
     alloc: Global,
-    columns: &[C],
+    columns: &[SchemaColumn<'_, E>],
+    checks: &Checks<'_>,
     line: u64,
     row: &StringRecord,
-    out: &mut Vec<u8>,
+    out: &mut String,
 ) -> Result<u64, TableFault>
-    requires { (place : ℕ) (c : C) → slice_get columns.now place ≡ Some c → C.is_usable c }
-    ensures { IfOk result (λ count. (messages : List (List ℕ)) × OfRecord C.says columns.now line (fields_of row.now) messages
-        × (count ≡ length messages) × (out.new.items ≡ out.old.items ++ concat messages)) }
+    requires { let lists = lists_of admits accepted encoded decoding checks.now in
+        AreUsable E.outcome lists columns.now }
+    ensures why { IfErr result IsUnexplained }
+    ensures messages { let lists = lists_of admits accepted encoded decoding checks.now in
+        IfOk result (λ count. (messages : List (List ℕ))
+        × OfRecord (ColumnMessages E.outcome lists) columns.now line (fields_of row.now) messages
+        × (count ≡ length messages)
+        × (string_bytes out.new ≡ string_bytes out.old ++ concat messages)) }
 {
     let mut count = 0u64;
     for at in 0..columns.len() {
-        let more = check_field(alloc, columns, line, row, at, out)?;
+        let more = check_field(alloc, columns, checks, line, row, at, out)?;
         count = count.checked_add(more).ok_or(TableFault::TooLong)?;
     }
     Ok(count)
 }
 
-// Reads the next record, appends the messages about it, and answers how many they are; `None` where there is no record.
-fn check_next<C: Column, R: Read>(
+// Reads the next record, which has as many fields as there are columns, appends the messages about it, and answers how
+// many they are; `None` where there is no record.
+fn check_next<E: RegexEngine, R: Read>(
     alloc: Global,
-    columns: &[C],
-    rows: &mut Reader<R>,
+    columns: &[SchemaColumn<'_, E>],
+    checks: &Checks<'_>,
+    reader: &mut RecordReader<R>,
     row: &mut StringRecord,
-    out: &mut Vec<u8>,
+    out: &mut String,
 ) -> Result<Option<u64>, TableFault>
-    requires usable { (place : ℕ) (c : C) → slice_get columns.now place ≡ Some c → C.is_usable c }
-    requires trim { reader_trim rows.old ≡ trim.None }
-    requires ready { Ready rows.old }
-    ensures end { IfOk result (λ o. o ≡ None → ReadRecord R.remaining rows.old rows.new false (fields_of row.new)) }
-    ensures kept { IfOk result (λ o. o ≡ None → out.new.items ≡ out.old.items) }
-    ensures read { IfOk result (λ o. IfSome o (λ count. ReadRecord R.remaining rows.old rows.new true (fields_of row.new))) }
-    ensures ready { IfOk result (λ o. took_first rows.new ≡ true) }
-    ensures messages { IfOk result (λ o. IfSome o (λ count. (line : ℕ) × (messages : List (List ℕ))
-        × OfRecord C.says columns.now line (fields_of row.new) messages
-        × (count ≡ length messages) × (out.new.items ≡ out.old.items ++ concat messages))) }
+    requires usable { let lists = lists_of admits accepted encoded decoding checks.now in
+        AreUsable E.outcome lists columns.now }
+    ensures why { IfErr result IsNoPlanFault }
+    ensures fault { (text : List ℕ) → unread_of R.remaining reader.old ≡ Some text
+        → IfErr result (IsWhyOfNext (length columns.now) (place_of reader.old) text) }
+    ensures end { (text : List ℕ) → unread_of R.remaining reader.old ≡ Some text
+        → IfOk result (λ o. o ≡ None
+        → next_record default_config st.StartRecord [] [] text ≡ None) }
+    ensures kept { IfOk result (λ o. o ≡ None → string_bytes out.new ≡ string_bytes out.old) }
+    ensures unsaid { IfErr result (λ why. (IsUnexplained why → ⊥)
+        → string_bytes out.new ≡ string_bytes out.old) }
+    ensures record { let lists = lists_of admits accepted encoded decoding checks.now in
+        (text : List ℕ) → unread_of R.remaining reader.old ≡ Some text
+        → IfOk result (λ o. IfSome o (λ count. (line : ℕ) × (messages : List (List ℕ))
+        × Takes R.remaining reader.old reader.new text line (fields_of row.new)
+        × (length (fields_of row.new) ≡ length columns.now)
+        × OfRecord (ColumnMessages E.outcome lists) columns.now line (fields_of row.new) messages
+        × (count ≡ length messages)
+        × (string_bytes out.new ≡ string_bytes out.old ++ concat messages))) }
 {
-    if !rows.read_record(row)? {
+    let Some(line) = reader.read(row)? else {
         return Ok(None);
-    }
-    let line = match row.position() {
-        Some(position) => position.line(),
-        None => 0,
     };
-    let count = check_record(alloc, columns, line, row, out)?;
+    if row.len() != columns.len() {
+        return Err(TableFault::Fields {
+            line,
+            expected: columns.len(),
+            found: row.len(),
+        });
+    }
+    let count = check_record(alloc, columns, checks, line, row, out)?;
     Ok(Some(count))
 }
 
 // Writes what was gathered, where it is enough.
-fn write_gathered<W: Write>(out: &mut Vec<u8>, writer: &mut W) -> Result<(), TableFault>
-    ensures { OnOk result ((written : List ℕ) × Appends (W.contents writer.old) (W.contents writer.new) written
-        × (out.old.items ≡ written ++ out.new.items)) }
+fn write_gathered<W: Write>(out: &mut String, writer: &mut W) -> Result<(), TableFault>
+    ensures why { IfErr result IsUnexplained }
+    ensures written { OnOk result ((written : List ℕ)
+        × Appends (W.contents writer.old) (W.contents writer.new) written
+        × (string_bytes out.old ≡ written ++ string_bytes out.new)) }
 {
     if out.len() < GATHERED {
         return Ok(());
     }
-    if writer.write_all(out).is_err() {
+    if writer.write_all(out.as_bytes()).is_err() {
         return Err(TableFault::Write);
     }
     out.clear();
     Ok(())
 }
 
-/// Checks the records that a reader has left, and writes the messages about them, record by record, and in each from the
-/// first field to the last.
+/// Checks the records that a reader has left, and writes the messages about them, record by record, and in each from
+/// the first field to the last.
 ///
-/// Errors: `Record` where the file could not be read or a record is broken, and the messages about the records before it
-/// are written all the same; `Write`, `Memory`, `TooLong`.
-pub(crate) fn check_rows<C: Column, R: Read, W: Write, P: Watch>(
+/// Errors: `Fields` and `Record`, and the messages about the records before are written all the same; `Write`,
+/// `Memory`, `TooLong`.
+pub(crate) fn check_rows<E: RegexEngine, R: Read, W: Write, P: Watch>(
     alloc: Global,
-    columns: &[C],
-    rows: &mut Reader<R>,
+    columns: &[SchemaColumn<'_, E>],
+    checks: &Checks<'_>,
+    reader: &mut RecordReader<R>,
     writer: &mut W,
     watch: &mut P,
 ) -> Result<Checked, TableFault>
-    requires config { reader_config rows.old ≡ default_config }
-    requires usable { (place : ℕ) (c : C) → slice_get columns.now place ≡ Some c → C.is_usable c }
-    requires trim { reader_trim rows.old ≡ trim.None }
-    requires ready { Ready rows.old }
-    ensures { (text : List ℕ) → source_of R.remaining rows.old ≡ Some text
-        → IfOk result (λ c. (records : List (List (List ℕ))) × (messages : List (List ℕ))
-        × AreRecords default_config (reader_state rows.old) text records
-        × OfRecords C.says columns.now records messages
+    requires usable { let lists = lists_of admits accepted encoded decoding checks.now in
+        AreUsable E.outcome lists columns.now }
+    ensures why { IfErr result IsNoPlanFault }
+    ensures fault { let lists = lists_of admits accepted encoded decoding checks.now in
+        (text : List ℕ) → unread_of R.remaining reader.old ≡ Some text
+        → IfErr result (IsWhyOfRows (ColumnMessages E.outcome lists) columns.now
+        (place_of reader.old) text
+        (Appends (W.contents writer.old) (W.contents writer.new))) }
+    ensures messages { let lists = lists_of admits accepted encoded decoding checks.now in
+        (text : List ℕ) → unread_of R.remaining reader.old ≡ Some text
+        → IfOk result (λ c. (records : List LinedRecord) × (messages : List (List ℕ))
+        × AreLinedRecords (place_of reader.old) text records
+        × HaveWidth (length columns.now) records
+        × OfRecords (ColumnMessages E.outcome lists) columns.now records messages
         × Appends (W.contents writer.old) (W.contents writer.new) (concat messages)
         × (c.records ≡ length records) × (c.errors ≡ length messages)) }
 {
-    let mut out = Vec::new(alloc);
-    let checked = gather_rows(alloc, columns, rows, &mut out, writer, watch);
-    if writer.write_all(&out).is_err() || writer.flush().is_err() {
+    let mut out = String::new(alloc);
+    let checked = gather_rows(alloc, columns, checks, reader, &mut out, writer, watch);
+    if writer.write_all(out.as_bytes()).is_err() || writer.flush().is_err() {
         return Err(TableFault::Write);
     }
     checked
 }
 
 // The same, with the last of the messages in `out`.
-fn gather_rows<C: Column, R: Read, W: Write, P: Watch>(
+fn gather_rows<E: RegexEngine, R: Read, W: Write, P: Watch>(
     alloc: Global,
-    columns: &[C],
-    rows: &mut Reader<R>,
-    out: &mut Vec<u8>,
+    columns: &[SchemaColumn<'_, E>],
+    checks: &Checks<'_>,
+    reader: &mut RecordReader<R>,
+    out: &mut String,
     writer: &mut W,
     watch: &mut P,
 ) -> Result<Checked, TableFault>
-    requires config { reader_config rows.old ≡ default_config }
-    requires usable { (place : ℕ) (c : C) → slice_get columns.now place ≡ Some c → C.is_usable c }
-    requires trim { reader_trim rows.old ≡ trim.None }
-    requires ready { Ready rows.old }
-    requires empty { out.old.items ≡ [] }
-    ensures { (text : List ℕ) → source_of R.remaining rows.old ≡ Some text
-        → IfOk result (λ c. (records : List (List (List ℕ))) × (messages : List (List ℕ)) × (written : List ℕ)
-        × AreRecords default_config (reader_state rows.old) text records
-        × OfRecords C.says columns.now records messages
+    requires usable { let lists = lists_of admits accepted encoded decoding checks.now in
+        AreUsable E.outcome lists columns.now }
+    requires empty { string_bytes out.old ≡ [] }
+    ensures why { IfErr result IsNoPlanFault }
+    ensures fault { let lists = lists_of admits accepted encoded decoding checks.now in
+        (text : List ℕ) → unread_of R.remaining reader.old ≡ Some text
+        → IfErr result (IsWhyOfRows (ColumnMessages E.outcome lists) columns.now
+        (place_of reader.old) text (λ lines.
+        (written : List ℕ)
         × Appends (W.contents writer.old) (W.contents writer.new) written
-        × (concat messages ≡ written ++ out.new.items)
+        × (lines ≡ written ++ string_bytes out.new))) }
+    ensures messages { let lists = lists_of admits accepted encoded decoding checks.now in
+        (text : List ℕ) → unread_of R.remaining reader.old ≡ Some text
+        → IfOk result (λ c. (records : List LinedRecord) × (messages : List (List ℕ))
+        × (written : List ℕ)
+        × AreLinedRecords (place_of reader.old) text records
+        × HaveWidth (length columns.now) records
+        × OfRecords (ColumnMessages E.outcome lists) columns.now records messages
+        × Appends (W.contents writer.old) (W.contents writer.new) written
+        × (concat messages ≡ written ++ string_bytes out.new)
         × (c.records ≡ length records) × (c.errors ≡ length messages)) }
 {
     let mut row = StringRecord::new(alloc);
@@ -178,7 +232,7 @@ fn gather_rows<C: Column, R: Read, W: Write, P: Watch>(
         errors: 0,
     };
     for turn in 0..u64::MAX {
-        let Some(more) = check_next(alloc, columns, rows, &mut row, out)? else {
+        let Some(more) = check_next(alloc, columns, checks, reader, &mut row, out)? else {
             return Ok(checked);
         };
         checked.errors = checked.errors.checked_add(more).ok_or(TableFault::TooLong)?;

@@ -1,10 +1,60 @@
 //! A column whose fields are checked by a schema object.
 
-use strkw_cli::StringKeywords;
+ghost use Rattle.std.specs.Prelude.{◌≡◌, ◌++◌, ℕ, List, length, IfOk, string_bytes};
+ghost use Rattle.std.specs.List.{concat};
+ghost use Rattle.strkw_keywords.specs.Handed.{lists_of};
+ghost use Rattle.strkw_table.specs.Columns.{ColumnMessages, IsUsable};
+ghost use Rattle.strkw_table.specs.Fields.{field_place};
 
-/// A column of a file: its name, and its compiled schema object, where it has one.
-#[derive(Drop)]
-pub(crate) struct SchemaColumn<E> {
-    pub name: String,
-    pub keywords: Option<StringKeywords<E>>,
+use std::alloc::{AllocError, Global};
+use strkw_cli::StringKeywords;
+use strkw_keywords::Checks;
+use strkw_pattern::RegexEngine;
+use strkw_plan::{errors_of, push_messages};
+
+/// A column of a file: its name, and the compiled schema object of that name, where the plan has one.
+#[derive(Clone, Copy)]
+pub(crate) struct SchemaColumn<'a, E> {
+    pub name: &'a str,
+    pub keywords: Option<&'a StringKeywords<E>>,
+}
+
+impl<E: RegexEngine> SchemaColumn<'_, E> {
+    /// Appends the messages about a field of the column, in a record that begins on this line, and answers how many
+    /// they are. The only error is out of memory.
+    #[tactic(auto, using(crate::proofs::MessageLemmas::said_nothing, crate::proofs::MessageLemmas::said_no_error, crate::proofs::MessageLemmas::said_errors))]
+    pub fn push_messages(
+        &self,
+        alloc: Global,
+        checks: &Checks<'_>,
+        line: u64,
+        field: &str,
+        out: &mut String,
+    ) -> Result<u64, AllocError>
+        requires { let lists = lists_of admits accepted encoded decoding checks.now in
+            IsUsable E.outcome lists self.now }
+        ensures { let lists = lists_of admits accepted encoded decoding checks.now in
+            IfOk result (λ count. (messages : List (List ℕ))
+            × ColumnMessages E.outcome lists self.now line field.now messages
+            × (count ≡ length messages)
+            × (string_bytes out.new ≡ string_bytes out.old ++ concat messages)) }
+    {
+        let Some(keywords) = self.keywords else {
+            return Ok(0);
+        };
+        let errors = errors_of(alloc, keywords, checks, &field)?;
+        if errors.is_empty() {
+            return Ok(0);
+        }
+        let place = field_place(alloc, line, self.name)?;
+        push_messages(alloc, &place, &errors, out)?;
+        Ok(errors.len() as u64)
+    }
+}
+
+// Where a field is.
+fn field_place(alloc: Global, line: u64, name: &str) -> Result<String, AllocError>
+    ensures { IfOk result (λ place. string_bytes place ≡ field_place line name.now) }
+{
+    format!(in alloc; "{line}: {name}")
 }

@@ -1,63 +1,110 @@
 //! A whole file.
 
-ghost use Rattle.std.specs.Prelude.{◌≡◌, ◌∷◌, ℕ, List, Some, length, IfOk, codes};
+ghost use Rattle.std.specs.Prelude.{◌≡◌, ◌∷◌, ◌⊎◌, ℕ, List, Some, None, true, length, IfOk, IfErr, OnOk};
 ghost use Rattle.std.specs.List.{concat};
 ghost use Rattle.std.specs.Io.KnownBytes.{Appends};
-ghost use Rattle.serde_json.specs.View.{view};
-ghost use Rattle.csv.specs.Reading.{AreRecords, default_config, strip_bom};
-ghost use Rattle.csv.specs.declared.parser.State.TheVariants as st;
-ghost use Rattle.strkw_table.specs.Rows.{OfRecords};
-ghost use Rattle.strkw_table.specs.Plan.{Plan, plan_in, plan_settings, MessagesOf, AreNamed};
+ghost use Rattle.serde_json.specs.View.{members_view, view};
+ghost use Rattle.csv.specs.Records.{fields_of};
+ghost use Rattle.csv.specs.Reading.{strip_bom};
+ghost use Rattle.strkw_records.specs.Lines.{first_place};
+ghost use Rattle.strkw_records.specs.Records.{AreLinedRecords, LinedRecord};
+ghost use Rattle.strkw_plan.specs.Borrowed.{plan_view};
+ghost use Rattle.strkw_plan.specs.Rules.{rules_settings};
+ghost use Rattle.strkw_plan.specs.Plan as written;
+ghost use Rattle.strkw_plan.specs.Plan.{plan_of, plan_problem};
+ghost use Rattle.strkw_plan.specs.declared.kind.PlanKind.TheVariants.{Columns};
+ghost use Rattle.strkw_table.specs.Faults.{IsWhy, IsWhyOfNames, IsWhyOfText};
+ghost use Rattle.strkw_table.specs.Fields.{AreDistinct, AreNamed, MessagesOf};
+ghost use Rattle.strkw_table.specs.Rows.{HaveWidth, OfRecords};
 
-use crate::faults::{PlanFault, TableFault};
-use crate::plan::{compile_columns, plan_in, require_named};
+use crate::faults::TableFault;
+use crate::header::{find_twice, require_named};
+use crate::objects::{columns_of, compile_objects};
 use crate::rows::{Checked, Watch, check_rows};
-use csv::{ReaderBuilder, StringRecord};
+use csv::StringRecord;
 use serde_json::Value;
 use std::alloc::Global;
 use std::io::{Read, Write};
 use strkw_cli::laws::lists_of_compile_are_in_use;
 use strkw_pattern::EngineBuilder;
+use strkw_plan::{Plan, PlanKind, Rules, plan_in};
+use strkw_records::RecordReader;
 
-/// Checks the fields of a CSV file, whose first record names its columns, by a plan: `{"draft": .., "columns": {NAME: SCHEMA, ..}}`.
+/// Checks the fields of a CSV file, whose first record names its columns, by a plan:
+/// `{"draft": .., "columns": {NAME: SCHEMA, ..}}`.
 ///
-/// Each error of a field is a line `LINE: COLUMN: KEYWORD: TEXT`, where LINE is the first line behind the record before it (a
-/// blank line belongs to the record that follows), KEYWORD the place of the keyword in the schema object, as `/format`, and
-/// TEXT what is wrong; control characters are spaces. They come record by record, in each from the first field to the
-/// last, and in each field in the order of the keywords. Formats are checked in each draft, and an unknown one is refused.
-/// A column that the plan does not name is not checked.
+/// Each error of a field is a line `LINE: COLUMN: KEYWORD: TEXT`, where LINE is the line on which the record begins,
+/// counted from 1 as an editor counts lines, KEYWORD the place of the keyword in the schema object, as `/format`, and
+/// TEXT what is wrong; texts are shown as by `Shown`. They come record by record, in each from the first field to the
+/// last, and in each field in the order of the keywords. The schema objects are compiled, and the fields checked,
+/// under the caller's rules. A column that the plan does not name is not checked.
 ///
-/// Errors: as `TableFault` says. `Plan`, `Missing` and `NoHeader` come before the first line; after
-/// `Record` there are the lines of the records before it.
+/// Errors: as `TableFault` says. After `Plan`, `Missing`, `Twice` and `NoHeader` nothing was written; after `Fields`
+/// and `Record` there are the lines of the records before.
 pub fn check_table<B: EngineBuilder, R: Read + Drop, W: Write, P: Watch>(
     alloc: Global,
-    builder: &B,
+    rules: &Rules<'_, B>,
     plan: &Value,
     file: R,
     writer: &mut W,
     watch: &mut P,
 ) -> Result<Checked, TableFault>
-    ensures { (text : List ℕ) → R.remaining file ≡ Some text
-        → IfOk result (λ c. (p : Plan) × (names : List (List ℕ)) × (records : List (List (List ℕ))) × (messages : List (List ℕ))
-        × (plan_in (codes "columns") (view plan.now) ≡ Some p)
-        × AreNamed names p.schemas
-        × AreRecords default_config st.StartRecord (strip_bom text) (names ∷ records)
-        × OfRecords (MessagesOf (plan_settings (B.takes builder.now) (B.outcome builder.now) p.draft) p.schemas) names records messages
+    ensures plan { OnOk result (plan_problem Columns (view plan.now) ≡ None) }
+    ensures messages { let settings =
+        rules_settings B.takes B.outcome admits accepted encoded decoding rules.now in
+        (text : List ℕ) → R.remaining file ≡ Some text
+        → IfOk result (λ c. (p : written.Plan) × (names : LinedRecord)
+        × (records : List LinedRecord) × (messages : List (List ℕ))
+        × (plan_of Columns (view plan.now) ≡ Some p)
+        × AreNamed names.fields p.schemas
+        × ((p.checks_each ≡ true) ⊎ AreDistinct names.fields)
+        × AreLinedRecords first_place (strip_bom text) (names ∷ records)
+        × HaveWidth (length names.fields) records
+        × OfRecords (MessagesOf (settings p.draft) p.schemas) names.fields records messages
         × Appends (W.contents writer.old) (W.contents writer.new) (concat messages)
         × (c.records ≡ length records) × (c.errors ≡ length messages)) }
+    ensures why { let settings =
+        rules_settings B.takes B.outcome admits accepted encoded decoding rules.now in
+        IfErr result (IsWhy settings (view plan.now)) }
+    ensures fault { let settings =
+        rules_settings B.takes B.outcome admits accepted encoded decoding rules.now in
+        (text : List ℕ) → R.remaining file ≡ Some text
+        → IfErr result (IsWhyOfText settings (view plan.now) (strip_bom text)
+        (Appends (W.contents writer.old) (W.contents writer.new))) }
 {
     lists_of_compile_are_in_use::<B::Engine>();
-    let Some(plan) = plan_in(plan, "columns") else {
-        return Err(TableFault::Plan(PlanFault::NoPlan("columns")));
-    };
-    let mut reader = ReaderBuilder::new()
-        .has_headers(false)
-        .from_reader(alloc, file);
+    let plan = plan_in(alloc, PlanKind::Columns, plan)?;
+    let objects = compile_objects(alloc, rules, &plan)?;
+    let mut reader = RecordReader::new(alloc, file)?;
     let mut names = StringRecord::new(alloc);
-    if !reader.read_record(&mut names)? {
+    if reader.read(&mut names)?.is_none() {
         return Err(TableFault::NoHeader);
     }
-    require_named(alloc, plan.schemas, &names)?;
-    let columns = compile_columns(alloc, builder, &plan, &names)?;
-    check_rows(alloc, &columns, &mut reader, writer, watch)
+    require_header(alloc, &plan, &names)?;
+    let columns = columns_of(alloc, &objects, &names)?;
+    check_rows(alloc, &columns, &rules.checks, &mut reader, writer, watch)
+}
+
+// Refuses a first record that has not all columns of the plan, or a name twice where the plan does not let that
+// pass.
+fn require_header(alloc: Global, plan: &Plan<'_>, names: &StringRecord) -> Result<(), TableFault>
+    ensures named { OnOk result
+        (AreNamed (fields_of names.now) (members_view plan.now.schemas.now.entries)) }
+    ensures distinct { OnOk result
+        ((plan.now.checks_each ≡ true) ⊎ AreDistinct (fields_of names.now)) }
+    ensures why { IfErr result (IsWhyOfNames (plan_view plan.now) (fields_of names.now)) }
+{
+    require_named(alloc, plan.schemas, names)?;
+    if plan.checks_each {
+        return Ok(());
+    }
+    let found = find_twice(alloc, names)?;
+    match found {
+        None => Ok(()),
+        Some(twice) => Err(TableFault::Twice {
+            name: String::from_str(alloc, twice.name)?,
+            first: twice.first,
+            second: twice.second,
+        }),
+    }
 }

@@ -2,6 +2,7 @@
 #![tactic(auto)]
 
 mod answered;
+mod document;
 mod engine;
 mod errors;
 mod lent_again;
@@ -44,6 +45,7 @@ fn main(rt: HostRuntime) -> Result<()> {
     print_matches(&rt, alloc)?;
     print_patterns(&rt, alloc)?;
     print_registered(&rt, alloc)?;
+    print_document(&rt, alloc)?;
     print_answers(&rt, alloc)
 }
 
@@ -55,6 +57,15 @@ fn print_located(rt: &impl Print, alloc: Global) -> Result<()> {
         let (way, instance) = (error.evaluation_path, error.instance_path);
         println!(rt; "{place} by {way} on {instance}")?;
     }
+    Ok(())
+}
+
+// A document with two numbers of articles, of which one is none, and with a date.
+fn print_document(rt: &impl Print, alloc: Global) -> Result<()> {
+    let plan =
+        r#"{"draft":7,"places":{"/from":{"format":"date"},"/items/0":{"format":"article"},"/items/1":{"format":"article"}}}"#;
+    let document = r#"{"from":"2024-02-29","items":["12345678","1234"]}"#;
+    print!(rt; "{}", document::messages_about(alloc, plan, document)?)?;
     Ok(())
 }
 

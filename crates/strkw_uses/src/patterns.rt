@@ -1,4 +1,4 @@
-//! Hands in the engine of `strkw_ecma`, which takes the patterns of ECMA-262 and answers their meaning.
+//! Hands in the engine of `strkw_ecma`, which takes a part of ECMA-262's patterns and answers their meaning.
 
 ghost use Rattle.std.specs.Prelude.{◌≡◌, ℕ, List, IfOk};
 ghost use Rattle.std.specs.Str.{chars};

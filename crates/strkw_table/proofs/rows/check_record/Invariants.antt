@@ -1,9 +1,14 @@
-use Rattle.std.proofs.Common.{◌≡◌, ◌++◌, ℕ, List, length}
+use Rattle.std.proofs.Common.{◌≡◌, ◌++◌, ℕ, List, length, string_bytes}
 use Rattle.std.specs.List.{concat}
 use Rattle.csv.specs.Records.{fields_of}
+use Rattle.strkw_keywords.specs.Handed.{lists_of}
+use Rattle.strkw_table.specs.Columns.{ColumnMessages}
 use Rattle.strkw_table.specs.Rows.{OfFirst}
 use Rattle.strkw_table.proofs.rows.check_record.Given as goal
 
 abbrev pub invariant-loop-at : goal.invariant-loop-at
-invariant-loop-at g l = (messages : List (List ℕ)) × OfFirst g.C.Column.says l.fn.columns l.fn.line (fields_of l.fn.row) l.at messages
-    × (l.count ≡ length messages) × (l.out.items ≡ l.fn.out.items ++ concat messages)
+invariant-loop-at g l =
+    let lists = lists_of (λ b. (goal.Format-dyn g b).admits b.1) (λ b. (goal.MediaTypeCheck-dyn g b).accepted b.1)
+    (λ b. (goal.ContentCodec-dyn g b).encoded b.1) (λ b. (goal.ContentCodec-dyn g b).decoding b.1) l.fn.checks in
+    (messages : List (List ℕ)) × OfFirst (ColumnMessages g.E.RegexEngine.outcome lists) l.fn.columns l.fn.line (fields_of l.fn.row) l.at messages
+    × (l.count ≡ length messages) × (string_bytes l.out ≡ string_bytes l.fn.out ++ concat messages)

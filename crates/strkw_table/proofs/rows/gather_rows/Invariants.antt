@@ -1,18 +1,25 @@
-use Rattle.std.proofs.Common.{◌≡◌, ◌++◌, ℕ, List, Some, [], length}
+use Rattle.std.proofs.Common.{◌≡◌, ◌++◌, ℕ, List, Some, length, string_bytes}
 use Rattle.std.specs.List.{concat}
 use Rattle.std.specs.Io.KnownBytes.{Appends}
-use Rattle.csv.specs.Reading.{Reached, Ready, default_config, reader_config, reader_state, reader_trim, source_of}
-use Rattle.csv.specs.declared.reader.Trim.TheVariants as trim
-use Rattle.strkw_table.specs.Rows.{OfRecords}
+use Rattle.strkw_keywords.specs.Handed.{lists_of}
+use Rattle.strkw_table.specs.Columns.{ColumnMessages}
+use Rattle.strkw_records.specs.Reading.{place_of, unread_of}
+use Rattle.strkw_records.specs.Records.{LinedRecord}
+use Rattle.strkw_table.specs.Rows.{AreFirstRecords, HaveWidth, OfRecords}
 use Rattle.strkw_table.proofs.rows.gather_rows.Given as goal
 
+-- the records so far are the first of the text, and the messages about them are written or gathered
 abbrev pub invariant-loop-turn : goal.invariant-loop-turn
-invariant-loop-turn g l = (reader_config l.rows ≡ default_config) × (reader_trim l.rows ≡ trim.None) × Ready l.rows × (l.checked.records ≡ l.turn)
-    × ((text : List ℕ) → source_of g.R.Read.remaining l.fn.rows ≡ Some text
-    → (records : List (List (List ℕ))) × (messages : List (List ℕ)) × (written : List ℕ) × (left : List ℕ)
-    × (source_of g.R.Read.remaining l.rows ≡ Some left)
-    × Reached default_config (reader_state l.fn.rows) text records (reader_state l.rows) left
-    × OfRecords g.C.Column.says l.fn.columns records messages
+invariant-loop-turn g l =
+    let lists = lists_of (λ b. (goal.Format-dyn g b).admits b.1) (λ b. (goal.MediaTypeCheck-dyn g b).accepted b.1)
+    (λ b. (goal.ContentCodec-dyn g b).encoded b.1) (λ b. (goal.ContentCodec-dyn g b).decoding b.1) l.fn.checks in
+    (l.checked.records ≡ l.turn)
+    × ((text : List ℕ) → unread_of g.R.Read.remaining l.fn.reader ≡ Some text
+    → (records : List LinedRecord) × (messages : List (List ℕ)) × (written : List ℕ) × (left : List ℕ)
+    × (unread_of g.R.Read.remaining l.reader ≡ Some left)
+    × AreFirstRecords (place_of l.fn.reader) text records (place_of l.reader) left
+    × HaveWidth (length l.fn.columns) records
+    × OfRecords (ColumnMessages g.E.RegexEngine.outcome lists) l.fn.columns records messages
     × Appends (g.W.Write.contents l.fn.writer) (g.W.Write.contents l.writer) written
-    × (concat messages ≡ written ++ l.out.items)
+    × (concat messages ≡ written ++ string_bytes l.out)
     × (l.turn ≡ length records) × (l.checked.errors ≡ length messages))

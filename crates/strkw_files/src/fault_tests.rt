@@ -1,0 +1,41 @@
+//! The faults of plans with each growth refused, as the tests beside it.
+
+use crate::tests::json;
+use std::alloc::{AllocError, Global};
+use std::test::Fail;
+use strkw_plan::{PlanFault, PlanKind, plan_in};
+
+// What the fault of a plan of columns says.
+fn told(alloc: Global, plan: &str) -> Result<String, Fail> {
+    let plan = json(alloc, plan)?;
+    match plan_in(alloc, PlanKind::Columns, &plan) {
+        Ok(_) => Err(Fail::new("a plan")),
+        Err(PlanFault::Memory) => Err(AllocError.into()),
+        Err(fault) => Ok(format!(in alloc; "{fault}")?),
+    }
+}
+
+// Where it had memory it tells what is wrong, and what was perhaps meant.
+#[test]
+fn plan_in_under_refusal(rt: HostRuntime) -> Result<(), Fail> {
+    let alloc = rt.alloc();
+    for (plan, wanted) in [
+        (
+            "{\"draft\":7,\"colums\":{}}",
+            "unknown member \"colums\" of the plan: did you mean \"columns\"?",
+        ),
+        (
+            "{\"draft\":7,\"columns\":{\"a\":{\"fromat\":\"date\"}}}",
+            "unknown keyword \"fromat\" at /columns/a: did you mean \"format\"?",
+        ),
+        (
+            "{\"draft\":7,\"columns\":{\"a\":true}}",
+            "the schema at /columns/a is no object",
+        ),
+    ] {
+        if told(alloc, plan)?.as_str() != wanted {
+            return Err(Fail::new(wanted));
+        }
+    }
+    Ok(())
+}

@@ -1,0 +1,88 @@
+//! One instance by one schema of a plan, with each growth refused, as the tests beside it.
+
+use crate::tests::json;
+use std::alloc::{AllocError, Global};
+use std::test::Fail;
+use strkw_pattern::NoPatterns;
+use strkw_plan::{
+    PlanFault, PlanKind, Rules, check_instance, compile_schema, errors_of, push_messages,
+    require_schema,
+};
+use strkw_report::Draft;
+
+// A schema, and the messages about the text `é\u{202e}`, or the text of the fault.
+fn cases() -> [(&'static str, &'static str); 4] {
+    [
+        (
+            r#"{"maxLength":1,"format":"date"}"#,
+            "a: /format: \"é\\u{202e}\" is not a \"date\"\na: /maxLength: \"é\\u{202e}\" is longer than 1 character\n",
+        ),
+        (r#"{"maxLength":2}"#, ""),
+        ("true", "the schema at /columns/a is no object"),
+        (
+            "{\"pattern\":[\"\u{202e}\"]}",
+            "the schema at /columns/a is refused at /pattern: [\"\\u{202e}\"] is not of type \"string\"",
+        ),
+    ]
+}
+
+const TEXT: &str = "é\u{202e}";
+
+// What a fault says. Out of memory is an error here.
+fn fault_text(alloc: Global, fault: &PlanFault) -> Result<String, Fail> {
+    match fault {
+        PlanFault::Memory => Err(AllocError.into()),
+        _ => Ok(format!(in alloc; "{fault}")?),
+    }
+}
+
+// What `check_instance` appends, where `require_schema` answers `Ok`.
+fn checked(alloc: Global, schema: &str) -> Result<String, Fail> {
+    let (schema, rules) = (json(alloc, schema)?, Rules::new(&NoPatterns));
+    let (kind, draft) = (PlanKind::Columns, Draft::Draft7);
+    if let Err(fault) = require_schema(alloc, &rules, kind, draft, "a", &schema) {
+        return fault_text(alloc, &fault);
+    }
+    let mut out = String::new(alloc);
+    match check_instance(alloc, &rules, kind, draft, "a", &schema, &TEXT, &mut out) {
+        Ok(_) => Ok(out),
+        Err(fault) => fault_text(alloc, &fault),
+    }
+}
+
+// The same by a schema that is compiled once.
+fn checked_by_compiled(alloc: Global, schema: &str) -> Result<String, Fail> {
+    let (schema, rules) = (json(alloc, schema)?, Rules::new(&NoPatterns));
+    let (kind, draft) = (PlanKind::Columns, Draft::Draft7);
+    match compile_schema(alloc, &rules, kind, draft, "a", &schema) {
+        Ok(keywords) => {
+            let errors = errors_of(alloc, &keywords, &rules.checks, &TEXT)?;
+            let mut out = String::new(alloc);
+            push_messages(alloc, "a", &errors, &mut out)?;
+            Ok(out)
+        }
+        Err(fault) => fault_text(alloc, &fault),
+    }
+}
+
+// Where it had memory it appends every line, or tells of the fault.
+#[test]
+fn check_instance_under_refusal(rt: HostRuntime) -> Result<(), Fail> {
+    for (schema, wanted) in cases() {
+        if checked(rt.alloc(), schema)?.as_str() != wanted {
+            return Err(Fail::new(wanted));
+        }
+    }
+    Ok(())
+}
+
+// Where it had memory it appends every line, or tells of the fault.
+#[test]
+fn errors_of_under_refusal(rt: HostRuntime) -> Result<(), Fail> {
+    for (schema, wanted) in cases() {
+        if checked_by_compiled(rt.alloc(), schema)?.as_str() != wanted {
+            return Err(Fail::new(wanted));
+        }
+    }
+    Ok(())
+}

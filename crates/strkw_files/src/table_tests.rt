@@ -1,0 +1,90 @@
+//! CSV files under a caller's own rules, with each growth refused, as the tests beside it.
+
+use crate::Unwatched;
+use crate::document_tests::{IGNORING, PLAIN, Set, UNCHECKED, format_of};
+use crate::tests::json;
+use std::alloc::{AllocError, Global};
+use std::test::Fail;
+use strkw_keywords::{Checks, NamedFormat};
+use strkw_pattern::NoPatterns;
+use strkw_plan::Rules;
+use strkw_table::{TableFault, check_table};
+
+const FILE: &str = "a,b\nxxx,xxxx\nxxxx,xxx\n";
+
+// A plan, what is set, and the messages, or the text of the fault. The format `even` is registered, for texts of an even
+// number of characters.
+fn cases() -> [(&'static str, Set, &'static str); 5] {
+    [
+        (
+            r#"{"draft":7,"columns":{"a":{"format":"even"},"b":{"format":"even"}}}"#,
+            PLAIN,
+            "2: a: /format: \"xxx\" is not a \"even\"\n3: b: /format: \"xxx\" is not a \"even\"\n",
+        ),
+        (
+            r#"{"draft":202012,"columns":{"b":{"format":"even"}}}"#,
+            PLAIN,
+            "3: b: /format: \"xxx\" is not a \"even\"\n",
+        ),
+        (
+            r#"{"draft":7,"columns":{"a":{"format":"even"},"b":{"format":"odd"}}}"#,
+            PLAIN,
+            "the schema at /columns/b is refused at /format: unknown format \"odd\"",
+        ),
+        (
+            r#"{"draft":7,"columns":{"a":{"format":"even"},"b":{"format":"odd"}}}"#,
+            IGNORING,
+            "2: a: /format: \"xxx\" is not a \"even\"\n",
+        ),
+        (
+            r#"{"draft":7,"columns":{"a":{"format":"even","maxLength":3}}}"#,
+            UNCHECKED,
+            "3: a: /maxLength: \"xxxx\" is longer than 3 characters\n",
+        ),
+    ]
+}
+
+// What is told of the file.
+fn told(alloc: Global, rules: &Rules<'_, NoPatterns>, plan: &str) -> Result<String, Fail> {
+    let plan = json(alloc, plan)?;
+    let mut out = Vec::with_capacity(alloc, 200)?;
+    match check_table(
+        alloc,
+        rules,
+        &plan,
+        FILE.as_bytes(),
+        &mut out,
+        &mut Unwatched,
+    ) {
+        Ok(_) => Ok(String::from_str(alloc, str::from_utf8(&out).unwrap_or("no text"))?),
+        Err(TableFault::Memory) => Err(AllocError.into()),
+        Err(fault) => Ok(format!(in alloc; "{fault}")?),
+    }
+}
+
+// Whether each case is told as it is to be, with these formats registered.
+fn are_told(alloc: Global, formats: &[NamedFormat]) -> Result<(), Fail> {
+    for (plan, set, wanted) in cases() {
+        let rules = Rules {
+            options: set.options(),
+            checks: Checks {
+                formats,
+                media_types: &[],
+                codecs: &[],
+            },
+            builder: &NoPatterns,
+        };
+        if told(alloc, &rules, plan)?.as_str() != wanted {
+            return Err(Fail::new(plan));
+        }
+    }
+    Ok(())
+}
+
+// Where it had memory it checks by the caller's formats, as the caller's options say.
+#[test]
+fn check_table_by_rules_under_refusal(rt: HostRuntime) -> Result<(), Fail> {
+    let alloc = rt.alloc();
+    let formats = [format_of(alloc, "even", "even")?];
+    are_told(alloc, &formats)
+}

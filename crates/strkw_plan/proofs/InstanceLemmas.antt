@@ -1,0 +1,45 @@
+-- What is said of an instance by the schema of its place.
+use Rattle.std.proofs.Common.{◌≡◌, ◌++◌, ◌∙◌, ℕ, List, length, refl, sym, ap, subst, map}
+use Rattle.std.proofs.lemmas.List.{length-map}
+use Rattle.std.specs.Prelude.{Option, Some, None}
+use Rattle.std.specs.List.{concat, flat_map}
+use Rattle.serde_json.specs.Data.{Data, Members}
+use Rattle.serde_json.specs.Find.{as_object}
+use Rattle.strkw_report.specs.Kinds.{Report}
+use Rattle.strkw_pattern.specs.declared.engine.Outcome.{Outcome}
+use Rattle.strkw_keywords.specs.Errors.{NodeReports}
+use Rattle.strkw_keywords.specs.Object.{Settings}
+use Rattle.strkw_cli.specs.declared.strings.StringKeywords.{StringKeywords}
+use Rattle.strkw_cli.specs.Compiled.{IsCompiledFrom, keywords_assertions}
+use Rattle.strkw_cli.specs.Answer.{root_site}
+use Rattle.strkw_plan.specs.Messages.{IsSchema, InstanceMessages, message}
+use Rattle.strkw_plan.specs.Compiled.{IsCompiledFor}
+use Rattle.strkw_plan.proofs.Gathering.{concat-map}
+
+module _ {E : Type 0} (outcome : E → List ℕ → Outcome) (s : Settings) (k : StringKeywords E) where
+  -- what was compiled for a schema was compiled from an object
+  compiled_members : (schema : Option Members) → IsCompiledFor outcome s schema (Some k)
+      → (members : Members) × (schema ≡ Some members) × IsCompiledFrom outcome s members k
+  compiled_members None p = absurd p
+  compiled_members (Some members) p = (members, refl, p)
+
+  pub is_schema : (schema : Data) → IsCompiledFor outcome s (as_object schema) (Some k) → (members : Members) × IsSchema s schema members
+  is_schema schema p =
+      let (members, e, from) = compiled_members (as_object schema) p in
+      (members, (e, (from.entries, from.are_entries, from.good)))
+
+  -- a message for each error
+  pub said_of_instance : (schema : Data) (place : List ℕ) (instance : Option (List ℕ)) (reports : List Report) (old new : List ℕ)
+      → IsCompiledFor outcome s (as_object schema) (Some k) → NodeReports (keywords_assertions outcome k) s.lists root_site instance reports
+      → new ≡ old ++ flat_map (message place) reports
+      → (members : Members) × (messages : List (List ℕ)) × IsSchema s schema members × InstanceMessages s members place instance messages
+      × (length reports ≡ length messages) × (new ≡ old ++ concat messages)
+  said_of_instance schema place instance reports old new p errors grown =
+      let (members, e, from) = compiled_members (as_object schema) p in (
+        members,
+        map (message place) reports,
+        (e, (from.entries, from.are_entries, from.good)),
+        (reports, (from.entries, from.are_entries, subst (λ assertions. NodeReports assertions s.lists root_site instance reports) from.asserts errors), refl),
+        sym (length-map reports (message place)),
+        grown ∙ ap (λ l. old ++ l) (sym (concat-map (message place) reports)),
+      )

@@ -1,0 +1,7 @@
+pub mod Gathering
+mod Searches
+mod Members
+mod Refusals
+mod InstanceLemmas
+mod Names
+mod Twice

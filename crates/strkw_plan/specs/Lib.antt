@@ -1,0 +1,10 @@
+pub mod Vocabulary
+pub mod Rows
+pub mod Shown
+pub mod Plan
+pub mod Borrowed
+pub mod Faults
+pub mod Rules
+pub mod Messages
+pub mod Compiled
+pub mod Distinct

@@ -1,0 +1,28 @@
+-- How the errors by the schema objects of a plan are told.
+use Rattle.std.specs.Prelude.{◌≡◌, ℕ, List, ◌++◌, Option, Some, None, codes, map}
+use Rattle.serde_json.specs.Data.{Data, Members}
+use Rattle.serde_json.specs.Find.{as_object}
+use Rattle.strkw_report.specs.Kinds.{Report, text_of}
+use Rattle.strkw_report.specs.Refusals.{Refusal}
+use Rattle.strkw_keywords.specs.Object.{Settings, Errors, FirstRefusal}
+use Rattle.strkw_cli.specs.Answer.{root_site}
+use Rattle.strkw_plan.specs.Shown.{shown}
+
+-- these are the members of a schema: it is an object, and no entry of it is malformed
+abbrev pub IsSchema : Settings → Data → Members → Type 0
+IsSchema s schema members = (as_object schema ≡ Some members) × FirstRefusal s members None
+
+-- a schema is an object that is refused in this way
+abbrev pub IsRefused : Settings → Data → Refusal → Type 0
+IsRefused s schema refusal = (members : Members) × (as_object schema ≡ Some members)
+    × FirstRefusal s members (Some refusal)
+
+-- the message about an error: where it is, the keyword and what is wrong
+abbrev pub message : List ℕ → Report → List ℕ
+message place r =
+    shown place ++ codes ": " ++ r.schema_path ++ codes ": " ++ shown (text_of r) ++ codes "\n"
+
+-- the messages about an instance at a place: one for each of its errors by the schema object, in their order
+abbrev pub InstanceMessages : Settings → Members → List ℕ → Option (List ℕ) → List (List ℕ) → Type 0
+InstanceMessages s schema place instance messages = (reports : List Report)
+    × Errors s schema s.lists root_site instance reports × (messages ≡ map (message place) reports)

@@ -1,0 +1,59 @@
+//! The schema objects of a plan, compiled.
+
+ghost use Rattle.std.specs.Prelude.{◌≡◌, ◌⊎◌, Some, IfOk, IfErr};
+ghost use Rattle.serde_json.specs.Find.{as_object};
+ghost use Rattle.serde_json.specs.View.{view};
+ghost use Rattle.strkw_keywords.specs.Errors.{IsInUse};
+ghost use Rattle.strkw_keywords.specs.Handed.{lists_of};
+ghost use Rattle.strkw_cli.specs.Compiled.{keywords_assertions};
+ghost use Rattle.strkw_plan.specs.Compiled.{IsCompiledFor, Refuses};
+ghost use Rattle.strkw_plan.specs.Rules.{rules_settings};
+
+use crate::faults::{PlanFault, schema_place};
+use crate::kind::PlanKind;
+use crate::rules::Rules;
+use serde_json::Value;
+use std::alloc::Global;
+use strkw_cli::{StringKeywords, compile_strings};
+use strkw_pattern::EngineBuilder;
+use strkw_report::{CompileError, CompileErrorKind, Draft};
+
+/// What the schema of a name in a plan is compiled to, under the caller's rules. Instances are checked by it with the
+/// rules' own checks (`errors_of`).
+///
+/// Errors: `NoObject`, `Refused`, and `Memory`.
+pub fn compile_schema<B: EngineBuilder>(
+    alloc: Global,
+    rules: &Rules<'_, B>,
+    kind: PlanKind,
+    draft: Draft,
+    name: &str,
+    schema: &Value,
+) -> Result<StringKeywords<B::Engine>, PlanFault>
+    ensures compiled { let s =
+        rules_settings B.takes B.outcome admits accepted encoded decoding rules.now draft in
+        IfOk result (λ k. IsCompiledFor B.Engine.outcome s (as_object (view schema.now)) (Some k)) }
+    ensures in_use { let lists = lists_of admits accepted encoded decoding rules.now.checks in
+        IfOk result (λ k. IsInUse (keywords_assertions B.Engine.outcome k) lists) }
+    ensures refused { let s =
+        rules_settings B.takes B.outcome admits accepted encoded decoding rules.now draft in
+        IfErr result (λ fault. Refuses s kind name.now (view schema.now) fault) }
+{
+    let Some(schema) = schema.as_object() else {
+        return Err(PlanFault::NoObject(schema_place(alloc, kind, name)?));
+    };
+    let ctx = rules.context(alloc, draft);
+    match compile_strings(alloc, &ctx, schema) {
+        Ok(keywords) => Ok(keywords),
+        Err(
+            CompileError {
+                kind: CompileErrorKind::Memory,
+                ..
+            },
+        ) => Err(PlanFault::Memory),
+        Err(refusal) => Err(PlanFault::Refused {
+            place: schema_place(alloc, kind, name)?,
+            refusal,
+        }),
+    }
+}

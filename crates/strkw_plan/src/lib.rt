@@ -1,0 +1,28 @@
+//! Plans: schema objects by names, by which the fields of a CSV file or the values of a JSON document are checked; and
+//! the messages about their errors.
+#![tactic(auto)]
+
+mod compile;
+mod faults;
+mod file;
+mod instance;
+mod kind;
+mod messages;
+mod plan;
+mod problems;
+mod rules;
+mod shown;
+mod text;
+mod vocabulary;
+
+pub use compile::compile_schema;
+pub use faults::PlanFault;
+pub use file::{PlanFileFault, read_plan_file};
+pub use instance::{check_instance, require_schema};
+pub use kind::PlanKind;
+pub use messages::{errors_of, push_messages};
+pub use plan::{Plan, plan_in};
+pub use rules::Rules;
+pub use shown::{Shown, push_shown};
+pub use text::{PlanTextFault, read_plan};
+pub use vocabulary::{Standing, standing_of};

@@ -1,0 +1,293 @@
+-- What steps of a read do one after the other.
+use Rattle.std.proofs.Common.{◌≡◌, ◌≢◌, ◌≤◌, ◌+◌, ℕ, List, [], ◌∷◌, ◌++◌, length, true, false, refl, sym, ap, arith, ◌∙◌, append_assoc, Option, Some, subst, inl, inr, length-append}
+use Rattle.std.proofs.lemmas.Result.{IfOk-weaker}
+use Rattle.std.specs.Prelude.{◌⊎◌, ◌^◌, slice_get, is_some, Result, IfOk}
+use Rattle.std.proofs.lemmas.List.{append-nil}
+use Rattle.csv.specs.Machine.{Runs, field_after, fields_after, is_end, step}
+use Rattle.csv.specs.Reading.{default_config}
+use Rattle.csv.specs.declared.parser.State.{State}
+use Rattle.csv.specs.declared.parser.State.TheVariants as st
+use Rattle.strkw_records.specs.declared.faults.ReadFault.{ReadFault}
+use Rattle.strkw_records.specs.declared.faults.ReadFault.TheVariants as fault
+use Rattle.strkw_records.specs.declared.gathered.FieldEnd.{FieldEnd}
+use Rattle.strkw_records.specs.declared.gathered.FieldEnd.TheVariants as end
+use Rattle.strkw_records.specs.declared.gathered.Gathered.{Gathered}
+use Rattle.strkw_records.specs.declared.input.Input.{Input}
+use Rattle.strkw_records.specs.declared.place.Place.{Place}
+use Rattle.strkw_records.specs.Lines.{is_line_byte, place_after}
+use Rattle.strkw_records.specs.Outcomes.{Completes, EndsField, EndsPlain, Fails, FailsAtField, FailsInQuotes, FailsInRecord, Gathers, Passes, front_of_field, rest_of, whole_fields}
+use Rattle.strkw_records.specs.Records.{InQuotes, IsTooLong, nothing, quote}
+use Rattle.strkw_records.proofs.LineLemmas.{place_after-append, place_after-nil}
+use Rattle.strkw_records.proofs.OutcomeLemmas.{GoesOn, closed, opened, in_quotes-append, in_quotes-run, outcome-comma, outcome-end, outcome-goes_on, outcome-line_end, outcome-run, outcome-step, state_behind-append, state_behind-goes_on, state_behind-none, state_behind-one, state_behind-run}
+
+-- an input that stays where it is, or reads a piece
+pub passes-none : {R : Type 0} (rem : R → Option (List ℕ)) (a b : Input R) (text : List ℕ) → rest_of rem b ≡ Some text → b.place ≡ a.place
+    → Passes rem a b text [] text
+passes-none rem a b text e p = record { left = e; splits = refl; place = p ∙ sym (place_after-nil a.place) }
+
+pub passes-trans : {R : Type 0} (rem : R → Option (List ℕ)) (a b c : Input R) (text x rest y rest2 : List ℕ)
+    → Passes rem a b text x rest → Passes rem b c rest y rest2 → Passes rem a c text (x ++ y) rest2
+passes-trans rem a b c text x rest y rest2 h k = record {
+  left = k.left;
+  splits = h.splits ∙ ap (λ (l : List ℕ). x ++ l) k.splits ∙ sym (append_assoc x y rest2);
+  place = k.place ∙ ap (λ (p : Place). place_after p y) h.place ∙ sym (place_after-append a.place x y);
+}
+
+-- bytes in front of those at which the line is past a `u64`
+pub too_long-later : (p : Place) (text x rest : List ℕ) → text ≡ x ++ rest → IsTooLong (place_after p x) rest → IsTooLong p text
+too_long-later p text x rest e h = record {
+  before = x ++ h.before;
+  rest = h.rest;
+  splits = e ∙ ap (λ (l : List ℕ). x ++ l) h.splits ∙ sym (append_assoc x h.before h.rest);
+  past = by h.past;
+}
+  where
+    by : ((2 ^ 64 ≤ (place_after (place_after p x) h.before).line) ⊎ (2 ^ 64 ≤ length h.before + 1))
+        → ((2 ^ 64 ≤ (place_after p (x ++ h.before)).line) ⊎ (2 ^ 64 ≤ length (x ++ h.before) + 1))
+    by (inl k) = let line = ap (λ (q : Place). q.line) (place_after-append p x h.before) in inl (omega (arith, line, k))
+    by (inr k) = inr (simp length-append (omega arith))
+
+pub fails-later : (p q : Place) (text x rest : List ℕ) (e : ReadFault) → text ≡ x ++ rest → q ≡ place_after p x → Fails q rest e → Fails p text e
+fails-later p q text x rest (fault.Read e) s at h = tt
+fails-later p q text x rest (fault.OpenQuote line) s at h = h
+fails-later p q text x rest (fault.NotUtf8 line number) s at h = h
+fails-later p q text x rest fault.Memory s at h = tt
+fails-later p q text x rest fault.TooLong s at h = too_long-later p text x rest s (rw at at h)
+
+-- nothing yet
+abbrev pub gathers-none : {R : Type 0} (rem : R → Option (List ℕ)) (a b : Input R) (text : List ℕ) (s : State) (g : Gathered)
+    → rest_of rem b ≡ Some text → b.place ≡ a.place → Gathers rem a b text s g s g
+gathers-none rem a b text s g e p = record { bytes = []; rest = text; passes = passes-none rem a b text e p; behind = state_behind-none s; same = refl }
+
+abbrev pub gathers-trans : {R : Type 0} (rem : R → Option (List ℕ)) (a b c : Input R) (text : List ℕ) (s s1 s2 : State) (g g1 g2 : Gathered)
+    → (h : Gathers rem a b text s g s1 g1) → Gathers rem b c h.rest s1 g1 s2 g2 → Gathers rem a c text s g s2 g2
+gathers-trans rem a b c text s s1 s2 g g1 g2 h k = record {
+  bytes = h.bytes ++ k.bytes;
+  rest = k.rest;
+  passes = passes-trans rem a b c text h.bytes h.rest k.bytes k.rest h.passes k.passes;
+  behind = state_behind-append s s1 h.bytes k.bytes h.behind ∙ k.behind;
+  same = h.same ∙ k.same;
+}
+
+pub gathers-completes : {R : Type 0} (rem : R → Option (List ℕ)) (a b c : Input R) (text : List ℕ) (s s1 : State) (g g1 g2 : Gathered)
+    → (h : Gathers rem a b text s g s1 g1) → Completes rem b c h.rest s1 g1 g2 → Completes rem a c text s g g2
+gathers-completes rem a b c text s s1 g g1 g2 h k = record {
+  bytes = h.bytes ++ k.bytes;
+  rest = k.rest;
+  passes = passes-trans rem a b c text h.bytes h.rest k.bytes k.rest h.passes k.passes;
+  taken = h.same ∙ k.taken;
+}
+
+-- a run of bytes that only join a field
+abbrev pub gathers-run : {R : Type 0} (rem : R → Option (List ℕ)) (a b : Input R) (text x rest : List ℕ) (s : State) (g g2 : Gathered)
+    → Passes rem a b text x rest → Runs default_config s x → whole_fields g2 ≡ whole_fields g → front_of_field g2 ≡ front_of_field g ++ x
+    → Gathers rem a b text s g s g2
+gathers-run rem a b text x rest s g g2 h r w f = record {
+  bytes = x;
+  rest = rest;
+  passes = h;
+  behind = state_behind-run s x r;
+  same = rw (h.splits, w, f) (outcome-run s (whole_fields g) (front_of_field g) x rest r);
+}
+
+-- one byte that ends no record
+abbrev pub gathers-byte : {R : Type 0} (rem : R → Option (List ℕ)) (a b : Input R) (text rest : List ℕ) (c : ℕ) (s s2 : State) (g g2 : Gathered)
+    → Passes rem a b text (c ∷ []) rest → is_end (step default_config s c).1 ≡ false → s2 ≡ (step default_config s c).0
+    → whole_fields g2 ≡ fields_after (step default_config s c).1 (whole_fields g) (front_of_field g)
+    → front_of_field g2 ≡ field_after (step default_config s c).1 c (front_of_field g)
+    → Gathers rem a b text s g s2 g2
+gathers-byte rem a b text rest c s s2 g g2 h e to w f = record {
+  bytes = c ∷ [];
+  rest = rest;
+  passes = h;
+  behind = state_behind-one s s2 c e to;
+  same = rw (h.splits, w, f, to) (outcome-step s (whole_fields g) (front_of_field g) c rest e);
+}
+
+-- a read of a piece goes past no byte
+abbrev pub gathers-moved : {R : Type 0} (rem : R → Option (List ℕ)) (a b c : Input R) (text : List ℕ) (s s1 : State) (g g1 : Gathered)
+    → (h : Gathers rem a b text s g s1 g1) → rest_of rem c ≡ Some h.rest → c.place ≡ b.place → Gathers rem a c text s g s1 g1
+gathers-moved rem a b c text s s1 g g1 h e p = record {
+  bytes = h.bytes;
+  rest = h.rest;
+  passes = record { left = e; splits = h.passes.splits; place = p ∙ h.passes.place };
+  behind = h.behind;
+  same = h.same;
+}
+
+-- the same in quotes
+abbrev pub Quoted : {R : Type 0} → (R → Option (List ℕ)) → Input R → Input R → List ℕ → Gathered → Gathered → Type 0
+Quoted rem a b text g g2 = (h : Gathers rem a b text st.InQuoted g st.InQuoted g2) × InQuotes h.bytes
+
+abbrev pub quoted-none : {R : Type 0} (rem : R → Option (List ℕ)) (a : Input R) (text : List ℕ) (g : Gathered) → rest_of rem a ≡ Some text
+    → Quoted rem a a text g g
+quoted-none rem a text g e = (gathers-none rem a a text st.InQuoted g e refl, nothing)
+
+abbrev pub quoted-more : {R : Type 0} (rem : R → Option (List ℕ)) (a b c : Input R) (text : List ℕ) (g g1 g2 : Gathered)
+    → (q : Quoted rem a b text g g1) → (k : Gathers rem b c q.0.rest st.InQuoted g1 st.InQuoted g2) → InQuotes k.bytes → Quoted rem a c text g g2
+quoted-more rem a b c text g g1 g2 q k i = (
+  gathers-trans rem a b c text st.InQuoted st.InQuoted st.InQuoted g g1 g2 q.0 k,
+  in_quotes-append q.0.bytes k.bytes q.1 i,
+)
+
+-- a run of bytes that are no quote
+abbrev pub quoted-run : {R : Type 0} (rem : R → Option (List ℕ)) (a b c d : Input R) (text : List ℕ) (g g1 g2 : Gathered) (q : Quoted rem a b text g g1)
+    → rest_of rem c ≡ Some q.0.rest → c.place ≡ b.place → (x rest : List ℕ) → Passes rem c d q.0.rest x rest → Runs default_config st.InQuoted x
+    → whole_fields g2 ≡ whole_fields g1 → front_of_field g2 ≡ front_of_field g1 ++ x → Quoted rem a d text g g2
+quoted-run rem a b c d text g g1 g2 q e p x rest h r w f =
+    quoted-more rem a c d text g g1 g2 (gathers-moved rem a b c text st.InQuoted st.InQuoted g g1 q.0 e p, q.1)
+    (gathers-run rem c d q.0.rest x rest st.InQuoted g1 g2 h r w f) (in_quotes-run x r)
+
+pub no_head : (xs : List ℕ) (o : Option ℕ) → o ≡ slice_get xs 0 → is_some o ≡ false → xs ≡ []
+no_head [] o e h = refl
+no_head (x ∷ xs) o e h = let no = rw e at h in cc no
+
+-- the end of the text, in quotes
+pub quoted-open : {R : Type 0} (rem : R → Option (List ℕ)) (a b : Input R) (text : List ℕ) (g g1 : Gathered) (q : Quoted rem a b text g g1) → q.0.rest ≡ []
+    → InQuotes text
+quoted-open rem a b text g g1 q e =
+    let all : text ≡ q.0.bytes = q.0.passes.splits ∙ ap (λ (l : List ℕ). q.0.bytes ++ l) e ∙ append-nil q.0.bytes in
+    subst (λ (l : List ℕ). InQuotes l) (sym all) q.1
+
+pub in_quotes-later : (p q : Place) (text x rest : List ℕ) (line : ℕ) (e : ReadFault) → text ≡ x ++ rest → q ≡ place_after p x → Fails q rest e
+    → FailsInQuotes p line text e
+in_quotes-later p q text x rest line (fault.Read e) s at h = tt
+in_quotes-later p q text x rest line (fault.OpenQuote l) s at h = absurd h
+in_quotes-later p q text x rest line (fault.NotUtf8 l number) s at h = h
+in_quotes-later p q text x rest line fault.Memory s at h = tt
+in_quotes-later p q text x rest line fault.TooLong s at h = too_long-later p text x rest s (rw at at h)
+
+pub at_field-later : (p q : Place) (text x rest : List ℕ) (e : ReadFault) → text ≡ x ++ rest → q ≡ place_after p x → Fails q rest e → FailsAtField p text e
+at_field-later p q text x rest (fault.Read e) s at h = tt
+at_field-later p q text x rest (fault.OpenQuote l) s at h = absurd h
+at_field-later p q text x rest (fault.NotUtf8 l number) s at h = h
+at_field-later p q text x rest fault.Memory s at h = tt
+at_field-later p q text x rest fault.TooLong s at h = too_long-later p text x rest s (rw at at h)
+
+-- behind a quote at the start of a field
+pub at_field-quoted : (p q : Place) (text rest : List ℕ) (line : ℕ) (e : ReadFault) → text ≡ quote ∷ rest → q ≡ place_after p (quote ∷ []) → line ≡ p.line
+    → FailsInQuotes q line rest e → FailsAtField p text e
+at_field-quoted p q text rest line (fault.Read e) s at l h = tt
+at_field-quoted p q text rest line (fault.OpenQuote line2) s at l h = record { inside = rest; splits = s; stays = h.1; at_line = h.0 ∙ l }
+at_field-quoted p q text rest line (fault.NotUtf8 line2 number) s at l h = h
+at_field-quoted p q text rest line fault.Memory s at l h = tt
+at_field-quoted p q text rest line fault.TooLong s at l h = too_long-later p text (quote ∷ []) rest s (rw at at h)
+
+pub in_record-fails : (p q : Place) (text x rest : List ℕ) (e : ReadFault) → text ≡ x ++ rest → q ≡ place_after p x → Fails q rest e → FailsInRecord p text e
+in_record-fails p q text x rest (fault.Read e) s at h = tt
+in_record-fails p q text x rest (fault.OpenQuote l) s at h = absurd h
+in_record-fails p q text x rest (fault.NotUtf8 l number) s at h = h
+in_record-fails p q text x rest fault.Memory s at h = tt
+in_record-fails p q text x rest fault.TooLong s at h = too_long-later p text x rest s (rw at at h)
+
+pub in_record-later : {R : Type 0} (rem : R → Option (List ℕ)) (a b : Input R) (text : List ℕ) (g g1 : Gathered)
+    (h : Gathers rem a b text st.StartField g st.StartField g1) (e : ReadFault)
+    → FailsAtField b.place h.rest e → FailsInRecord a.place text e
+in_record-later rem a b text g g1 h (fault.Read e) k = tt
+in_record-later rem a b text g g1 h (fault.OpenQuote line) k = record {
+  before = h.bytes;
+  inside = k.inside;
+  splits = h.passes.splits ∙ ap (λ (l : List ℕ). h.bytes ++ l) k.splits;
+  behind = h.behind;
+  stays = k.stays;
+  at_line = k.at_line ∙ ap (λ (p : Place). p.line) h.passes.place;
+}
+in_record-later rem a b text g g1 h (fault.NotUtf8 line number) k = k
+in_record-later rem a b text g g1 h fault.Memory k = tt
+in_record-later rem a b text g g1 h fault.TooLong k = too_long-later a.place text h.bytes h.rest h.passes.splits (rw h.passes.place at k)
+
+-- what ends a field behind what was gathered
+pub ends-later : {R : Type 0} (rem : R → Option (List ℕ)) (a b c : Input R) (text : List ℕ) (s s1 : State) (g g1 g2 : Gathered)
+    (h : Gathers rem a b text s g s1 g1) (e : FieldEnd)
+    → EndsField rem b c h.rest s1 g1 g2 e → EndsField rem a c text s g g2 e
+ends-later rem a b c text s s1 g g1 g2 h end.Comma k = (gathers-trans rem a b c text s s1 st.StartField g g1 g2 h k.0, k.1)
+ends-later rem a b c text s s1 g g1 g2 h end.Record k = gathers-completes rem a b c text s s1 g g1 g2 h k
+
+-- a field that goes on outside quotes
+pub ends-goes_on : {R : Type 0} (rem : R → Option (List ℕ)) (a b : Input R) (text : List ℕ) (s : State) (g g2 : Gathered) (e : FieldEnd) → GoesOn s
+    → slice_get text 0 ≢ Some quote
+    → EndsField rem a b text st.InField g g2 e → EndsField rem a b text s g g2 e
+ends-goes_on rem a b text s g g2 end.Comma on other k = (
+  record {
+    bytes = k.0.bytes;
+    rest = k.0.rest;
+    passes = k.0.passes;
+    behind = state_behind-goes_on s k.0.bytes k.0.rest text on k.0.passes.splits other k.0.behind;
+    same = outcome-goes_on s (whole_fields g) (front_of_field g) text on other ∙ k.0.same;
+  },
+  k.1,
+)
+ends-goes_on rem a b text s g g2 end.Record on other k = record {
+  bytes = k.bytes;
+  rest = k.rest;
+  passes = k.passes;
+  taken = outcome-goes_on s (whole_fields g) (front_of_field g) text on other ∙ k.taken;
+}
+
+-- the end of the text ends a field, and a record
+pub completes-end : {R : Type 0} (rem : R → Option (List ℕ)) (a b : Input R) (text : List ℕ) (s : State) (g g1 g2 : Gathered)
+    (h : Gathers rem a b text s g st.InField g1)
+    → h.rest ≡ [] → whole_fields g2 ≡ whole_fields g1 ++ ((front_of_field g1 ++ []) ∷ []) → Completes rem a b text s g g2
+completes-end rem a b text s g g1 g2 h e w =
+    let all : whole_fields g2 ≡ whole_fields g1 ++ (front_of_field g1 ∷ []) = w ∙ ap (λ (l : List ℕ). whole_fields g1 ++ (l ∷ []))
+    (append-nil (front_of_field g1)) in record {
+      bytes = h.bytes;
+      rest = h.rest;
+      passes = h.passes;
+      taken = h.same ∙ rw (all, e) (outcome-end (whole_fields g1) (front_of_field g1));
+    }
+
+-- a comma ends a field
+pub ends-comma : {R : Type 0} (rem : R → Option (List ℕ)) (a b c : Input R) (text x r1 r2 : List ℕ) (g g2 : Gathered)
+    → Passes rem a b text x r1 → Passes rem b c r1 (44 ∷ []) r2 → Runs default_config st.InField x
+    → whole_fields g2 ≡ whole_fields g ++ ((front_of_field g ++ x) ∷ []) → front_of_field g2 ≡ [] → Gathers rem a c text st.InField g st.StartField g2
+ends-comma rem a b c text x r1 r2 g g2 h k r w f = record {
+  bytes = x ++ (44 ∷ []);
+  rest = r2;
+  passes = passes-trans rem a b c text x r1 (44 ∷ []) r2 h k;
+  behind = state_behind-append st.InField st.InField x (44 ∷ []) (state_behind-run st.InField x r) ∙ state_behind-one st.InField st.StartField 44 refl refl;
+  same = rw (h.splits, k.splits, w, f) (outcome-run st.InField (whole_fields g) (front_of_field g) x (44 ∷ r2) r
+      ∙ outcome-comma (whole_fields g) (front_of_field g ++ x) r2);
+}
+
+-- a line end ends a field, and a record
+pub ends-line_end : {R : Type 0} (rem : R → Option (List ℕ)) (a b c : Input R) (text x r1 r2 : List ℕ) (d : ℕ) (g g2 : Gathered)
+    → Passes rem a b text x r1 → Passes rem b c r1 (d ∷ []) r2 → Runs default_config st.InField x → is_line_byte d ≡ true
+    → whole_fields g2 ≡ whole_fields g ++ ((front_of_field g ++ x) ∷ []) → Completes rem a c text st.InField g g2
+ends-line_end rem a b c text x r1 r2 d g g2 h k r line w = record {
+  bytes = x ++ (d ∷ []);
+  rest = r2;
+  passes = passes-trans rem a b c text x r1 (d ∷ []) r2 h k;
+  taken = rw (h.splits, k.splits, w) (outcome-run st.InField (whole_fields g) (front_of_field g) x (d ∷ r2) r
+      ∙ outcome-line_end (whole_fields g) (front_of_field g ++ x) d r2 line);
+}
+
+-- a byte that ends a field outside quotes, and is no comma
+pub line_end-of : (c : ℕ) → c ≢ 44 → EndsPlain c → is_line_byte c ≡ true
+line_end-of c other (inl e) = absurd (other e)
+line_end-of c other (inr e) = e
+
+-- a field that no quote opens
+pub field-plain : {R : Type 0} (rem : R → Option (List ℕ)) (a b d : Input R) (text : List ℕ) (g g2 : Gathered) (r : Result FieldEnd ReadFault)
+    → rest_of rem b ≡ Some text → b.place ≡ a.place
+    → slice_get text 0 ≢ Some quote → IfOk r (EndsField rem b d text st.InField g g2) → IfOk r (EndsField rem a d text st.StartField g g2)
+field-plain rem a b d text g g2 r e p other h =
+    IfOk-weaker r _ _ (λ x k. ends-later rem a b d text st.StartField st.StartField g g g2 (gathers-none rem a b text st.StartField g e p) x
+    (ends-goes_on rem b d text st.StartField g g2 x opened other k)) h
+
+-- a field that a quote opens and another closes
+pub field-quoted : {R : Type 0} (rem : R → Option (List ℕ)) (a b d : Input R) (text : List ℕ) (g g1 g2 : Gathered) (r : Result FieldEnd ReadFault)
+    → (h : Gathers rem a b text st.StartField g st.AfterQuote g1) → slice_get h.rest 0 ≢ Some quote
+    → IfOk r (EndsField rem b d h.rest st.InField g1 g2) → IfOk r (EndsField rem a d text st.StartField g g2)
+field-quoted rem a b d text g g1 g2 r h other k =
+    IfOk-weaker r _ _ (λ x j. ends-later rem a b d text st.StartField st.AfterQuote g g1 g2 h x
+    (ends-goes_on rem b d h.rest st.AfterQuote g1 g2 x closed other j)) k
+
+-- the quotes of a field
+abbrev pub gathers-quotes : {R : Type 0} (rem : R → Option (List ℕ)) (a b c d : Input R) (text rest : List ℕ) (g g1 : Gathered) → rest_of rem b ≡ Some text
+    → b.place ≡ a.place
+    → Passes rem b c text (quote ∷ []) rest → Gathers rem c d rest st.InQuoted g st.AfterQuote g1 → Gathers rem a d text st.StartField g st.AfterQuote g1
+gathers-quotes rem a b c d text rest g g1 e p h k =
+    gathers-trans rem a c d text st.StartField st.InQuoted st.AfterQuote g g g1
+    (gathers-trans rem a b c text st.StartField st.StartField st.InQuoted g g g (gathers-none rem a b text st.StartField g e p)
+    (gathers-byte rem b c text rest quote st.StartField st.InQuoted g g h refl refl refl refl)) k

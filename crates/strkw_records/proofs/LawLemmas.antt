@@ -1,0 +1,157 @@
+-- The records of a whole text.
+use Rattle.std.proofs.Common.{◌≡◌, ℕ, List, [], ◌∷◌, ◌++◌, Bool, true, false, refl, sym, ap, ◌∙◌, append_assoc, Option, Some, None, inl, inr}
+use Rattle.std.specs.Prelude.{◌==◌, ◌⊎◌, ◌||◌, if◌then◌else◌}
+use Rattle.csv.specs.Machine.{Read, ends_at_end, field_after, fields_after, in_field, is_end, next_record, start_field, start_record, step}
+use Rattle.csv.specs.Reading.{AreRecords, Reached, default_config}
+use Rattle.csv.specs.declared.parser.Action.{Action}
+use Rattle.csv.specs.declared.parser.Action.TheVariants as act
+use Rattle.csv.specs.declared.parser.State.{State}
+use Rattle.csv.specs.declared.parser.State.TheVariants as st
+use Rattle.strkw_records.specs.declared.place.Place.{Place}
+use Rattle.strkw_records.specs.Lines.{blank_front, first_place, place_after}
+use Rattle.strkw_records.specs.Records.{AreLinedRecords, BeginsOnLine, LinedRecord, fields_of_each}
+use Rattle.strkw_records.proofs.LineLemmas.{place_after-append}
+
+-- a state from which the next record is read as from the start of one
+abbrev pub Fresh : State → Type 0
+Fresh s = (text : List ℕ) → next_record default_config s [] [] text ≡ next_record default_config st.StartRecord [] [] text
+
+fresh-start : Fresh st.StartRecord
+fresh-start text = refl
+
+line_feed-line : (c : ℕ) → (c == 10) ≡ true → ((c == 13) || (c == 10)) ≡ true
+line_feed-line c h = by (c == 13)
+  where
+    by : (b : Bool) → (b || (c == 10)) ≡ true
+    by true = refl
+    by false = h
+
+fresh-after_cr : Fresh st.AfterCr
+unfolding next_record
+fresh-after_cr [] = refl
+fresh-after_cr (c ∷ rest) = by (c == 10) refl
+  where
+    by : (b : Bool) → (c == 10) ≡ b → next_record default_config st.AfterCr [] [] (c ∷ rest) ≡ next_record default_config st.StartRecord [] [] (c ∷ rest)
+    by true e = rw (line_feed-line c e, e) refl
+    by false e = rw e refl
+
+-- the states behind the end of a record
+abbrev pub IsBehind : State → Type 0
+IsBehind s = (s ≡ st.StartRecord) ⊎ (s ≡ st.AfterCr)
+
+fresh-behind : (s : State) → IsBehind s → Fresh s
+fresh-behind s (inl e) = rw e fresh-start
+fresh-behind s (inr e) = rw e fresh-after_cr
+
+-- what a byte does outside quotes, by what it is
+abbrev outside : Bool → Bool → Bool → State × Action
+outside comma line cr =
+    if comma then (st.StartField, act.EndField) else if line then ((if cr then st.AfterCr else st.StartRecord), act.EndRecord) else (st.InField, act.Copy)
+
+outside-behind : (comma line cr : Bool) → is_end (outside comma line cr).1 ≡ true → IsBehind (outside comma line cr).0
+outside-behind true line cr h = cc h
+outside-behind false true true h = inr refl
+outside-behind false true false h = inl refl
+outside-behind false false cr h = cc h
+
+in_field-behind : (c : ℕ) → is_end (in_field default_config c).1 ≡ true → IsBehind (in_field default_config c).0
+in_field-behind c h = outside-behind (c == 44) ((c == 13) || (c == 10)) (c == 13) h
+
+unless-skipped : (skips : Bool) (s : State) (q : State × Action) → is_end (if skips then (s, act.Skip) else q).1 ≡ true → (is_end q.1 ≡ true → IsBehind q.0)
+    → IsBehind (if skips then (s, act.Skip) else q).0
+unless-skipped true s q h f = cc h
+unless-skipped false s q h f = f h
+
+unless-copied : (copies : Bool) (s : State) (q : State × Action) → is_end (if copies then (s, act.Copy) else q).1 ≡ true → (is_end q.1 ≡ true → IsBehind q.0)
+    → IsBehind (if copies then (s, act.Copy) else q).0
+unless-copied true s q h f = cc h
+unless-copied false s q h f = f h
+
+start_field-behind : (c : ℕ) → is_end (start_field default_config c).1 ≡ true → IsBehind (start_field default_config c).0
+start_field-behind c h = unless-skipped (c == 34) st.InQuoted (in_field default_config c) h (in_field-behind c)
+
+start_record-behind : (c : ℕ) → is_end (start_record default_config c).1 ≡ true → IsBehind (start_record default_config c).0
+start_record-behind c h = unless-skipped ((c == 13) || (c == 10)) st.StartRecord (start_field default_config c) h (start_field-behind c)
+
+-- a byte that ends a record
+step-behind : (s : State) (c : ℕ) → is_end (step default_config s c).1 ≡ true → IsBehind (step default_config s c).0
+step-behind st.StartRecord c h = start_record-behind c h
+step-behind st.StartField c h = start_field-behind c h
+step-behind st.InField c h = in_field-behind c h
+step-behind st.InQuoted c h = unless-skipped (c == 34) st.AfterQuote (st.InQuoted, act.Copy) h (λ no. cc no)
+step-behind st.InEscape c h = cc h
+step-behind st.AfterQuote c h = unless-copied (c == 34) st.InQuoted (in_field default_config c) h (in_field-behind c)
+step-behind st.InComment c h = unless-skipped (c == 10) st.StartRecord (st.InComment, act.Skip) h (λ no. cc no)
+step-behind st.AfterCr c h = unless-skipped (c == 10) st.StartRecord (start_record default_config c) h (start_record-behind c)
+
+-- the state behind a read
+abbrev read_state : Option Read → State
+read_state None = st.StartRecord
+read_state (Some r) = r.1
+
+record-behind : (s : State) (fields : List (List ℕ)) (field text : List ℕ) (got : List (List ℕ)) (s2 : State) (rest : List ℕ)
+    → next_record default_config s fields field text ≡ Some (got, s2, rest) → IsBehind s2
+unfolding next_record
+record-behind s fields field [] got s2 rest h = by (ends_at_end s) h
+  where
+    by : (b : Bool) → if◌then◌else◌ {A = Option Read} b (Some (fields ++ (field ∷ []), st.StartRecord, [])) None ≡ Some (got, s2, rest) → IsBehind s2
+    by true e = let same : st.StartRecord ≡ s2 = ap read_state e in inl (sym same)
+    by false e = cc e
+record-behind s fields field (c ∷ text) got s2 rest h =
+    by (is_end (step default_config s c).1) refl h
+    (record-behind (step default_config s c).0 (fields_after (step default_config s c).1 fields field) (field_after (step default_config s c).1 c field) text
+    got s2 rest)
+  where
+    by : (b : Bool) → is_end (step default_config s c).1 ≡ b
+        → if◌then◌else◌ {A = Option Read} b (Some (fields_after (step default_config s c).1 fields field, (step default_config s c).0, text))
+        (next_record default_config (step default_config s c).0 (fields_after (step default_config s c).1 fields field)
+        (field_after (step default_config s c).1 c field) text)
+        ≡ Some (got, s2, rest)
+        → (next_record default_config (step default_config s c).0 (fields_after (step default_config s c).1 fields field)
+        (field_after (step default_config s c).1 c field) text
+        ≡ Some (got, s2, rest)
+        → IsBehind s2)
+        → IsBehind s2
+    by true e t more = let same : (step default_config s c).0 ≡ s2 = ap read_state t in rw same at (step-behind s c e)
+    by false e t more = more t
+
+lined-records : (place : Place) (text : List ℕ) (records : List LinedRecord) (s : State) → Fresh s → AreLinedRecords place text records
+    → AreRecords default_config s text (fields_of_each records)
+unfolding AreLinedRecords Reached
+lined-records place text [] s fresh h = (s, text, (refl, refl), fresh text ∙ h)
+lined-records place text (r ∷ more) s fresh h =
+    let (behind, rest, takes, others) = h in
+    let next = fresh-behind takes.state (record-behind st.StartRecord [] [] text r.fields takes.state rest takes.reads) in
+    let (s2, ys, reached, none) = lined-records behind rest more takes.state next others in
+    (s2, ys, ((r.fields, takes.state, rest), fresh text ∙ takes.reads, refl, reached), none)
+
+pub lined-are_records : (place : Place) (text : List ℕ) (records : List LinedRecord) → AreLinedRecords place text records
+    → AreRecords default_config st.StartRecord text (fields_of_each records)
+lined-are_records place text records h = lined-records place text records st.StartRecord fresh-start h
+
+-- where a record begins, behind the records before it
+begins-behind : (place : Place) (text : List ℕ) (earlier later : List LinedRecord) (r : LinedRecord) (s : State) → Fresh s
+    → AreLinedRecords place text (earlier ++ (r ∷ later))
+    → (taken : List ℕ) × (state : State) × (rest : List ℕ) × (text ≡ taken ++ rest) × Reached default_config s text (fields_of_each earlier) state rest
+    × (r.line ≡ (place_after place (taken ++ blank_front rest)).line)
+unfolding AreLinedRecords Reached
+begins-behind place text [] later r s fresh h = let (behind, rest, takes, others) = h in ([], s, text, refl, (refl, refl), takes.begins)
+begins-behind place text (e ∷ earlier) later r s fresh h =
+    let (behind, rest, takes, others) = h in
+    let next = fresh-behind takes.state (record-behind st.StartRecord [] [] text e.fields takes.state rest takes.reads) in
+    let (taken, state, left, splits, reached, line) = begins-behind behind rest earlier later r takes.state next others in (
+      takes.bytes ++ taken,
+      state,
+      left,
+      takes.splits ∙ ap (λ (l : List ℕ). takes.bytes ++ l) splits ∙ sym (append_assoc takes.bytes taken left),
+      ((e.fields, takes.state, rest), fresh text ∙ takes.reads, refl, reached),
+      line ∙ ap (λ (p : Place). (place_after p (taken ++ blank_front left)).line) takes.leaves
+          ∙ ap (λ (p : Place). p.line) (sym (place_after-append place takes.bytes (taken ++ blank_front left)))
+          ∙ ap (λ (l : List ℕ). (place_after place l).line) (sym (append_assoc takes.bytes taken (blank_front left))),
+    )
+
+pub begins-on_line : (text : List ℕ) (earlier later : List LinedRecord) (r : LinedRecord) → AreLinedRecords first_place text (earlier ++ (r ∷ later))
+    → BeginsOnLine text (fields_of_each earlier) r.line
+begins-on_line text earlier later r h =
+    let (taken, state, rest, splits, reached, line) = begins-behind first_place text earlier later r st.StartRecord fresh-start h in
+    record { taken = taken; state = state; rest = rest; splits = splits; behind = reached; counts = line }

@@ -1,0 +1,287 @@
+-- What a text comes to, step by step.
+use Rattle.std.proofs.Common.{◌≡◌, ◌≢◌, ◌≤◌, ◌<◌, ℕ, zero, suc, List, [], ◌∷◌, ◌++◌, take, length, Bool, true, false, refl, ap, arith, ◌∙◌, append_assoc, get_or, inl, inr, Option, Some, None}
+use Rattle.std.specs.Prelude.{◌==◌, ◌||◌, if◌then◌else◌, slice_get, unwrap_or}
+use Rattle.std.proofs.Common.{eq-eqb}
+use Rattle.memchr.specs.Find.{IsFirstByte, is_byte}
+use Rattle.std.proofs.lemmas.Bool.{eqb-false, eqb-true, ne_eqb}
+use Rattle.std.proofs.lemmas.List.{append-nil}
+use Rattle.csv.specs.Machine.{Runs, ends_at_end, field_after, fields_after, is_end, next_record, step}
+use Rattle.csv.specs.Reading.{default_config}
+use Rattle.csv.specs.declared.parser.State.{State}
+use Rattle.csv.specs.declared.parser.State.TheVariants as st
+use Rattle.csv.specs.declared.parser.Action.{Action}
+use Rattle.csv.specs.declared.parser.Action.TheVariants as act
+use Rattle.strkw_records.specs.Lines.{AreLineBytes, HasNoLineByte, is_line_byte, is_or_line_byte}
+use Rattle.strkw_records.specs.Outcomes.{EndsPlain, NoRecord, Open, Taken, outcome, outcome_at_end}
+use Rattle.strkw_records.specs.Records.{InQuotes, byte, nothing, pair, quote, state_behind}
+use Rattle.strkw_records.proofs.LineLemmas.{neither}
+
+-- bytes that only join a field
+pub outcome-run : (s : State) (fields : List (List ℕ)) (field x rest : List ℕ) → Runs default_config s x
+    → outcome s fields field (x ++ rest) ≡ outcome s fields (field ++ x) rest
+unfolding outcome Runs
+outcome-run s fields field [] rest h = rw (append-nil field) refl
+outcome-run s fields field (c ∷ x) rest h =
+    rw h.0 (outcome-run s fields (field ++ (c ∷ [])) x rest h.1 ∙ ap (λ (f : List ℕ). outcome s fields f rest) (append_assoc field (c ∷ []) x))
+
+pub state_behind-run : (s : State) (x : List ℕ) → Runs default_config s x → state_behind s x ≡ Some s
+unfolding state_behind Runs
+state_behind-run s [] h = refl
+state_behind-run s (c ∷ x) h = rw h.0 (state_behind-run s x h.1)
+
+-- the state behind more bytes
+pub state_behind-append : (s s2 : State) (x y : List ℕ) → state_behind s x ≡ Some s2 → state_behind s (x ++ y) ≡ state_behind s2 y
+unfolding state_behind
+state_behind-append s s2 [] y h = let same : s ≡ s2 = cc in rw same refl
+state_behind-append s s2 (c ∷ x) y h = by (is_end (step default_config s c).1) h (state_behind-append (step default_config s c).0 s2 x y)
+  where
+    by : (b : Bool) → (if b then None else state_behind (step default_config s c).0 x) ≡ Some s2
+        → (state_behind (step default_config s c).0 x ≡ Some s2 → state_behind (step default_config s c).0 (x ++ y) ≡ state_behind s2 y)
+        → (if b then None else state_behind (step default_config s c).0 (x ++ y)) ≡ state_behind s2 y
+    by true e more = cc e
+    by false e more = more e
+
+-- one byte that ends no record
+pub outcome-step : (s : State) (fields : List (List ℕ)) (field : List ℕ) (c : ℕ) (rest : List ℕ) → is_end (step default_config s c).1 ≡ false
+    → outcome s fields field (c ∷ rest)
+    ≡ outcome (step default_config s c).0 (fields_after (step default_config s c).1 fields field) (field_after (step default_config s c).1 c field) rest
+unfolding outcome
+outcome-step s fields field c rest e = rw e refl
+
+-- blank lines before a record
+pub outcome-blank : (x rest : List ℕ) → AreLineBytes x → outcome st.StartRecord [] [] (x ++ rest) ≡ outcome st.StartRecord [] [] rest
+unfolding outcome AreLineBytes
+outcome-blank [] rest h = refl
+outcome-blank (c ∷ x) rest h = rw h.0 (outcome-blank x rest h.1)
+
+pub state_behind-blank : (x : List ℕ) → AreLineBytes x → state_behind st.StartRecord x ≡ Some st.StartRecord
+unfolding state_behind AreLineBytes
+state_behind-blank [] h = refl
+state_behind-blank (c ∷ x) h = rw h.0 (state_behind-blank x h.1)
+
+-- the first byte of a record begins a field
+pub outcome-begins : (c : ℕ) (rest : List ℕ) → is_line_byte c ≡ false → outcome st.StartRecord [] [] (c ∷ rest) ≡ outcome st.StartField [] [] (c ∷ rest)
+unfolding outcome
+outcome-begins c rest e = rw e refl
+
+pub state_behind-begins : (c : ℕ) (rest : List ℕ) → is_line_byte c ≡ false → state_behind st.StartRecord (c ∷ rest) ≡ state_behind st.StartField (c ∷ rest)
+unfolding state_behind
+state_behind-begins c rest e = rw e refl
+
+pub state_behind-none : (s : State) → state_behind s [] ≡ Some s
+unfolding state_behind
+state_behind-none s = refl
+
+pub state_behind-one : (s s2 : State) (c : ℕ) → is_end (step default_config s c).1 ≡ false → s2 ≡ (step default_config s c).0
+    → state_behind s (c ∷ []) ≡ Some s2
+unfolding state_behind
+state_behind-one s s2 c e to = rw (e, to) refl
+
+-- the states from which a field goes on outside quotes, where no quote is next
+pub data GoesOn : State → Type 0 where
+  closed : GoesOn st.AfterQuote
+  opened : GoesOn st.StartField
+
+pub outcome-goes_on : (s : State) (fields : List (List ℕ)) (field rest : List ℕ) → GoesOn s → slice_get rest 0 ≢ Some quote
+    → outcome s fields field rest ≡ outcome st.InField fields field rest
+unfolding outcome
+outcome-goes_on _ fields field [] closed other = refl
+outcome-goes_on _ fields field [] opened other = refl
+outcome-goes_on _ fields field (c ∷ rest) closed other = let plain = ne_eqb c quote (λ e. other (ap (λ (n : ℕ). Some n) e)) in rw plain refl
+outcome-goes_on _ fields field (c ∷ rest) opened other = let plain = ne_eqb c quote (λ e. other (ap (λ (n : ℕ). Some n) e)) in rw plain refl
+
+pub state_behind-goes_on : (s : State) (x rest text : List ℕ) → GoesOn s → text ≡ x ++ rest → slice_get text 0 ≢ Some quote
+    → state_behind st.InField x ≡ Some st.StartField → state_behind s x ≡ Some st.StartField
+unfolding state_behind
+state_behind-goes_on s [] rest text on e other h = let no : st.InField ≡ st.StartField = cc in cc no
+state_behind-goes_on _ (c ∷ x) rest text closed e other h =
+    let plain = ne_eqb c quote (λ is. other (rw (e, is) refl)) in rw plain h
+state_behind-goes_on _ (c ∷ x) rest text opened e other h =
+    let plain = ne_eqb c quote (λ is. other (rw (e, is) refl)) in rw plain h
+
+-- what ends a field outside quotes
+pub outcome-comma : (fields : List (List ℕ)) (field rest : List ℕ)
+    → outcome st.InField fields field (44 ∷ rest) ≡ outcome st.StartField (fields ++ (field ∷ [])) [] rest
+unfolding outcome
+outcome-comma fields field rest = refl
+
+line_byte-no_comma : (c : ℕ) → is_line_byte c ≡ true → (c == 44) ≡ false
+line_byte-no_comma c h = ne_eqb c 44 (λ e. let no = rw e at h in cc no)
+
+pub outcome-line_end : (fields : List (List ℕ)) (field : List ℕ) (c : ℕ) (rest : List ℕ) → is_line_byte c ≡ true
+    → outcome st.InField fields field (c ∷ rest) ≡ Taken (fields ++ (field ∷ [])) rest
+unfolding outcome
+outcome-line_end fields field c rest h = rw (line_byte-no_comma c h, h) refl
+
+pub outcome-end : (fields : List (List ℕ)) (field : List ℕ) → outcome st.InField fields field [] ≡ Taken (fields ++ (field ∷ [])) []
+unfolding outcome
+outcome-end fields field = refl
+
+-- bytes in quotes
+pub in_quotes-append : (x y : List ℕ) → InQuotes x → InQuotes y → InQuotes (x ++ y)
+in_quotes-append _ y nothing k = k
+in_quotes-append _ y (byte c rest other more) k = byte c (rest ++ y) other (in_quotes-append rest y more k)
+in_quotes-append _ y (pair rest more) k = pair (rest ++ y) (in_quotes-append rest y more k)
+
+in_quotes-copies : (c : ℕ) → step default_config st.InQuoted c ≡ (st.InQuoted, act.Copy) → c ≢ quote
+in_quotes-copies c h e = let at : step default_config st.InQuoted quote ≡ (st.InQuoted, act.Copy) = rw e at h in
+    let no : st.AfterQuote ≡ st.InQuoted = ap (λ (q : State × Action). q.0) at in cc no
+
+pub in_quotes-run : (x : List ℕ) → Runs default_config st.InQuoted x → InQuotes x
+unfolding Runs
+in_quotes-run [] h = nothing
+in_quotes-run (c ∷ x) h = byte c x (in_quotes-copies c h.0) (in_quotes-run x h.1)
+
+-- what the end of the text comes to, by what the machine says of it
+at_end-taken : (s : State) (all got : List (List ℕ)) (rest : List ℕ) → outcome_at_end s all ≡ Taken got rest
+    → (ends_at_end s ≡ true) × (all ≡ got) × ([] ≡ rest)
+at_end-taken st.StartRecord all got rest h = cc h
+at_end-taken st.AfterCr all got rest h = cc h
+at_end-taken st.StartField all got rest h = (refl, cc, cc)
+at_end-taken st.InField all got rest h = (refl, cc, cc)
+at_end-taken st.InQuoted all got rest h = cc h
+at_end-taken st.AfterQuote all got rest h = (refl, cc, cc)
+at_end-taken st.InEscape all got rest h = (refl, cc, cc)
+at_end-taken st.InComment all got rest h = (refl, cc, cc)
+
+at_end-none : (s : State) (all : List (List ℕ)) → outcome_at_end s all ≡ NoRecord → ends_at_end s ≡ false
+at_end-none st.StartRecord all h = refl
+at_end-none st.AfterCr all h = refl
+at_end-none st.StartField all h = cc h
+at_end-none st.InField all h = cc h
+at_end-none st.InQuoted all h = cc h
+at_end-none st.AfterQuote all h = cc h
+at_end-none st.InEscape all h = cc h
+at_end-none st.InComment all h = cc h
+
+end-fields : (a : Action) (fields : List (List ℕ)) (field : List ℕ) → is_end a ≡ true → fields_after a fields field ≡ fields ++ (field ∷ [])
+end-fields act.EndRecord fields field h = refl
+end-fields act.Skip fields field h = cc h
+end-fields act.Copy fields field h = cc h
+end-fields act.EndField fields field h = cc h
+
+-- what a text comes to is what the machine reads
+pub record-of_outcome : (s : State) (fields : List (List ℕ)) (field text : List ℕ) (got : List (List ℕ)) (rest : List ℕ)
+    → outcome s fields field text ≡ Taken got rest → (s2 : State) × (next_record default_config s fields field text ≡ Some (got, s2, rest))
+unfolding outcome next_record
+record-of_outcome s fields field [] got rest h =
+    let parts = at_end-taken s (fields ++ (field ∷ [])) got rest h in
+    (st.StartRecord, rw (parts.0, parts.1, parts.2) refl)
+record-of_outcome s fields field (c ∷ text) got rest h = by (is_end a) refl h (record-of_outcome s2 (fields_after a fields field) (field_after a c field) text
+    got rest)
+  where
+    a : Action
+    a = (step default_config s c).1
+
+    s2 : State
+    s2 = (step default_config s c).0
+
+    by : (b : Bool) → is_end (step default_config s c).1 ≡ b
+        → (if b then Taken (fields ++ (field ∷ [])) text
+        else outcome (step default_config s c).0 (fields_after (step default_config s c).1 fields field) (field_after (step default_config s c).1 c field)
+        text) ≡ Taken got rest
+        → (outcome (step default_config s c).0 (fields_after (step default_config s c).1 fields field) (field_after (step default_config s c).1 c field)
+        text ≡ Taken got rest
+        → (s3 : State) × (next_record default_config (step default_config s c).0 (fields_after (step default_config s c).1 fields field)
+        (field_after (step default_config s c).1 c field) text ≡ Some (got, s3, rest)))
+        → (s3 : State) × ((if b then Some (fields_after (step default_config s c).1 fields field, (step default_config s c).0, text)
+        else next_record default_config (step default_config s c).0 (fields_after (step default_config s c).1 fields field)
+        (field_after (step default_config s c).1 c field) text) ≡ Some (got, s3, rest))
+    by true e t more =
+        let all : fields ++ (field ∷ []) ≡ got = cc in
+        let left : text ≡ rest = cc in
+        ((step default_config s c).0, rw (end-fields (step default_config s c).1 fields field e, all, left) refl)
+    by false e t more = more t
+
+pub none-of_outcome : (s : State) (fields : List (List ℕ)) (field text : List ℕ)
+    → outcome s fields field text ≡ NoRecord → next_record default_config s fields field text ≡ None
+unfolding outcome next_record
+none-of_outcome s fields field [] h = rw (at_end-none s (fields ++ (field ∷ [])) h) refl
+none-of_outcome s fields field (c ∷ text) h =
+    by (is_end (step default_config s c).1) h
+    (none-of_outcome (step default_config s c).0 (fields_after (step default_config s c).1 fields field) (field_after (step default_config s c).1 c field) text)
+  where
+    by : (b : Bool)
+        → (if b then Taken (fields ++ (field ∷ [])) text
+        else outcome (step default_config s c).0 (fields_after (step default_config s c).1 fields field) (field_after (step default_config s c).1 c field)
+        text) ≡ NoRecord
+        → (outcome (step default_config s c).0 (fields_after (step default_config s c).1 fields field) (field_after (step default_config s c).1 c field)
+        text ≡ NoRecord
+        → next_record default_config (step default_config s c).0 (fields_after (step default_config s c).1 fields field)
+        (field_after (step default_config s c).1 c field) text ≡ None)
+        → (if b then Some (fields_after (step default_config s c).1 fields field, (step default_config s c).0, text)
+        else next_record default_config (step default_config s c).0 (fields_after (step default_config s c).1 fields field)
+        (field_after (step default_config s c).1 c field) text) ≡ None
+    by true t more = cc t
+    by false t more = more t
+
+-- an open quote, by the states behind bytes
+pub outcome-open : (s : State) (fields : List (List ℕ)) (field text : List ℕ) → state_behind s text ≡ Some st.InQuoted → outcome s fields field text ≡ Open
+unfolding outcome state_behind
+outcome-open s fields field [] h = let same : s ≡ st.InQuoted = cc in rw same refl
+outcome-open s fields field (c ∷ text) h =
+    by (is_end (step default_config s c).1) h
+    (outcome-open (step default_config s c).0 (fields_after (step default_config s c).1 fields field) (field_after (step default_config s c).1 c field) text)
+  where
+    by : (b : Bool) → (if b then None else state_behind (step default_config s c).0 text) ≡ Some st.InQuoted
+        → (state_behind (step default_config s c).0 text ≡ Some st.InQuoted
+        → outcome (step default_config s c).0 (fields_after (step default_config s c).1 fields field) (field_after (step default_config s c).1 c field)
+        text ≡ Open)
+        → (if b then Taken (fields ++ (field ∷ [])) text
+        else outcome (step default_config s c).0 (fields_after (step default_config s c).1 fields field) (field_after (step default_config s c).1 c field)
+        text) ≡ Open
+    by true t more = cc t
+    by false t more = more t
+
+pub state_behind-in_quotes : (x : List ℕ) → InQuotes x → state_behind st.InQuoted x ≡ Some st.InQuoted
+unfolding state_behind
+state_behind-in_quotes _ nothing = refl
+state_behind-in_quotes _ (byte c rest other more) = rw (ne_eqb c quote other) (state_behind-in_quotes rest more)
+state_behind-in_quotes _ (pair rest more) = state_behind-in_quotes rest more
+
+pub plain-copies : (c : ℕ) → c ≢ 44 → is_line_byte c ≡ false → step default_config st.InField c ≡ (st.InField, act.Copy)
+plain-copies c other line = rw (ne_eqb c 44 other, line) refl
+
+pub quoted-copies : (c : ℕ) → c ≢ quote → step default_config st.InQuoted c ≡ (st.InQuoted, act.Copy)
+quoted-copies c other = rw (ne_eqb c quote other) refl
+
+-- a byte that ends a field outside quotes
+pub ends_plain-of : (c : ℕ) → is_or_line_byte 44 c ≡ true → EndsPlain c
+ends_plain-of c h = by (c == 44) refl h
+  where
+    by : (b : Bool) → (c == 44) ≡ b → (b || is_line_byte c) ≡ true → EndsPlain c
+    by true e h = inl (eqb-true c 44 e)
+    by false e h = inr h
+
+-- bytes that only join a field outside quotes
+pub plain-below : (xs : List ℕ) (n : ℕ) → n ≤ length xs → ((k : ℕ) → k < n → is_or_line_byte 44 (get_or xs k 0) ≡ false)
+    → Runs default_config st.InField (take n xs) × HasNoLineByte (take n xs)
+unfolding Runs HasNoLineByte
+plain-below xs zero l h = (tt, tt)
+plain-below [] (suc n) l h = (tt, tt)
+plain-below (x ∷ xs) (suc n) l h =
+    let here = neither (x == 44) (is_line_byte x) (h 0 (omega arith)) in
+    let more = plain-below xs n (omega arith) (λ k a. h (suc k) (omega arith)) in
+    ((plain-copies x (eqb-false x 44 here.0) here.1, more.0), (here.1, more.1))
+
+-- bytes that only join a field in quotes, and end no line
+pub quoted_line-below : (xs : List ℕ) (n : ℕ) → n ≤ length xs → ((k : ℕ) → k < n → is_or_line_byte 34 (get_or xs k 0) ≡ false)
+    → Runs default_config st.InQuoted (take n xs) × HasNoLineByte (take n xs)
+unfolding Runs HasNoLineByte
+quoted_line-below xs zero l h = (tt, tt)
+quoted_line-below [] (suc n) l h = (tt, tt)
+quoted_line-below (x ∷ xs) (suc n) l h =
+    let here = neither (x == 34) (is_line_byte x) (h 0 (omega arith)) in
+    let more = quoted_line-below xs n (omega arith) (λ k a. h (suc k) (omega arith)) in
+    ((quoted-copies x (eqb-false x 34 here.0), more.0), (here.1, more.1))
+
+copies-below : (xs : List ℕ) (n : ℕ) → ((k : ℕ) → k < n → k < length xs → get_or xs k 0 ≢ quote) → Runs default_config st.InQuoted (take n xs)
+unfolding Runs
+copies-below xs zero h = tt
+copies-below [] (suc n) h = tt
+copies-below (x ∷ xs) (suc n) h = (quoted-copies x (h 0 (omega arith) (omega arith)), copies-below xs n (λ k a b. h (suc k) (omega arith) (omega arith)))
+
+pub quoted_run-copies : (xs : List ℕ) (found : Option ℕ) (n : ℕ) → IsFirstByte (is_byte quote) xs found → n ≡ unwrap_or found (length xs)
+    → Runs default_config st.InQuoted (take n xs)
+quoted_run-copies xs None n h e = rw e (copies-below xs (length xs) (λ k a b is. h k (omega arith) b (eq-eqb _ _ is)))
+quoted_run-copies xs (Some at) n h e = rw e (copies-below xs at (λ k a b is. h.0.before k (omega arith) a (eq-eqb _ _ is)))

@@ -1,0 +1,129 @@
+-- What a read of a record does.
+use Rattle.std.proofs.Common.{◌≡◌, ◌<◌, ℕ, List, [], ◌∷◌, ◌++◌, drop, length, true, false, refl, sym, ap, arith, ◌∙◌, append_assoc, Option, Some, None, inl, inr}
+use Rattle.std.specs.Str.{IsAscii}
+use Rattle.std.proofs.lemmas.List.{append-nil}
+use Rattle.std.proofs.lemmas.Str.{IsAscii-drop, IsAscii-take, IsUtf8-from_ascii}
+use Rattle.csv.specs.Machine.{next_record}
+use Rattle.csv.specs.Reading.{default_config}
+use Rattle.csv.specs.Records.{AllText, cut_from}
+use Rattle.csv.specs.declared.parser.State.TheVariants as st
+use Rattle.strkw_records.specs.declared.faults.ReadFault.{ReadFault}
+use Rattle.strkw_records.specs.declared.faults.ReadFault.TheVariants as fault
+use Rattle.strkw_records.specs.declared.gathered.Gathered.{Gathered}
+use Rattle.strkw_records.specs.declared.input.Input.{Input}
+use Rattle.strkw_records.specs.declared.place.Place.{Place}
+use Rattle.strkw_records.specs.declared.reader.RecordReader.{RecordReader}
+use Rattle.strkw_records.specs.Lines.{blank_front, is_line_byte, place_after}
+use Rattle.strkw_records.specs.Outcomes.{Completes, Fails, FailsInRecord, Open, OpensIn, Passes, Taken, front_of_field, outcome, rest_of, whole_fields}
+use Rattle.strkw_records.specs.Reading.{Explains, place_of, unread_of}
+use Rattle.strkw_records.specs.Records.{IsBeforeField, IsOpenAt, TakesRecord, quote, state_behind}
+use Rattle.strkw_records.proofs.GatherLemmas.{passes-trans, too_long-later}
+use Rattle.strkw_records.proofs.LineLemmas.{blank_front-lines, blank_front-next, place_after-append}
+use Rattle.strkw_records.proofs.OutcomeLemmas.{none-of_outcome, outcome-begins, outcome-blank, outcome-open, record-of_outcome, state_behind-append, state_behind-begins, state_behind-blank, state_behind-in_quotes}
+
+-- each part of a text of ASCII is ASCII, and so is UTF-8
+pub all_text-ascii : (start : ℕ) (ends bytes : List ℕ) → IsAscii bytes → AllText (cut_from start ends bytes)
+unfolding AllText cut_from
+all_text-ascii start [] bytes h = tt
+all_text-ascii start (end ∷ ends) bytes h =
+    (IsUtf8-from_ascii _ (IsAscii-take (drop start bytes) _ (IsAscii-drop bytes start h)), all_text-ascii end ends bytes h)
+
+-- behind the start, what is unread is what the input has left
+pub unread-begun : {R : Type 0} (rem : R → Option (List ℕ)) (r : RecordReader R) → r.has_begun ≡ true → unread_of rem r ≡ rest_of rem r.input
+unread-begun rem r e = rw e refl
+
+pub explains-fails : {R : Type 0} (rem : R → Option (List ℕ)) (old new : RecordReader R) (text : List ℕ) (e : ReadFault) → Fails (place_of old) text e
+    → Explains rem old new text e
+explains-fails rem old new text (fault.Read e) h = tt
+explains-fails rem old new text (fault.OpenQuote line) h = absurd h
+explains-fails rem old new text (fault.NotUtf8 line number) h = absurd h
+explains-fails rem old new text fault.Memory h = tt
+explains-fails rem old new text fault.TooLong h = h
+
+-- nothing but blank lines
+pub no_record : (text rest : List ℕ) → text ≡ blank_front text ++ rest → (0 < length rest → ⊥) → next_record default_config st.StartRecord [] [] text ≡ None
+unfolding outcome
+no_record text [] e h =
+    let here : outcome st.StartRecord [] [] text ≡ outcome st.StartRecord [] [] [] =
+    ap (λ (l : List ℕ). outcome st.StartRecord [] [] l) e ∙ outcome-blank (blank_front text) [] (blank_front-lines text)
+    in none-of_outcome st.StartRecord [] [] text here
+no_record text (c ∷ rest) e h = absurd (h (omega arith))
+
+-- the blank lines before a record, and the record
+begins : (text rest : List ℕ) → text ≡ blank_front text ++ rest → 0 < length rest → outcome st.StartRecord [] [] text ≡ outcome st.StartField [] [] rest
+begins text [] e h = absurd (omega arith)
+begins text (c ∷ rest) e h =
+    ap (λ (l : List ℕ). outcome st.StartRecord [] [] l) e ∙ outcome-blank (blank_front text) (c ∷ rest) (blank_front-lines text)
+    ∙ outcome-begins c rest (blank_front-next text c rest e)
+
+-- a quote that is open
+open-outcome : (p : Place) (text : List ℕ) (line : ℕ) → IsOpenAt p text line → outcome st.StartRecord [] [] text ≡ Open
+unfolding state_behind
+open-outcome p text line h =
+    let inside = state_behind-in_quotes h.inside h.stays in
+    let whole = by h.before h.inside h.opens inside in
+    outcome-open st.StartRecord [] [] text (ap (λ (l : List ℕ). state_behind st.StartRecord l) h.splits ∙ whole)
+  where
+    by : (before inside : List ℕ) → IsBeforeField before → state_behind st.InQuoted inside ≡ Some st.InQuoted
+        → state_behind st.StartRecord (before ++ (quote ∷ inside)) ≡ Some st.InQuoted
+    by before inside (inl e) k = state_behind-append st.StartRecord st.StartRecord before (quote ∷ inside) e ∙ k
+    by before inside (inr e) k = state_behind-append st.StartRecord st.StartField before (quote ∷ inside) e ∙ k
+
+not_open : (p : Place) (text : List ℕ) (got : List (List ℕ)) (rest : List ℕ) → outcome st.StartRecord [] [] text ≡ Taken got rest → (line : ℕ)
+    → ¬ (IsOpenAt p text line)
+not_open p text got rest h line k = let no : Open ≡ Taken got rest = sym (open-outcome p text line k) ∙ h in cc no
+
+pub takes-record : {R : Type 0} (rem : R → Option (List ℕ)) (a b c : Input R) (text rest : List ℕ) (g g2 : Gathered) (line : ℕ)
+    → Passes rem a b text (blank_front text) rest → 0 < length rest → whole_fields g ≡ [] → front_of_field g ≡ []
+    → line ≡ b.place.line → (k : Completes rem b c rest st.StartField g g2) → TakesRecord a.place text line (whole_fields g2) c.place k.rest
+takes-record rem a b c text rest g g2 line h some w f at k =
+    let got : outcome st.StartField [] [] rest ≡ Taken (whole_fields g2) k.rest = rw (w, f) at k.taken in
+    let whole = begins text rest h.splits some ∙ got in
+    let read = record-of_outcome st.StartRecord [] [] text (whole_fields g2) k.rest whole in
+    let both = passes-trans rem a b c text (blank_front text) rest k.bytes k.rest h k.passes in record {
+      bytes = blank_front text ++ k.bytes;
+      state = read.0;
+      splits = both.splits;
+      reads = read.1;
+      begins = at ∙ ap (λ (p : Place). p.line) h.place;
+      leaves = both.place;
+      closed = not_open a.place text (whole_fields g2) k.rest whole;
+    }
+
+opens-in : (p q : Place) (text rest : List ℕ) (line : ℕ) → text ≡ blank_front text ++ rest → q ≡ place_after p (blank_front text) → OpensIn q line rest
+    → IsOpenAt p text line
+opens-in p q text rest line e at h = record {
+  before = blank_front text ++ h.before;
+  inside = h.inside;
+  splits = e ∙ ap (λ (l : List ℕ). blank_front text ++ l) h.splits ∙ sym (append_assoc (blank_front text) h.before (quote ∷ h.inside));
+  opens = by h.before h.inside h.splits h.behind;
+  stays = h.stays;
+  at_line = h.at_line ∙ ap (λ (z : Place). (place_after z h.before).line) at ∙ ap (λ (z : Place). z.line)
+      (sym (place_after-append p (blank_front text) h.before));
+}
+  where
+    blank : state_behind st.StartRecord (blank_front text) ≡ Some st.StartRecord
+    blank = state_behind-blank (blank_front text) (blank_front-lines text)
+
+    by : (before inside : List ℕ) → rest ≡ before ++ (quote ∷ inside) → state_behind st.StartField before ≡ Some st.StartField
+        → IsBeforeField (blank_front text ++ before)
+    by [] inside s k = inl (ap (λ (l : List ℕ). state_behind st.StartRecord l) (append-nil (blank_front text)) ∙ blank)
+    by (c ∷ before) inside s k =
+        let first : is_line_byte c ≡ false = blank_front-next text c (before ++ (quote ∷ inside)) (e ∙ ap (λ (l : List ℕ). blank_front text ++ l) s) in
+        inr (state_behind-append st.StartRecord st.StartRecord (blank_front text) (c ∷ before) blank ∙ state_behind-begins c before first ∙ k)
+
+pub explains-in_record : {R : Type 0} (rem : R → Option (List ℕ)) (old new : RecordReader R) (q : Place) (text rest : List ℕ) (e : ReadFault)
+    → text ≡ blank_front text ++ rest → q ≡ place_after (place_of old) (blank_front text) → FailsInRecord q rest e → Explains rem old new text e
+explains-in_record rem old new q text rest (fault.Read e) s at h = tt
+explains-in_record rem old new q text rest (fault.OpenQuote line) s at h = opens-in (place_of old) q text rest line s at h
+explains-in_record rem old new q text rest (fault.NotUtf8 line number) s at h = absurd h
+explains-in_record rem old new q text rest fault.Memory s at h = tt
+explains-in_record rem old new q text rest fault.TooLong s at h = too_long-later (place_of old) text (blank_front text) rest s (rw at at h)
+
+-- the same record, by other names
+pub takes-same : (p p2 : Place) (text : List ℕ) (line : ℕ) (f f2 : List (List ℕ)) (q q2 : Place) (rest : List ℕ) → p ≡ p2 → f ≡ f2 → q ≡ q2
+    → TakesRecord p text line f q rest → TakesRecord p2 text line f2 q2 rest
+takes-same p p2 text line f f2 q q2 rest e1 e2 e3 h = rw (← e1, ← e2, ← e3) h
+
+pub place-of : {R : Type 0} {a b : Input R} → a ≡ b → a.place ≡ b.place
+place-of {R} e = ap (λ (i : Input R). i.place) e

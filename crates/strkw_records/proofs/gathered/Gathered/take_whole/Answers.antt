@@ -1,0 +1,34 @@
+use Rattle.std.proofs.Common.{arith}
+use Rattle.csv.proofs.WriteFacts.{slice-end}
+use Rattle.strkw_records.specs.Lines.{HasNoLineByte}
+use Rattle.strkw_records.proofs.FrontLemmas.{no_front, no_line-comma, no_line-front, takes_fields-front, takes_fields-none, takes_last-front, within-comma}
+use Rattle.strkw_records.proofs.gathered.Gathered.take_whole.Goals as goal
+
+pub fields-init : goal.fields-init
+unfolding HasNoLineByte
+fields-init c = record { within = omega arith; front = c.requires.front; plain = tt; takes = takes_fields-none c.args.self.now }
+
+pub returns-then-rest-front-ne44-clause-plain : goal.returns-then-rest-front-ne44-clause-plain
+returns-then-rest-front-ne44-clause-plain c =
+    no_line-front c.args.bytes.now _ c.fields.at c.in-Some.front (slice-end c.args.bytes.now c.fields.at) c.fields.invariant.within c.fields.invariant.plain
+    c.in-Some.ensures
+
+pub returns-then-rest-front-ne44-clause-takes : goal.returns-then-rest-front-ne44-clause-takes
+returns-then-rest-front-ne44-clause-takes c =
+    takes_last-front c.args.self.now c.fields.self _ c.args.bytes.now _ c.fields.at c.in-Some.front (slice-end c.args.bytes.now c.fields.at)
+    c.fields.invariant.within
+    c.fields.invariant.takes c.in-Some.ensures c.if-rest-front-ne44.true c.fields.invariant.front c.in_ok-push_field.ensures.fields
+
+pub fields-preserved : goal.fields-preserved
+fields-preserved c =
+    let v = c.fields.invariant in
+    let e = slice-end c.args.bytes.now c.fields.at in
+    let k = c.in-Some.ensures in
+    let comma = c.if-rest-front-ne44.false in
+    record {
+      within = within-comma c.args.bytes.now _ c.fields.at c.in-Some.front e v.within k;
+      front = no_front _ _ c.fields.self.field.items v.front c.in_ok-push_field.ensures.partial;
+      plain = no_line-comma c.args.bytes.now _ c.fields.at c.in-Some.front e v.within v.plain k comma;
+      takes = takes_fields-front c.args.self.now c.fields.self _ c.args.bytes.now _ c.fields.at c.in-Some.front e v.within v.takes k comma v.front
+          c.in_ok-push_field.ensures.fields;
+    }

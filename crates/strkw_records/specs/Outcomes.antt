@@ -1,0 +1,138 @@
+-- What the steps of a read do.
+use Rattle.std.specs.Prelude.{◌≡◌, ◌⊎◌, ℕ, true, if◌then◌else◌, List, [], ◌∷◌, ◌++◌, Option, Some, ⊤}
+use Rattle.std.specs.Io.KnownBytes.{prepend_known}
+use Rattle.csv.specs.Machine.{field_after, fields_after, is_end, step}
+use Rattle.csv.specs.Reading.{default_config}
+use Rattle.csv.specs.Records.{fields_of, partial_of}
+use Rattle.csv.specs.declared.parser.State.{State}
+use Rattle.csv.specs.declared.parser.State.TheVariants as st
+use Rattle.strkw_records.specs.declared.faults.ReadFault.{ReadFault}
+use Rattle.strkw_records.specs.declared.faults.ReadFault.TheVariants as fault
+use Rattle.strkw_records.specs.declared.gathered.FieldEnd.{FieldEnd}
+use Rattle.strkw_records.specs.declared.gathered.FieldEnd.TheVariants as end
+use Rattle.strkw_records.specs.declared.gathered.Gathered.{Gathered}
+use Rattle.strkw_records.specs.declared.input.Input.{Input}
+use Rattle.strkw_records.specs.declared.place.Place.{Place}
+use Rattle.strkw_records.specs.Lines.{is_line_byte, place_after}
+use Rattle.strkw_records.specs.Records.{InQuotes, IsTooLong, quote, state_behind}
+
+-- a byte that ends a field outside quotes: a comma or a line end
+abbrev pub EndsPlain : ℕ → Type 0
+EndsPlain c = (c ≡ default_config.delimiter) ⊎ (is_line_byte c ≡ true)
+
+-- what reading a text comes to: a quote that is open at the end, no record, or the fields of one
+-- and the rest of the text
+pub data Outcome : Type 0 where
+  Open : Outcome
+  NoRecord : Outcome
+  Taken : List (List ℕ) → List ℕ → Outcome
+
+-- what the end of the text comes to, in a state
+abbrev pub outcome_at_end : State → List (List ℕ) → Outcome
+outcome_at_end st.StartRecord fields = NoRecord
+outcome_at_end st.AfterCr fields = NoRecord
+outcome_at_end st.StartField fields = Taken fields []
+outcome_at_end st.InField fields = Taken fields []
+outcome_at_end st.InQuoted fields = Open
+outcome_at_end st.AfterQuote fields = Taken fields []
+outcome_at_end st.InEscape fields = Taken fields []
+outcome_at_end st.InComment fields = Taken fields []
+
+-- what a text comes to, from a state, behind fields and the front of another
+unfoldable pub outcome : State → List (List ℕ) → List ℕ → List ℕ → Outcome
+outcome s fields field [] = outcome_at_end s (fields ++ (field ∷ []))
+outcome s fields field (c ∷ rest) =
+    if is_end (step default_config s c).1 then Taken (fields ++ (field ∷ [])) rest
+    else outcome (step default_config s c).0 (fields_after (step default_config s c).1 fields field)
+    (field_after (step default_config s c).1 c field) rest
+
+-- the bytes that an input has left, where those of its source are known
+abbrev pub rest_of : {R : Type 0} → (R → Option (List ℕ)) → Input R → Option (List ℕ)
+rest_of rem input = prepend_known input.piece (rem input.source)
+
+-- an input, which has this text left, went past these bytes, to the rest
+pub record Passes {R : Type 0} (rem : R → Option (List ℕ)) (old new : Input R)
+    (text bytes rest : List ℕ) : Type 0 where
+  pub left : rest_of rem new ≡ Some rest
+  pub splits : text ≡ bytes ++ rest
+  pub place : new.place ≡ place_after old.place bytes
+
+-- the fields that were gathered, and the front of another
+abbrev pub whole_fields : Gathered → List (List ℕ)
+whole_fields g = fields_of g.fields
+
+abbrev pub front_of_field : Gathered → List ℕ
+front_of_field g = partial_of g.fields ++ g.field.items
+
+-- an input, which has this text left, went past bytes that took the machine, and what was gathered,
+-- from the one to the other
+pub record Gathers {R : Type 0} (rem : R → Option (List ℕ)) (old new : Input R) (text : List ℕ)
+    (s : State) (before : Gathered) (s2 : State) (after : Gathered) : Type 0 where
+  pub bytes : List ℕ
+  pub rest : List ℕ
+  pub passes : Passes rem old new text bytes rest
+  pub behind : state_behind s bytes ≡ Some s2
+  pub same : outcome s (whole_fields before) (front_of_field before) text
+      ≡ outcome s2 (whole_fields after) (front_of_field after) rest
+
+-- an input, which has this text left, went past the end of a record, whose fields were gathered
+pub record Completes {R : Type 0} (rem : R → Option (List ℕ)) (old new : Input R) (text : List ℕ)
+    (s : State) (before after : Gathered) : Type 0 where
+  pub bytes : List ℕ
+  pub rest : List ℕ
+  pub passes : Passes rem old new text bytes rest
+  pub taken : outcome s (whole_fields before) (front_of_field before) text
+      ≡ Taken (whole_fields after) rest
+
+-- the same, by what ended a field
+abbrev pub EndsField : {R : Type 0} → (R → Option (List ℕ)) → Input R → Input R → List ℕ → State
+    → Gathered → Gathered → FieldEnd → Type 0
+EndsField rem old new text s before after end.Comma =
+    Gathers rem old new text s before st.StartField after × (front_of_field after ≡ [])
+EndsField rem old new text s before after end.Record = Completes rem old new text s before after
+
+-- why reading on from a place failed, where no quote was open
+abbrev pub Fails : Place → List ℕ → ReadFault → Type 0
+Fails place text (fault.Read e) = ⊤
+Fails place text (fault.OpenQuote line) = ⊥
+Fails place text (fault.NotUtf8 line number) = ⊥
+Fails place text fault.Memory = ⊤
+Fails place text fault.TooLong = IsTooLong place text
+
+-- the same behind a quote that opened on a line: it may be still open at the end
+abbrev pub FailsInQuotes : Place → ℕ → List ℕ → ReadFault → Type 0
+FailsInQuotes place opened text (fault.Read e) = ⊤
+FailsInQuotes place opened text (fault.OpenQuote line) = (line ≡ opened) × InQuotes text
+FailsInQuotes place opened text (fault.NotUtf8 line number) = ⊥
+FailsInQuotes place opened text fault.Memory = ⊤
+FailsInQuotes place opened text fault.TooLong = IsTooLong place text
+
+-- the same at the start of a field: a quote there may open, and be still open at the end
+pub record OpensAt (place : Place) (line : ℕ) (text : List ℕ) : Type 0 where
+  pub inside : List ℕ
+  pub splits : text ≡ quote ∷ inside
+  pub stays : InQuotes inside
+  pub at_line : line ≡ place.line
+
+abbrev pub FailsAtField : Place → List ℕ → ReadFault → Type 0
+FailsAtField place text (fault.Read e) = ⊤
+FailsAtField place text (fault.OpenQuote line) = OpensAt place line text
+FailsAtField place text (fault.NotUtf8 line number) = ⊥
+FailsAtField place text fault.Memory = ⊤
+FailsAtField place text fault.TooLong = IsTooLong place text
+
+-- the same at the start of a record: a quote may open at the start of one of its fields
+pub record OpensIn (place : Place) (line : ℕ) (text : List ℕ) : Type 0 where
+  pub before : List ℕ
+  pub inside : List ℕ
+  pub splits : text ≡ before ++ quote ∷ inside
+  pub behind : state_behind st.StartField before ≡ Some st.StartField
+  pub stays : InQuotes inside
+  pub at_line : line ≡ (place_after place before).line
+
+abbrev pub FailsInRecord : Place → List ℕ → ReadFault → Type 0
+FailsInRecord place text (fault.Read e) = ⊤
+FailsInRecord place text (fault.OpenQuote line) = OpensIn place line text
+FailsInRecord place text (fault.NotUtf8 line number) = ⊥
+FailsInRecord place text fault.Memory = ⊤
+FailsInRecord place text fault.TooLong = IsTooLong place text

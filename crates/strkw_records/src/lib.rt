@@ -1,0 +1,18 @@
+//! The records of a CSV file, each with the line on which it begins. What records a text has, the kit's `csv` says of
+//! its default reader; lines are counted as an editor counts them, and a quote that is not closed is a fault.
+#![tactic(auto)]
+
+mod faults;
+mod front;
+mod gathered;
+mod input;
+pub mod laws;
+mod piece;
+mod place;
+mod reader;
+mod runs;
+#[cfg(test)]
+mod tests;
+
+pub use faults::ReadFault;
+pub use reader::RecordReader;

@@ -1,0 +1,136 @@
+//! Reading records.
+
+ghost use Rattle.csv.specs.Records.{AllText, fields_of};
+ghost use Rattle.std.specs.Prelude.{IfNone, IfSome};
+ghost use Rattle.strkw_records.specs.Records.{IsFirstNotUtf8};
+
+use crate::faults::ReadFault;
+use crate::gathered::Gathered;
+use crate::input::Input;
+use csv::{ByteRecord, StringRecord};
+use std::alloc::{AllocError, Global};
+use std::io::Read;
+use std::{mem, str};
+
+/// Reads the records of a source, one after the other, as the kit's `csv` does by default: fields are parted by
+/// commas, a field may stand in quotes, and blank lines belong to no record.
+///
+/// A read that fails by `NotUtf8` has taken the record, and reading goes on behind it. After any other fault the
+/// reader stands somewhere in a record: it is of no more use.
+#[derive(Drop)]
+pub struct RecordReader<R> {
+    alloc: Global,
+    input: Input<R>,
+    gathered: Gathered,
+    // The start of the text is behind, and so is a byte order mark there.
+    has_begun: bool,
+}
+
+impl<R: Read> RecordReader<R> {
+    ghost use Rattle.std.specs.Prelude.{◌≡◌, ℕ, List, [], true, Some, None, option_map, IfOk, IfErr, OnOk, OnErr};
+    ghost use Rattle.csv.specs.Machine.{next_record};
+    ghost use Rattle.csv.specs.Reading.{default_config, strip_bom};
+    ghost use Rattle.csv.specs.declared.parser.State.TheVariants as st;
+    ghost use Rattle.strkw_records.specs.Lines.{first_place};
+    ghost use Rattle.strkw_records.specs.Reading.{Explains, Takes, place_of, unread_of};
+
+    /// A reader of the records of a source, from its start. A byte order mark there is dropped.
+    ///
+    /// Errors: out of memory.
+    pub fn new(alloc: Global, source: R) -> Result<RecordReader<R>, AllocError>
+    where
+        R: Drop,
+        ensures text { IfOk result (λ reader. unread_of R.remaining reader
+            ≡ option_map strip_bom (R.remaining source)) }
+        ensures place { IfOk result (λ reader. place_of reader ≡ first_place) }
+    {
+        Ok(RecordReader {
+            alloc,
+            input: Input::new(alloc, source)?,
+            gathered: Gathered::new(alloc),
+            has_begun: false,
+        })
+    }
+
+    // Goes past a byte order mark, where nothing was read yet.
+    fn begin(&mut self) -> Result<(), ReadFault>
+        ensures begun { OnOk result (self.new.has_begun ≡ true) }
+        ensures text { (text : List ℕ) → unread_of R.remaining self.old ≡ Some text
+            → OnOk result (unread_of R.remaining self.new ≡ Some text) }
+        ensures place { place_of self.new ≡ place_of self.old }
+        ensures fails { (text : List ℕ)
+            → IfErr result (Explains R.remaining self.old self.new text) }
+    {
+        if !self.has_begun && self.input.piece.unread().is_empty() {
+            self.input.skip_mark()?;
+        }
+        self.has_begun = true;
+        Ok(())
+    }
+
+    // Gives the fields that were gathered to a row; or the number of the first that is not UTF-8.
+    fn give(&mut self, row: &mut StringRecord) -> Result<(), usize>
+        ensures ok { OnOk result (fields_of row.new ≡ fields_of self.old.gathered.fields) }
+        ensures bad { IfErr result (IsFirstNotUtf8 (fields_of self.old.gathered.fields)) }
+        ensures kept { OnErr result (row.new ≡ row.old) }
+        ensures input { self.new.input ≡ self.old.input }
+        ensures begun { self.new.has_begun ≡ self.old.has_begun }
+    {
+        if let Some(number) = first_not_utf8(&self.gathered.fields) {
+            return Err(number);
+        }
+        let spare = ByteRecord::new(self.alloc);
+        let fields = mem::replace(&mut self.gathered.fields, spare);
+        if let Ok(text) = StringRecord::from_byte_record(fields) {
+            self.gathered.fields = mem::replace(row, text).into_byte_record();
+        }
+        Ok(())
+    }
+
+    /// Reads the fields of the next record into a row, and answers the line, from 1, on which the record begins; none
+    /// behind the last record. Blank lines before a record are counted, and so are line ends in quotes.
+    ///
+    /// Errors: each `ReadFault`. The row is then as it was.
+    pub fn read(&mut self, row: &mut StringRecord) -> Result<Option<u64>, ReadFault>
+        ensures record { (text : List ℕ) → unread_of R.remaining self.old ≡ Some text
+            → IfOk result (λ o. IfSome o (λ line.
+            Takes R.remaining self.old self.new text line (fields_of row.new))) }
+        ensures end { (text : List ℕ) → unread_of R.remaining self.old ≡ Some text
+            → IfOk result (λ o. o ≡ None
+            → next_record default_config st.StartRecord [] [] text ≡ None) }
+        ensures fault { (text : List ℕ) → unread_of R.remaining self.old ≡ Some text
+            → IfErr result (Explains R.remaining self.old self.new text) }
+        ensures kept { OnErr result (row.new ≡ row.old) }
+    {
+        self.begin()?;
+        self.gathered.clear();
+        let has_more = self.input.skip_blank_lines()?;
+        if !has_more {
+            return Ok(None);
+        }
+        let line = self.input.place.line;
+        self.gathered.take_record(&mut self.input)?;
+        match self.give(row) {
+            Ok(()) => Ok(Some(line)),
+            Err(field) => Err(ReadFault::NotUtf8 { line, field }),
+        }
+    }
+}
+
+// The number, from 1, of the first field that is not UTF-8.
+fn first_not_utf8(fields: &ByteRecord) -> Option<usize>
+    ensures some { IfSome result (IsFirstNotUtf8 (fields_of fields.now)) }
+    ensures none { IfNone result (AllText (fields_of fields.now)) }
+{
+    if fields.as_slice().is_ascii() {
+        return None;
+    }
+    for at in 0..fields.len() {
+        let field = fields.get(at)?;
+        match str::from_utf8(field) {
+            Ok(_) => {}
+            Err(_) => return Some(at + 1),
+        }
+    }
+    None
+}

@@ -1,0 +1,128 @@
+//! Runs of bytes at the front of a text.
+
+ghost use Rattle.std.specs.Prelude.{◌≡◌, ◌↔◌, ◌≤◌, ◌<◌, ◌==◌, if◌then◌else◌, true, false, not, ℕ, length, take, slice_index};
+ghost use Rattle.std.specs.Int.{trailing_zeros, w64};
+ghost use Rattle.std.specs.List.{prefix_len};
+ghost use Rattle.csv.specs.Machine.{Runs};
+ghost use Rattle.csv.specs.Reading.{default_config};
+ghost use Rattle.csv.specs.declared.parser.State.TheVariants as st;
+ghost use Rattle.strkw_records.specs.Lines.{AreLineBytes, HasNoLineByte, is_line_byte, is_or_line_byte};
+ghost use Rattle.strkw_records.specs.Outcomes.{EndsPlain};
+ghost use Rattle.strkw_records.specs.Records.{quote};
+
+use memchr::{memchr, memchr2, memchr3};
+use std::simd::prelude::*;
+
+// So many bytes are looked at together.
+const LANES: usize = 16;
+
+// Whether a byte is the end of a line, or a part of one.
+#[inline(always)]
+fn is_line_byte(byte: u8) -> bool
+    ensures { result ≡ is_line_byte byte }
+{
+    byte == b'\r' || byte == b'\n'
+}
+
+/// Whether a byte ends a field outside quotes.
+#[inline(always)]
+pub(crate) fn ends_plain(byte: u8) -> bool
+    ensures { (result ≡ true) ↔ EndsPlain byte }
+{
+    byte == b',' || is_line_byte(byte)
+}
+
+/// How many carriage returns and line feeds stand at the front.
+pub(crate) fn line_bytes_run(bytes: &[u8]) -> usize
+    ensures within { result ≤ length bytes.now }
+    ensures run { AreLineBytes (take result bytes.now) }
+    ensures stops { result < length bytes.now
+        → is_line_byte (slice_index bytes.now result) ≡ false }
+{
+    for (at, byte) in bytes.iter().enumerate() {
+        if !is_line_byte(*byte) {
+            return at;
+        }
+    }
+    bytes.len()
+}
+
+/// How many bytes stand before the first that is the end of a line, or a part of one.
+pub(crate) fn line_free_run(bytes: &[u8]) -> usize
+    ensures within { result ≤ length bytes.now }
+    ensures plain { HasNoLineByte (take result bytes.now) }
+{
+    memchr2(b'\r', b'\n', bytes).unwrap_or(bytes.len())
+}
+
+// The place of the lowest bit that is set, or the number of lanes.
+#[inline(always)]
+fn first_set(mask: u64) -> usize
+    ensures { result ≡ (if mask == 0 then 16 else trailing_zeros w64 mask) }
+{
+    if mask == 0 {
+        LANES
+    } else {
+        mask.trailing_zeros() as usize
+    }
+}
+
+// How many bytes of the block at the front stand before the first that is this one or a part of a line end.
+#[inline(always)]
+fn run_of_block(byte: u8, bytes: &[u8]) -> usize
+    requires { 16 ≤ length bytes.now }
+    ensures { result ≡ prefix_len (λ c. not (is_or_line_byte byte c)) (take 16 bytes.now) }
+{
+    let block = u8x16::from_slice(bytes);
+    let same = block.simd_eq(u8x16::splat(byte));
+    let returns = block.simd_eq(u8x16::splat(b'\r'));
+    let feeds = block.simd_eq(u8x16::splat(b'\n'));
+    first_set((same | (returns | feeds)).to_bitmask())
+}
+
+// How many bytes stand before the first that is this one or a part of a line end. Most fields are short: so a block is
+// looked at first.
+#[inline(always)]
+fn run_before(byte: u8, bytes: &[u8]) -> usize
+    ensures within { result ≤ length bytes.now }
+    ensures before { (k : ℕ) → k < result → is_or_line_byte byte (slice_index bytes.now k) ≡ false }
+    ensures stops { result < length bytes.now
+        → is_or_line_byte byte (slice_index bytes.now result) ≡ true }
+{
+    if bytes.len() >= LANES {
+        let count = run_of_block(byte, bytes);
+        if count < LANES {
+            return count;
+        }
+    }
+    memchr3(byte, b'\r', b'\n', bytes).unwrap_or(bytes.len())
+}
+
+/// How many bytes stand before the first that ends a field with no quotes.
+#[inline(always)]
+pub(crate) fn plain_run(bytes: &[u8]) -> usize
+    ensures within { result ≤ length bytes.now }
+    ensures run { Runs default_config st.InField (take result bytes.now) }
+    ensures plain { HasNoLineByte (take result bytes.now) }
+    ensures stops { result < length bytes.now → EndsPlain (slice_index bytes.now result) }
+{
+    run_before(b',', bytes)
+}
+
+/// How many bytes stand before the first quote.
+pub(crate) fn quoted_run(bytes: &[u8]) -> usize
+    ensures within { result ≤ length bytes.now }
+    ensures run { Runs default_config st.InQuoted (take result bytes.now) }
+    ensures stops { result < length bytes.now → slice_index bytes.now result ≡ quote }
+{
+    memchr(b'"', bytes).unwrap_or(bytes.len())
+}
+
+/// How many bytes stand before the first quote, and before the first end of a line.
+pub(crate) fn quoted_line_run(bytes: &[u8]) -> usize
+    ensures within { result ≤ length bytes.now }
+    ensures run { Runs default_config st.InQuoted (take result bytes.now) }
+    ensures plain { HasNoLineByte (take result bytes.now) }
+{
+    run_before(b'"', bytes)
+}

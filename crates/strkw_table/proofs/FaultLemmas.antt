@@ -1,0 +1,218 @@
+-- Why a file is not checked to its end.
+use Rattle.std.proofs.Common.{◌≡◌, ◌⊎◌, ℕ, List, [], length, subst, Option, Some, true, inl, inr}
+use Rattle.std.specs.Prelude.{Result, Ok, Err, IfErr}
+use Rattle.std.specs.List.{concat}
+use Rattle.serde_json.specs.Data.{Data}
+use Rattle.strkw_report.specs.declared.draft.Draft.{Draft}
+use Rattle.strkw_keywords.specs.Object.{Settings}
+use Rattle.strkw_plan.specs.declared.faults.PlanFault.{PlanFault}
+use Rattle.strkw_plan.specs.declared.faults.PlanFault.TheVariants as refused
+use Rattle.strkw_plan.specs.declared.kind.PlanKind.TheVariants.{Columns}
+use Rattle.strkw_plan.specs.Plan.{Plan, plan_of}
+use Rattle.strkw_records.specs.declared.faults.ReadFault.{ReadFault}
+use Rattle.strkw_records.specs.declared.faults.ReadFault.TheVariants as read
+use Rattle.strkw_records.specs.declared.place.Place.{Place}
+use Rattle.strkw_records.specs.declared.reader.RecordReader.{RecordReader}
+use Rattle.strkw_records.specs.Lines.{first_place}
+use Rattle.strkw_records.specs.Reading.{Explains, place_of}
+use Rattle.strkw_records.specs.Records.{LinedRecord, TakesRecord}
+use Rattle.strkw_table.specs.declared.faults.TableFault.{TableFault}
+use Rattle.strkw_table.specs.declared.faults.TableFault.TheVariants as fault
+use Rattle.strkw_table.specs.Faults.{IsHeader, IsNoPlanFault, IsUnexplained, IsWhy, IsWhyOfNames, IsWhyOfNext, IsWhyOfRows, IsWhyOfText, IsWhyUnread}
+use Rattle.strkw_table.specs.Fields.{AreDistinct, AreNamed, MessagesOf}
+use Rattle.strkw_table.specs.Gives.{GivesOfPlan, GivesOfReading}
+use Rattle.strkw_table.specs.Rows.{AreFirstRecords, HaveWidth, OfRecords}
+
+-- a fault that is none of the plan needs no reason by the plan
+no_plan : (settings : Draft → Settings) (plan : Data) (why : TableFault) → IsNoPlanFault why → IsWhy settings plan why
+no_plan settings plan (fault.Plan why) p = absurd p
+no_plan settings plan (fault.Missing name) p = tt
+no_plan settings plan (fault.Twice name first second) p = tt
+no_plan settings plan fault.NoHeader p = tt
+no_plan settings plan (fault.Fields line expected found) p = tt
+no_plan settings plan (fault.Record why) p = tt
+no_plan settings plan fault.Write p = tt
+no_plan settings plan fault.Memory p = tt
+no_plan settings plan fault.TooLong p = tt
+
+pub if_err-no_plan : {T : Type 0} (settings : Draft → Settings) (plan : Data) (r : Result T TableFault) → IfErr r IsNoPlanFault → IfErr r (IsWhy settings plan)
+if_err-no_plan settings plan (Ok x) p = tt
+if_err-no_plan settings plan (Err why) p = no_plan settings plan why p
+
+-- none of the plan is one of the names in a first record
+pub no_plan_of_names : (p : Plan) (names : List (List ℕ)) (why : TableFault) → IsWhyOfNames p names why → IsNoPlanFault why
+no_plan_of_names p names (fault.Plan why) named = cc named
+no_plan_of_names p names (fault.Missing name) named = tt
+no_plan_of_names p names (fault.Twice name first second) named = tt
+no_plan_of_names p names fault.NoHeader named = tt
+no_plan_of_names p names (fault.Fields line expected found) named = tt
+no_plan_of_names p names (fault.Record why) named = tt
+no_plan_of_names p names fault.Write named = tt
+no_plan_of_names p names fault.Memory named = tt
+no_plan_of_names p names fault.TooLong named = tt
+
+-- what a reader explains of its text is why the next record is not read
+unread : {R : Type 0} (rem : R → Option (List ℕ)) (old new : RecordReader R) (text : List ℕ) (e : ReadFault) → Explains rem old new text e
+    → IsWhyUnread (place_of old) text e
+unread rem old new text (read.Read e) p = tt
+unread rem old new text (read.OpenQuote line) p = p
+unread rem old new text (read.NotUtf8 line number) p =
+    let (fields, takes, first) = p in
+    let (rest, at, taken) = takes in
+    (fields, place_of new, rest, taken, first)
+unread rem old new text read.Memory p = tt
+unread rem old new text read.TooLong p = tt
+
+pub why_of_read : {R : Type 0} (rem : R → Option (List ℕ)) (old new : RecordReader R) (text : List ℕ) (width : ℕ) (e : ReadFault) (why : TableFault)
+    → Explains rem old new text e
+    → GivesOfReading e why → IsWhyOfNext width (place_of old) text why
+why_of_read rem old new text width (read.Read e) why p gives = rw gives tt
+why_of_read rem old new text width (read.OpenQuote line) why p gives = rw gives p
+why_of_read rem old new text width (read.NotUtf8 line number) why p gives = rw gives (unread rem old new text (read.NotUtf8 line number) p)
+why_of_read rem old new text width read.Memory why p gives = rw gives tt
+why_of_read rem old new text width read.TooLong why p gives = rw gives tt
+
+-- a fault that needs no reason has one at any record
+pub why_of_next : (width : ℕ) (place : Place) (text : List ℕ) (why : TableFault) → IsUnexplained why → IsWhyOfNext width place text why
+why_of_next width place text (fault.Plan why) p = absurd p
+why_of_next width place text (fault.Missing name) p = absurd p
+why_of_next width place text (fault.Twice name first second) p = absurd p
+why_of_next width place text fault.NoHeader p = absurd p
+why_of_next width place text (fault.Fields line expected found) p = absurd p
+why_of_next width place text (fault.Record why) p = absurd p
+why_of_next width place text fault.Write p = tt
+why_of_next width place text fault.Memory p = tt
+why_of_next width place text fault.TooLong p = tt
+
+module _ {C : Type 0} (says : C → ℕ → List ℕ → List (List ℕ) → Type 0) (columns : List C) (place : Place) (text : List ℕ) (wrote : List ℕ → Type 0) where
+  pub why_of_rows : (why : TableFault) → IsUnexplained why → IsWhyOfRows says columns place text wrote why
+  why_of_rows (fault.Plan why) p = absurd p
+  why_of_rows (fault.Missing name) p = absurd p
+  why_of_rows (fault.Twice name first second) p = absurd p
+  why_of_rows fault.NoHeader p = absurd p
+  why_of_rows (fault.Fields line expected found) p = absurd p
+  why_of_rows (fault.Record why) p = absurd p
+  why_of_rows fault.Write p = tt
+  why_of_rows fault.Memory p = tt
+  why_of_rows fault.TooLong p = tt
+
+  -- why the next record is not checked, behind those that are, is why one of the records is not
+  pub why_behind : (earlier : List LinedRecord) (messages : List (List ℕ)) (behind : Place) (rest : List ℕ) (why : TableFault)
+      → AreFirstRecords place text earlier behind rest → HaveWidth (length columns) earlier → OfRecords says columns earlier messages
+      → ((IsUnexplained why → ⊥) → wrote (concat messages)) → IsWhyOfNext (length columns) behind rest why → IsWhyOfRows says columns place text wrote why
+  why_behind earlier messages behind rest (fault.Plan why) first width said written p = p
+  why_behind earlier messages behind rest (fault.Missing name) first width said written p = p
+  why_behind earlier messages behind rest (fault.Twice name one other) first width said written p = p
+  why_behind earlier messages behind rest fault.NoHeader first width said written p = p
+  why_behind earlier messages behind rest (fault.Fields line expected found) first width said written p =
+      (earlier, messages, behind, rest, first, width, said, written (λ q. q), p)
+  why_behind earlier messages behind rest (fault.Record why) first width said written p =
+      (earlier, messages, behind, rest, first, width, said, written (λ q. q), p)
+  why_behind earlier messages behind rest fault.Write first width said written p = tt
+  why_behind earlier messages behind rest fault.Memory first width said written p = tt
+  why_behind earlier messages behind rest fault.TooLong first width said written p = tt
+
+  -- what was written may be said otherwise
+  pub why_written : (other : List ℕ → Type 0) → ((lines : List ℕ) → wrote lines → other lines) → (why : TableFault)
+      → IsWhyOfRows says columns place text wrote why
+      → IsWhyOfRows says columns place text other why
+  why_written other put (fault.Plan why) p = p
+  why_written other put (fault.Missing name) p = p
+  why_written other put (fault.Twice name first second) p = p
+  why_written other put fault.NoHeader p = p
+  why_written other put (fault.Fields line expected found) p =
+      let (earlier, messages, behind, rest, first, width, said, written, is) = p in
+      (earlier, messages, behind, rest, first, width, said, put (concat messages) written, is)
+  why_written other put (fault.Record why) p =
+      let (earlier, messages, behind, rest, first, width, said, written, is) = p in
+      (earlier, messages, behind, rest, first, width, said, put (concat messages) written, is)
+  why_written other put fault.Write p = p
+  why_written other put fault.Memory p = p
+  why_written other put fault.TooLong p = p
+
+module _ (settings : Draft → Settings) (plan : Data) (text : List ℕ) (wrote : List ℕ → Type 0) where
+  -- out of memory needs no reason
+  pub why_of_memory : (why : TableFault) → why ≡ fault.Memory → IsWhyOfText settings plan text wrote why
+  why_of_memory why e = rw e tt
+
+  -- a fault of the plan comes before anything is written
+  pub why_of_plan : (e : PlanFault) (why : TableFault) → GivesOfPlan e why → wrote [] → IsWhyOfText settings plan text wrote why
+  why_of_plan (refused.NoPlan kind) why gives written = rw gives written
+  why_of_plan (refused.UnknownMember kind name nearest) why gives written = rw gives written
+  why_of_plan refused.NoNames why gives written = rw gives written
+  why_of_plan refused.NoEach why gives written = rw gives written
+  why_of_plan (refused.Empty kind) why gives written = rw gives written
+  why_of_plan (refused.NoObject place) why gives written = rw gives written
+  why_of_plan (refused.UnknownKeyword place keyword nearest) why gives written = rw gives written
+  why_of_plan (refused.UncheckedKeyword place keyword) why gives written = rw gives written
+  why_of_plan (refused.Refused place refusal) why gives written = rw gives written
+  why_of_plan refused.Memory why gives written = rw gives tt
+
+  -- and so does a first record that is not read
+  pub why_of_first : {R : Type 0} (rem : R → Option (List ℕ)) (old new : RecordReader R) (e : ReadFault) (why : TableFault) → place_of old ≡ first_place
+      → Explains rem old new text e → GivesOfReading e why → wrote [] → IsWhyOfText settings plan text wrote why
+  why_of_first rem old new (read.Read e) why at p gives written = rw gives (inl (written, tt))
+  why_of_first rem old new (read.OpenQuote line) why at p gives written = rw gives
+      (inl (written, subst (λ place. IsWhyUnread place text (read.OpenQuote line)) at p))
+  why_of_first rem old new (read.NotUtf8 line number) why at p gives written =
+      rw gives (inl (written, subst (λ place. IsWhyUnread place text (read.NotUtf8 line number)) at (unread rem old new text (read.NotUtf8 line number) p)))
+  why_of_first rem old new read.Memory why at p gives written = rw gives tt
+  why_of_first rem old new read.TooLong why at p gives written = rw gives tt
+
+  -- and one whose names are not those of the plan
+  pub why_of_names : (p : Plan) (names : List (List ℕ)) (why : TableFault) → plan_of Columns plan ≡ Some p → IsHeader text names → IsWhyOfNames p names why
+      → wrote []
+      → IsWhyOfText settings plan text wrote why
+  why_of_names p names (fault.Plan why) is header named written = cc named
+  why_of_names p names (fault.Missing name) is header named written = (written, (p, names, is, header, named))
+  why_of_names p names (fault.Twice name first second) is header named written = (written, (p, names, is, header, named))
+  why_of_names p names fault.NoHeader is header named written = cc named
+  why_of_names p names (fault.Fields line expected found) is header named written = cc named
+  why_of_names p names (fault.Record why) is header named written = cc named
+  why_of_names p names fault.Write is header named written = tt
+  why_of_names p names fault.Memory is header named written = tt
+  why_of_names p names fault.TooLong is header named written = tt
+
+  -- why one of the records behind the first is not checked
+  pub why_under_header : (p : Plan) (names : LinedRecord) (behind : Place) (rest : List ℕ) (why : TableFault) → plan_of Columns plan ≡ Some p
+      → AreNamed names.fields p.schemas
+      → (p.checks_each ≡ true) ⊎ AreDistinct names.fields → TakesRecord first_place text names.line names.fields behind rest
+      → IsWhyOfRows (MessagesOf (settings p.draft) p.schemas) names.fields behind rest wrote why → IsWhyOfText settings plan text wrote why
+  why_under_header p names behind rest (fault.Plan why) is named each header q = absurd q
+  why_under_header p names behind rest (fault.Missing name) is named each header q = absurd q
+  why_under_header p names behind rest (fault.Twice name first second) is named each header q = absurd q
+  why_under_header p names behind rest fault.NoHeader is named each header q = absurd q
+  why_under_header p names behind rest (fault.Fields line expected found) is named each header q = (p, names, behind, rest, is, named, each, header, q)
+  why_under_header p names behind rest (fault.Record why) is named each header q = inr (p, names, behind, rest, is, named, each, header, q)
+  why_under_header p names behind rest fault.Write is named each header q = tt
+  why_under_header p names behind rest fault.Memory is named each header q = tt
+  why_under_header p names behind rest fault.TooLong is named each header q = tt
+
+-- why one of the records is not checked by columns is why it is not by what they stand for
+module _ {C D : Type 0} (says : C → ℕ → List ℕ → List (List ℕ) → Type 0) (tells : D → ℕ → List ℕ → List (List ℕ) → Type 0) (columns : List C) (names : List D)
+    (same : length columns ≡ length names)
+    (along : (records : List LinedRecord) (messages : List (List ℕ)) → OfRecords says columns records messages → OfRecords tells names records messages) where
+  pub why_along : (place : Place) (text : List ℕ) (wrote : List ℕ → Type 0) (why : TableFault) → IsWhyOfRows says columns place text wrote why
+      → IsWhyOfRows tells names place text wrote why
+  why_along place text wrote (fault.Plan why) p = p
+  why_along place text wrote (fault.Missing name) p = p
+  why_along place text wrote (fault.Twice name first second) p = p
+  why_along place text wrote fault.NoHeader p = p
+  why_along place text wrote (fault.Fields line expected found) p =
+      let (earlier, messages, behind, rest, first, width, said, written, is) = p in (
+        earlier,
+        messages,
+        behind,
+        rest,
+        first,
+        subst (λ n. HaveWidth n earlier) same width,
+        along earlier messages said,
+        written,
+        subst (λ n. IsWhyOfNext n behind rest (fault.Fields line expected found)) same is,
+      )
+  why_along place text wrote (fault.Record why) p =
+      let (earlier, messages, behind, rest, first, width, said, written, is) = p in
+      (earlier, messages, behind, rest, first, subst (λ n. HaveWidth n earlier) same width, along earlier messages said, written, is)
+  why_along place text wrote fault.Write p = p
+  why_along place text wrote fault.Memory p = p
+  why_along place text wrote fault.TooLong p = p
