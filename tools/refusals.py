@@ -2,7 +2,8 @@
 """Runs built tests and the program with one call failing at a time: each growth, and each read and write.
 
     python3 tools/refusals.py           on the binaries that the last `rt ci` left in crates/*/out
-    python3 tools/refusals.py --gate    first `rt ci` itself, and last tools/programs.py and bindings/test; the last line counts all
+    python3 tools/refusals.py --gate    first `rt ci` itself, and last tools/programs.py, `tools/sizes.py --bounded`
+                                        and bindings/test; the last line counts all
 
 A *row* is a test whose name ends in `_under_refusal`. With ample memory it passes only where its calls answer what
 they are to answer. Here it is run alone, once with nothing refused, when it has to pass, and then with growth 1, 2, ..
@@ -208,6 +209,7 @@ def main():
     counts.append(((rows + programs).count(True), (rows + programs).count(False)))
     if is_gate:
         counts.append(counted([sys.executable, "tools/programs.py"], "tools/programs.py"))
+        counts.append(counted([sys.executable, "tools/sizes.py", "--bounded"], "tools/sizes.py"))
         counts.append(counted(["sh", "-c", "bindings/build && bindings/test"], "bindings/test"))
     passed, failed = map(sum, zip(*counts))
     say(f"{passed} passed, {failed} failed")

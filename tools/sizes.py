@@ -3,6 +3,9 @@
 
     python3 tools/sizes.py              on crates/strkw/out/strkw, sizes as named (two minutes, 3 GB of memory)
     python3 tools/sizes.py --small      the rows without a limit of memory, at a thousandth of the size (seconds)
+    python3 tools/sizes.py --bounded    lines of 16 MB under a limit of memory of three times their length (seconds; the
+                                        gate runs it)
+    python3 tools/sizes.py --shares     how many times a line's length is held at most, for each kind of value: a table
     python3 tools/sizes.py PROGRAM      on a program that stands elsewhere
 
 A row passes where the program ends with the wanted status, says what is wanted on standard error, and writes what is
@@ -92,6 +95,58 @@ def rows(unit):
     ]
 
 
+def values(size):
+    """A JSON value of each kind, of about so many bytes."""
+    return {
+        "a text": text_of(size),
+        "a text of escapes": b'"' + b"\\u00e9" * (size // 6) + b'"',
+        "a number": b"1" + b"0" * 300 + b"." + b"0" * size,
+        "an array of digits": b"[" + b",".join([b"1"] * (size // 2)) + b"]",
+        "nested arrays": b"[" + b",".join([b"[" * 60 + b"]" * 60] * (size // 121)) + b"]",
+        "an object": members_of(size // 16),
+    }
+
+
+MEMBERS = ("draft", "fold", "validate_formats", "ignore_unknown_formats", "schema", "instance", "another member")
+
+
+def line_with(member, value):
+    """A request with this value at this member, whatever else it has."""
+    parts = {b"draft": b"7", b"schema": b"{}", b"instance": b'"a"'}
+    parts[member.encode()] = value
+    return b"{" + b",".join(b'"%s":%s' % part for part in parts.items()) + b"}\n"
+
+
+def is_request(member, kind):
+    return member == "instance" or member == "schema" and kind == "an object"
+
+
+def bounded_rows(size):
+    """Lines whose values are not kept: three times their length has to be room enough, and what the program itself needs."""
+    for member in MEMBERS:
+        for kind, value in values(size).items():
+            if member != "schema" or kind != "an object":
+                line = line_with(member, value)
+                yield Row(f"{member}: {kind}", lambda line=line: line,
+                          lambda ok=is_request(member, kind): VALID if ok else BAD, room=3 * len(line) + 8 * MEGABYTE)
+
+
+def print_shares(program, folder, size=16 * MEGABYTE):
+    """Prints how many times the length of a line the program held at most, by member and kind of value."""
+    kinds = list(values(0))
+    print("| | " + " | ".join(kinds) + " |")
+    print("|---" * (len(kinds) + 1) + "|")
+    for member in MEMBERS:
+        shares = []
+        for value in values(size).values():
+            row = Row(member, lambda value=value: line_with(member, value), bytes)
+            given, written = Path(folder) / "given", Path(folder) / "written"
+            _, longest = write_input(row, given)
+            *_, peak = outcome(row, program, given, written)
+            shares.append(f"{peak / longest:.1f}")
+        print(f"| `{member}` | " + " | ".join(shares) + " |", flush=True)
+
+
 def limited(room):
     def limit():
         if room is not None:
@@ -128,12 +183,15 @@ def is_right(row, status, output, said):
 
 
 def main():
-    words = [word for word in sys.argv[1:] if word != "--small"]
-    small = "--small" in sys.argv[1:]
+    words = [word for word in sys.argv[1:] if not word.startswith("--")]
+    small, bounded = "--small" in sys.argv[1:], "--bounded" in sys.argv[1:]
     program = Path(words[0]).resolve() if words else TOP / "crates/strkw/out/strkw"
     passed = failed = 0
     with tempfile.TemporaryDirectory() as folder:
-        for row in rows(1 if small else 1000):
+        if "--shares" in sys.argv[1:]:
+            print_shares(program, folder)
+            return 0
+        for row in bounded_rows(16 * MEGABYTE) if bounded else rows(1 if small else 1000):
             if small and row.room is not None:
                 continue
             given, written = Path(folder) / "given", Path(folder) / "written"

@@ -1,5 +1,5 @@
 -- The request that a text is, by its tokens.
-use Rattle.std.proofs.Common.{◌≡◌, ℕ, ◌-◌, nat_lt, List, [], ◌∷◌, true, false, Option, Some, None, option_and_then, refl, sym, ap, ◌∙◌, true≢false}
+use Rattle.std.proofs.Common.{◌≡◌, ℕ, ◌-◌, nat_lt, List, [], ◌∷◌, false, Option, Some, None, option_and_then, refl, ap, ◌∙◌, true≢false}
 use Rattle.json.specs.Token.{Token}
 use Rattle.json.specs.Lex.{tokens}
 use Rattle.json.specs.Json.{parse_map}

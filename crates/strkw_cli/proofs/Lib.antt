@@ -11,9 +11,11 @@ pub mod AnswerMeaning
 pub mod LineLemmas
 pub mod AnswerLemmas
 pub mod OutcomeLemmas
+pub mod BoundLemmas
 pub mod RunLemmas
 pub mod Folding
 pub mod AnswerExistence
 pub mod Lines
 pub mod Asked
 pub mod Parts
+pub mod Scalars

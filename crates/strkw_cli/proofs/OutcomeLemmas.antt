@@ -6,7 +6,7 @@ use Rattle.std.proofs.lemmas.Bool.{cases_lt, ne_eqb}
 use Rattle.std.specs.Io.KnownBytes.{Appends}
 use Rattle.strkw_cli.specs.Lines.{ended_lines, last_part, lines}
 use Rattle.strkw_cli.specs.Answer.{AreAnswers}
-use Rattle.strkw_cli.specs.Outcome.{AnswersSome, IsCutShort, IsOutcome}
+use Rattle.strkw_cli.specs.Outcome.{AnswersSome, IsCutShort, IsFaultOutcome}
 use Rattle.strkw_cli.specs.Serving.{Serves}
 use Rattle.strkw_cli.specs.declared.faults.RunFault.{RunFault}
 use Rattle.strkw_cli.specs.declared.faults.RunFault.TheVariants.{Read, Write, Memory, TooLong}
@@ -124,16 +124,8 @@ Serves-after (Err Memory) whole before more made written are s = rw (ended_lines
 Serves-after (Err Write) whole before more made written are s = rw (lines-append before more) (IsCutShort-after (ended_lines before) (lines (last_part before ++ more)) made written are s)
 
 -- the fault of a part of a run is that of the run
-pub outcome_from_fault : {T : Type 0} (U : Type 0) (r : Result T RunFault) (e : RunFault) (whole : List (List ℕ)) (read written : List ℕ) → r ≡ Err e → Serves {T = U} (Err e) whole read written → IsOutcome r read written
-outcome_from_fault U r Read whole read written is s = absurd s
-outcome_from_fault U r TooLong whole read written is s = absurd s
-outcome_from_fault U r Memory whole read written is s = rw is s
-outcome_from_fault U r Write whole read written is s = rw is s
-
--- the result of the last part of a run is that of the run
-pub outcome_from_last : {T : Type 0} (r : Result T RunFault) (read written : List ℕ) → Serves r (lines read) read written → IsOutcome r read written
-outcome_from_last (Ok x) read written s = s
-outcome_from_last (Err Read) read written s = absurd s
-outcome_from_last (Err TooLong) read written s = absurd s
-outcome_from_last (Err Memory) read written s = s
-outcome_from_last (Err Write) read written s = s
+pub outcome_from_fault : (U : Type 0) (e : RunFault) (whole : List (List ℕ)) (read written : List ℕ) → Serves {T = U} (Err e) whole read written → IsFaultOutcome e read written
+outcome_from_fault U Read whole read written s = absurd s
+outcome_from_fault U TooLong whole read written s = absurd s
+outcome_from_fault U Memory whole read written s = s
+outcome_from_fault U Write whole read written s = s

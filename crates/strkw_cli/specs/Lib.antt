@@ -5,6 +5,7 @@ pub mod Printed
 pub mod Answer
 pub mod Lines
 pub mod Outcome
+pub mod Bounds
 pub mod Serving
 pub mod Faults
 pub mod Written

@@ -56,3 +56,26 @@ impl fmt::Display for RunFault {
 }
 
 impl Error for RunFault {}
+
+/// Why a run whose lines have a bound ended before it had answered all of its input.
+#[derive(Clone, Copy, Debug, PartialEq, Eq)]
+pub enum BoundedRunFault {
+    /// It ended as a run without a bound does.
+    Run(RunFault),
+    /// A line is longer than so many bytes, without its line feed.
+    LongLine(usize),
+}
+
+/// `strkw: a line is longer than N bytes`, or what `RunFault::text` gives.
+impl fmt::Display for BoundedRunFault {
+    fn fmt<W: fmt::Write>(&self, f: &mut fmt::Formatter<W>) -> fmt::Result {
+        match self {
+            BoundedRunFault::Run(fault) => write!(f, "{fault}"),
+            BoundedRunFault::LongLine(longest) => {
+                write!(f, "strkw: a line is longer than {longest} bytes")
+            }
+        }
+    }
+}
+
+impl Error for BoundedRunFault {}

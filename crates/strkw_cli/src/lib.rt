@@ -15,9 +15,9 @@ mod writing;
 
 pub use answering::answer;
 pub use compile::{compile_owned, compile_strings};
-pub use faults::RunFault;
+pub use faults::{BoundedRunFault, RunFault};
 pub use request::{draft_in, draft_numbered, read_value};
-pub use running::run;
+pub use running::{run, run_bounded};
 pub use strings::{ObjectEvaluation, StringKeywords};
 pub use strkw_devices::{
     DeviceFailed, HostSink, HostSource, MemorySink, MemorySource, Sink, Source,

@@ -16,7 +16,7 @@ ghost use Rattle.strkw_cli.specs.Tokens.{begins_object, member_depth};
 use json::{Reader, Scratch, Token};
 use serde_json::{Map, Value};
 use std::alloc::{AllocError, Global};
-use strkw_coding::{JsonError, build_json, json_text};
+use strkw_coding::{JsonError, build_object, json_scalar, json_text};
 use strkw_report::Draft;
 
 /// A request. The text of its instance stands in its line, or unescaped in the scratch that its line was read with.
@@ -69,17 +69,34 @@ fn flag_in(value: &Value) -> Option<Option<bool>>
     Some(Some(value.as_bool()?))
 }
 
-fn object_in(value: Value) -> Option<Map<String, Value>>
-    ensures { option_map (λ m. members_view m.entries) result ≡ as_object (view value) }
+// How deep the value of a member may nest: one less than the line.
+const MEMBER_DEPTH: usize = 126;
+
+// The draft whose number the value of a member is. Any other value is passed over, and not built.
+fn read_draft(tokens: &mut Reader<'_>) -> Result<Option<Draft>, JsonError>
+    ensures ok { IfOk result (λ draft. (d : Data)
+        × (value_read member_depth tokens.old ≡ Some (d, tokens.new)) × (draft ≡ draft_in d)) }
+    ensures none { IsErrOf result JsonError.NotJson → value_read member_depth tokens.old ≡ None }
+    ensures shorter { OnOk result (length tokens.new < length tokens.old) }
 {
-    match value {
-        Value::Object(members) => Some(members),
-        _ => None,
+    match json_scalar(tokens, MEMBER_DEPTH)? {
+        Some(value) => Ok(draft_in(&value)),
+        None => Ok(None),
     }
 }
 
-// How deep the value of a member may nest: one less than the line.
-const MEMBER_DEPTH: usize = 126;
+// The flag that the value of a member is. Any other value is passed over, and not built.
+fn read_flag(tokens: &mut Reader<'_>) -> Result<Option<Option<bool>>, JsonError>
+    ensures ok { IfOk result (λ flag. (d : Data)
+        × (value_read member_depth tokens.old ≡ Some (d, tokens.new)) × (flag ≡ flag_in (Some d))) }
+    ensures none { IsErrOf result JsonError.NotJson → value_read member_depth tokens.old ≡ None }
+    ensures shorter { OnOk result (length tokens.new < length tokens.old) }
+{
+    match json_scalar(tokens, MEMBER_DEPTH)? {
+        Some(value) => Ok(flag_in(&value)),
+        None => Ok(None),
+    }
+}
 
 // What the members so far come to, each name by its last value: a part of the wanted kind, or none.
 #[derive(Drop)]
@@ -122,16 +139,12 @@ impl<'a> Parts<'a> {
         ensures shorter { OnOk result (length tokens.new < length tokens.old) }
     {
         match name {
-            "draft" => self.draft = draft_in(&build_json(alloc, tokens, MEMBER_DEPTH)?),
-            "schema" => self.schema = object_in(build_json(alloc, tokens, MEMBER_DEPTH)?),
+            "draft" => self.draft = read_draft(tokens)?,
+            "schema" => self.schema = build_object(alloc, tokens, MEMBER_DEPTH)?,
             "instance" => self.instance = Some(json_text(tokens, MEMBER_DEPTH)?),
-            "validate_formats" => {
-                self.validate_formats = flag_in(&build_json(alloc, tokens, MEMBER_DEPTH)?)
-            }
-            "ignore_unknown_formats" => {
-                self.ignore_unknown_formats = flag_in(&build_json(alloc, tokens, MEMBER_DEPTH)?)
-            }
-            "fold" => self.fold = flag_in(&build_json(alloc, tokens, MEMBER_DEPTH)?),
+            "validate_formats" => self.validate_formats = read_flag(tokens)?,
+            "ignore_unknown_formats" => self.ignore_unknown_formats = read_flag(tokens)?,
+            "fold" => self.fold = read_flag(tokens)?,
             _ => {
                 json_text(tokens, MEMBER_DEPTH)?;
                 self.has_only_request_keys = false;

@@ -1,14 +1,16 @@
 //! The loop over the pieces of the input.
 
-ghost use Rattle.std.specs.Prelude.{◌++◌, ◌<◌, ◌↔◌, ◌≡◌, ℕ, IfOk, IsErrOf, List, OnErr, OnOk, [], false, length, position, take, true, vec_len};
+ghost use Rattle.std.specs.Prelude.{◌++◌, ◌<◌, ◌↔◌, ◌≡◌, ◌≤◌, ℕ, IfOk, IfSome, IsErrOf, List, OnErr, OnOk, [], false, length, position, take, true, vec_len};
 ghost use Rattle.std.specs.Io.KnownBytes.{Appends, Consumes, IsAtEnd};
 ghost use Rattle.strkw_cli.specs.Answer.{AreAnswers, IsAnswer};
+ghost use Rattle.strkw_cli.specs.Bounds.{HasShortLines, IsBoundedOutcome, IsOutcomeWithin, IsTaken};
+ghost use Rattle.strkw_cli.specs.declared.running.Ending.TheVariants.{AtEnd};
 ghost use Rattle.strkw_cli.specs.Lines.{ended_lines, is_line_feed, last_part, lines};
 ghost use Rattle.strkw_cli.specs.Outcome.{AnswersSome, IsOutcome};
 ghost use Rattle.strkw_cli.specs.Serving.{Serves};
 
 use super::answering::answer_with;
-use super::faults::RunFault;
+use super::faults::{BoundedRunFault, RunFault};
 use json::Scratch;
 use memchr::memchr;
 use std::alloc::{AllocError, Global};
@@ -157,6 +159,92 @@ pub fn run<S: Source, K: Sink>(alloc: Global, source: &mut S, sink: &mut K) -> R
     ensures read_fault { IsErrOf result RunFault.Read ↔ (S.has_failed source.new ≡ true) }
     ensures write_fault { IsErrOf result RunFault.Write ↔ (K.has_failed sink.new ≡ true) }
 {
+    run_within(alloc, None, source, sink)?;
+    Ok(())
+}
+
+/// As `run`, but no line may be longer than so many bytes, without its line feed.
+///
+/// `LongLine` comes where one is, as soon as that byte of it is read which is one too many: the answers to the lines before
+/// it were written, and the source was read a piece of 64 KiB past it at most. So the run holds, for its input, no more
+/// than such a line and a piece. The other faults are those of `run`.
+pub fn run_bounded<S: Source, K: Sink>(
+    alloc: Global,
+    longest: usize,
+    source: &mut S,
+    sink: &mut K,
+) -> Result<(), BoundedRunFault>
+    requires source_works { S.has_failed source.old ≡ false }
+    requires sink_works { K.has_failed sink.old ≡ false }
+    ensures written { (read : List ℕ) × (written : List ℕ)
+        × Consumes (S.left source.old) (S.left source.new) read
+        × Appends (K.taken sink.old) (K.taken sink.new) written
+        × IsBoundedOutcome longest result read written }
+    ensures end { OnOk result (IsAtEnd (S.left source.new)) }
+    ensures read_fault { IsErrOf result (BoundedRunFault.Run RunFault.Read)
+        ↔ (S.has_failed source.new ≡ true) }
+    ensures write_fault { IsErrOf result (BoundedRunFault.Run RunFault.Write)
+        ↔ (K.has_failed sink.new ≡ true) }
+{
+    match run_within(alloc, Some(longest), source, sink) {
+        Ok(Ending::AtEnd) => Ok(()),
+        Ok(Ending::AtLongLine) => Err(BoundedRunFault::LongLine(longest)),
+        Err(fault) => Err(BoundedRunFault::Run(fault)),
+    }
+}
+
+// Where a run without a fault has ended.
+#[derive(Clone, Copy)]
+enum Ending {
+    AtEnd,
+    // Before the byte by which a line is longer than the bound.
+    AtLongLine,
+}
+
+// How many bytes of a piece come before the first by which a line is longer than the bound. The first line of the
+// piece has begun before it.
+fn fitting_front(bound: Option<usize>, begun: &[u8], piece: &[u8]) -> usize
+    requires { IfSome bound (λ longest. length begun.now ≤ longest) }
+    ensures taken { (start : List ℕ) → begun.now ≡ last_part start → HasShortLines bound start
+        → IsTaken bound (start ++ piece.now) (start ++ take result piece.now) }
+    ensures within { result ≤ length piece.now }
+{
+    let Some(longest) = bound else {
+        return piece.len();
+    };
+    let mut at = 0;
+    let mut room = longest - begun.len();
+    while let Some(offset) = find_line_feed(&piece[at..]) {
+        if room < offset {
+            return at + room;
+        }
+        at += offset + 1;
+        room = longest;
+    }
+    if room < piece.len() - at {
+        at + room
+    } else {
+        piece.len()
+    }
+}
+
+// A run whose lines may have a bound.
+fn run_within<S: Source, K: Sink>(
+    alloc: Global,
+    bound: Option<usize>,
+    source: &mut S,
+    sink: &mut K,
+) -> Result<Ending, RunFault>
+    requires source_works { S.has_failed source.old ≡ false }
+    requires sink_works { K.has_failed sink.old ≡ false }
+    ensures written { (read : List ℕ) × (written : List ℕ)
+        × Consumes (S.left source.old) (S.left source.new) read
+        × Appends (K.taken sink.old) (K.taken sink.new) written
+        × IsOutcomeWithin bound result read written }
+    ensures end { IfOk result (λ ending. ending ≡ AtEnd → IsAtEnd (S.left source.new)) }
+    ensures read_fault { IsErrOf result RunFault.Read ↔ (S.has_failed source.new ≡ true) }
+    ensures write_fault { IsErrOf result RunFault.Write ↔ (K.has_failed sink.new ≡ true) }
+{
     let mut piece = piece_room(alloc)?;
     let mut line = Vec::new(alloc);
     let mut scratch = Scratch::new(alloc);
@@ -166,16 +254,21 @@ pub fn run<S: Source, K: Sink>(alloc: Global, source: &mut S, sink: &mut K) -> R
             return Err(RunFault::Read);
         };
         if count == 0 {
-            return serve_last(alloc, &line, &mut scratch, &mut out, sink);
+            serve_last(alloc, &line, &mut scratch, &mut out, sink)?;
+            return Ok(Ending::AtEnd);
         }
+        let fitting = fitting_front(bound, &line, &piece[..count]);
         serve_piece(
             alloc,
-            &piece[..count],
+            &piece[..fitting],
             &mut line,
             &mut scratch,
             &mut out,
             sink,
         )?;
+        if fitting < count {
+            return Ok(Ending::AtLongLine);
+        }
     }
     Err(RunFault::TooLong)
 }

@@ -3,10 +3,10 @@ use Rattle.std.proofs.Common.{◌≡◌, ℕ, ◌-◌, nat_lt, if◌then◌else�
 use Rattle.json.specs.Token.{Token}
 use Rattle.json.specs.Json.{parse_map}
 use Rattle.json.proofs.Grammar.{left_some}
-use Rattle.serde_json.specs.Data.{Num, Data, number, array, object}
-use Rattle.serde_json.specs.Find.{as_str}
+use Rattle.serde_json.specs.Data.{Num, Data, null, boolean, number, string, array, object}
+use Rattle.serde_json.specs.Find.{as_object, as_str}
 use Rattle.serde_json.specs.Read.{number_of}
-use Rattle.strkw_coding.specs.Passing.{value_read, items_read, members_read, after_value, text_of_token}
+use Rattle.strkw_coding.specs.Passing.{value_read, items_read, members_read, after_value, text_of_token, scalar_in, scalar_of_token, is_begin_object}
 use Rattle.strkw_coding.proofs.Reading.{first_read, by_first_token}
 
 -- the part of what was read
@@ -38,9 +38,53 @@ first_text depth (Token.boolean b) ts = refl
 first_text depth Token.null ts = refl
 first_text depth Token.bad ts = refl
 
--- the value that was passed over is a text exactly where its first token is one
+seen_number : (ts : List Token) (o : Option Num) → seen scalar_in (option_map (λ n. (number n, ts)) o) ≡ option_map number o
+seen_number ts None = refl
+seen_number ts (Some n) = refl
+
+first_scalar : (depth : ℕ) (t : Token) (ts : List Token) → seen scalar_in (first_read depth (t ∷ ts)) ≡ scalar_of_token t
+first_scalar depth Token.begin_object ts =
+    none_seen_if scalar_in (nat_lt 0 depth) _ (none_seen scalar_in object (λ ms. refl) (members_read (depth - 1) ts))
+first_scalar depth Token.end_object ts = refl
+first_scalar depth Token.begin_array ts = none_seen_if scalar_in (nat_lt 0 depth) _ (none_seen scalar_in array (λ is. refl) (items_read (depth - 1) ts))
+first_scalar depth Token.end_array ts = refl
+first_scalar depth (Token.key s) ts = refl
+first_scalar depth (Token.string s) ts = refl
+first_scalar depth (Token.number s) ts = seen_number ts (number_of s)
+first_scalar depth (Token.boolean b) ts = refl
+first_scalar depth Token.null ts = refl
+first_scalar depth Token.bad ts = refl
+
+first_other : (depth : ℕ) (t : Token) (ts : List Token) → is_begin_object t ≡ false → seen as_object (first_read depth (t ∷ ts)) ≡ None
+first_other depth Token.begin_object ts other = cc other
+first_other depth Token.end_object ts other = refl
+first_other depth Token.begin_array ts other = none_seen_if as_object (nat_lt 0 depth) _ (none_seen as_object array (λ is. refl) (items_read (depth - 1) ts))
+first_other depth Token.end_array ts other = refl
+first_other depth (Token.key s) ts other = refl
+first_other depth (Token.string s) ts other = refl
+first_other depth (Token.number s) ts other = none_in_number as_object (λ n. refl) ts (number_of s)
+first_other depth (Token.boolean b) ts other = refl
+first_other depth Token.null ts other = refl
+first_other depth Token.bad ts other = refl
+
+-- a part of the value that was passed over is what its first token has of it
+part_passed : {B : Type 0} (part : Data → Option B) (depth : ℕ) (t : Token) (ts rest : List Token) (own : Option B) → seen part (first_read depth (t ∷ ts)) ≡ own
+    → after_value depth (t ∷ ts) ≡ Some rest → (d : Data) × (value_read depth (t ∷ ts) ≡ Some (d, rest)) × (part d ≡ own)
+part_passed part depth t ts rest own first is =
+    let (d, read) = left_some (value_read depth (t ∷ ts)) rest is in
+    (d, read, sym (ap (seen part) (sym (by_first_token depth (t ∷ ts)) ∙ read)) ∙ first)
+
+-- it is a text exactly where its first token is one
 pub text_passed : (depth : ℕ) (t : Token) (ts rest : List Token) → after_value depth (t ∷ ts) ≡ Some rest
     → (d : Data) × (value_read depth (t ∷ ts) ≡ Some (d, rest)) × (as_str d ≡ text_of_token t)
-text_passed depth t ts rest is =
-    let (d, read) = left_some (value_read depth (t ∷ ts)) rest is in
-    (d, read, sym (ap (seen as_str) (sym (by_first_token depth (t ∷ ts)) ∙ read)) ∙ first_text depth t ts)
+text_passed depth t ts rest is = part_passed as_str depth t ts rest (text_of_token t) (first_text depth t ts) is
+
+-- and so is a number, a truth value or null
+pub scalar_passed : (depth : ℕ) (t : Token) (ts rest : List Token) → after_value depth (t ∷ ts) ≡ Some rest
+    → (d : Data) × (value_read depth (t ∷ ts) ≡ Some (d, rest)) × (scalar_in d ≡ scalar_of_token t)
+scalar_passed depth t ts rest is = part_passed scalar_in depth t ts rest (scalar_of_token t) (first_scalar depth t ts) is
+
+-- and none is an object where no object begins
+pub other_passed : (depth : ℕ) (t : Token) (ts rest : List Token) → is_begin_object t ≡ false → after_value depth (t ∷ ts) ≡ Some rest
+    → (d : Data) × (value_read depth (t ∷ ts) ≡ Some (d, rest)) × (as_object d ≡ None)
+other_passed depth t ts rest other is = part_passed as_object depth t ts rest None (first_other depth t ts other) is

@@ -4,9 +4,9 @@
 ghost use Rattle.std.specs.Prelude.{◌≡◌, ◌∷◌, ◌<◌, ◌≤◌, Some, None, IfOk, OnOk, IsErrOf, length, option_map};
 ghost use Rattle.json.specs.Reads.{token_of};
 ghost use Rattle.serde_json.specs.Data.{Data};
-ghost use Rattle.serde_json.specs.Find.{as_str};
+ghost use Rattle.serde_json.specs.Find.{as_object, as_str};
 ghost use Rattle.serde_json.specs.View.{view, items_view, members_view};
-ghost use Rattle.strkw_coding.specs.Passing.{value_read, items_read, members_read, text_of_token};
+ghost use Rattle.strkw_coding.specs.Passing.{value_read, items_read, members_read, text_of_token, scalar_in, scalar_of_token, is_begin_object};
 ghost use Rattle.strkw_coding.specs.declared.json_build.JsonError.TheVariants.{NotJson, Memory};
 
 use crate::json_check::{json_number, passes_json};
@@ -89,6 +89,77 @@ fn text_of_token<'a>(token: &Token<'a>) -> Option<&'a str>
 {
     match token {
         Token::String(text) => Some(*text),
+        _ => None,
+    }
+}
+
+/// The number, truth value or null that the JSON value is which comes first of these tokens, or `None` where it is a text, an
+/// array or an object, which is passed over as by `passes_json`. It takes no memory.
+///
+/// Errors: `NotJson` where `build_json` would answer it, and no other. The tokens are then read up to some place.
+pub fn json_scalar(tokens: &mut Reader<'_>, depth: usize) -> Result<Option<Value>, JsonError>
+    ensures ok { IfOk result (λ scalar. (d : Data)
+        × (value_read depth tokens.old ≡ Some (d, tokens.new)) × (scalar_in d ≡ option_map view scalar)) }
+    ensures none { IsErrOf result JsonError.NotJson → value_read depth tokens.old ≡ None }
+    ensures shorter { OnOk result (length tokens.new < length tokens.old) }
+{
+    let token = tokens.next().ok_or(JsonError::NotJson)?;
+    let scalar = scalar_of_token(&token);
+    if passes_json(token, tokens, depth) {
+        Ok(scalar)
+    } else {
+        Err(JsonError::NotJson)
+    }
+}
+
+fn scalar_of_token(token: &Token<'_>) -> Option<Value>
+    ensures { option_map view result ≡ scalar_of_token (token_of token.now) }
+{
+    match token {
+        Token::Null => Some(Value::Null),
+        Token::Bool(is_true) => Some(Value::Bool(*is_true)),
+        Token::Number(text) => Some(Value::Number(json_number(text)?)),
+        _ => None,
+    }
+}
+
+/// The object that the JSON value is which comes first of these tokens, or `None` where it is another one, which is passed over
+/// as by `passes_json`, and not built.
+///
+/// Errors: as `build_json`.
+pub fn build_object(
+    alloc: Global,
+    tokens: &mut Reader<'_>,
+    depth: usize,
+) -> Result<Option<Map<String, Value>>, JsonError>
+    ensures ok { IfOk result (λ object. (d : Data)
+        × (value_read depth tokens.old ≡ Some (d, tokens.new))
+        × (as_object d ≡ option_map (λ m. members_view m.entries) object)) }
+    ensures none { IsErrOf result JsonError.NotJson → value_read depth tokens.old ≡ None }
+    ensures shorter { OnOk result (length tokens.new < length tokens.old) }
+{
+    let token = tokens.next().ok_or(JsonError::NotJson)?;
+    if is_begin_object(&token) {
+        return Ok(object_in(build_from(alloc, token, tokens, depth)?));
+    }
+    if passes_json(token, tokens, depth) {
+        Ok(None)
+    } else {
+        Err(JsonError::NotJson)
+    }
+}
+
+fn is_begin_object(token: &Token<'_>) -> bool
+    ensures { result ≡ is_begin_object (token_of token.now) }
+{
+    matches!(token, Token::BeginObject)
+}
+
+fn object_in(value: Value) -> Option<Map<String, Value>>
+    ensures { option_map (λ m. members_view m.entries) result ≡ as_object (view value) }
+{
+    match value {
+        Value::Object(members) => Some(members),
         _ => None,
     }
 }

@@ -19,6 +19,6 @@ pub use encodings::{
     from_base16, from_base32, from_base32hex, from_base64, from_base64url, is_base16, is_base32,
     is_base32hex, is_base64, is_base64url,
 };
-pub use json_build::{JsonError, build_json, json_text};
+pub use json_build::{JsonError, build_json, build_object, json_scalar, json_text};
 pub use json_check::{is_json, json_number, passes_json};
 pub use media_type::BuiltinMediaType;

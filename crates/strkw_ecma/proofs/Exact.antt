@@ -9,7 +9,7 @@ use Rattle.strkw_ecma.specs.Names.{are_distinct}
 use Rattle.strkw_ecma.specs.Syntax.{Disjunction, names, only, either, Alternative, nothing, more, Term, at_start, at_end, at_boundary, at_no_boundary, once, quantified, Atom, plain, escaped, control_escape, set_escape, coded, property_escape, dot, bracketed, group, max_length}
 use Rattle.strkw_ecma.specs.Reading.{read, read_short, read_pattern, tree_if, small_tree}
 use Rattle.strkw_ecma.specs.Lookahead.{is_apart}
-use Rattle.strkw_ecma.specs.Size.{size, max_nodes}
+use Rattle.strkw_ecma.specs.Size.{steps, max_steps}
 use Rattle.strkw_ecma.specs.Meaning.{Found}
 use Rattle.strkw_ecma.specs.Tree.{Pattern, empty, alt}
 use Rattle.strkw_ecma.specs.Marks.{is_clean}
@@ -62,10 +62,10 @@ mutual
   clean_atom (bracketed n r e) = refl
   clean_atom (group g d) = clean d
 
-small_of : (source : List ℕ) (d : Disjunction) (b : Bool) → nat_le (size (pattern d)) max_nodes ≡ b
-    → (size (pattern d) ≤ max_nodes → IsPattern source d) → IsTrue (is_some (tree_if b d)) → (d : Disjunction) × IsPattern source d
+small_of : (source : List ℕ) (d : Disjunction) (b : Bool) → nat_le (steps (pattern d)) max_steps ≡ b
+    → (steps (pattern d) ≤ max_steps → IsPattern source d) → IsTrue (is_some (tree_if b d)) → (d : Disjunction) × IsPattern source d
 small_of source d false e p h = absurd (true≢false (sym h))
-small_of source d true e p h = (d, p (leb-true (size (pattern d)) max_nodes e))
+small_of source d true e p h = (d, p (leb-true (steps (pattern d)) max_steps e))
 
 -- a tree is read only where no name is there twice
 distinct_of : (d : Disjunction) (b : Bool) → are_distinct (names d) ≡ b → is_some (tree_if b d) ≡ true → are_distinct (names d) ≡ true
@@ -79,7 +79,7 @@ derived_of source false b o a e r s f h = absurd (true≢false (sym h))
 derived_of source true false o a e r s f h = absurd (true≢false (sym h))
 derived_of source true true None a e r s f h = absurd (true≢false (sym h))
 derived_of source true true (Some d) a e r s f h =
-    small_of source d (nat_le (size (pattern d)) max_nodes) refl
+    small_of source d (nat_le (steps (pattern d)) max_steps) refl
     (λ m. record {
       formed = f;
       spelled = s;
@@ -96,7 +96,7 @@ read_is source d p =
     ∙ ap (λ (b : Bool). small_tree (if b then read source else None)) (le-leb (length source) max_length p.short)
     ∙ ap (λ (z : List ℕ). small_tree (read z)) (sym p.spelled) ∙ ap small_tree (complete d p.formed)
     ∙ ap (λ (b : Bool). small_tree (tree_if b d)) p.distinct
-    ∙ ap (λ (b : Bool). tree_if b d) (le-leb (size (pattern d)) max_nodes p.small)
+    ∙ ap (λ (b : Bool). tree_if b d) (le-leb (steps (pattern d)) max_steps p.small)
 
 tree_or : Disjunction → Option Disjunction → Disjunction
 tree_or e None = e

@@ -15,7 +15,7 @@ use Rattle.strkw_ecma.proofs.PropertyReadings.{IsPart, IsRead, property_formed}
 use Rattle.strkw_ecma.specs.declared.tree.CharSet.{CharSet}
 use Rattle.strkw_ecma.specs.WellFormed.{IsQuantifier, IsGroup, IsWellFormed, IsAlternative, IsAtom}
 use Rattle.strkw_ecma.specs.Numbers.{number, number_of, are_digits, max_count, IsNumber, CountToken, digit, comma, closing_brace, no_count, count_token}
-use Rattle.strkw_ecma.specs.Size.{size, max_size}
+use Rattle.strkw_ecma.specs.Size.{steps, max_term_steps}
 use Rattle.strkw_ecma.specs.Patterns.{atom_pattern, times, copies}
 use Rattle.strkw_ecma.proofs.Digits.{digits_push, is_digit_of}
 use Rattle.strkw_ecma.proofs.CodeReadings.{IsCoding, IsCoded, coding_formed, is_unicode_coding, IsUnicode, coding_unicode}
@@ -29,7 +29,7 @@ IsEarlier n (Some d) = IsWellFormed n d
 abbrev pub IsLast : ℕ → Last → Type 0
 IsLast n none = Unit {0}
 IsLast n (atom a) = IsAtom n a
-IsLast n (counted a q) = IsAtom n a × IsQuantifier q (size (atom_pattern a))
+IsLast n (counted a q) = IsAtom n a × IsQuantifier q (steps (atom_pattern a))
 
 abbrev pub IsLevel : ℕ → Level → Type 0
 IsLevel n l = IsEarlier n l.earlier × IsAlternative n l.current
@@ -91,7 +91,7 @@ level_formed n (Some d) a h k = (h, k)
 quantifier_formed : (outer : Outer) (l : Level) (x : Last) (q : Quantifier) → ((s : ℕ) → IsQuantifier q s) → AreLevels outer.groups
     → IsLevel (length outer.groups) l → IsLast (length outer.groups) x → Makes (with_quantifier outer l x q)
 quantifier_formed outer l none q w f g h = tt
-quantifier_formed outer l (atom a) q w f g h = (f, g, (h, w (size (atom_pattern a))), tt)
+quantifier_formed outer l (atom a) q w f g h = (f, g, (h, w (steps (atom_pattern a))), tt)
 quantifier_formed outer l (counted a p) q w f g h = tt
 
 question_formed : (outer : Outer) (l : Level) (x : Last) → AreLevels outer.groups → IsLevel (length outer.groups) l
@@ -183,11 +183,11 @@ extension_formed outer l x no_extension f g h = tt
 
 -- counts
 module _ (outer : Outer) (l : Level) (f : AreLevels outer.groups) (g : IsLevel (length outer.groups) l) where
-  count_formed : (x : Last) (q : Quantifier) → IsLast (length outer.groups) x → ((s : ℕ) → copies (times q) * s ≤ max_size → IsQuantifier q s)
+  count_formed : (x : Last) (q : Quantifier) → IsLast (length outer.groups) x → ((s : ℕ) → copies (times q) * s ≤ max_term_steps → IsQuantifier q s)
       → Makes (with_count outer l x q)
   count_formed none q h w = tt
   count_formed (atom a) q h w =
-      when_formed (nat_le (copies (times q) * size (atom_pattern a)) max_size) (with_quantifier outer l (atom a) q) (λ e. (f, g, (h, w (size (atom_pattern a)) (leb-true (copies (times q) * size (atom_pattern a)) max_size e)), tt))
+      when_formed (nat_le (copies (times q) * steps (atom_pattern a)) max_term_steps) (with_quantifier outer l (atom a) q) (λ e. (f, g, (h, w (steps (atom_pattern a)) (leb-true (copies (times q) * steps (atom_pattern a)) max_term_steps e)), tt))
   count_formed (counted a p) q h w = tt
 
   longer_formed : (x : Last) (m : List ℕ → Mode) (ds : List ℕ) (c : ℕ) (b : Bool) → nat_le (number (ds ++ c ∷ [])) max_count ≡ b

@@ -1,4 +1,6 @@
 pub mod Steps
+pub mod Counted
+pub mod Sizes
 pub mod Search
 pub mod Shapes
 pub mod Letters

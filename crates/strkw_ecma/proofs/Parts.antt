@@ -18,7 +18,7 @@ use Rattle.strkw_ecma.specs.Classes.{ClassToken, closing_bracket, class_backslas
 use Rattle.strkw_ecma.specs.Syntax.{Disjunction, Alternative, Term, at_start, at_end, at_boundary, at_no_boundary, Quantifier, exactly, at_least, from_to, zero_or_more, one_or_more, Group, capturing, plain_group, named, with_name, Atom, plain, escaped, control_escape, set_escape, coded, property_escape, dot, Token, bar, asterisk, plus, question, caret, dollar, opening as opening_token, closing, point, backslash, bracket, brace, character, other, token, max_nesting, max_length}
 use Rattle.strkw_ecma.specs.Patterns.{pattern, alternative_pattern, term_pattern, atom_pattern, times, copies, quantified_pattern}
 use Rattle.strkw_ecma.specs.Numbers.{number, number_of, max_count, CountToken, digit, comma, closing_brace, no_count, count_token}
-use Rattle.strkw_ecma.specs.Size.{size, max_size, max_nodes}
+use Rattle.strkw_ecma.specs.Size.{steps, max_term_steps, max_steps}
 use Rattle.strkw_ecma.specs.Lookahead.{is_apart}
 use Rattle.strkw_ecma.proofs.Digits.{number_push}
 use Rattle.strkw_ecma.proofs.CodeImages.{coding_image, coded_image, next_coding_image}
@@ -278,7 +278,7 @@ counted_image : (outer : Outer) (l : Level) (x : reading.Last) (q : Quantifier)
 counted_image outer l reading.none q = refl
 counted_image outer l (reading.atom a) q =
     when_image _ (with_quantifier outer l (reading.atom a) q)
-    ∙ ap (parts.when (nat_le (copies (times q) * size (atom_pattern a)) max_size)) (quantifier_image outer l (reading.atom a) q)
+    ∙ ap (parts.when (nat_le (copies (times q) * steps (atom_pattern a)) max_term_steps)) (quantifier_image outer l (reading.atom a) q)
 counted_image outer l (reading.counted a p) q = refl
 
 number_is : (ds : List ℕ) → number ds ≡ value (number_of ds)
@@ -531,7 +531,7 @@ whole s text k h short w =
 -- what is not too large
 small_image : (o : Option Disjunction) → option_map pattern (small_tree o) ≡ small_pattern (option_map pattern o)
 small_image None = refl
-small_image (Some d) = tree_image (nat_le (size (pattern d)) max_nodes) d
+small_image (Some d) = tree_image (nat_le (steps (pattern d)) max_steps) d
 
 pub read_whole : (text : List ℕ) (o p : Option Pattern) → true ≡ is_apart text → o ≡ option_map pattern (read_short text) → p ≡ small_pattern o
     → p ≡ option_map pattern (read_pattern text)

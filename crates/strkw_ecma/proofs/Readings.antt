@@ -15,7 +15,7 @@ use Rattle.strkw_ecma.specs.Names.{NameChar, verbatim, by_code, name_char_spelli
 use Rattle.strkw_ecma.specs.Syntax.{Disjunction, only, either, Alternative, nothing, more, Term, at_start, at_end, at_boundary, at_no_boundary, once, quantified, Quantifier, zero_or_more, one_or_more, zero_or_one, exactly, at_least, from_to, greedy, lazy, Atom, plain, escaped, control_escape, set_escape, coded, property_escape, dot, bracketed, group, Group, capturing, plain_group, named, with_name, with_names, with_alternative_names, with_term_names, with_atom_names, names, Token, character, token, quantifier_spelling, group_spelling, greed_spelling, spelling, alternative_spelling, term_spelling, atom_spelling, max_nesting}
 use Rattle.strkw_ecma.specs.WellFormed.{IsQuantifier, IsGroup, IsWellFormed, IsAlternative, IsTerm, IsAtom}
 use Rattle.strkw_ecma.specs.Numbers.{number, number_of, IsNumber}
-use Rattle.strkw_ecma.specs.Size.{size, max_size}
+use Rattle.strkw_ecma.specs.Size.{steps, max_term_steps}
 use Rattle.strkw_ecma.specs.Patterns.{atom_pattern, times, copies}
 use Rattle.strkw_ecma.proofs.Digits.{reads_digits}
 use Rattle.strkw_ecma.specs.Reading.{Open, Outer, Level, Last, none, atom, counted, State, between, opening, low, high, counting, with_mode, with_quantifier, with_count, range_read, on_low, on_high, when, ended, joined, with_atom, naming, name_coding, with_name_char, on_naming, on_name_coding, closes, tree_if, opened_within, opened, on_token, on_group, on_escape, coding, on_coding, in_property, on_property, next, read_from, read}
@@ -95,11 +95,11 @@ module _ (outer : Outer) (e : Option Disjunction) (a : Alternative) (x : Last) w
       (when b (Some (with_atom outer (record { earlier = e; current = a }) x (property_escape n f))))) h.1
 
 -- a count that is whole
-counts : (outer : Outer) (l : Level) (p : Atom) (q : Quantifier) (cs : List ℕ) → copies (times q) * size (atom_pattern p) ≤ max_size
+counts : (outer : Outer) (l : Level) (p : Atom) (q : Quantifier) (cs : List ℕ) → copies (times q) * steps (atom_pattern p) ≤ max_term_steps
     → option_and_then (λ t. read_from t cs) (with_count outer l (atom p) q)
     ≡ option_and_then (λ t. read_from t cs) (with_quantifier outer l (atom p) q)
 counts outer l p q cs h =
-    ap (λ (b : Bool). option_and_then (λ t. read_from t cs) (when b (with_quantifier outer l (atom p) q))) (le-leb _ max_size h)
+    ap (λ (b : Bool). option_and_then (λ t. read_from t cs) (when b (with_quantifier outer l (atom p) q))) (le-leb _ max_term_steps h)
 
 reads_first : (outer : Outer) (l : Level) (p : Atom) (ds : List ℕ) → IsNumber ds → (cs : List ℕ)
     → read_from (with_mode outer l (atom p) (counting (low []))) (ds ++ cs) ≡ read_from (with_mode outer l (atom p) (counting (low ds))) cs
@@ -132,7 +132,7 @@ reads_range outer l p ds (e ∷ es) h w cs =
     (le-leb (number ds) (number (e ∷ es)) w)
 
 reads_quantifier : (outer : Outer) (e : Option Disjunction) (a : Alternative) (p : Atom) (q : Quantifier)
-    → IsQuantifier q (size (atom_pattern p)) → (cs : List ℕ)
+    → IsQuantifier q (steps (atom_pattern p)) → (cs : List ℕ)
     → read_from (state outer e a (atom p)) (quantifier_spelling q ++ cs) ≡ read_from (state outer e a (counted p q)) cs
 reads_quantifier outer e a p zero_or_more h cs = refl
 reads_quantifier outer e a p one_or_more h cs = refl

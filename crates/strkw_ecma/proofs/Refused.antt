@@ -7,7 +7,7 @@ use Rattle.std.specs.Str.{byte}
 use Rattle.strkw_ecma.specs.Syntax.{Disjunction, spelling, Group, capturing, plain_group, named, group_spelling, atom_spelling, Quantifier, exactly, at_least, from_to, quantifier_spelling, max_nesting, max_length}
 use Rattle.strkw_ecma.specs.WellFormed.{IsWellFormed, IsGroup}
 use Rattle.strkw_ecma.specs.Patterns.{pattern}
-use Rattle.strkw_ecma.specs.Size.{size, max_nodes}
+use Rattle.strkw_ecma.specs.Size.{steps, max_steps}
 use Rattle.strkw_ecma.specs.Numbers.{number, number_of, CountToken, digit, comma, closing_brace, no_count, count_token}
 use Rattle.strkw_ecma.specs.Names.{NameChar, name_value, Extension, uncaptured, name_opening, no_extension, extension, NameToken, name_end, name_backslash, name_character, name_token}
 use Rattle.strkw_ecma.specs.PropertyReading.{PropertyPart, brace_awaited, in_braces}
@@ -301,7 +301,7 @@ no_tree true d e = absurd (true≢false e)
 large_of : (text : List ℕ) (o : Option Disjunction) → IsSpelled o text → IsFormed o → is_some (option_map pattern o) ≡ true
     → is_some (small_tree o) ≡ false → IsReason text TooLarge
 large_of text None w f some refused = absurd (true≢false (sym some))
-large_of text (Some d) w f some refused = (d, f, w, leb-false _ _ (no_tree (nat_le (size (pattern d)) max_nodes) d refused))
+large_of text (Some d) w f some refused = (d, f, w, leb-false _ _ (no_tree (nat_le (steps (pattern d)) max_steps) d refused))
 
 pub too_large : (text : List ℕ) → length text ≤ max_length → is_some (option_map pattern (read_short text)) ≡ true → is_apart text ≡ true
     → takes_pattern text ≡ false → IsReason text TooLarge

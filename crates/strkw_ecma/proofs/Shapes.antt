@@ -1,8 +1,10 @@
--- The equations of `pattern_of`, one for each variant.
-use Rattle.std.proofs.Common.{◌≡◌, Bool, Vec, Box, Global, sym, ap, ◌∙◌}
+-- The equations of `pattern_of`, one for each variant with parts, and that of the outline of a class.
+use Rattle.std.proofs.Common.{◌≡◌, Bool, false, Vec, Box, Global, sym, ap, ◌∙◌}
 use Rattle.strkw_ecma.specs.Tree.{Pattern, class, cat, alt, star, plus}
 use Rattle.strkw_ecma.specs.declared.tree.CharSet.{CharSet}
-use Rattle.strkw_ecma.specs.Shape.{pattern_of, node_pattern}
+use Rattle.strkw_ecma.specs.Shape.{pattern_of, node_pattern, outlined, outlined_node}
+use Rattle.strkw_ecma.specs.declared.outline.Outline.{Outline-F, fold-roll-Outline}
+use Rattle.strkw_ecma.specs.declared.outline.Outline.TheVariants as outline
 use Rattle.strkw_ecma.specs.declared.tree.Tree.{Tree, Tree-F, fold-roll-Tree}
 use Rattle.strkw_ecma.specs.declared.tree.Tree.TheVariants.{Class, Then, Or, Star, Plus, rolls-Class, rolls-Then, rolls-Or, rolls-Star, rolls-Plus}
 
@@ -23,3 +25,7 @@ pub pattern-Plus : (body : Box Tree Global) → pattern_of (Plus body) ≡ plus 
 pattern-Plus body = ap pattern_of (sym (rolls-Plus body)) ∙ fold-roll-Tree Pattern node_pattern (Tree-F.Plus body)
 
 pub ruleset shapes = (pattern-Class, pattern-Then, pattern-Or, pattern-Star, pattern-Plus)
+
+pub outlined-Class : (negated : Bool) (sets : Vec CharSet Global) → outlined (outline.Class negated sets) ≡ class false negated sets.items
+outlined-Class negated sets =
+    ap outlined (sym (outline.rolls-Class negated sets)) ∙ fold-roll-Outline Pattern outlined_node (Outline-F.Class negated sets)

@@ -11,7 +11,7 @@ use Rattle.strkw_ecma.specs.Classes.{class_token, class_escape, no_ranges}
 use Rattle.strkw_ecma.specs.Syntax.{Disjunction, Term, at_start, at_end, at_boundary, at_no_boundary, quantified, Quantifier, zero_or_more, one_or_more, zero_or_one, exactly, at_least, from_to, lazy, Group, capturing, plain_group, named, plain, escaped, control_escape, set_escape, coded, property_escape, dot, group, Token, bar, asterisk, plus, question, caret, dollar, opening as opening_token, closing, point, backslash, bracket, brace, character, other, token, quantifier_spelling, group_spelling, spelling, term_spelling, atom_spelling}
 use Rattle.strkw_ecma.specs.Reading.{Open, Outer, Level, Last, none, atom, counted, fresh, Mode, between, escaping, opening, extending, class_opened, Count, low, high, counting, with_count, longer, on_low, on_high, on_count, range_read, in_class, class_escaping, coding, class_coding, in_property, in_class_property, naming, name_escaping, name_coding, with_name_char, name_read, on_naming, on_name_escape, on_name_coding, on_coding, on_property, tree_if, closes, is_between, State, ended, level_ended, new_level, with_atom, with_term, with_mode, closed_in, closed, with_quantifier, questioned, opened, opened_within, on_token, on_group, on_extension, on_escape, on_class, next, next_in, read_from, initial, read}
 use Rattle.strkw_ecma.specs.Numbers.{number, number_of, max_count, CountToken, digit, comma, closing_brace, no_count, count_token}
-use Rattle.strkw_ecma.specs.Size.{size, max_size}
+use Rattle.strkw_ecma.specs.Size.{steps, max_term_steps}
 use Rattle.strkw_ecma.specs.Patterns.{atom_pattern, times, copies}
 use Rattle.strkw_ecma.proofs.Letters.{char_of_count, char_of_count_token, same_char, char_of_extension, char_of_extension_token, char_of_name, char_of_name_token, char_of, char_of_token, char_of_letter, char_of_escape, char_of_class_token, char_of_class_escape}
 use Rattle.strkw_ecma.proofs.ClassSpelled.{level_spelling, last_spelling, outer_spelling, name_text, spelled, HasRead, when_read, joined_spelling, more_spelling, before, whole, atom_read, class_token_read, class_escape_read, class_coding_read, class_property_read}
@@ -183,7 +183,7 @@ module _ (outer : Outer) (l : Level) where
   count_read : (x : Last) (q : Quantifier) → HasRead (with_count outer l x q) (before outer l x ++ quantifier_spelling q)
   count_read none q = tt
   count_read (atom a) q =
-      when_read (nat_le (copies (times q) * size (atom_pattern a)) max_size) (with_quantifier outer l (atom a) q)
+      when_read (nat_le (copies (times q) * steps (atom_pattern a)) max_term_steps) (with_quantifier outer l (atom a) q)
       (before outer l (atom a) ++ quantifier_spelling q) (quantifier_read outer l (atom a) q)
   count_read (counted a p) q = tt
 

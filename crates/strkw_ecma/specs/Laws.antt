@@ -8,7 +8,7 @@ use Rattle.strkw_ecma.specs.Tree.{in_sets}
 use Rattle.strkw_ecma.specs.declared.tree.CharSet.{CharSet}
 use Rattle.strkw_ecma.specs.Codes.{max_code_point}
 use Rattle.strkw_ecma.specs.Lookahead.{is_apart}
-use Rattle.strkw_ecma.specs.Size.{size, max_nodes}
+use Rattle.strkw_ecma.specs.Size.{steps, max_steps}
 use Rattle.strkw_ecma.specs.Meaning.{Found}
 use Rattle.strkw_ecma.specs.Patterns.{pattern}
 use Rattle.strkw_ecma.specs.Outcomes.{takes_pattern, pattern_outcome}
@@ -26,7 +26,7 @@ pub record IsPattern (source : List ℕ) (d : Disjunction) : Type 0 where
   pub apart : is_apart source ≡ true
   -- no two groups have the same name
   pub distinct : are_distinct (names d) ≡ true
-  pub small : size (pattern d) ≤ max_nodes
+  pub small : steps (pattern d) ≤ max_steps
 
 -- what is taken is a pattern, each pattern is taken, it has one tree, and it comes to a match exactly where that is found, and
 -- to none elsewhere

@@ -6,6 +6,7 @@ pub mod Marks
 pub mod Shape
 pub mod Numbers
 pub mod Size
+pub mod Sizes
 pub mod Escapes
 pub mod Lookahead
 pub mod Codes
@@ -19,6 +20,7 @@ pub mod Reading
 pub mod Patterns
 pub mod WellFormed
 pub mod Search
+pub mod Counted
 pub mod Outcomes
 pub mod Engine
 pub mod Laws

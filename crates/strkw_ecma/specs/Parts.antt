@@ -13,9 +13,9 @@ use Rattle.strkw_ecma.specs.Classes.{ClassToken, closing_bracket, class_backslas
 use Rattle.strkw_ecma.specs.Syntax.{Token, bar, asterisk, plus, question, caret, dollar, opening as opening_token, closing, point, backslash, bracket, brace, character, other, token, max_nesting}
 use Rattle.strkw_ecma.specs.Patterns.{one_char, Times, any_times, some_times, once_at_most, exact_times, least_times, range_times, quantified_pattern, copies}
 use Rattle.strkw_ecma.specs.Numbers.{max_count, CountToken, digit, comma, closing_brace, no_count, count_token}
-use Rattle.strkw_ecma.specs.Size.{size, max_size, max_nodes}
+use Rattle.strkw_ecma.specs.Size.{steps, max_term_steps, max_steps}
 use Rattle.strkw_ecma.specs.Sets.{line_ends, set_of, set_ranges, is_negative, control_char}
-use Rattle.strkw_ecma.specs.Shape.{pattern_of}
+use Rattle.strkw_ecma.specs.Shape.{outlined}
 use Rattle.strkw_ecma.specs.Lookahead.{Front, neither, backslash as after_backslash, null as after_null}
 use Rattle.strkw_ecma.specs.declared.reader.Level.{Level}
 use Rattle.strkw_ecma.specs.declared.reader.Outer.{Outer as CodeOuter}
@@ -41,8 +41,6 @@ use Rattle.strkw_ecma.specs.declared.counts.Count.{Count as CodeCount}
 use Rattle.strkw_ecma.specs.declared.counts.Count.TheVariants as code_count
 use Rattle.strkw_ecma.specs.declared.tokens.CountToken.{CountToken as CodeCountToken}
 use Rattle.strkw_ecma.specs.declared.tokens.CountToken.TheVariants as count_code
-use Rattle.strkw_ecma.specs.declared.counts.Quantifier.{Quantifier as CodeQuantifier}
-use Rattle.strkw_ecma.specs.declared.counts.Quantifier.TheVariants as quantifier
 use Rattle.strkw_ecma.specs.declared.lookahead.Front.{Front as CodeFront}
 use Rattle.strkw_ecma.specs.declared.lookahead.Front.TheVariants as code_front
 use Rattle.strkw_ecma.specs.declared.tokens.Escape.{Escape as CodeEscape}
@@ -113,12 +111,12 @@ pub record Parts : Type 0 where
 
 -- of what the code holds
 abbrev pub side_of : Level → Side
-side_of l = record { earlier = option_map pattern_of l.earlier; current = pattern_of l.current }
+side_of l = record { earlier = option_map outlined l.earlier; current = outlined l.current }
 
 abbrev pub last_of : CodeLast → Last
 last_of last.None = none
-last_of (last.Atom t) = atom (pattern_of t)
-last_of (last.Counted t) = counted (pattern_of t)
+last_of (last.Atom t) = atom (outlined t)
+last_of (last.Counted t) = counted (outlined t)
 
 abbrev pub item_of : CodeItem → Item
 item_of (code_item.Char c) = char c
@@ -218,14 +216,6 @@ escape_of escaped.Unicode = unicode
 escape_of escaped.Property = property
 escape_of escaped.NoProperty = no_property
 escape_of escaped.Unknown = unknown
-
-abbrev pub quantifier_of : CodeQuantifier → Times
-quantifier_of quantifier.ZeroOrMore = any_times
-quantifier_of quantifier.OneOrMore = some_times
-quantifier_of quantifier.ZeroOrOne = once_at_most
-quantifier_of (quantifier.Exactly n) = exact_times n
-quantifier_of (quantifier.AtLeast n) = least_times n
-quantifier_of (quantifier.FromTo n m) = range_times n m
 
 abbrev pub count_token_of : CodeCountToken → CountToken
 count_token_of count_code.Digit = digit
@@ -452,7 +442,7 @@ after_name_coding s n (makes c) = after_name_char s n c
 
 abbrev pub after_count : Parts → Last → Times → Option Parts
 after_count s none t = None
-after_count s (atom p) t = when (nat_le (copies t * size p) max_size) (after_quantifier s (atom p) t)
+after_count s (atom p) t = when (nat_le (copies t * steps p) max_term_steps) (after_quantifier s (atom p) t)
 after_count s (counted p) t = None
 
 abbrev pub value : Option ℕ → ℕ
@@ -534,7 +524,7 @@ pattern_from s (c ∷ cs) = option_and_then (λ t. pattern_from t cs) (after_cha
 -- what is not too large
 abbrev pub small_pattern : Option Pattern → Option Pattern
 small_pattern None = None
-small_pattern (Some p) = pattern_if (nat_le (size p) max_nodes) p
+small_pattern (Some p) = pattern_if (nat_le (steps p) max_steps) p
 
 abbrev pub no_parts : Parts
 no_parts = record { outer = record { groups = []; names = [] }; level = new_level; last = none; mode = between }

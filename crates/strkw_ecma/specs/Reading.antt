@@ -10,7 +10,7 @@ use Rattle.strkw_ecma.specs.declared.tree.CharSet.{CharSet}
 use Rattle.strkw_ecma.specs.Names.{NameChar, verbatim, by_code, name_char_value, name_value, may_follow, are_distinct, Extension, uncaptured, name_opening, no_extension, extension, NameToken, name_end, name_backslash, name_character, name_token}
 use Rattle.strkw_ecma.specs.Classes.{ClassToken, closing_bracket, class_backslash, dash, class_character, class_token, class_escape, ClassAtom, class_plain, hyphen, class_escaped, class_control, class_set, backspace, class_coded, class_property, Ranges, no_ranges, with_one, with_range, item, range}
 use Rattle.strkw_ecma.specs.Numbers.{number, number_of, max_count, CountToken, digit, comma, closing_brace, no_count, count_token}
-use Rattle.strkw_ecma.specs.Size.{size, max_size, max_nodes}
+use Rattle.strkw_ecma.specs.Size.{steps, max_term_steps, max_steps}
 use Rattle.strkw_ecma.specs.Lookahead.{is_apart}
 use Rattle.strkw_ecma.specs.Patterns.{pattern, atom_pattern, times, copies}
 use Rattle.strkw_ecma.specs.Syntax.{Disjunction, only, either, Alternative, nothing, more, Term, at_start, at_end, at_boundary, at_no_boundary, once, quantified, Quantifier, zero_or_more, one_or_more, zero_or_one, exactly, at_least, from_to, greedy, lazy, Group, capturing, plain_group, named, with_name, Atom, plain, escaped, control_escape, set_escape, coded, property_escape, dot, bracketed, group, Token, bar, asterisk, plus, question, caret, dollar, opening as opening_token, closing, point, backslash, bracket, brace, character, other, token, max_nesting, max_length}
@@ -286,7 +286,7 @@ on_name_coding outer l x n (makes d) = with_name_char outer l x n (by_code d)
 -- a count behind the last atom
 abbrev pub with_count : Outer → Level → Last → Quantifier → Option State
 with_count outer l none q = None
-with_count outer l (atom a) q = when (nat_le (copies (times q) * size (atom_pattern a)) max_size) (with_quantifier outer l (atom a) q)
+with_count outer l (atom a) q = when (nat_le (copies (times q) * steps (atom_pattern a)) max_term_steps) (with_quantifier outer l (atom a) q)
 with_count outer l (counted a p) q = None
 
 -- one more digit, where the number is not too great
@@ -366,7 +366,7 @@ read_short source = if nat_le (length source) max_length then read source else N
 -- the tree that is not too large
 abbrev pub small_tree : Option Disjunction → Option Disjunction
 small_tree None = None
-small_tree (Some d) = tree_if (nat_le (size (pattern d)) max_nodes) d
+small_tree (Some d) = tree_if (nat_le (steps (pattern d)) max_steps) d
 
 -- the tree of a pattern, where the text is one
 abbrev pub read_pattern : List ℕ → Option Disjunction

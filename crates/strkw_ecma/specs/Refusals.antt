@@ -4,7 +4,7 @@ use Rattle.std.specs.Str.{byte}
 use Rattle.strkw_text.specs.Characters.{is_one_of}
 use Rattle.strkw_ecma.specs.Numbers.{number, are_digits, IsNumber, max_count}
 use Rattle.strkw_ecma.specs.Properties.{Expression, alone, valued, property_of, has_property_chars, property_spelling}
-use Rattle.strkw_ecma.specs.Size.{size, max_size, max_nodes}
+use Rattle.strkw_ecma.specs.Size.{steps, max_term_steps, max_steps}
 use Rattle.strkw_ecma.specs.Patterns.{pattern, atom_pattern, times, copies}
 use Rattle.strkw_ecma.specs.Syntax.{Disjunction, spelling, Group, group_spelling, Atom, atom_spelling, Quantifier, quantifier_spelling, max_nesting, max_length}
 use Rattle.strkw_ecma.specs.WellFormed.{IsWellFormed, IsGroup, IsAtom}
@@ -79,10 +79,10 @@ IsReason text CountTooGreat =
     (ds : List ℕ) × (are_digits ds ≡ true) × (max_count < number ds) × HasGreatCount text ds
 IsReason text TermTooLarge =
     (n : ℕ) × (a : Atom) × (q : Quantifier)
-    × IsAtom n a × (max_size < copies (times q) * size (atom_pattern a))
+    × IsAtom n a × (max_term_steps < copies (times q) * steps (atom_pattern a))
     × HasTermWithin n (atom_spelling a ++ quantifier_spelling q) text
 -- the whole is well formed
 IsReason text TooLarge =
-    (d : Disjunction) × IsWellFormed 0 d × (spelling d ≡ text) × (max_nodes < size (pattern d))
+    (d : Disjunction) × IsWellFormed 0 d × (spelling d ≡ text) × (max_steps < steps (pattern d))
 -- nothing more than that it is not taken
 IsReason text NotTaken = Unit {0}

@@ -6,18 +6,18 @@ use Rattle.strkw_ecma.specs.Properties.{IsExpression}
 use Rattle.strkw_ecma.specs.Names.{IsName}
 use Rattle.strkw_ecma.specs.Classes.{AreRanges, MayEnd}
 use Rattle.strkw_ecma.specs.Numbers.{number, IsNumber}
-use Rattle.strkw_ecma.specs.Size.{size, max_size}
+use Rattle.strkw_ecma.specs.Size.{steps, max_term_steps}
 use Rattle.strkw_ecma.specs.Patterns.{atom_pattern}
 use Rattle.strkw_ecma.specs.Syntax.{Disjunction, only, either, Alternative, nothing, more, Term, at_start, at_end, at_boundary, at_no_boundary, once, quantified, Quantifier, zero_or_more, one_or_more, zero_or_one, exactly, at_least, from_to, Group, capturing, plain_group, named, Atom, plain, escaped, control_escape, set_escape, coded, property_escape, dot, bracketed, group, token, character, max_nesting}
 
--- of what has so many nodes. The counts do not fall, and no more than so many nodes come of a counted term
+-- of what takes so many steps. The counts do not fall, and a counted term takes no more than so many
 abbrev pub IsQuantifier : Quantifier → ℕ → Type 0
 IsQuantifier zero_or_more s = Unit {0}
 IsQuantifier one_or_more s = Unit {0}
 IsQuantifier zero_or_one s = Unit {0}
-IsQuantifier (exactly ds) s = IsNumber ds × (number ds * s ≤ max_size)
-IsQuantifier (at_least ds) s = IsNumber ds × ((number ds + 1) * s ≤ max_size)
-IsQuantifier (from_to ds es) s = IsNumber ds × IsNumber es × (number ds ≤ number es) × (number es * s ≤ max_size)
+IsQuantifier (exactly ds) s = IsNumber ds × (number ds * s ≤ max_term_steps)
+IsQuantifier (at_least ds) s = IsNumber ds × ((number ds + 1) * s ≤ max_term_steps)
+IsQuantifier (from_to ds es) s = IsNumber ds × IsNumber es × (number ds ≤ number es) × (number es * s ≤ max_term_steps)
 
 abbrev pub IsGroup : Group → Type 0
 IsGroup capturing = Unit {0}
@@ -40,7 +40,7 @@ abbrev mutual
   IsTerm n (once a) = IsAtom n a
   IsTerm n at_boundary = Unit {0}
   IsTerm n at_no_boundary = Unit {0}
-  IsTerm n (quantified a q g) = IsAtom n a × IsQuantifier q (size (atom_pattern a))
+  IsTerm n (quantified a q g) = IsAtom n a × IsQuantifier q (steps (atom_pattern a))
 
   pub IsAtom : ℕ → Atom → Type 0
   IsAtom n (plain c) = token c ≡ character

@@ -2,12 +2,13 @@
 
 ghost use Rattle.std.specs.Prelude.{◌≡◌, ◌++◌, IfOk, OnOk, option_map};
 ghost use Rattle.strkw_ecma.specs.Classes.{item_sets, range};
-ghost use Rattle.strkw_ecma.specs.Shape.{pattern_of};
+ghost use Rattle.strkw_ecma.specs.Shape.{outlined};
 ghost use Rattle.strkw_ecma.specs.Parts.{item_of, class_of, took, took_dash, class_read, new_class};
 
+use crate::outline::Outline;
 use crate::properties::Property;
 use crate::sets::set_ranges;
-use crate::tree::{CharSet, Tree};
+use crate::tree::CharSet;
 use std::alloc::{AllocError, Global};
 
 // One character, the set of a letter of `\d \D \s \S \w \W`, or the characters with a property, or without it.
@@ -124,9 +125,9 @@ impl ClassReader {
     }
 
     // The whole class, where the closing bracket stands here.
-    pub(crate) fn closed(self) -> Result<Tree, AllocError>
+    pub(crate) fn closed(self) -> Result<Outline, AllocError>
         ensures { let k = class_of self in
-            IfOk result (λ t. pattern_of t ≡ class_read k.negated k.sets k.pending) }
+            IfOk result (λ t. outlined t ≡ class_read k.negated k.sets k.pending) }
     {
         let ClassReader {
             negated,
@@ -141,10 +142,6 @@ impl ClassReader {
                 sets.push(CharSet::Range('-', '-'))?;
             }
         }
-        Ok(Tree::Class {
-            marked: false,
-            negated,
-            sets,
-        })
+        Ok(Outline::Class { negated, sets })
     }
 }

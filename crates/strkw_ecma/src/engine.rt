@@ -72,8 +72,10 @@ impl RegexEngine for EcmaMatcher {
 /// - classes with `[ ]` and `[^ ]`, of characters, ranges and those escapes, with `\-`, and `\b` for the backspace.
 ///
 /// Any other text is not taken, nor is a pattern with groups more than 250 deep, with more than 2,000 characters, with a count
-/// above 1,000, with a counted term of which more than 2,000 nodes would come (its copies, each with the nodes of its tree), or
-/// of which more than 20,000 would come as a whole.
+/// above 1,000, with a counted term of more than 2,000 steps (its copies, each with the steps of what is repeated), or one of
+/// more than 5,200 steps as a whole. The steps are those of a search for one character: one for each node of the tree, and
+/// once more for each quantifier around it, and of a class one for each eight ranges and for each property. They are counted
+/// before there is a tree.
 ///
 /// A match is a search for the pattern in the text (section 22.2.7.2), with no flag but `u`: characters are Unicode scalar
 /// values; `^` and `$` stand for the two ends of the text, `.` for each character but U+000A, U+000D, U+2028 and U+2029,

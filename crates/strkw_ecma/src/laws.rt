@@ -1,7 +1,11 @@
 //! Laws of the definitions, as functions with empty bodies.
 
 ghost use Rattle.std.specs.Prelude.{ℕ, List};
-ghost use Rattle.strkw_ecma.specs.Laws.{AreComplements, IsExact};
+ghost use Rattle.strkw_ecma.specs.Laws.{AreComplements, IsExact, IsPattern};
+ghost use Rattle.strkw_ecma.specs.Syntax.{Disjunction};
+ghost use Rattle.strkw_ecma.specs.Size.{max_steps};
+ghost use Rattle.strkw_ecma.specs.Counted.{IsSearchedWithin};
+ghost use Rattle.strkw_ecma.specs.Patterns.{pattern};
 ghost use Rattle.strkw_ecma.specs.Sets.{digits, non_digits, white_space, non_white_space, word_characters, non_word_characters};
 
 /// What `takes` and `outcome` of `EcmaPatterns` come to, said by the grammar and the meaning: for every text, it is taken
@@ -16,4 +20,12 @@ pub fn negative_sets_are_complements()
     ensures digits { AreComplements digits non_digits }
     ensures white_space { AreComplements white_space non_white_space }
     ensures words { AreComplements word_characters non_word_characters }
+{}
+
+/// The search of each pattern that is taken, with its steps counted, comes to the answer of the definition, in at most 5,200
+/// steps for each character of the text and for its end. A step is a node of the pattern that is asked, and of a class
+/// one more for each eight ranges and for each property.
+pub fn searches_are_bounded()
+    ensures { (source : List ℕ) (d : Disjunction) → IsPattern source d
+        → (text : List ℕ) → IsSearchedWithin max_steps (pattern d) text }
 {}

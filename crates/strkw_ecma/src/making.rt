@@ -4,7 +4,7 @@ ghost use Rattle.std.specs.Prelude.{◌≡◌, ◌≤◌, ◌<◌, ℕ, List, le
 ghost use Rattle.strkw_ecma.specs.Shape.{pattern_of};
 ghost use Rattle.strkw_ecma.specs.Table.{class_of as spec_class_of, stride, Searches};
 
-use crate::marks::{leaves_tree, step_tree};
+use crate::marks::{leaves_tree, set_marks, step_tree};
 use crate::runs::mark_runs;
 use crate::sets::WORD_CHARACTERS;
 use crate::states::{State, covers, is_table};
@@ -15,22 +15,45 @@ use std::alloc::{AllocError, Global};
 /// The most states of a table. A pattern with more is searched by its marks.
 const MOST_ROWS: usize = 255;
 
-/// How many nodes may be stepped to make a table. Each entry costs a step of the whole pattern.
-const MOST_STEPS: usize = 1 << 20;
+/// How much work the entries of a table may be together. Each is a step of the whole pattern, and its states are compared.
+const MOST_WORK: usize = 6 << 20;
 
-#[cycle(nodes)]
-fn nodes(tree: &Tree) -> usize {
+/// How large the trees of its states may be together, by the same measure.
+const MOST_ROOM: usize = 7 << 16;
+
+/// The work of a node, and by the same measure of a set of a class.
+const NODE_WORK: usize = 4;
+
+const SET_WORK: usize = 1;
+
+// Of one entry.
+#[cycle(work)]
+fn work(tree: &Tree) -> usize {
     match tree {
-        Tree::Empty
-        | Tree::Class { .. }
-        | Tree::Start
-        | Tree::End
-        | Tree::Boundary
-        | Tree::NoBoundary => 1,
+        Tree::Empty | Tree::Start | Tree::End | Tree::Boundary | Tree::NoBoundary => NODE_WORK,
+        Tree::Class { sets, .. } => sets
+            .len()
+            .saturating_mul(SET_WORK)
+            .saturating_add(NODE_WORK),
         Tree::Then(one, other) | Tree::Or(one, other) => {
-            nodes(one).saturating_add(nodes(other)).saturating_add(1)
+            work(one)
+                .saturating_add(work(other))
+                .saturating_add(NODE_WORK)
         }
-        Tree::Star(body) | Tree::Plus(body) => nodes(body).saturating_add(1),
+        Tree::Star(body) | Tree::Plus(body) => work(body).saturating_add(NODE_WORK),
+    }
+}
+
+// A number of the marks, which is mostly another for others, so that few trees need be compared.
+#[cycle(digest)]
+fn digest(tree: &Tree, before: u64) -> u64 {
+    match tree {
+        Tree::Empty | Tree::Start | Tree::End | Tree::Boundary | Tree::NoBoundary => before,
+        Tree::Class { marked, .. } => before
+            .wrapping_mul(0x9E37_79B9_7F4A_7C15)
+            .wrapping_add(u64::from(*marked)),
+        Tree::Then(one, other) | Tree::Or(one, other) => digest(other, digest(one, before)),
+        Tree::Star(body) | Tree::Plus(body) => digest(body, before),
     }
 }
 
@@ -69,8 +92,10 @@ fn add_firsts(firsts: &mut Vec<char>, tree: &Tree) -> Result<(), AllocError> {
 
 // How many states of a pattern can be stepped by each class of characters.
 fn most_rows(tree: &Tree, firsts: &[char]) -> usize {
-    let steps_a_row = nodes(tree).saturating_mul(firsts.len()).max(1);
-    (MOST_STEPS / steps_a_row).min(MOST_ROWS)
+    let work_an_entry = work(tree);
+    let work_a_row = work_an_entry.saturating_mul(firsts.len());
+    let by_room = MOST_ROOM / work_an_entry.max(1);
+    (MOST_WORK / work_a_row.max(1)).min(by_room).min(MOST_ROWS)
 }
 
 // The first characters of the classes that the ranges of a pattern and `\b` do not tell apart, in order.
@@ -84,9 +109,9 @@ fn firsts_of(alloc: Global, tree: &Tree) -> Result<Vec<char>, AllocError> {
 }
 
 // The number of the state of these marks behind a character.
-fn number_of(states: &[State], tree: &Tree, last: char) -> Option<usize> {
+fn number_of(states: &[State], tree: &Tree, digest: u64, last: char) -> Option<usize> {
     for (number, state) in states.iter().enumerate() {
-        if state.is_that_of(tree, last) {
+        if state.digest == digest && state.is_that_of(tree, last) {
             return Some(number);
         }
     }
@@ -96,6 +121,7 @@ fn number_of(states: &[State], tree: &Tree, last: char) -> Option<usize> {
 // The entry of a state and the next character, behind which there may be one more state; none where there is no room.
 fn entry_of(
     alloc: Global,
+    at_hand: &mut Tree,
     states: &mut Vec<State>,
     number: usize,
     c: char,
@@ -104,11 +130,12 @@ fn entry_of(
     let Some(state) = states.get(number) else {
         return Ok(None);
     };
-    let mut tree = state.tree.copy(alloc)?;
-    if step_tree(&mut tree, state.last, Some(c), true) {
+    set_marks(at_hand, &state.tree);
+    if step_tree(at_hand, state.last, Some(c), true) {
         return Ok(Some(FOUND as u16));
     }
-    if let Some(known) = number_of(states, &tree, c) {
+    let digest = digest(at_hand, 0);
+    if let Some(known) = number_of(states, at_hand, digest, c) {
         return Ok(place_of(known));
     }
     let added = states.len();
@@ -116,8 +143,9 @@ fn entry_of(
         return Ok(None);
     }
     states.push(State {
-        tree,
+        tree: at_hand.copy(alloc)?,
         last: Some(c),
+        digest,
     })?;
     Ok(place_of(added))
 }
@@ -125,6 +153,7 @@ fn entry_of(
 // The row of a state, behind the rows before it. Whether there is room for the states that follow it.
 fn add_row(
     alloc: Global,
+    at_hand: &mut Tree,
     firsts: &[char],
     states: &mut Vec<State>,
     entries: &mut Vec<u16>,
@@ -137,7 +166,7 @@ fn add_row(
     };
     entries.push(if ends { FOUND as u16 } else { 0 })?;
     for c in firsts {
-        match entry_of(alloc, states, number, *c, most_rows)? {
+        match entry_of(alloc, at_hand, states, number, *c, most_rows)? {
             Some(entry) => entries.push(entry)?,
             None => return Ok(false),
         }
@@ -189,10 +218,12 @@ pub(crate) fn table_of(alloc: Global, tree: &Tree) -> Result<Option<Table>, Allo
     if firsts.len() >= STRIDE || !covers(&firsts, tree) {
         return Ok(None);
     }
+    let mut at_hand = tree.copy(alloc)?;
     let mut states = Vec::new(alloc);
     states.push(State {
         tree: tree.copy(alloc)?,
         last: None,
+        digest: digest(tree, 0),
     })?;
     let mut entries = Vec::new(alloc);
     let most_rows = most_rows(tree, &firsts);
@@ -201,7 +232,15 @@ pub(crate) fn table_of(alloc: Global, tree: &Tree) -> Result<Option<Table>, Allo
             mark_runs(&mut entries, number);
             return table_if_right(alloc, firsts, entries, &states, tree);
         }
-        if !add_row(alloc, &firsts, &mut states, &mut entries, number, most_rows)? {
+        if !add_row(
+            alloc,
+            &mut at_hand,
+            &firsts,
+            &mut states,
+            &mut entries,
+            number,
+            most_rows,
+        )? {
             return Ok(None);
         }
     }

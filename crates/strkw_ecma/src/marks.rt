@@ -8,7 +8,6 @@ ghost use Rattle.strkw_ecma.specs.Marks.{leaves, step, reads, is_clean};
 ghost use Rattle.strkw_ecma.specs.Search.{search_from};
 ghost use Rattle.strkw_ecma.specs.Shape.{pattern_of};
 
-use crate::sets::WORD_CHARACTERS;
 use crate::tree::{CharSet, Tree};
 
 impl CharSet {
@@ -50,7 +49,7 @@ fn reads_class(next: Option<char>, negated: bool, sets: &[CharSet]) -> bool
 pub(crate) fn is_word(c: Option<char>) -> bool
     ensures { result ≡ spec_is_word c }
 {
-    reads_class(c, false, &WORD_CHARACTERS)
+    matches!(c, Some('0'..='9' | 'A'..='Z' | '_' | 'a'..='z'))
 }
 
 fn is_boundary(last: Option<char>, next: Option<char>) -> bool
@@ -144,6 +143,42 @@ pub(crate) fn step_tree(
             let begins = enters || more;
             step_tree(body, last, next, begins)
         }
+    }
+}
+
+// Gives a tree the marks of another, where both are alike but for them. Nothing is proved of it: who needs that they are the
+// same compares them.
+#[cycle(set_marks)]
+pub(crate) fn set_marks(tree: &mut Tree, from: &Tree) {
+    match tree {
+        Tree::Class { marked, .. } => {
+            if let Tree::Class { marked: given, .. } = from {
+                *marked = *given;
+            }
+        }
+        Tree::Then(one, two) => {
+            if let Tree::Then(first, second) = from {
+                set_marks(one, first);
+                set_marks(two, second);
+            }
+        }
+        Tree::Or(one, two) => {
+            if let Tree::Or(first, second) = from {
+                set_marks(one, first);
+                set_marks(two, second);
+            }
+        }
+        Tree::Star(body) => {
+            if let Tree::Star(given) = from {
+                set_marks(body, given);
+            }
+        }
+        Tree::Plus(body) => {
+            if let Tree::Plus(given) = from {
+                set_marks(body, given);
+            }
+        }
+        _ => {}
     }
 }
 

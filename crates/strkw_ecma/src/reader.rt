@@ -3,12 +3,12 @@
 ghost use Rattle.std.specs.Prelude.{◌≡◌, false, IfOk, is_some, option_map, nat_lt, length, ◌==◌};
 ghost use Rattle.std.specs.Str.{chars, byte};
 ghost use Rattle.strkw_ecma.specs.Patterns.{pattern, one_char as spec_one_char};
-ghost use Rattle.strkw_ecma.specs.Shape.{pattern_of};
+ghost use Rattle.strkw_ecma.specs.Shape.{outlined, pattern_of, quantifier_of};
 ghost use Rattle.strkw_ecma.specs.Syntax.{token as spec_token};
 ghost use Rattle.strkw_ecma.specs.Names.{extension as spec_extension};
 ghost use Rattle.strkw_ecma.specs.Escapes.{escape as spec_escape};
 ghost use Rattle.strkw_ecma.specs.Reading.{read_pattern, read_short as spec_read_short};
-ghost use Rattle.strkw_ecma.specs.Parts.{parts_of, quantifier_of, last_of, mode_of, ended as spec_ended, joined as spec_joined, level_ended, side_of, after_atom, after_term, after_bar, opened_within, after_closing, after_quantifier, after_question, after_escape, after_token, after_group, after_extension, after_in, after_char, with_mode, at_close, no_parts, is_between};
+ghost use Rattle.strkw_ecma.specs.Parts.{parts_of, last_of, mode_of, ended as spec_ended, joined as spec_joined, level_ended, side_of, after_atom, after_term, after_bar, opened_within, after_closing, after_quantifier, after_question, after_escape, after_token, after_group, after_extension, after_in, after_char, with_mode, at_close, no_parts, is_between};
 
 mod classing;
 mod coding;
@@ -19,11 +19,13 @@ mod refusing;
 
 use crate::classes::ClassReader;
 use crate::codes::{Coding, Wanted, Width};
-use crate::counts::{Count, Quantifier, if_small, then};
+use crate::counts::Count;
 use crate::lookahead::is_apart;
 use crate::names::are_distinct;
+use crate::outline::{Outline, Quantifier};
 use crate::properties::PropertyPart;
 use crate::sets::{control_char, dot, one_char, set};
+use crate::size::if_small;
 use crate::tokens::{Escape, Extension, Token};
 use crate::tree::Tree;
 pub(crate) use refusing::refusal_of;
@@ -38,15 +40,15 @@ pub(crate) const MAX_LENGTH: u64 = 2000;
 #[derive(Drop)]
 enum Last {
     None,
-    Atom(Tree),
-    Counted(Tree),
+    Atom(Outline),
+    Counted(Outline),
 }
 
 // The alternatives before the one that is read, and the terms of that one.
 #[derive(Drop)]
 struct Level {
-    earlier: Option<Tree>,
-    current: Tree,
+    earlier: Option<Outline>,
+    current: Outline,
 }
 
 // The groups that are open, the innermost last, and the names of all that there were.
@@ -95,22 +97,22 @@ struct Reader {
     mode: Mode,
 }
 
-fn ended(alloc: Global, current: Tree, last: Last) -> Result<Tree, AllocError>
-    ensures { IfOk result (λ t. pattern_of t ≡ spec_ended (pattern_of current) (last_of last)) }
+fn ended(alloc: Global, current: Outline, last: Last) -> Result<Outline, AllocError>
+    ensures { IfOk result (λ t. outlined t ≡ spec_ended (outlined current) (last_of last)) }
 {
     match last {
         Last::None => Ok(current),
-        Last::Atom(term) => then(alloc, current, term),
-        Last::Counted(term) => then(alloc, current, term),
+        Last::Atom(term) => current.then(alloc, term),
+        Last::Counted(term) => current.then(alloc, term),
     }
 }
 
-fn joined(alloc: Global, earlier: Option<Tree>, current: Tree) -> Result<Tree, AllocError>
-    ensures { IfOk result (λ t. pattern_of t ≡ spec_joined (option_map pattern_of earlier) (pattern_of current)) }
+fn joined(alloc: Global, earlier: Option<Outline>, current: Outline) -> Result<Outline, AllocError>
+    ensures { IfOk result (λ t. outlined t ≡ spec_joined (option_map outlined earlier) (outlined current)) }
 {
     match earlier {
         None => Ok(current),
-        Some(one) => Ok(Tree::Or(Box::new(alloc, one)?, Box::new(alloc, current)?)),
+        Some(one) => Ok(one.or(alloc, current)?),
     }
 }
 
@@ -125,15 +127,15 @@ impl Reader {
             },
             level: Level {
                 earlier: None,
-                current: Tree::Empty,
+                current: Outline::Empty,
             },
             last: Last::None,
             mode: Mode::Between,
         }
     }
 
-    fn with_atom(self, alloc: Global, atom: Tree) -> Result<Reader, AllocError>
-        ensures { IfOk result (λ r. parts_of r ≡ after_atom (parts_of self) (pattern_of atom)) }
+    fn with_atom(self, alloc: Global, atom: Outline) -> Result<Reader, AllocError>
+        ensures { IfOk result (λ r. parts_of r ≡ after_atom (parts_of self) (outlined atom)) }
     {
         let Reader {
             outer,
@@ -157,8 +159,8 @@ impl Reader {
         self.with_atom(alloc, one_char(alloc, c)?)
     }
 
-    fn with_term(self, alloc: Global, term: Tree) -> Result<Reader, AllocError>
-        ensures { IfOk result (λ r. parts_of r ≡ after_term (parts_of self) (pattern_of term)) }
+    fn with_term(self, alloc: Global, term: Outline) -> Result<Reader, AllocError>
+        ensures { IfOk result (λ r. parts_of r ≡ after_term (parts_of self) (outlined term)) }
     {
         let Reader {
             outer,
@@ -168,7 +170,7 @@ impl Reader {
         } = self;
         let Level { earlier, current } = level;
         let before = ended(alloc, current, last)?;
-        let current = then(alloc, before, term)?;
+        let current = before.then(alloc, term)?;
         Ok(Reader {
             outer,
             level: Level { earlier, current },
@@ -193,7 +195,7 @@ impl Reader {
             outer,
             level: Level {
                 earlier: Some(earlier),
-                current: Tree::Empty,
+                current: Outline::Empty,
             },
             last: Last::None,
             mode: Mode::Between,
@@ -217,7 +219,7 @@ impl Reader {
         let Last::Atom(atom) = last else {
             return Ok(None);
         };
-        let term = quantifier.tree(alloc, atom)?;
+        let term = atom.repeated(alloc, quantifier)?;
         Ok(Some(Reader {
             outer,
             level,
@@ -239,7 +241,7 @@ impl Reader {
         match last {
             Last::None => Ok(None),
             Last::Atom(atom) => {
-                let term = Quantifier::ZeroOrOne.tree(alloc, atom)?;
+                let term = atom.repeated(alloc, Quantifier::ZeroOrOne)?;
                 Ok(Some(Reader {
                     outer,
                     level,
@@ -249,7 +251,7 @@ impl Reader {
             }
             Last::Counted(term) => {
                 let Level { earlier, current } = level;
-                let current = then(alloc, current, term)?;
+                let current = current.then(alloc, term)?;
                 Ok(Some(Reader {
                     outer,
                     level: Level { earlier, current },
@@ -280,7 +282,7 @@ impl Reader {
             outer: Outer { groups, names },
             level: Level {
                 earlier: None,
-                current: Tree::Empty,
+                current: Outline::Empty,
             },
             last: Last::None,
             mode: Mode::Between,
@@ -316,8 +318,8 @@ impl Reader {
         ensures { IfOk result (λ r. option_map parts_of r ≡ after_escape (parts_of self) c (spec_escape c)) }
     {
         match Escape::of(c) {
-            Escape::Boundary => Ok(Some(self.with_term(alloc, Tree::Boundary)?)),
-            Escape::NoBoundary => Ok(Some(self.with_term(alloc, Tree::NoBoundary)?)),
+            Escape::Boundary => Ok(Some(self.with_term(alloc, Outline::Boundary)?)),
+            Escape::NoBoundary => Ok(Some(self.with_term(alloc, Outline::NoBoundary)?)),
             Escape::Itself => Ok(Some(self.with_char(alloc, c)?)),
             Escape::Control => Ok(Some(self.with_char(alloc, control_char(c))?)),
             Escape::Set => Ok(Some(self.with_atom(alloc, set(alloc, c)?)?)),
@@ -365,8 +367,8 @@ impl Reader {
             Token::Asterisk => return self.with_quantifier(alloc, Quantifier::ZeroOrMore),
             Token::Plus => return self.with_quantifier(alloc, Quantifier::OneOrMore),
             Token::Question => return self.questioned(alloc),
-            Token::Caret => return Ok(Some(self.with_term(alloc, Tree::Start)?)),
-            Token::Dollar => return Ok(Some(self.with_term(alloc, Tree::End)?)),
+            Token::Caret => return Ok(Some(self.with_term(alloc, Outline::Start)?)),
+            Token::Dollar => return Ok(Some(self.with_term(alloc, Outline::End)?)),
             Token::Closing => return self.closed(alloc),
             Token::Opening => return Ok(Some(self.with_mode(Mode::Opening))),
             Token::Backslash => return Ok(Some(self.with_mode(Mode::Escaping))),
@@ -447,9 +449,9 @@ impl Reader {
     }
 
     // The tree, where the pattern may end.
-    fn end(self, alloc: Global) -> Result<Option<Tree>, AllocError>
+    fn end(self, alloc: Global) -> Result<Option<Outline>, AllocError>
         ensures { let s = parts_of self in
-            IfOk result (λ t. option_map pattern_of t ≡ at_close s.outer s.level s.last (is_between s.mode)) }
+            IfOk result (λ t. option_map outlined t ≡ at_close s.outer s.level s.last (is_between s.mode)) }
     {
         if !self.may_end() {
             return Ok(None);
@@ -461,10 +463,10 @@ impl Reader {
     }
 }
 
-// The tree of a pattern, and `None` where the text is none.
+// The outline of a pattern, and `None` where the text is none. No term is copied, so it is known here what is too large.
 #[tactic(auto, using(crate::proofs::Parts::read_whole, crate::proofs::Parts::not_apart))]
-pub(crate) fn read(alloc: Global, source: &str) -> Result<Option<Tree>, AllocError>
-    ensures { IfOk result (λ t. option_map pattern_of t ≡ option_map pattern (read_pattern (chars source.now))) }
+pub(crate) fn outline_of(alloc: Global, source: &str) -> Result<Option<Outline>, AllocError>
+    ensures { IfOk result (λ t. option_map outlined t ≡ option_map pattern (read_pattern (chars source.now))) }
 {
     if !is_apart(source) {
         return Ok(None);
@@ -472,8 +474,18 @@ pub(crate) fn read(alloc: Global, source: &str) -> Result<Option<Tree>, AllocErr
     Ok(if_small(read_short(alloc, source)?))
 }
 
-fn read_short(alloc: Global, source: &str) -> Result<Option<Tree>, AllocError>
-    ensures { IfOk result (λ t. option_map pattern_of t ≡ option_map pattern (spec_read_short (chars source.now))) }
+// The tree of a pattern.
+pub(crate) fn read(alloc: Global, source: &str) -> Result<Option<Tree>, AllocError>
+    ensures { IfOk result (λ t. option_map pattern_of t ≡ option_map pattern (read_pattern (chars source.now))) }
+{
+    match outline_of(alloc, source)? {
+        Some(outline) => Ok(Some(outline.tree(alloc)?)),
+        None => Ok(None),
+    }
+}
+
+fn read_short(alloc: Global, source: &str) -> Result<Option<Outline>, AllocError>
+    ensures { IfOk result (λ t. option_map outlined t ≡ option_map pattern (spec_read_short (chars source.now))) }
 {
     let mut reader = Reader::new(alloc);
     let mut count = 0;

@@ -6,8 +6,9 @@ ghost use Rattle.strkw_ecma.specs.Syntax.{max_length};
 ghost use Rattle.strkw_ecma.specs.Outcomes.{takes_pattern};
 ghost use Rattle.strkw_ecma.specs.Refusals.{IsTooLong, IsReason};
 
-use crate::counts::{MAX_COUNT, MAX_NODES, MAX_SIZE};
-use crate::reader::{MAX_LENGTH, MAX_NESTING, read, refusal_of};
+use crate::counts::MAX_COUNT;
+use crate::reader::{MAX_LENGTH, MAX_NESTING, outline_of, refusal_of};
+use crate::size::{MAX_STEPS, MAX_TERM_STEPS};
 use std::alloc::{AllocError, Global};
 use std::error::Error;
 use std::fmt;
@@ -29,9 +30,9 @@ pub enum PatternRefusal {
     TooDeep,
     /// A count is above 1,000.
     CountTooGreat,
-    /// More than 2,000 nodes would come of a counted term.
+    /// A counted term takes more than 2,000 steps for one character.
     TermTooLarge,
-    /// More than 20,000 nodes would come of the pattern as a whole.
+    /// The pattern as a whole takes more than 5,200 steps for one character.
     TooLarge,
     /// Something else: it is no pattern of ECMA-262 in Unicode mode, or of a part of it that is not taken here.
     NotTaken,
@@ -49,9 +50,9 @@ impl fmt::Display for PatternRefusal {
             PatternRefusal::TooDeep => write!(f, "its groups are more than {MAX_NESTING} deep"),
             PatternRefusal::CountTooGreat => write!(f, "it has a count above {MAX_COUNT}"),
             PatternRefusal::TermTooLarge => {
-                write!(f, "more than {MAX_SIZE} nodes would come of a counted term")
+                write!(f, "a counted term takes more than {MAX_TERM_STEPS} steps")
             }
-            PatternRefusal::TooLarge => write!(f, "more than {MAX_NODES} nodes would come of it"),
+            PatternRefusal::TooLarge => write!(f, "it takes more than {MAX_STEPS} steps"),
             PatternRefusal::NotTaken => f.write_str(
                 "it is no pattern of ECMA-262 in Unicode mode, or of a part of it that is not taken here",
             ),
@@ -83,7 +84,7 @@ pub fn why_refused(alloc: Global, pattern: &str) -> Result<Option<PatternRefusal
         (why ≡ Some PatternRefusal.TooLong) ↔ IsTooLong (chars pattern.now)) }
     ensures reason { IfOk result (λ why. IfSome why (IsReason (chars pattern.now))) }
 {
-    if read(alloc, pattern)?.is_some() {
+    if outline_of(alloc, pattern)?.is_some() {
         return Ok(None);
     }
     if !is_short(pattern) {

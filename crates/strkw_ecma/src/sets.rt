@@ -1,32 +1,31 @@
-//! Sets of characters, as trees and as lists.
+//! Sets of characters, as outlines and as lists.
 
 ghost use Rattle.std.specs.Prelude.{◌≡◌, true, false, [], ◌∷◌, IfOk};
 ghost use Rattle.strkw_ecma.specs.Tree.{class};
 ghost use Rattle.strkw_ecma.specs.Patterns.{one_char as spec_one_char};
 ghost use Rattle.strkw_ecma.specs.Sets.{line_ends, set_of as spec_set_of, set_ranges as spec_set_ranges, is_negative as spec_is_negative, control_char as spec_control_char};
-ghost use Rattle.strkw_ecma.specs.Shape.{pattern_of};
+ghost use Rattle.strkw_ecma.specs.Shape.{outlined};
 ghost use Rattle.strkw_ecma.specs.declared.tree.CharSet.TheVariants.{Property as PropertySet};
 
+use crate::outline::Outline;
 use crate::properties::Property;
-use crate::tree::{CharSet, Tree};
+use crate::tree::CharSet;
 use std::alloc::{AllocError, Global};
 
-pub(crate) fn one_char(alloc: Global, c: char) -> Result<Tree, AllocError>
-    ensures { IfOk result (λ t. pattern_of t ≡ spec_one_char c) }
+pub(crate) fn one_char(alloc: Global, c: char) -> Result<Outline, AllocError>
+    ensures { IfOk result (λ t. outlined t ≡ spec_one_char c) }
 {
-    Ok(Tree::Class {
-        marked: false,
+    Ok(Outline::Class {
         negated: false,
         sets: vec![in alloc; CharSet::Range(c, c)]?,
     })
 }
 
 // All but the ends of lines.
-pub(crate) fn dot(alloc: Global) -> Result<Tree, AllocError>
-    ensures { IfOk result (λ t. pattern_of t ≡ class false true line_ends) }
+pub(crate) fn dot(alloc: Global) -> Result<Outline, AllocError>
+    ensures { IfOk result (λ t. outlined t ≡ class false true line_ends) }
 {
-    Ok(Tree::Class {
-        marked: false,
+    Ok(Outline::Class {
         negated: true,
         sets: Vec::from_slice(alloc, &LINE_ENDS)?,
     })
@@ -115,22 +114,20 @@ fn is_negative(c: char) -> bool
     matches!(c, 'D' | 'S' | 'W')
 }
 
-pub(crate) fn set(alloc: Global, c: char) -> Result<Tree, AllocError>
-    ensures { IfOk result (λ t. pattern_of t ≡ class false (spec_is_negative c) (spec_set_of c)) }
+pub(crate) fn set(alloc: Global, c: char) -> Result<Outline, AllocError>
+    ensures { IfOk result (λ t. outlined t ≡ class false (spec_is_negative c) (spec_set_of c)) }
 {
-    Ok(Tree::Class {
-        marked: false,
+    Ok(Outline::Class {
         negated: is_negative(c),
         sets: Vec::from_slice(alloc, set_of(c))?,
     })
 }
 
 // The characters with a property, or without it.
-pub(crate) fn having(alloc: Global, lacked: bool, property: Property) -> Result<Tree, AllocError>
-    ensures { IfOk result (λ t. pattern_of t ≡ class false false (PropertySet lacked property ∷ [])) }
+pub(crate) fn having(alloc: Global, lacked: bool, property: Property) -> Result<Outline, AllocError>
+    ensures { IfOk result (λ t. outlined t ≡ class false false (PropertySet lacked property ∷ [])) }
 {
-    Ok(Tree::Class {
-        marked: false,
+    Ok(Outline::Class {
         negated: false,
         sets: vec![in alloc; CharSet::Property(lacked, property)]?,
     })

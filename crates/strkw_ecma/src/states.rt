@@ -6,17 +6,19 @@ ghost use Rattle.strkw_ecma.specs.Meaning.{is_word as spec_is_word, is_edge as s
 ghost use Rattle.strkw_ecma.specs.Shape.{pattern_of};
 ghost use Rattle.strkw_ecma.specs.Table.{class_of as spec_class_of, entry_at as spec_entry_at, row_after as spec_row_after, found, has, has_if_some as spec_has_if_some, covers as spec_covers, covers_set as spec_covers_set, covers_sets as spec_covers_sets, stride, IsRowOf, IsBehind, IsEntry, IsRow, IsTable};
 
-use crate::marks::{is_word, leaves_tree, step_tree};
+use crate::marks::{is_word, leaves_tree, set_marks, step_tree};
 use crate::sets::WORD_CHARACTERS;
 use crate::table::{FOUND, NEXT_ROW, STRIDE, Table, class_of, entry_at, next_char};
 use crate::tree::{CharSet, Tree};
 use std::alloc::{AllocError, Global};
 
-/// A state of the search between two characters: the marks, and a character that may stand for the last.
+/// A state of the search between two characters: the marks, and a character that may stand for the last. States of the same
+/// marks have the same `digest`.
 #[derive(Drop)]
 pub(crate) struct State {
     pub(crate) tree: Tree,
     pub(crate) last: Option<char>,
+    pub(crate) digest: u64,
 }
 
 impl State {
@@ -205,72 +207,64 @@ fn leads_to(
     entry != FOUND && is_behind(states, row_after(row, entry), after, c)
 }
 
-// Whether an entry of a row is right for a state and the next character.
+// Whether an entry of a row is right for a state and the next character. The marks are stepped in a tree that is at hand.
 fn is_entry(
-    alloc: Global,
+    at_hand: &mut Tree,
     states: &[State],
     state: &State,
     row: usize,
     c: char,
     entry: usize,
-) -> Result<bool, AllocError>
+) -> bool
     requires { row < 2 ^ 32 }
-    ensures { IfOk result (λ right. IsTrue right → IsEntry states.now state.now row c entry) }
+    ensures { IsTrue result → IsEntry states.now state.now row c entry }
 {
-    let mut tree = state.tree.copy(alloc)?;
-    let is_found = step_tree(&mut tree, state.last, Some(c), true);
-    Ok(leads_to(states, row, entry, is_found, &tree, c))
+    set_marks(at_hand, &state.tree);
+    if !is_same(at_hand, &state.tree) {
+        return false;
+    }
+    let is_found = step_tree(at_hand, state.last, Some(c), true);
+    leads_to(states, row, entry, is_found, at_hand, c)
 }
 
 // Whether a row is right for a state.
 fn is_row(
-    alloc: Global,
+    at_hand: &mut Tree,
     firsts: &[char],
     entries: &[u16],
     states: &[State],
     state: &State,
     row: usize,
-) -> Result<bool, AllocError>
+) -> bool
     requires few { length firsts.now < stride }
     requires row { row < 2 ^ 32 }
-    ensures { IfOk result (λ right. IsTrue right → IsRow firsts.now entries.now states.now state.now row) }
+    ensures { IsTrue result → IsRow firsts.now entries.now states.now state.now row }
 {
     let ends = leaves_tree(&state.tree, state.last, None, true);
     if (entry_at(entries, row, 0) == FOUND) != ends {
-        return Ok(false);
+        return false;
     }
     for (k, first) in firsts.iter().enumerate() {
-        if !is_entry(
-            alloc,
-            states,
-            state,
-            row,
-            *first,
-            entry_at(entries, row, k + 1),
-        )? {
-            return Ok(false);
+        let entry = entry_at(entries, row, k + 1);
+        if !is_entry(at_hand, states, state, row, *first, entry) {
+            return false;
         }
     }
-    Ok(true)
+    true
 }
 
 // Whether each row is right for its state.
-fn are_rows(
-    alloc: Global,
-    firsts: &[char],
-    entries: &[u16],
-    states: &[State],
-) -> Result<bool, AllocError>
+fn are_rows(at_hand: &mut Tree, firsts: &[char], entries: &[u16], states: &[State]) -> bool
     requires rows { length states.now ≤ 255 }
     requires few { length firsts.now < stride }
-    ensures { IfOk result (λ right. IsTrue right → (row : ℕ) (s : State) → IsRowOf states.now row s → IsRow firsts.now entries.now states.now s row) }
+    ensures { IsTrue result → (row : ℕ) (s : State) → IsRowOf states.now row s → IsRow firsts.now entries.now states.now s row }
 {
     for (number, state) in states.iter().enumerate() {
-        if !is_row(alloc, firsts, entries, states, state, number * STRIDE)? {
-            return Ok(false);
+        if !is_row(at_hand, firsts, entries, states, state, number * STRIDE) {
+            return false;
         }
     }
-    Ok(true)
+    true
 }
 
 // Whether the first state is that of a pattern at the beginning of a text.
@@ -301,5 +295,6 @@ pub(crate) fn is_table(
     if !has_first(firsts, '\0') || !are_numbered(firsts) || !begins(states, tree) {
         return Ok(false);
     }
-    Ok(are_rows(alloc, firsts, entries, states)?)
+    let mut at_hand = tree.copy(alloc)?;
+    Ok(are_rows(&mut at_hand, firsts, entries, states))
 }

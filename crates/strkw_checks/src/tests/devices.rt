@@ -7,7 +7,8 @@ use std::io;
 use std::io::{ErrorKind, Read, Write};
 use std::test::Fail;
 use strkw_cli::{
-    DeviceFailed, HostSink, HostSource, MemorySink, MemorySource, RunFault, Sink, Source, run,
+    BoundedRunFault, DeviceFailed, HostSink, HostSource, MemorySink, MemorySource, RunFault, Sink,
+    Source, run, run_bounded,
 };
 
 /// Five requests, the last without a line feed.
@@ -105,6 +106,72 @@ fn a_read_fails(rt: HostRuntime) -> Result<(), Fail> {
     for reads in 0..8usize {
         assert!(rt; ends_at_the_read(rt.alloc(), reads)?, "{reads}");
     }
+    Ok(())
+}
+
+// The lengths of the requests, without their line feeds.
+const LENGTHS: [usize; 5] = [68, 11, 62, 51, 58];
+
+// Whether a run whose lines have this bound answers the lines before the first that is longer, and ends there.
+fn ends_at_the_long_line(alloc: Global, longest: usize) -> Result<bool, AllocError> {
+    let mut source = MemorySource::new(script().to_vec(alloc)?);
+    let mut sink = MemorySink::new(alloc);
+    let ended = run_bounded(alloc, longest, &mut source, &mut sink);
+    let (wanted, end) = match LENGTHS.iter().position(|length| *length > longest) {
+        Some(line) => (Err(BoundedRunFault::LongLine(longest)), ends()[line]),
+        None => (Ok(()), ends()[5]),
+    };
+    Ok(ended == wanted && Some(sink.bytes()) == answers().get(..end))
+}
+
+#[test]
+fn lines_have_a_bound(rt: HostRuntime) -> Result<(), Fail> {
+    for longest in 0..70usize {
+        assert!(rt; ends_at_the_long_line(rt.alloc(), longest)?, "{longest}");
+    }
+    Ok(())
+}
+
+// A line of three pieces of the input, and one behind it: the bound is the length of the first, or one less.
+#[test]
+fn a_line_of_several_pieces_has_a_bound(rt: HostRuntime) -> Result<(), Fail> {
+    for (longest, wanted, written) in [
+        (
+            150_000,
+            Ok(()),
+            &b"bad request\nend\nbad request\nend\n"[..],
+        ),
+        (
+            149_999,
+            Err(BoundedRunFault::LongLine(149_999)),
+            &b"bad request\nend\n"[..],
+        ),
+    ] {
+        let mut lines = vec![in rt.alloc(); b' '; 150_001]?;
+        lines[0] = b'\n';
+        let mut source = MemorySource::new(lines);
+        let mut sink = MemorySink::new(rt.alloc());
+        let ended = run_bounded(rt.alloc(), longest, &mut source, &mut sink);
+        assert!(rt; ended == wanted, "{longest}");
+        assert!(rt; sink.bytes() == written, "{longest}");
+    }
+    Ok(())
+}
+
+// A failing source ends such a run too.
+#[test]
+fn a_read_of_a_bounded_run_fails(rt: HostRuntime) -> Result<(), Fail> {
+    let mut source = LineByLine {
+        bytes: script().to_vec(rt.alloc())?,
+        passed: 0,
+        reads: 2,
+        least: usize::MAX,
+        failed: false,
+    };
+    let mut sink = MemorySink::new(rt.alloc());
+    let ended = run_bounded(rt.alloc(), 68, &mut source, &mut sink);
+    assert!(rt; ended == Err(BoundedRunFault::Run(RunFault::Read)));
+    assert!(rt; Some(sink.bytes()) == answers().get(..ends()[2]));
     Ok(())
 }
 

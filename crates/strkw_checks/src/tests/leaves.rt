@@ -221,8 +221,9 @@ fn analyze_pattern_under_refusal(rt: HostRuntime) -> Result<(), Fail> {
     Ok(())
 }
 
-// A pattern of ECMA-262, a text, and whether it is found there; nothing where the pattern is not taken.
-const SEARCHES: [(&str, &str, Option<bool>); 9] = [
+// A pattern of ECMA-262, a text, and whether it is found there; nothing where the pattern is not taken. The copies of the last
+// would take 30,000 growths, more than are counted.
+const SEARCHES: [(&str, &str, Option<bool>); 10] = [
     ("^(a|b)*\\x2Ec", "ab.c", Some(true)),
     ("(a+?|.)*$", "ab", Some(true)),
     ("\\S\\d?\\b", "a1", Some(true)),
@@ -232,6 +233,11 @@ const SEARCHES: [(&str, &str, Option<bool>); 9] = [
     ("a**", "", None),
     ("\\w[\\cA-\\cB\\s]{2", "", None),
     ("[\\p{gc=Grek}]", "", None),
+    (
+        "a{0,1000}a{0,1000}a{0,1000}a{0,1000}a{0,1000}a{0,1000}",
+        "",
+        None,
+    ),
 ];
 
 // Whether the engine of a pattern answers so; out of memory is an error here.

@@ -12,7 +12,8 @@ use serde_json::Value;
 use std::alloc::{AllocError, Global};
 use std::test::Fail;
 use strkw_cli::{
-    MemorySink, MemorySource, Note, RunFault, Sink, StringKeywords, compile_strings, run,
+    BoundedRunFault, MemorySink, MemorySource, Note, RunFault, Sink, StringKeywords,
+    compile_strings, run, run_bounded,
 };
 use strkw_keywords::{Checks, Context};
 use strkw_report::{CompileError, Draft, Site};
@@ -297,6 +298,22 @@ fn run_under_refusal(rt: HostRuntime) -> Result<(), Fail> {
     let mut source = MemorySource::new(script().to_vec(rt.alloc())?);
     let mut sink = MemorySink::new(rt.alloc());
     let ended = run(rt.alloc(), &mut source, &mut sink);
+    if wrote_so(ended, &sink)? {
+        Ok(())
+    } else {
+        Err(Fail::new("another ending"))
+    }
+}
+
+#[test]
+fn run_bounded_under_refusal(rt: HostRuntime) -> Result<(), Fail> {
+    let mut source = MemorySource::new(script().to_vec(rt.alloc())?);
+    let mut sink = MemorySink::new(rt.alloc());
+    let ended = match run_bounded(rt.alloc(), 68, &mut source, &mut sink) {
+        Ok(()) => Ok(()),
+        Err(BoundedRunFault::Run(fault)) => Err(fault),
+        Err(BoundedRunFault::LongLine(_)) => return Err(Fail::new("no line is longer")),
+    };
     if wrote_so(ended, &sink)? {
         Ok(())
     } else {

@@ -2,15 +2,17 @@
 
 ghost use Rattle.std.specs.Prelude.{◌≡◌, IfOk, option_map};
 ghost use Rattle.strkw_ecma.specs.Numbers.{count_token as spec_count_token};
-ghost use Rattle.strkw_ecma.specs.Parts.{parts_of, quantifier_of, last_of, after_count, after_low, after_high};
+ghost use Rattle.strkw_ecma.specs.Shape.{quantifier_of};
+ghost use Rattle.strkw_ecma.specs.Parts.{parts_of, last_of, after_count, after_low, after_high};
 
 use super::{Last, Mode, Reader};
-use crate::counts::{Count, Quantifier, with_digit};
+use crate::counts::{Count, with_digit};
+use crate::outline::Quantifier;
 use crate::tokens::CountToken;
 use std::alloc::{AllocError, Global};
 
 impl Reader {
-    // A quantifier with counts, where it makes no more nodes than may be.
+    // A quantifier with counts, where its copies take no more steps than may be.
     fn with_count(self, alloc: Global, quantifier: Quantifier) -> Result<Option<Reader>, AllocError>
         ensures { IfOk result (λ r. option_map parts_of r
             ≡ after_count (parts_of self) (last_of self.last) (quantifier_of quantifier)) }

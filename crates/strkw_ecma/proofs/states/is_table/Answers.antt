@@ -9,5 +9,5 @@ returns c h = record {
   numbered = search rules;
   first = search rules;
   begins = search rules;
-  rows = c.in_ok-are_rows.ensures h;
+  rows = c.are_rows.ensures h;
 }

@@ -4,7 +4,7 @@ use Rattle.std.specs.Str.{chars}
 use Rattle.std.proofs.lemmas.Iterator.{YieldsList-from_chars}
 use Rattle.std.proofs.lemmas.List.{length_push}
 use Rattle.std.proofs.lemmas.Iterator.Consumers.{YieldsList-turn, YieldsList-end}
-use Rattle.strkw_ecma.specs.Shape.{pattern_of}
+use Rattle.strkw_ecma.specs.Shape.{outlined}
 use Rattle.strkw_ecma.specs.Parts.{parts_of, after_char, pattern_from}
 use Rattle.strkw_ecma.specs.Refusals.{IsReason}
 use Rattle.strkw_ecma.proofs.Parts.{goes_on, whole}
@@ -47,5 +47,5 @@ returns-in-Some-3 c =
     let end = YieldsList-end (YieldsList-from_chars c.args.source.now c.utf8.source cc) c.loop-c.yielded _ c.loop-c.yielded_by _ _
     c.in-None.is c.next.ensures.steps in
     let at_end = whole (parts_of c.loop-c.reader) text (length c.loop-c.yielded) (omega (arith, end.1)) c.requires.short c.loop-c.invariant.way in
-    too_large text c.requires.short (sym (ap is_some (ap (option_map pattern_of) (sym c.in-Some-3.is) ∙ c.in_ok-end.ensures ∙ at_end)))
+    too_large text c.requires.short (sym (ap is_some (ap (option_map outlined) (sym c.in-Some-3.is) ∙ c.in_ok-end.ensures ∙ at_end)))
     (sym c.is_apart.ensures ∙ c.if-is_apart.true) c.requires.refused
