@@ -1,22 +1,26 @@
 #!/usr/bin/env python3
-"""Runs the built program on large inputs, on outputs that take nothing, and under limits of memory.
+"""Runs the built programs on large inputs, on outputs that take nothing, and under limits of memory.
 
     python3 tools/sizes.py              on crates/strkw/out/strkw, sizes as named (two minutes, 3 GB of memory)
     python3 tools/sizes.py --small      the rows without a limit of memory, at a thousandth of the size (seconds)
     python3 tools/sizes.py --bounded    lines of 16 MB under a limit of memory of three times their length (seconds; the
                                         gate runs it)
     python3 tools/sizes.py --shares     how many times a line's length is held at most, for each kind of value: a table
-    python3 tools/sizes.py PROGRAM      on a program that stands elsewhere
+    python3 tools/sizes.py --growth     time and memory for inputs of 1, 2, 4 and 8 times a size: a table (minutes)
+    python3 tools/sizes.py PROGRAM      on a program that stands elsewhere, in place of strkw
 
 A row passes where the program ends with the wanted status, says what is wanted on standard error, and writes what is
 wanted: the answers, or whole ones before a fault. A crash is never wanted. Each line has the peak of resident memory,
 of which some 12 MB are this script's own (a program that is started has its starter's at first).
 """
+import json
 import os
 import resource
 import subprocess
 import sys
 import tempfile
+from functools import partial
+from itertools import product
 from pathlib import Path
 
 TOP = Path(__file__).resolve().parent.parent
@@ -43,9 +47,9 @@ class Row:
     """A large input, what is written for it, and what the program says and ends with. Input and output are made when
     they are asked for, so that this script is small while the program runs."""
 
-    def __init__(self, name, given, wanted, said=b"", status=0, room=None, output=None):
+    def __init__(self, name, given, wanted, said=b"", status=0, room=None, output=None, program="strkw", plan=None):
         self.name, self.given, self.wanted, self.said, self.status = name, given, wanted, said, status
-        self.room, self.output = room, output
+        self.room, self.output, self.program, self.plan = room, output, program, plan
 
 
 def four_errors(half):
@@ -95,25 +99,21 @@ def rows(unit):
     ]
 
 
-def values(size):
-    """A JSON value of each kind, of about so many bytes."""
-    return {
-        "a text": text_of(size),
-        "a text of escapes": b'"' + b"\\u00e9" * (size // 6) + b'"',
-        "a number": b"1" + b"0" * 300 + b"." + b"0" * size,
-        "an array of digits": b"[" + b",".join([b"1"] * (size // 2)) + b"]",
-        "nested arrays": b"[" + b",".join([b"[" * 60 + b"]" * 60] * (size // 121)) + b"]",
-        "an object": members_of(size // 16),
-    }
-
-
+VALUES = {
+    "a text": text_of,
+    "a text of escapes": lambda size: b'"' + b"\\u00e9" * (size // 6) + b'"',
+    "a number": lambda size: b"1" + b"0" * 300 + b"." + b"0" * size,
+    "an array of digits": lambda size: b"[" + b",".join([b"1"] * (size // 2)) + b"]",
+    "nested arrays": lambda size: b"[" + b",".join([b"[" * 60 + b"]" * 60] * (size // 121)) + b"]",
+    "an object": lambda size: members_of(size // 16),
+}
 MEMBERS = ("draft", "fold", "validate_formats", "ignore_unknown_formats", "schema", "instance", "another member")
 
 
-def line_with(member, value):
-    """A request with this value at this member, whatever else it has."""
+def line_with(member, kind, size):
+    """A request with a value of this kind, of about so many bytes, at this member, whatever else it has."""
     parts = {b"draft": b"7", b"schema": b"{}", b"instance": b'"a"'}
-    parts[member.encode()] = value
+    parts[member.encode()] = VALUES[kind](size)
     return b"{" + b",".join(b'"%s":%s' % part for part in parts.items()) + b"}\n"
 
 
@@ -121,29 +121,96 @@ def is_request(member, kind):
     return member == "instance" or member == "schema" and kind == "an object"
 
 
+def header_of(count):
+    """A first record that has one name so many times, and a record of so many empty fields."""
+    return b",".join([b"a"] * count) + b"\n" + b"," * (count - 1) + b"\n"
+
+
+EACH = {"draft": 7, "columns": {"a": {"pattern": "^[a-z]{1,60}$"}}, "duplicates": "each"}
+
+
 def bounded_rows(size):
-    """Lines whose values are not kept: three times their length has to be room enough, and what the program itself needs."""
-    for member in MEMBERS:
-        for kind, value in values(size).items():
-            if member != "schema" or kind != "an object":
-                line = line_with(member, value)
-                yield Row(f"{member}: {kind}", lambda line=line: line,
-                          lambda ok=is_request(member, kind): VALID if ok else BAD, room=3 * len(line) + 8 * MEGABYTE)
+    """Lines whose values are not kept: three times their length has to be room enough, and what the program needs;
+    a plan that is compiled once, whatever the first record of a file is; and a document that is longer than its plan
+    lets it be, and a record."""
+    for member, kind in product(MEMBERS, VALUES):
+        if member != "schema" or kind != "an object":
+            yield Row(f"{member}: {kind}", partial(line_with, member, kind, size),
+                      partial(lambda ok: VALID if ok else BAD, is_request(member, kind)),
+                      room=lambda longest: 3 * longest + 8 * MEGABYTE)
+    yield Row("a column 10,000 times", lambda: header_of(10_000),
+              lambda: b'2: a: /pattern: "" does not match "^[a-z]{1,60}$"\n' * 10_000, status=1, room=16 * MEGABYTE,
+              program="strkw_csv", plan=EACH)
+    yield Row("a record that is too long", lambda: b'a\n1\n"' + b"1" * size, bytes,
+              b"strkw_csv: 3: the record is longer than 1000 bytes\n", 2, room=8 * MEGABYTE, program="strkw_csv",
+              plan={"draft": 7, "columns": {"a": {}}, "limits": {"record": 1000}})
+    yield Row("a document that is too long", lambda: b"[" + b"1," * (size // 2), bytes,
+              b"strkw_config: the document is longer than 1000 bytes\n", 2, room=8 * MEGABYTE, program="strkw_config",
+              plan={"draft": 7, "places": {"/a": {}}, "limits": {"document": 1000}})
+
+
+NESTED = "(([a-z]{1,9}[0-9]{1,9})*-)*"
+
+
+def growing_rows(times):
+    """The inputs of strangers that were slow, so many times as large: what is asked is how time and memory grow."""
+    def csv(schema, **more):
+        return {"program": "strkw_csv", "plan": {"draft": 7, "columns": {"a": schema}, **more}}
+    size = times * MEGABYTE
+    yield Row("nested arrays as `draft`", lambda: line_with("draft", "nested arrays", size), lambda: BAD)
+    yield Row("an object as `fold`", lambda: line_with("fold", "an object", size), lambda: BAD)
+    yield Row("a field, and a pattern of nested loops", lambda: b"a\n" + b"a1" * (size // 80) + b"-\n", bytes,
+              **csv({"pattern": "^" + NESTED + "$"}))
+    yield Row("records, and a count of 128", lambda: b"a\n" + (b"x" * 30 + b"\n") * (size // 31), bytes,
+              **csv({"pattern": "^.{1,128}$"}))
+    yield Row("a pattern of many counts", lambda: b"a\n", bytes, None, 2, **csv({"pattern": "a{0,999}" * (30 * times)}))
+    yield Row("a column many times", lambda: header_of(10_000 * times),
+              lambda: b'2: a: /minLength: "" is shorter than 1 character\n' * (10_000 * times), status=1,
+              **csv({"minLength": 1}, duplicates="each", limits={"columns": 100_000}))
+    yield Row("a document", lambda: b'{"a":' + VALUES["nested arrays"](size) + b"}", bytes, program="strkw_config",
+              plan={"draft": 7, "places": {"/a": {}}})
+
+
+def print_growth(folder):
+    """Prints the seconds and the megabytes of each row at each size. A row passes where eight times the input takes at
+    most eight times of both, but for a tenth of a second."""
+    print("| | " + " | ".join(f"{times} s, MB" for times in (1, 2, 4, 8)) + " |")
+    print("|---" * 5 + "|")
+    failed = 0
+    for rows_of_all in zip(*(growing_rows(times) for times in (1, 2, 4, 8))):
+        taken = []
+        for row in rows_of_all:
+            given, written = Path(folder) / "given", Path(folder) / "written"
+            write_input(row, given)
+            status, output, said, seconds, peak = outcome(row, built(row), given, written)
+            taken.append((seconds, peak, status == row.status and output == row.wanted()))
+        right = (all(right for *_, right in taken) and taken[3][0] <= 8 * taken[0][0] + 0.1
+                 and taken[3][1] <= 8 * taken[0][1])
+        failed += not right
+        cells = " | ".join(f"{seconds:.2f}, {peak / MEGABYTE:.0f}" for seconds, peak, _ in taken)
+        print(f"| {rows_of_all[0].name} | {cells} |{'' if right else ' WRONG'}", flush=True)
+    return 1 if failed else 0
+
+
+def built(row):
+    return TOP / "crates" / row.program / "out" / row.program
 
 
 def print_shares(program, folder, size=16 * MEGABYTE):
-    """Prints how many times the length of a line the program held at most, by member and kind of value."""
-    kinds = list(values(0))
-    print("| | " + " | ".join(kinds) + " |")
-    print("|---" * (len(kinds) + 1) + "|")
+    """Prints how many times the length of a line the program held at most, by member and kind of value, what it takes
+    for a short line aside."""
+    given, written = Path(folder) / "given", Path(folder) / "written"
+
+    def peak_of(member, kind, size):
+        row = Row(member, partial(line_with, member, kind, size), bytes)
+        return write_input(row, given)[1], outcome(row, program, given, written)[4]
+    print("| | " + " | ".join(VALUES) + " |")
+    print("|---" * (len(VALUES) + 1) + "|")
     for member in MEMBERS:
         shares = []
-        for value in values(size).values():
-            row = Row(member, lambda value=value: line_with(member, value), bytes)
-            given, written = Path(folder) / "given", Path(folder) / "written"
-            _, longest = write_input(row, given)
-            *_, peak = outcome(row, program, given, written)
-            shares.append(f"{peak / longest:.1f}")
+        for kind in VALUES:
+            (short, least), (longest, most) = peak_of(member, kind, 1000), peak_of(member, kind, size)
+            shares.append(f"{(most - least) / (longest - short):.1f}")
         print(f"| `{member}` | " + " | ".join(shares) + " |", flush=True)
 
 
@@ -155,17 +222,34 @@ def limited(room):
 
 
 def write_input(row, path):
-    """Writes the input of a row. Answers its length and that of its longest line."""
-    given = row.given()
-    path.write_bytes(given)
-    return len(given), max(map(len, given.split(b"\n")))
+    """Writes the input of a row, in a process of its own: a program has what its starter holds at its peak. Answers its
+    length and that of its longest line."""
+    writer = os.fork()
+    if writer == 0:
+        path.write_bytes(row.given())
+        os._exit(0)
+    os.waitpid(writer, 0)
+    longest = line = 0
+    with open(path, "rb") as file:
+        while piece := file.read(1 << 16):
+            first, *more = piece.split(b"\n")
+            line += len(first)
+            for part in more:
+                longest, line = max(longest, line), len(part)
+    return path.stat().st_size, max(longest, line)
 
 
-def outcome(row, program, given, written):
+def outcome(row, program, given, written, longest=0):
     """Runs a row: status, output, standard error, seconds, and the peak of memory in bytes."""
+    room = row.room(longest) if callable(row.room) else row.room
+    words = [program]
+    if row.plan is not None:
+        plan = given.with_name("plan.json")
+        plan.write_text(json.dumps(row.plan))
+        words.append(plan)
     with open(given, "rb") as source, open(row.output if row.output == "/dev/full" else written, "wb") as sink:
-        run = subprocess.Popen([program], stdin=source, stdout=sink, stderr=subprocess.PIPE, env={},
-                               preexec_fn=lambda: (limited(row.room)(), os.close(1) if row.output == "closed" else None))
+        run = subprocess.Popen(words, stdin=source, stdout=sink, stderr=subprocess.PIPE, env={},
+                               preexec_fn=lambda: (limited(room)(), os.close(1) if row.output == "closed" else None))
         said = run.stderr.read()
         _, status, used = os.wait4(run.pid, 0)
         run.returncode = os.waitstatus_to_exitcode(status)
@@ -176,7 +260,7 @@ def outcome(row, program, given, written):
 def is_right(row, status, output, said):
     if (status, said) != (row.status, row.said):
         return False
-    if row.status == 0:
+    if row.said != MEMORY_FAULT and row.said != WRITE_FAULT:
         return output == row.wanted()
     # After a fault of memory, whole answers to some of the lines.
     return row.wanted().startswith(output) and (not output or output.endswith(b"\nend\n"))
@@ -191,12 +275,15 @@ def main():
         if "--shares" in sys.argv[1:]:
             print_shares(program, folder)
             return 0
+        if "--growth" in sys.argv[1:]:
+            return print_growth(folder)
         for row in bounded_rows(16 * MEGABYTE) if bounded else rows(1 if small else 1000):
             if small and row.room is not None:
                 continue
             given, written = Path(folder) / "given", Path(folder) / "written"
             size, longest = write_input(row, given)
-            status, output, said, seconds, peak = outcome(row, program, given, written)
+            path = program if row.program == "strkw" else built(row)
+            status, output, said, seconds, peak = outcome(row, path, given, written, longest)
             right = is_right(row, status, output, said)
             passed, failed = passed + right, failed + (not right)
             told = "" if right else f" WRONG: status {status}, {len(output)} bytes, {said[:80]!r}"

@@ -7,9 +7,9 @@ use std::alloc::{AllocError, Global};
 use std::fmt::Display;
 use std::process::ExitCode;
 use std::{env, io};
-use strkw_document::{DocumentFault, check_document};
+use strkw_document::{DocumentFault, check_document, read_document};
 use strkw_ecma::{EcmaPatterns, PatternRefusal, why_refused};
-use strkw_plan::{Rules, read_plan_file};
+use strkw_plan::{PlanKind, Rules, plan_in, read_plan_file};
 
 const USAGE: &str = "usage: strkw_config PLAN.json < DOCUMENT.json";
 
@@ -35,27 +35,19 @@ fn plan_of(rt: &HostRuntime, path: &str) -> Result<Value, ExitCode> {
     }
 }
 
+// How many bytes a document may have by a plan; or the status of a fault, which is told.
+fn longest_document(rt: &HostRuntime, plan: &Value) -> Result<Option<u64>, ExitCode> {
+    match plan_in(rt.alloc(), PlanKind::Places, plan) {
+        Ok(plan) => Ok(plan.limits.longest_document),
+        Err(e) => Err(fault(rt, &e)),
+    }
+}
+
 // The JSON value of the standard input; or the status of a fault, which is told.
-fn document_of(rt: &HostRuntime) -> Result<Value, ExitCode> {
-    let text = match io::read_to_string(rt.alloc(), rt.reader()) {
-        Ok(text) => text,
-        Err(e) => {
-            if e.kind() == io::ErrorKind::OutOfMemory {
-                return Err(out_of_memory(rt));
-            }
-            let _ = eprintln!(rt; "strkw_config: the document cannot be read: {e}");
-            return Err(ExitCode::from(FAULT));
-        }
-    };
-    match Value::from_str(rt.alloc(), text.as_str()) {
+fn document_of(rt: &HostRuntime, longest: Option<u64>) -> Result<Value, ExitCode> {
+    match read_document(rt.alloc(), rt.reader(), longest) {
         Ok(document) => Ok(document),
-        Err(e) => {
-            if e.is_memory() {
-                return Err(out_of_memory(rt));
-            }
-            let _ = eprintln!(rt; "strkw_config: the document is not JSON: {e}");
-            Err(ExitCode::from(FAULT))
-        }
+        Err(e) => Err(fault(rt, &e)),
     }
 }
 
@@ -88,7 +80,8 @@ fn document_fault(rt: &HostRuntime, e: &DocumentFault) -> ExitCode {
 // How many errors there are; or the status of a fault, which is told.
 fn check(rt: &HostRuntime, path: &str) -> Result<u64, ExitCode> {
     let plan = plan_of(rt, path)?;
-    let document = document_of(rt)?;
+    let longest = longest_document(rt, &plan)?;
+    let document = document_of(rt, longest)?;
     let rules = Rules::new(&EcmaPatterns);
     let mut out = io::writer(rt);
     match check_document(rt.alloc(), &rules, &plan, &document, &mut out) {

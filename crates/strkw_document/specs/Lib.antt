@@ -1,3 +1,4 @@
 pub mod Places
 pub mod Faults
 pub mod Gives
+pub mod Texts

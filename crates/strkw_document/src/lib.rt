@@ -4,6 +4,8 @@
 mod document;
 mod faults;
 mod place;
+mod text;
 
 pub use document::check_document;
 pub use faults::DocumentFault;
+pub use text::{DocumentTextFault, read_document};

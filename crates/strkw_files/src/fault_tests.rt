@@ -29,6 +29,14 @@ fn plan_in_under_refusal(rt: HostRuntime) -> Result<(), Fail> {
             "unknown keyword \"fromat\" at /columns/a: did you mean \"format\"?",
         ),
         (
+            "{\"draft\":7,\"columns\":{\"a\":{}},\"limits\":{\"recrd\":1}}",
+            "unknown limit \"recrd\" of the plan: did you mean \"record\"?",
+        ),
+        (
+            "{\"draft\":7,\"columns\":{\"a\":{}},\"limits\":{\"field\":0.5}}",
+            "the limit \"field\" is to be a whole number of 64 bits",
+        ),
+        (
             "{\"draft\":7,\"columns\":{\"a\":true}}",
             "the schema at /columns/a is no object",
         ),

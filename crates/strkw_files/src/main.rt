@@ -10,6 +10,8 @@ mod fault_tests;
 #[cfg(test)]
 mod instance_tests;
 #[cfg(test)]
+mod limit_tests;
+#[cfg(test)]
 mod table_tests;
 #[cfg(test)]
 mod tests;

@@ -29,6 +29,9 @@ Refuses s kind name schema (fault.NoPlan k) = ⊥
 Refuses s kind name schema (fault.UnknownMember k unknown nearest) = ⊥
 Refuses s kind name schema fault.NoNames = ⊥
 Refuses s kind name schema fault.NoEach = ⊥
+Refuses s kind name schema fault.NoLimits = ⊥
+Refuses s kind name schema (fault.UnknownLimit k unknown nearest) = ⊥
+Refuses s kind name schema (fault.NoWholeLimit limit) = ⊥
 Refuses s kind name schema (fault.Empty k) = ⊥
 Refuses s kind name schema (fault.NoObject place) = (place ≡ schema_place kind name)
     × (as_object schema ≡ None)

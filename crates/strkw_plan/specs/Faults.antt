@@ -5,7 +5,7 @@ use Rattle.strkw_report.specs.declared.refusal.CompileErrorKind.TheVariants.{Reg
 use Rattle.strkw_plan.specs.declared.kind.PlanKind.{PlanKind}
 use Rattle.strkw_plan.specs.declared.faults.PlanFault.{PlanFault}
 use Rattle.strkw_plan.specs.declared.faults.PlanFault.TheVariants as fault
-use Rattle.strkw_plan.specs.Plan.{Problem, no_plan, unknown_member, no_names, no_each, empty, no_object, unknown_keyword, unchecked_keyword, schema_place}
+use Rattle.strkw_plan.specs.Plan.{Problem, no_plan, unknown_member, no_names, no_each, no_limits, unknown_limit, no_whole_limit, empty, no_object, unknown_keyword, unchecked_keyword, schema_place}
 
 -- The fault tells of the problem of a plan of this kind, with the place of the schema object. That a keyword that it
 -- proposes is near is said by `nearest_keyword`.
@@ -15,6 +15,10 @@ Tells kind (fault.UnknownMember k name nearest) p = (k ≡ kind)
     × (p ≡ unknown_member (string_bytes name))
 Tells kind fault.NoNames p = p ≡ no_names
 Tells kind fault.NoEach p = p ≡ no_each
+Tells kind fault.NoLimits p = p ≡ no_limits
+Tells kind (fault.UnknownLimit k name nearest) p = (k ≡ kind)
+    × (p ≡ unknown_limit (string_bytes name))
+Tells kind (fault.NoWholeLimit name) p = p ≡ no_whole_limit (string_bytes name)
 Tells kind (fault.Empty k) p = (k ≡ kind) × (p ≡ empty)
 Tells kind (fault.NoObject place) p = (name : List ℕ) × (place ≡ schema_place kind name)
     × (p ≡ no_object name)

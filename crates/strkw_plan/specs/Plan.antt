@@ -12,13 +12,17 @@ use Rattle.strkw_plan.specs.declared.vocabulary.Standing.{Standing}
 use Rattle.strkw_plan.specs.declared.vocabulary.Standing.TheVariants.{Checked, Annotation, Unchecked}
 use Rattle.strkw_plan.specs.declared.kind.PlanKind.{PlanKind}
 use Rattle.strkw_plan.specs.declared.kind.PlanKind.TheVariants.{Columns, Places}
+use Rattle.strkw_plan.specs.Limits.{limit_names, limits_in, whole_in}
+use Rattle.strkw_plan.specs.declared.limits.Limits.{Limits}
 use Rattle.strkw_plan.specs.Vocabulary.{standing_of}
 
--- a draft, the schemas by the names of what they check, and whether each of several columns of one name is checked
+-- a draft, the schemas by the names of what they check, whether each of several columns of one name is checked, and
+-- how much a file may have
 pub record Plan : Type 0 where
   pub draft : Draft
   pub schemas : Members
   pub checks_each : Bool
+  pub limits : Limits
 
 -- the member that has the schemas, and all members that a plan may have
 abbrev pub schemas_member : PlanKind → List ℕ
@@ -26,8 +30,9 @@ schemas_member Columns = codes "columns"
 schemas_member Places = codes "places"
 
 abbrev pub plan_members : PlanKind → List (List ℕ)
-plan_members Columns = codes "draft" ∷ codes "columns" ∷ codes "ignore" ∷ codes "duplicates" ∷ []
-plan_members Places = codes "draft" ∷ codes "places" ∷ codes "ignore" ∷ []
+plan_members Columns =
+    codes "draft" ∷ codes "columns" ∷ codes "ignore" ∷ codes "duplicates" ∷ codes "limits" ∷ []
+plan_members Places = codes "draft" ∷ codes "places" ∷ codes "ignore" ∷ codes "limits" ∷ []
 
 -- the place of the schema of a name in a plan, a JSON pointer
 abbrev pub schema_place : PlanKind → List ℕ → List ℕ
@@ -68,6 +73,11 @@ pub data Problem : Type 0 where
   -- `ignore` is no array of strings, `duplicates` is not "each"
   no_names : Problem
   no_each : Problem
+  -- `limits` is no object, has a member of this name, which is no limit of such a plan, or one that is no whole number of
+  -- 64 bits
+  no_limits : Problem
+  unknown_limit : List ℕ → Problem
+  no_whole_limit : List ℕ → Problem
   -- it has no schema
   empty : Problem
   -- the schema of this name is no object
@@ -83,6 +93,26 @@ member_problem kind no_members = None
 member_problem kind (member name d ms) =
     if list_any (bytes_eq name) (plan_members kind) then member_problem kind ms
     else Some (unknown_member name)
+
+-- the first member of `limits` that is not as it should be
+abbrev pub limit_problem : PlanKind → List ℕ → Data → Option Problem
+limit_problem kind name d =
+    if list_any (bytes_eq name) (limit_names kind) then (
+    if is_some (whole_in d) then None else Some (no_whole_limit name))
+    else Some (unknown_limit name)
+
+abbrev pub each_limit_problem : PlanKind → Members → Option Problem
+each_limit_problem kind no_members = None
+each_limit_problem kind (member name d ms) =
+    option_or (limit_problem kind name d) (each_limit_problem kind ms)
+
+abbrev pub limits_object_problem : PlanKind → Option Members → Option Problem
+limits_object_problem kind None = Some no_limits
+limits_object_problem kind (Some ms) = each_limit_problem kind ms
+
+abbrev pub limits_problem : PlanKind → Option Data → Option Problem
+limits_problem kind None = None
+limits_problem kind (Some d) = limits_object_problem kind (as_object d)
 
 -- a keyword that the plan does not ignore is checked, or the draft asks for no check by it
 abbrev pub standing_problem : List ℕ → List ℕ → Option Standing → Option Problem
@@ -127,29 +157,31 @@ parts_problem (Some draft) (Some schemas) (Some ignored) (Some each) =
 
 abbrev pub object_problem : PlanKind → Option Members → Option Problem
 object_problem kind None = Some no_plan
-object_problem kind (Some ms) = option_or (member_problem kind ms) (parts_problem
+object_problem kind (Some ms) = option_or (member_problem kind ms)
+    (option_or (limits_problem kind (get_member (codes "limits") ms)) (parts_problem
     (option_and_then draft_in (get_member (codes "draft") ms))
     (option_and_then as_object (get_member (schemas_member kind) ms))
     (ignored_in (get_member (codes "ignore") ms))
-    (each_in (get_member (codes "duplicates") ms)))
+    (each_in (get_member (codes "duplicates") ms))))
 
 -- what is wrong first with a value that is to be a plan, if anything is
 abbrev pub plan_problem : PlanKind → Data → Option Problem
 plan_problem kind d = object_problem kind (as_object d)
 
-abbrev pub plan_with : Draft → Members → Bool → Plan
-plan_with d s each = record { draft = d; schemas = s; checks_each = each }
+abbrev pub plan_with : Draft → Members → Limits → Bool → Plan
+plan_with d s l each = record { draft = d; schemas = s; checks_each = each; limits = l }
 
 -- the plan that a value is with which nothing is wrong
-abbrev pub plan_of_parts : Option Draft → Option Members → Option Bool → Option Plan
-plan_of_parts draft schemas each =
-    option_and_then (λ d. option_and_then (λ s. option_map (plan_with d s) each) schemas) draft
+abbrev pub plan_of_parts : Option Draft → Option Members → Option Bool → Limits → Option Plan
+plan_of_parts draft schemas each limits =
+    option_and_then (λ d. option_and_then (λ s. option_map (plan_with d s limits) each) schemas) draft
 
 abbrev pub plan_of_members : PlanKind → Members → Option Plan
 plan_of_members kind ms = plan_of_parts
     (option_and_then draft_in (get_member (codes "draft") ms))
     (option_and_then as_object (get_member (schemas_member kind) ms))
     (each_in (get_member (codes "duplicates") ms))
+    (limits_in (get_member (codes "limits") ms))
 
 abbrev pub plan_of : PlanKind → Data → Option Plan
 plan_of kind d = option_and_then (plan_of_members kind) (as_object d)

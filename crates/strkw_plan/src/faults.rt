@@ -32,6 +32,19 @@ pub enum PlanFault {
     NoNames,
     /// Its `duplicates` is not `"each"`.
     NoEach,
+    /// Its `limits` is no object.
+    NoLimits,
+    /// Its `limits` has a member of this name, which is no limit of such a plan.
+    UnknownLimit {
+        /// What the plan is of.
+        kind: PlanKind,
+        /// The name.
+        name: String,
+        /// A limit of such a plan, where one is one edit away.
+        nearest: Option<&'static str>,
+    },
+    /// The member of this name of its `limits` is no whole number of 64 bits.
+    NoWholeLimit(String),
     /// It has no schema, so that nothing would be checked.
     Empty(PlanKind),
     /// The schema at this place of the plan is no object.
@@ -124,6 +137,15 @@ impl Problem<'_> {
             },
             Problem::NoNames => PlanFault::NoNames,
             Problem::NoEach => PlanFault::NoEach,
+            Problem::NoLimits => PlanFault::NoLimits,
+            Problem::UnknownLimit(name) => PlanFault::UnknownLimit {
+                kind,
+                name: String::from_str(alloc, name)?,
+                nearest: nearest_of(alloc, name, kind.limits())?,
+            },
+            Problem::NoWholeLimit(name) => {
+                PlanFault::NoWholeLimit(String::from_str(alloc, name)?)
+            }
             Problem::Empty => PlanFault::Empty(kind),
             Problem::NoObject(name) => PlanFault::NoObject(schema_place(alloc, kind, name)?),
             Problem::UnknownKeyword(draft, name, keyword) => PlanFault::UnknownKeyword {
@@ -168,6 +190,15 @@ impl fmt::Display for PlanFault {
             }
             PlanFault::NoNames => f.write_str("`ignore` is to be an array of names of keywords"),
             PlanFault::NoEach => f.write_str("`duplicates` is to be \"each\", or left out"),
+            PlanFault::NoLimits => f.write_str("`limits` is to be an object of whole numbers"),
+            PlanFault::UnknownLimit { name, nearest, .. } => {
+                let (name, nearest) = (Shown(name), Nearest(*nearest));
+                write!(f, "unknown limit \"{name}\" of the plan{nearest}")
+            }
+            PlanFault::NoWholeLimit(name) => {
+                let name = Shown(name);
+                write!(f, "the limit \"{name}\" is to be a whole number of 64 bits")
+            }
             PlanFault::Empty(kind) => {
                 let schemas = kind.schemas_member();
                 write!(f, "`{schemas}` is empty, so that nothing would be checked")

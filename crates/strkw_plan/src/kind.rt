@@ -3,6 +3,7 @@
 ghost use Rattle.std.specs.Prelude.{◌≡◌, map};
 ghost use Rattle.std.specs.List.{list_any};
 ghost use Rattle.std.specs.Str.{bytes_eq};
+ghost use Rattle.strkw_plan.specs.Limits.{limit_names};
 ghost use Rattle.strkw_plan.specs.Plan.{plan_members, schemas_member};
 
 use crate::vocabulary::is_among;
@@ -32,8 +33,8 @@ impl PlanKind {
         ensures { map (λ name. name.now) result.now ≡ plan_members self }
     {
         match self {
-            PlanKind::Columns => &["draft", "columns", "ignore", "duplicates"],
-            PlanKind::Places => &["draft", "places", "ignore"],
+            PlanKind::Columns => &["draft", "columns", "ignore", "duplicates", "limits"],
+            PlanKind::Places => &["draft", "places", "ignore", "limits"],
         }
     }
 
@@ -42,5 +43,22 @@ impl PlanKind {
         ensures { result ≡ list_any (bytes_eq name.now) (plan_members self) }
     {
         is_among(name, self.members())
+    }
+
+    /// The names of all limits that a plan may say.
+    pub fn limits(self) -> &'static [&'static str]
+        ensures { map (λ name. name.now) result.now ≡ limit_names self }
+    {
+        match self {
+            PlanKind::Columns => &["record", "field", "columns"],
+            PlanKind::Places => &["document"],
+        }
+    }
+
+    // Whether a plan may say a limit of this name.
+    pub(crate) fn has_limit(self, name: &str) -> bool
+        ensures { result ≡ list_any (bytes_eq name.now) (limit_names self) }
+    {
+        is_among(name, self.limits())
     }
 }

@@ -11,6 +11,7 @@ ghost use Rattle.strkw_cli.specs.Request.{draft_in};
 
 use crate::faults::PlanFault;
 use crate::kind::PlanKind;
+use crate::limits::{Limits, limits_in, limits_problem};
 use crate::problems::{Problem, are_strings, member_problem, schemas_problem};
 use serde_json::{Map, Value};
 use std::alloc::Global;
@@ -27,6 +28,8 @@ pub struct Plan<'a> {
     pub schemas: &'a Map<String, Value>,
     /// Whether each of several columns of one name is checked; if not, such columns are a fault.
     pub checks_each: bool,
+    /// How much a file may have.
+    pub limits: Limits,
 }
 
 // The draft of the member `draft`, and the object of the member that has the schemas.
@@ -78,9 +81,10 @@ fn plan_of_parts<'v>(
     schemas: Option<&'v Map<String, Value>>,
     ignored: Option<&'v [Value]>,
     checks_each: Option<bool>,
+    limits: Limits,
 ) -> Result<Plan<'v>, Problem<'v>>
     ensures plan { let ms = option_map (λ m. members_view m.now.entries) schemas.entry in
-        IfOk result (λ p. plan_of_parts draft ms checks_each ≡ Some (plan_view p)) }
+        IfOk result (λ p. plan_of_parts draft ms checks_each limits ≡ Some (plan_view p)) }
     ensures good { let ms = option_map (λ m. members_view m.now.entries) schemas.entry in
         let values = option_map (λ vs. items_view vs.now) ignored.entry in
         IfOk result (λ p. parts_problem draft ms values checks_each ≡ None) }
@@ -102,6 +106,7 @@ fn plan_of_parts<'v>(
             draft,
             schemas,
             checks_each,
+            limits,
         }),
     }
 }
@@ -121,11 +126,16 @@ fn plan_of_members<'v>(
     if let Some(problem) = member_problem(kind, members) {
         return Err(problem);
     }
+    let limits = member(members, "limits");
+    if let Some(problem) = limits_problem(kind, limits) {
+        return Err(problem);
+    }
     plan_of_parts(
         draft_at(members),
         schemas_at(members, kind),
         ignored_in(member(members, "ignore")),
         each_in(member(members, "duplicates")),
+        limits_in(limits),
     )
 }
 
@@ -143,8 +153,8 @@ fn plan_or_problem<'v>(kind: PlanKind, value: &'v Value) -> Result<Plan<'v>, Pro
 }
 
 /// The plan of this kind that a value is: `{"draft": .., "columns": {NAME: SCHEMA, ..}}`, or `places` in place of
-/// `columns`. The members `ignore`, an array of names of keywords that are let pass, and `duplicates` may stand beside
-/// them.
+/// `columns`. The members `ignore`, an array of names of keywords that are let pass, `duplicates` and `limits` may stand
+/// beside them.
 ///
 /// Errors: what is wrong with the value first, as `PlanFault` says, but for `Refused`; and `Memory`.
 pub fn plan_in<'v>(alloc: Global, kind: PlanKind, value: &'v Value) -> Result<Plan<'v>, PlanFault>

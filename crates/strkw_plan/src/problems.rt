@@ -18,6 +18,9 @@ pub(crate) enum Problem<'a> {
     UnknownMember(&'a str),
     NoNames,
     NoEach,
+    NoLimits,
+    UnknownLimit(&'a str),
+    NoWholeLimit(&'a str),
     Empty,
     NoObject(&'a str),
     // The draft, the name of a schema, and its keyword.

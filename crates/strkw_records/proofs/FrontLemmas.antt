@@ -14,6 +14,7 @@ use Rattle.strkw_records.specs.Fronts.{IsField, IsFront, TakesFields, TakesLast}
 use Rattle.strkw_records.specs.Lines.{HasNoLineByte, is_line_byte}
 use Rattle.strkw_records.specs.Outcomes.{Completes, EndsPlain, Gathers, Passes, front_of_field, outcome, whole_fields}
 use Rattle.strkw_records.specs.Records.{quote, state_behind}
+use Rattle.strkw_records.proofs.CountLemmas.{nil-left, nil-right}
 use Rattle.strkw_records.proofs.GatherLemmas.{gathers-trans, line_end-of, passes-trans}
 use Rattle.strkw_records.proofs.LineLemmas.{has_no_line_byte-append, has_no_line_byte-more}
 use Rattle.strkw_records.proofs.OutcomeLemmas.{closed, opened, outcome-comma, outcome-goes_on, outcome-line_end, outcome-run, outcome-step, state_behind-append, state_behind-goes_on, state_behind-none, state_behind-one, state_behind-run}
@@ -154,21 +155,12 @@ at-front xs rest at n e = sym (get_or-drop at xs n 0) ∙ ap (λ (l : List ℕ).
 within-front : (xs rest : List ℕ) (at : ℕ) (front : Front) → rest ≡ drop at xs → at ≤ length xs → IsFront rest front → at + front.end < length xs
 within-front xs rest at front e h k = let long = ap length e ∙ length-drop at xs in let inside = k.inside in omega (arith, long, inside, h)
 
--- no bytes are in front of the field
-nil-left : (x y : List ℕ) → x ++ y ≡ [] → x ≡ []
-nil-left [] y e = refl
-nil-left (c ∷ x) y e = cc e
-
-nil-right : (x y : List ℕ) → x ++ y ≡ [] → y ≡ []
-nil-right [] y e = e
-nil-right (c ∷ x) y e = cc e
-
 pub no_front : (partial partial2 items : List ℕ) → partial ++ items ≡ [] → partial2 ≡ [] → partial2 ++ items ≡ []
 no_front partial partial2 items e e2 = rw e2 (nil-right partial items e)
 
-pushed : (g1 g2 : Gathered) (field : List ℕ) → front_of_field g1 ≡ [] → whole_fields g2 ≡ whole_fields g1 ++ ((partial_of g1.fields ++ field) ∷ [])
-    → whole_fields g2 ≡ whole_fields g1 ++ (field ∷ [])
-pushed g1 g2 field e h = rw (nil-left (partial_of g1.fields) g1.field.items e) at h
+pub pushed : (g : Gathered) (all : List (List ℕ)) (field : List ℕ) → front_of_field g ≡ [] → all ≡ whole_fields g ++ ((partial_of g.fields ++ field) ∷ [])
+    → all ≡ whole_fields g ++ (field ∷ [])
+pushed g all field e h = rw (nil-left (partial_of g.fields) g.field.items e) at h
 
 -- the last field
 pub no_line-front : (xs rest : List ℕ) (at : ℕ) (front : Front) → rest ≡ drop at xs → at ≤ length xs → HasNoLineByte (take at xs) → IsFront rest front
@@ -183,7 +175,7 @@ takes_last-front g g1 g2 xs rest at front e h t k other f w = (
   within-front xs rest at front e h k,
   rw (take-front xs rest at front.end e h, at-front xs rest at front.end e)
       (takes_last-more g g1 g2 (take at xs) (take front.end rest) (take (front.to - front.from) (drop front.from rest)) (get_or rest front.end 0) t k.field
-      (line_end-of _ other k.ends) (pushed g1 g2 _ f w)),
+      (line_end-of _ other k.ends) (pushed g1 (whole_fields g2) _ f w)),
 )
 
 -- one more field, with its comma
@@ -209,7 +201,7 @@ pub takes_fields-front : (g g1 g2 : Gathered) (xs rest : List ℕ) (at : ℕ) (f
 takes_fields-front g g1 g2 xs rest at front e h t k comma f w =
     rw (take-comma xs rest at front e h k comma)
     (takes_fields-more g g1 g2 (take at xs) (take front.end rest) (take (front.to - front.from) (drop front.from rest)) t (rw comma at k.field)
-    (pushed g1 g2 _ f w))
+    (pushed g1 (whole_fields g2) _ f w))
 
 -- an input that went past them, behind what was gathered
 abbrev pub gathers-fields : {R : Type 0} (rem : R → Option (List ℕ)) (a b c : Input R) (text x rest : List ℕ) (g g1 g2 : Gathered)
@@ -217,7 +209,7 @@ abbrev pub gathers-fields : {R : Type 0} (rem : R → Option (List ℕ)) (a b c 
     → TakesFields g1 x g2 → Gathers rem a c text st.StartField g st.StartField g2
 gathers-fields rem a b c text x rest g g1 g2 h k f f2 t =
     gathers-trans rem a b c text st.StartField st.StartField st.StartField g g1 g2 h
-    (record { bytes = x; rest = rest; passes = k; behind = t.behind; same = rw (k.splits, f, f2) (t.same rest) })
+    (record { bytes = x; rest = rest; passes = k; behind = t.behind; same = λ more. rw (f, f2) (t.same more) })
 
 pub completes-last : {R : Type 0} (rem : R → Option (List ℕ)) (a b c : Input R) (text x r1 r2 : List ℕ) (d : ℕ) (g g2 : Gathered) → Passes rem a b text x r1
     → Passes rem b c r1 (d ∷ []) r2 → front_of_field g ≡ [] → TakesLast g x d g2 → Completes rem a c text st.StartField g g2

@@ -14,11 +14,15 @@ use Rattle.strkw_records.specs.declared.gathered.FieldEnd.TheVariants as end
 use Rattle.strkw_records.specs.declared.gathered.Gathered.{Gathered}
 use Rattle.strkw_records.specs.declared.input.Input.{Input}
 use Rattle.strkw_records.specs.declared.place.Place.{Place}
+use Rattle.strkw_records.specs.declared.limits.Limits.{Limits}
+use Rattle.strkw_records.specs.Counts.{Counts}
+use Rattle.strkw_records.specs.Limits.{AreWithin, IsFirstPast}
 use Rattle.strkw_records.specs.Lines.{is_line_byte, place_after}
-use Rattle.strkw_records.specs.Outcomes.{Completes, EndsField, EndsPlain, Fails, FailsAtField, FailsInQuotes, FailsInRecord, Gathers, Passes, front_of_field, rest_of, whole_fields}
-use Rattle.strkw_records.specs.Records.{InQuotes, IsTooLong, nothing, quote}
+use Rattle.strkw_records.specs.Outcomes.{Completes, EndsField, EndsPlain, Fails, FailsAtField, FailsInQuotes, FailsInRecord, FailsOutside, Gathers, Outcome, Passes, PassesLimit, fields_read, front_of_field, outcome, read_from, rest_of, whole_fields}
+use Rattle.strkw_records.specs.Records.{InQuotes, IsTooLong, nothing, quote, state_behind}
+use Rattle.strkw_records.proofs.CountLemmas.{joins-quoted, room-none, within-end}
 use Rattle.strkw_records.proofs.LineLemmas.{place_after-append, place_after-nil}
-use Rattle.strkw_records.proofs.OutcomeLemmas.{GoesOn, closed, opened, in_quotes-append, in_quotes-run, outcome-comma, outcome-end, outcome-goes_on, outcome-line_end, outcome-run, outcome-step, state_behind-append, state_behind-goes_on, state_behind-none, state_behind-one, state_behind-run}
+use Rattle.strkw_records.proofs.OutcomeLemmas.{GoesOn, closed, opened, in_quotes-append, in_quotes-run, outcome-comma, outcome-end, outcome-goes_on, outcome-line_end, outcome-run, outcome-step, read-none, read-plain, state_behind-append, state_behind-goes_on, state_behind-none, state_behind-one, state_behind-run}
 
 -- an input that stays where it is, or reads a piece
 pub passes-none : {R : Type 0} (rem : R → Option (List ℕ)) (a b : Input R) (text : List ℕ) → rest_of rem b ≡ Some text → b.place ≡ a.place
@@ -51,13 +55,15 @@ pub fails-later : (p q : Place) (text x rest : List ℕ) (e : ReadFault) → tex
 fails-later p q text x rest (fault.Read e) s at h = tt
 fails-later p q text x rest (fault.OpenQuote line) s at h = h
 fails-later p q text x rest (fault.NotUtf8 line number) s at h = h
+fails-later p q text x rest (fault.LongRecord line limit) s at h = h
+fails-later p q text x rest (fault.LongField line number limit) s at h = h
 fails-later p q text x rest fault.Memory s at h = tt
 fails-later p q text x rest fault.TooLong s at h = too_long-later p text x rest s (rw at at h)
 
 -- nothing yet
 abbrev pub gathers-none : {R : Type 0} (rem : R → Option (List ℕ)) (a b : Input R) (text : List ℕ) (s : State) (g : Gathered)
     → rest_of rem b ≡ Some text → b.place ≡ a.place → Gathers rem a b text s g s g
-gathers-none rem a b text s g e p = record { bytes = []; rest = text; passes = passes-none rem a b text e p; behind = state_behind-none s; same = refl }
+gathers-none rem a b text s g e p = record { bytes = []; rest = text; passes = passes-none rem a b text e p; behind = state_behind-none s; same = λ more. refl }
 
 abbrev pub gathers-trans : {R : Type 0} (rem : R → Option (List ℕ)) (a b c : Input R) (text : List ℕ) (s s1 s2 : State) (g g1 g2 : Gathered)
     → (h : Gathers rem a b text s g s1 g1) → Gathers rem b c h.rest s1 g1 s2 g2 → Gathers rem a c text s g s2 g2
@@ -66,7 +72,8 @@ gathers-trans rem a b c text s s1 s2 g g1 g2 h k = record {
   rest = k.rest;
   passes = passes-trans rem a b c text h.bytes h.rest k.bytes k.rest h.passes k.passes;
   behind = state_behind-append s s1 h.bytes k.bytes h.behind ∙ k.behind;
-  same = h.same ∙ k.same;
+  same = λ more. ap (λ (l : List ℕ). outcome s (whole_fields g) (front_of_field g) l) (append_assoc h.bytes k.bytes more)
+      ∙ h.same (k.bytes ++ more) ∙ k.same more;
 }
 
 pub gathers-completes : {R : Type 0} (rem : R → Option (List ℕ)) (a b c : Input R) (text : List ℕ) (s s1 : State) (g g1 g2 : Gathered)
@@ -75,7 +82,7 @@ gathers-completes rem a b c text s s1 g g1 g2 h k = record {
   bytes = h.bytes ++ k.bytes;
   rest = k.rest;
   passes = passes-trans rem a b c text h.bytes h.rest k.bytes k.rest h.passes k.passes;
-  taken = h.same ∙ k.taken;
+  taken = ap (λ (l : List ℕ). outcome s (whole_fields g) (front_of_field g) l) h.passes.splits ∙ h.same h.rest ∙ k.taken;
 }
 
 -- a run of bytes that only join a field
@@ -87,7 +94,7 @@ gathers-run rem a b text x rest s g g2 h r w f = record {
   rest = rest;
   passes = h;
   behind = state_behind-run s x r;
-  same = rw (h.splits, w, f) (outcome-run s (whole_fields g) (front_of_field g) x rest r);
+  same = λ more. rw (w, f) (outcome-run s (whole_fields g) (front_of_field g) x more r);
 }
 
 -- one byte that ends no record
@@ -101,7 +108,7 @@ gathers-byte rem a b text rest c s s2 g g2 h e to w f = record {
   rest = rest;
   passes = h;
   behind = state_behind-one s s2 c e to;
-  same = rw (h.splits, w, f, to) (outcome-step s (whole_fields g) (front_of_field g) c rest e);
+  same = λ more. rw (w, f, to) (outcome-step s (whole_fields g) (front_of_field g) c more e);
 }
 
 -- a read of a piece goes past no byte
@@ -149,52 +156,108 @@ quoted-open rem a b text g g1 q e =
     let all : text ≡ q.0.bytes = q.0.passes.splits ∙ ap (λ (l : List ℕ). q.0.bytes ++ l) e ∙ append-nil q.0.bytes in
     subst (λ (l : List ℕ). InQuotes l) (sym all) q.1
 
-pub in_quotes-later : (p q : Place) (text x rest : List ℕ) (line : ℕ) (e : ReadFault) → text ≡ x ++ rest → q ≡ place_after p x → Fails q rest e
-    → FailsInQuotes p line text e
-in_quotes-later p q text x rest line (fault.Read e) s at h = tt
-in_quotes-later p q text x rest line (fault.OpenQuote l) s at h = absurd h
-in_quotes-later p q text x rest line (fault.NotUtf8 l number) s at h = h
-in_quotes-later p q text x rest line fault.Memory s at h = tt
-in_quotes-later p q text x rest line fault.TooLong s at h = too_long-later p text x rest s (rw at at h)
+-- a limit that is passed behind bytes
+first-later : (reads reads1 : List ℕ → List (List ℕ)) (limits : Limits) (text x rest : List ℕ) (fields : List (List ℕ)) → text ≡ x ++ rest
+    → ((more : List ℕ) → reads (x ++ more) ≡ reads1 more) → IsFirstPast reads1 limits rest fields → IsFirstPast reads limits text fields
+first-later reads reads1 limits text x rest fields e same h = record {
+  before = x ++ h.before;
+  byte = h.byte;
+  rest = h.rest;
+  splits = e ∙ ap (λ (l : List ℕ). x ++ l) h.splits ∙ sym (append_assoc x h.before (h.byte ∷ h.rest));
+  within = subst (λ (fs : List (List ℕ)). AreWithin limits fs) (sym (same h.before)) h.within;
+  behind = h.behind ∙ sym (ap reads (append_assoc x h.before (h.byte ∷ [])) ∙ same (h.before ++ (h.byte ∷ [])));
+}
 
-pub at_field-later : (p q : Place) (text x rest : List ℕ) (e : ReadFault) → text ≡ x ++ rest → q ≡ place_after p x → Fails q rest e → FailsAtField p text e
-at_field-later p q text x rest (fault.Read e) s at h = tt
-at_field-later p q text x rest (fault.OpenQuote l) s at h = absurd h
-at_field-later p q text x rest (fault.NotUtf8 l number) s at h = h
-at_field-later p q text x rest fault.Memory s at h = tt
-at_field-later p q text x rest fault.TooLong s at h = too_long-later p text x rest s (rw at at h)
+pub long-later : (s s1 : State) (g g1 : Gathered) (text x rest : List ℕ) (e : ReadFault) → text ≡ x ++ rest
+    → ((more : List ℕ) → read_from s g (x ++ more) ≡ read_from s1 g1 more) → g1.limits ≡ g.limits → g1.line ≡ g.line
+    → PassesLimit s1 g1 rest e → PassesLimit s g text e
+long-later s s1 g g1 text x rest (fault.LongRecord line limit) is same limits line2 h = (
+  h.0 ∙ line2,
+  record {
+    fields = h.1.fields;
+    first = first-later (read_from s g) (read_from s1 g1) g.limits text x rest h.1.fields is same (rw limits at h.1.first);
+    given = rw limits at h.1.given;
+    long = h.1.long;
+    each = rw limits at h.1.each;
+  },
+)
+long-later s s1 g g1 text x rest (fault.LongField line number limit) is same limits line2 h = (
+  h.0 ∙ line2,
+  record {
+    earlier = h.1.earlier;
+    field = h.1.field;
+    first = first-later (read_from s g) (read_from s1 g1) g.limits text x rest (h.1.earlier ++ (h.1.field ∷ [])) is same (rw limits at h.1.first);
+    counts = h.1.counts;
+    given = rw limits at h.1.given;
+    long = h.1.long;
+  },
+)
+long-later s s1 g g1 text x rest (fault.Read e) is same limits line2 h = h
+long-later s s1 g g1 text x rest (fault.OpenQuote line) is same limits line2 h = h
+long-later s s1 g g1 text x rest (fault.NotUtf8 line number) is same limits line2 h = h
+long-later s s1 g g1 text x rest fault.Memory is same limits line2 h = h
+long-later s s1 g g1 text x rest fault.TooLong is same limits line2 h = h
+
+pub outside-later : (p q : Place) (s s1 : State) (g g1 : Gathered) (text x rest : List ℕ) (e : ReadFault) → text ≡ x ++ rest → q ≡ place_after p x
+    → ((more : List ℕ) → read_from s g (x ++ more) ≡ read_from s1 g1 more) → g1.limits ≡ g.limits → g1.line ≡ g.line
+    → FailsOutside q s1 g1 rest e → FailsOutside p s g text e
+outside-later p q s s1 g g1 text x rest e is at same limits line (inl h) = inl (fails-later p q text x rest e is at h)
+outside-later p q s s1 g g1 text x rest e is at same limits line (inr h) = inr (long-later s s1 g g1 text x rest e is same limits line h)
+
+-- what is read behind what was gathered
+pub reads-later : {R : Type 0} (rem : R → Option (List ℕ)) (a b : Input R) (text : List ℕ) (s s1 : State) (g g1 : Gathered)
+    (h : Gathers rem a b text s g s1 g1) → (more : List ℕ) → read_from s g (h.bytes ++ more) ≡ read_from s1 g1 more
+reads-later rem a b text s s1 g g1 h more = ap (λ (o : Outcome). fields_read o) (h.same more)
+
+pub outside-gathers : {R : Type 0} (rem : R → Option (List ℕ)) (a b : Input R) (text : List ℕ) (s s1 : State) (g g1 : Gathered)
+    (h : Gathers rem a b text s g s1 g1) (e : ReadFault) → Counts g g1 → FailsOutside b.place s1 g1 h.rest e → FailsOutside a.place s g text e
+outside-gathers rem a b text s s1 g g1 h e k f =
+    outside-later a.place b.place s s1 g g1 text h.bytes h.rest e h.passes.splits h.passes.place (reads-later rem a b text s s1 g g1 h) k.limits k.line f
+
+-- the end of the text in quotes, within the limits
+pub within-open : {R : Type 0} (rem : R → Option (List ℕ)) (a b : Input R) (text : List ℕ) (g g1 : Gathered) (q : Quoted rem a b text g g1) → q.0.rest ≡ []
+    → Counts g g1 → AreWithin g.limits (read_from st.InQuoted g text)
+unfolding Runs
+within-open rem a b text g g1 q e k =
+    let reads : read_from st.InQuoted g text ≡ whole_fields g1 ++ ((front_of_field g1 ++ []) ∷ []) =
+    ap (λ (l : List ℕ). read_from st.InQuoted g l) (q.0.passes.splits ∙ ap (λ (l : List ℕ). q.0.bytes ++ l) e)
+    ∙ reads-later rem a b text st.InQuoted st.InQuoted g g1 q.0 []
+    ∙ joins-quoted g1 [] tt 0
+    in rw k.limits at (within-end g1 0 [] (read_from st.InQuoted g text) refl k.counted (room-none g1 k.counted) reads)
 
 -- behind a quote at the start of a field
-pub at_field-quoted : (p q : Place) (text rest : List ℕ) (line : ℕ) (e : ReadFault) → text ≡ quote ∷ rest → q ≡ place_after p (quote ∷ []) → line ≡ p.line
-    → FailsInQuotes q line rest e → FailsAtField p text e
-at_field-quoted p q text rest line (fault.Read e) s at l h = tt
-at_field-quoted p q text rest line (fault.OpenQuote line2) s at l h = record { inside = rest; splits = s; stays = h.1; at_line = h.0 ∙ l }
-at_field-quoted p q text rest line (fault.NotUtf8 line2 number) s at l h = h
-at_field-quoted p q text rest line fault.Memory s at l h = tt
-at_field-quoted p q text rest line fault.TooLong s at l h = too_long-later p text (quote ∷ []) rest s (rw at at h)
+pub at_field-quoted : (p q : Place) (text rest : List ℕ) (line : ℕ) (g : Gathered) (e : ReadFault) → text ≡ quote ∷ rest
+    → q ≡ place_after p (quote ∷ []) → line ≡ p.line → FailsInQuotes q line g rest e → FailsAtField p g text e
+at_field-quoted p q text rest line g e is at l (inl h) = inl (outside-later p q st.StartField st.InQuoted g g text (quote ∷ []) rest e is at
+    (λ more. ap (λ (o : Outcome). fields_read o) (outcome-step st.StartField (whole_fields g) (front_of_field g) quote more refl)) refl refl h)
+at_field-quoted p q text rest line g e is at l (inr h) = inr (record {
+  inside = rest;
+  is = h.is ∙ ap (λ (n : ℕ). fault.OpenQuote n) l;
+  splits = is;
+  stays = h.stays;
+  within = subst (λ (fs : List (List ℕ)). AreWithin g.limits fs)
+      (sym (ap (λ (o : Outcome). fields_read o) (ap (λ (t : List ℕ). outcome st.StartField (whole_fields g) (front_of_field g) t) is
+      ∙ outcome-step st.StartField (whole_fields g) (front_of_field g) quote rest refl))) h.within;
+})
 
-pub in_record-fails : (p q : Place) (text x rest : List ℕ) (e : ReadFault) → text ≡ x ++ rest → q ≡ place_after p x → Fails q rest e → FailsInRecord p text e
-in_record-fails p q text x rest (fault.Read e) s at h = tt
-in_record-fails p q text x rest (fault.OpenQuote l) s at h = absurd h
-in_record-fails p q text x rest (fault.NotUtf8 l number) s at h = h
-in_record-fails p q text x rest fault.Memory s at h = tt
-in_record-fails p q text x rest fault.TooLong s at h = too_long-later p text x rest s (rw at at h)
+pub in_record-fails : (p q : Place) (g : Gathered) (text x rest : List ℕ) (e : ReadFault) → text ≡ x ++ rest → q ≡ place_after p x → Fails q rest e
+    → FailsInRecord p g text e
+in_record-fails p q g text x rest e is at h = inl (inl (fails-later p q text x rest e is at h))
 
 pub in_record-later : {R : Type 0} (rem : R → Option (List ℕ)) (a b : Input R) (text : List ℕ) (g g1 : Gathered)
-    (h : Gathers rem a b text st.StartField g st.StartField g1) (e : ReadFault)
-    → FailsAtField b.place h.rest e → FailsInRecord a.place text e
-in_record-later rem a b text g g1 h (fault.Read e) k = tt
-in_record-later rem a b text g g1 h (fault.OpenQuote line) k = record {
+    (h : Gathers rem a b text st.StartField g st.StartField g1) (e : ReadFault) → Counts g g1
+    → FailsAtField b.place g1 h.rest e → FailsInRecord a.place g text e
+in_record-later rem a b text g g1 h e k (inl f) = inl (outside-gathers rem a b text st.StartField st.StartField g g1 h e k f)
+in_record-later rem a b text g g1 h e k (inr f) = inr (record {
   before = h.bytes;
-  inside = k.inside;
-  splits = h.passes.splits ∙ ap (λ (l : List ℕ). h.bytes ++ l) k.splits;
+  inside = f.inside;
+  is = f.is ∙ ap (λ (p : Place). fault.OpenQuote p.line) h.passes.place;
+  splits = h.passes.splits ∙ ap (λ (l : List ℕ). h.bytes ++ l) f.splits;
   behind = h.behind;
-  stays = k.stays;
-  at_line = k.at_line ∙ ap (λ (p : Place). p.line) h.passes.place;
-}
-in_record-later rem a b text g g1 h (fault.NotUtf8 line number) k = k
-in_record-later rem a b text g g1 h fault.Memory k = tt
-in_record-later rem a b text g g1 h fault.TooLong k = too_long-later a.place text h.bytes h.rest h.passes.splits (rw h.passes.place at k)
+  stays = f.stays;
+  within = rw k.limits at (subst (λ (fs : List (List ℕ)). AreWithin g1.limits fs)
+      (sym (ap (λ (l : List ℕ). read_from st.StartField g l) h.passes.splits ∙ reads-later rem a b text st.StartField st.StartField g g1 h h.rest)) f.within);
+})
 
 -- what ends a field behind what was gathered
 pub ends-later : {R : Type 0} (rem : R → Option (List ℕ)) (a b c : Input R) (text : List ℕ) (s s1 : State) (g g1 g2 : Gathered)
@@ -202,6 +265,68 @@ pub ends-later : {R : Type 0} (rem : R → Option (List ℕ)) (a b c : Input R) 
     → EndsField rem b c h.rest s1 g1 g2 e → EndsField rem a c text s g g2 e
 ends-later rem a b c text s s1 g g1 g2 h end.Comma k = (gathers-trans rem a b c text s s1 st.StartField g g1 g2 h k.0, k.1)
 ends-later rem a b c text s s1 g g1 g2 h end.Record k = gathers-completes rem a b c text s s1 g g1 g2 h k
+
+-- the first byte stays
+head-kept : (x rest more text : List ℕ) → text ≡ x ++ rest → slice_get text 0 ≢ Some quote → state_behind st.InField x ≡ Some st.StartField
+    → slice_get (x ++ more) 0 ≢ Some quote
+unfolding state_behind
+head-kept [] rest more text e other h = let no : st.InField ≡ st.StartField = cc in cc no
+head-kept (c ∷ x) rest more text e other h = rw e at other
+
+-- a limit that is passed in a field that goes on outside quotes
+reads-goes_on : (s : State) (g : Gathered) (x rest text : List ℕ) → GoesOn s → text ≡ x ++ rest → slice_get text 0 ≢ Some quote
+    → read_from s g x ≡ read_from st.InField g x
+unfolding Runs
+reads-goes_on s g [] rest text on e other = read-none s (whole_fields g) (front_of_field g) on ∙ sym (read-plain (whole_fields g) (front_of_field g) [] tt
+    ∙ ap (λ (f : List ℕ). whole_fields g ++ (f ∷ [])) (append-nil (front_of_field g)))
+reads-goes_on s g (c ∷ x) rest text on e other =
+    ap (λ (o : Outcome). fields_read o) (outcome-goes_on s (whole_fields g) (front_of_field g) (c ∷ x) on (rw e at other))
+
+first-goes_on : (s : State) (g : Gathered) (limits : Limits) (text : List ℕ) (fields : List (List ℕ)) → GoesOn s → slice_get text 0 ≢ Some quote
+    → IsFirstPast (read_from st.InField g) limits text fields → IsFirstPast (read_from s g) limits text fields
+first-goes_on s g limits text fields on other h = record {
+  before = h.before;
+  byte = h.byte;
+  rest = h.rest;
+  splits = h.splits;
+  within = subst (λ (fs : List (List ℕ)). AreWithin limits fs) (sym (reads-goes_on s g h.before (h.byte ∷ h.rest) text on h.splits other)) h.within;
+  behind = h.behind ∙ sym (reads-goes_on s g (h.before ++ (h.byte ∷ [])) h.rest text on
+      (h.splits ∙ sym (append_assoc h.before (h.byte ∷ []) h.rest)) other);
+}
+
+pub long-goes_on : (s : State) (g : Gathered) (text : List ℕ) (e : ReadFault) → GoesOn s → slice_get text 0 ≢ Some quote
+    → PassesLimit st.InField g text e → PassesLimit s g text e
+long-goes_on s g text (fault.LongRecord line limit) on other h = (
+  h.0,
+  record {
+    fields = h.1.fields;
+    first = first-goes_on s g g.limits text h.1.fields on other h.1.first;
+    given = h.1.given;
+    long = h.1.long;
+    each = h.1.each;
+  },
+)
+long-goes_on s g text (fault.LongField line number limit) on other h = (
+  h.0,
+  record {
+    earlier = h.1.earlier;
+    field = h.1.field;
+    first = first-goes_on s g g.limits text (h.1.earlier ++ (h.1.field ∷ [])) on other h.1.first;
+    counts = h.1.counts;
+    given = h.1.given;
+    long = h.1.long;
+  },
+)
+long-goes_on s g text (fault.Read e) on other h = h
+long-goes_on s g text (fault.OpenQuote line) on other h = h
+long-goes_on s g text (fault.NotUtf8 line number) on other h = h
+long-goes_on s g text fault.Memory on other h = h
+long-goes_on s g text fault.TooLong on other h = h
+
+pub outside-goes_on : (p : Place) (s : State) (g : Gathered) (text : List ℕ) (e : ReadFault) → GoesOn s → slice_get text 0 ≢ Some quote
+    → FailsOutside p st.InField g text e → FailsOutside p s g text e
+outside-goes_on p s g text e on other (inl h) = inl h
+outside-goes_on p s g text e on other (inr h) = inr (long-goes_on s g text e on other h)
 
 -- a field that goes on outside quotes
 pub ends-goes_on : {R : Type 0} (rem : R → Option (List ℕ)) (a b : Input R) (text : List ℕ) (s : State) (g g2 : Gathered) (e : FieldEnd) → GoesOn s
@@ -213,7 +338,8 @@ ends-goes_on rem a b text s g g2 end.Comma on other k = (
     rest = k.0.rest;
     passes = k.0.passes;
     behind = state_behind-goes_on s k.0.bytes k.0.rest text on k.0.passes.splits other k.0.behind;
-    same = outcome-goes_on s (whole_fields g) (front_of_field g) text on other ∙ k.0.same;
+    same = λ more. outcome-goes_on s (whole_fields g) (front_of_field g) (k.0.bytes ++ more) on
+        (head-kept k.0.bytes k.0.rest more text k.0.passes.splits other k.0.behind) ∙ k.0.same more;
   },
   k.1,
 )
@@ -234,7 +360,8 @@ completes-end rem a b text s g g1 g2 h e w =
       bytes = h.bytes;
       rest = h.rest;
       passes = h.passes;
-      taken = h.same ∙ rw (all, e) (outcome-end (whole_fields g1) (front_of_field g1));
+      taken = ap (λ (l : List ℕ). outcome s (whole_fields g) (front_of_field g) l) h.passes.splits ∙ h.same h.rest
+          ∙ rw (all, e) (outcome-end (whole_fields g1) (front_of_field g1));
     }
 
 -- a comma ends a field
@@ -246,8 +373,9 @@ ends-comma rem a b c text x r1 r2 g g2 h k r w f = record {
   rest = r2;
   passes = passes-trans rem a b c text x r1 (44 ∷ []) r2 h k;
   behind = state_behind-append st.InField st.InField x (44 ∷ []) (state_behind-run st.InField x r) ∙ state_behind-one st.InField st.StartField 44 refl refl;
-  same = rw (h.splits, k.splits, w, f) (outcome-run st.InField (whole_fields g) (front_of_field g) x (44 ∷ r2) r
-      ∙ outcome-comma (whole_fields g) (front_of_field g ++ x) r2);
+  same = λ more. ap (λ (l : List ℕ). outcome st.InField (whole_fields g) (front_of_field g) l) (append_assoc x (44 ∷ []) more)
+      ∙ rw (w, f) (outcome-run st.InField (whole_fields g) (front_of_field g) x (44 ∷ more) r
+      ∙ outcome-comma (whole_fields g) (front_of_field g ++ x) more);
 }
 
 -- a line end ends a field, and a record

@@ -2,7 +2,7 @@
 use Rattle.std.proofs.Common.{◌≡◌, ◌≢◌, ◌≤◌, ◌<◌, ◌+◌, ℕ, zero, suc, List, [], ◌∷◌, ◌++◌, take, drop, length, true, false, refl, sym, ap, arith, ◌∙◌, append_assoc, get_or, Option, Some, None}
 use Rattle.std.specs.Prelude.{◌==◌, slice_get, is_some}
 use Rattle.std.specs.Io.KnownBytes.{Consumes, IsAtEnd, prepend_known}
-use Rattle.std.proofs.lemmas.List.{append-nil, drop-append-le, get_or-drop, length-drop, length-take, take-append-drop}
+use Rattle.std.proofs.lemmas.List.{append-nil, drop-append-le, get_or-drop, length-drop, length-take, take-append-drop, take_more}
 use Rattle.std.proofs.lemmas.Bool.{eqb-false, eqb-true}
 use Rattle.csv.specs.Machine.{is_byte}
 use Rattle.csv.specs.Reading.{is_bom, strip_bom}
@@ -33,6 +33,16 @@ passes-front rem a b text count e h p s at =
       splits = parts.0;
       place = at;
     }
+
+-- a byte of the piece, with what stands before it
+pub byte-front : (piece : List ℕ) (k : Option (List ℕ)) (text : List ℕ) (count c : ℕ) → prepend_known piece k ≡ Some text → count < length piece
+    → get_or piece count 0 ≡ c → (rest : List ℕ) × (text ≡ take count piece ++ (c ∷ rest))
+byte-front piece k text count c e h is =
+    let parts = piece-front piece k text (count + 1) e (omega (arith, h)) in (
+      drop (count + 1) text,
+      parts.0 ∙ ap (λ (l : List ℕ). l ++ drop (count + 1) text) (take_more piece count 0 h ∙ ap (λ (b : ℕ). take count piece ++ (b ∷ [])) is)
+          ∙ append_assoc (take count piece) (c ∷ []) (drop (count + 1) text),
+    )
 
 -- the first byte of the text is that of the piece
 pub piece-head : (piece : List ℕ) (k : Option (List ℕ)) (text : List ℕ) (c : ℕ) → prepend_known piece k ≡ Some text → slice_get piece 0 ≡ Some c
@@ -93,6 +103,10 @@ head-behind xs ys n c e h is =
 pub within-front : (xs ys : List ℕ) (n : ℕ) → ys ≡ drop n xs → 0 < length ys → n < length xs
 within-front xs ys n e h = let left = ap length e ∙ length-drop n xs in omega (arith, left)
 
+pub head-cons : (xs : List ℕ) (c : ℕ) → slice_get xs 0 ≡ Some c → xs ≡ c ∷ drop 1 xs
+head-cons [] c h = cc h
+head-cons (x ∷ xs) c h = let same : x ≡ c = cc in rw same refl
+
 pub take-head : (xs : List ℕ) (c : ℕ) → slice_get xs 0 ≡ Some c → take 1 xs ≡ c ∷ []
 take-head [] c h = cc h
 take-head (x ∷ xs) c h = let same : x ≡ c = cc in rw same refl
@@ -104,7 +118,7 @@ head-index (x ∷ xs) c h = cc
 pub take-length : (n : ℕ) (xs : List ℕ) → n ≤ length xs → n ≡ length (take n xs)
 take-length n xs h = let e = length-take n xs in omega (arith, e)
 
-take-none : (m : ℕ) → take {A = ℕ} m [] ≡ []
+pub take-none : (m : ℕ) → take {A = ℕ} m [] ≡ []
 take-none zero = refl
 take-none (suc m) = refl
 

@@ -2,6 +2,8 @@ pub mod LineLemmas
 pub mod OutcomeLemmas
 pub mod FrontLemmas
 pub mod GatherLemmas
+pub mod CountLemmas
+pub mod GrowLemmas
 pub mod InputLemmas
 pub mod ReaderLemmas
 pub mod LawLemmas

@@ -1,5 +1,5 @@
 -- What a text comes to, step by step.
-use Rattle.std.proofs.Common.{◌≡◌, ◌≢◌, ◌≤◌, ◌<◌, ℕ, zero, suc, List, [], ◌∷◌, ◌++◌, take, length, Bool, true, false, refl, ap, arith, ◌∙◌, append_assoc, get_or, inl, inr, Option, Some, None}
+use Rattle.std.proofs.Common.{◌≡◌, ◌≢◌, ◌≤◌, ◌<◌, ℕ, zero, suc, List, [], ◌∷◌, ◌++◌, take, length, Bool, true, false, refl, sym, ap, arith, ◌∙◌, append_assoc, get_or, inl, inr, Option, Some, None}
 use Rattle.std.specs.Prelude.{◌==◌, ◌||◌, if◌then◌else◌, slice_get, unwrap_or}
 use Rattle.std.proofs.Common.{eq-eqb}
 use Rattle.memchr.specs.Find.{IsFirstByte, is_byte}
@@ -12,7 +12,8 @@ use Rattle.csv.specs.declared.parser.State.TheVariants as st
 use Rattle.csv.specs.declared.parser.Action.{Action}
 use Rattle.csv.specs.declared.parser.Action.TheVariants as act
 use Rattle.strkw_records.specs.Lines.{AreLineBytes, HasNoLineByte, is_line_byte, is_or_line_byte}
-use Rattle.strkw_records.specs.Outcomes.{EndsPlain, NoRecord, Open, Taken, outcome, outcome_at_end}
+use Rattle.strkw_records.specs.Limits.{fields_of_read}
+use Rattle.strkw_records.specs.Outcomes.{EndsPlain, NoRecord, Open, Outcome, Taken, fields_read, outcome, outcome_at_end}
 use Rattle.strkw_records.specs.Records.{InQuotes, byte, nothing, pair, quote, state_behind}
 use Rattle.strkw_records.proofs.LineLemmas.{neither}
 
@@ -216,22 +217,90 @@ none-of_outcome s fields field (c ∷ text) h =
     by false t more = more t
 
 -- an open quote, by the states behind bytes
-pub outcome-open : (s : State) (fields : List (List ℕ)) (field text : List ℕ) → state_behind s text ≡ Some st.InQuoted → outcome s fields field text ≡ Open
+pub outcome-open : (s : State) (fields : List (List ℕ)) (field text : List ℕ) → state_behind s text ≡ Some st.InQuoted
+    → (got : List (List ℕ)) × (outcome s fields field text ≡ Open got)
 unfolding outcome state_behind
-outcome-open s fields field [] h = let same : s ≡ st.InQuoted = cc in rw same refl
+outcome-open s fields field [] h = let same : s ≡ st.InQuoted = cc in (fields ++ (field ∷ []), rw same refl)
 outcome-open s fields field (c ∷ text) h =
     by (is_end (step default_config s c).1) h
     (outcome-open (step default_config s c).0 (fields_after (step default_config s c).1 fields field) (field_after (step default_config s c).1 c field) text)
   where
     by : (b : Bool) → (if b then None else state_behind (step default_config s c).0 text) ≡ Some st.InQuoted
         → (state_behind (step default_config s c).0 text ≡ Some st.InQuoted
-        → outcome (step default_config s c).0 (fields_after (step default_config s c).1 fields field) (field_after (step default_config s c).1 c field)
-        text ≡ Open)
-        → (if b then Taken (fields ++ (field ∷ [])) text
+        → (got : List (List ℕ))
+        × (outcome (step default_config s c).0 (fields_after (step default_config s c).1 fields field) (field_after (step default_config s c).1 c field)
+        text ≡ Open got))
+        → (got : List (List ℕ)) × ((if b then Taken (fields ++ (field ∷ [])) text
         else outcome (step default_config s c).0 (fields_after (step default_config s c).1 fields field) (field_after (step default_config s c).1 c field)
-        text) ≡ Open
+        text) ≡ Open got)
     by true t more = cc t
     by false t more = more t
+
+-- the fields that are read, by the machine
+read-at_end : (s : State) (all : List (List ℕ))
+    → fields_read (outcome_at_end s all) ≡ fields_of_read (if ends_at_end s then Some (all, st.StartRecord, []) else None)
+read-at_end st.StartRecord all = refl
+read-at_end st.AfterCr all = refl
+read-at_end st.StartField all = refl
+read-at_end st.InField all = refl
+read-at_end st.InQuoted all = refl
+read-at_end st.AfterQuote all = refl
+read-at_end st.InEscape all = refl
+read-at_end st.InComment all = refl
+
+pub read-of_outcome : (s : State) (fields : List (List ℕ)) (field text : List ℕ)
+    → fields_read (outcome s fields field text) ≡ fields_of_read (next_record default_config s fields field text)
+unfolding outcome next_record
+read-of_outcome s fields field [] = read-at_end s (fields ++ (field ∷ []))
+read-of_outcome s fields field (c ∷ text) =
+    by (is_end (step default_config s c).1) refl
+    (read-of_outcome (step default_config s c).0 (fields_after (step default_config s c).1 fields field) (field_after (step default_config s c).1 c field) text)
+  where
+    by : (b : Bool) → is_end (step default_config s c).1 ≡ b
+        → fields_read (outcome (step default_config s c).0 (fields_after (step default_config s c).1 fields field)
+        (field_after (step default_config s c).1 c field) text)
+        ≡ fields_of_read (next_record default_config (step default_config s c).0 (fields_after (step default_config s c).1 fields field)
+        (field_after (step default_config s c).1 c field) text)
+        → fields_read (if b then Taken (fields ++ (field ∷ [])) text
+        else outcome (step default_config s c).0 (fields_after (step default_config s c).1 fields field) (field_after (step default_config s c).1 c field)
+        text)
+        ≡ fields_of_read (if b then Some (fields_after (step default_config s c).1 fields field, (step default_config s c).0, text)
+        else next_record default_config (step default_config s c).0 (fields_after (step default_config s c).1 fields field)
+        (field_after (step default_config s c).1 c field) text)
+    by true e more = sym (end-fields (step default_config s c).1 fields field e)
+    by false e more = more
+
+-- nothing more of a field
+pub read-none : (s : State) (fields : List (List ℕ)) (field : List ℕ) → GoesOn s
+    → fields_read (outcome s fields field []) ≡ fields ++ (field ∷ [])
+unfolding outcome
+read-none _ fields field closed = refl
+read-none _ fields field opened = refl
+
+pub read-inside : (fields : List (List ℕ)) (field : List ℕ) → fields_read (outcome st.InQuoted fields field []) ≡ fields ++ (field ∷ [])
+unfolding outcome
+read-inside fields field = refl
+
+-- bytes that only joined a field
+pub read-plain : (fields : List (List ℕ)) (field x : List ℕ) → Runs default_config st.InField x
+    → fields_read (outcome st.InField fields field x) ≡ fields ++ ((field ++ x) ∷ [])
+unfolding outcome
+read-plain fields field x r =
+    ap (λ (l : List ℕ). fields_read (outcome st.InField fields field l)) (sym (append-nil x))
+    ∙ ap (λ (o : Outcome). fields_read o) (outcome-run st.InField fields field x [] r)
+
+pub read-quoted : (fields : List (List ℕ)) (field x : List ℕ) → Runs default_config st.InQuoted x
+    → fields_read (outcome st.InQuoted fields field x) ≡ fields ++ ((field ++ x) ∷ [])
+unfolding outcome
+read-quoted fields field x r =
+    ap (λ (l : List ℕ). fields_read (outcome st.InQuoted fields field l)) (sym (append-nil x))
+    ∙ ap (λ (o : Outcome). fields_read o) (outcome-run st.InQuoted fields field x [] r)
+
+pub runs-take : (s : State) (k : ℕ) (x : List ℕ) → Runs default_config s x → Runs default_config s (take k x)
+unfolding Runs
+runs-take s zero x h = tt
+runs-take s (suc k) [] h = tt
+runs-take s (suc k) (c ∷ x) h = (h.0, runs-take s k x h.1)
 
 pub state_behind-in_quotes : (x : List ℕ) → InQuotes x → state_behind st.InQuoted x ≡ Some st.InQuoted
 unfolding state_behind

@@ -1,5 +1,5 @@
 -- What a read of a record does.
-use Rattle.std.proofs.Common.{◌≡◌, ◌<◌, ℕ, List, [], ◌∷◌, ◌++◌, drop, length, true, false, refl, sym, ap, arith, ◌∙◌, append_assoc, Option, Some, None, inl, inr}
+use Rattle.std.proofs.Common.{◌≡◌, ◌<◌, ℕ, List, [], ◌∷◌, ◌++◌, drop, length, true, false, refl, sym, ap, arith, ◌∙◌, append_assoc, length-append, subst, Option, Some, None, inl, inr}
 use Rattle.std.specs.Str.{IsAscii}
 use Rattle.std.proofs.lemmas.List.{append-nil}
 use Rattle.std.proofs.lemmas.Str.{IsAscii-drop, IsAscii-take, IsUtf8-from_ascii}
@@ -11,15 +11,18 @@ use Rattle.strkw_records.specs.declared.faults.ReadFault.{ReadFault}
 use Rattle.strkw_records.specs.declared.faults.ReadFault.TheVariants as fault
 use Rattle.strkw_records.specs.declared.gathered.Gathered.{Gathered}
 use Rattle.strkw_records.specs.declared.input.Input.{Input}
+use Rattle.strkw_records.specs.declared.limits.Limits.{Limits}
 use Rattle.strkw_records.specs.declared.place.Place.{Place}
 use Rattle.strkw_records.specs.declared.reader.RecordReader.{RecordReader}
+use Rattle.strkw_records.specs.Limits.{AreWithin, IsFirstPast, fields_so_far}
 use Rattle.strkw_records.specs.Lines.{blank_front, is_line_byte, place_after}
-use Rattle.strkw_records.specs.Outcomes.{Completes, Fails, FailsInRecord, Open, OpensIn, Passes, Taken, front_of_field, outcome, rest_of, whole_fields}
-use Rattle.strkw_records.specs.Reading.{Explains, place_of, unread_of}
+use Rattle.strkw_records.specs.Outcomes.{Completes, Fails, FailsInRecord, Open, OpensIn, Outcome, Passes, PassesLimit, Taken, fields_read, front_of_field, outcome, read_from, rest_of, whole_fields}
+use Rattle.strkw_records.specs.Reading.{Explains, limits_of, place_of, unread_of}
 use Rattle.strkw_records.specs.Records.{IsBeforeField, IsOpenAt, TakesRecord, quote, state_behind}
-use Rattle.strkw_records.proofs.GatherLemmas.{passes-trans, too_long-later}
+use Rattle.strkw_records.proofs.CountLemmas.{within-none}
+use Rattle.strkw_records.proofs.GatherLemmas.{fails-later, passes-trans}
 use Rattle.strkw_records.proofs.LineLemmas.{blank_front-lines, blank_front-next, place_after-append}
-use Rattle.strkw_records.proofs.OutcomeLemmas.{none-of_outcome, outcome-begins, outcome-blank, outcome-open, record-of_outcome, state_behind-append, state_behind-begins, state_behind-blank, state_behind-in_quotes}
+use Rattle.strkw_records.proofs.OutcomeLemmas.{none-of_outcome, outcome-begins, outcome-blank, outcome-open, read-of_outcome, record-of_outcome, state_behind-append, state_behind-begins, state_behind-blank, state_behind-in_quotes}
 
 -- each part of a text of ASCII is ASCII, and so is UTF-8
 pub all_text-ascii : (start : ℕ) (ends bytes : List ℕ) → IsAscii bytes → AllText (cut_from start ends bytes)
@@ -37,6 +40,8 @@ pub explains-fails : {R : Type 0} (rem : R → Option (List ℕ)) (old new : Rec
 explains-fails rem old new text (fault.Read e) h = tt
 explains-fails rem old new text (fault.OpenQuote line) h = absurd h
 explains-fails rem old new text (fault.NotUtf8 line number) h = absurd h
+explains-fails rem old new text (fault.LongRecord line limit) h = absurd h
+explains-fails rem old new text (fault.LongField line number limit) h = absurd h
 explains-fails rem old new text fault.Memory h = tt
 explains-fails rem old new text fault.TooLong h = h
 
@@ -57,7 +62,7 @@ begins text (c ∷ rest) e h =
     ∙ outcome-begins c rest (blank_front-next text c rest e)
 
 -- a quote that is open
-open-outcome : (p : Place) (text : List ℕ) (line : ℕ) → IsOpenAt p text line → outcome st.StartRecord [] [] text ≡ Open
+open-outcome : (p : Place) (text : List ℕ) (line : ℕ) → IsOpenAt p text line → (got : List (List ℕ)) × (outcome st.StartRecord [] [] text ≡ Open got)
 unfolding state_behind
 open-outcome p text line h =
     let inside = state_behind-in_quotes h.inside h.stays in
@@ -71,7 +76,9 @@ open-outcome p text line h =
 
 not_open : (p : Place) (text : List ℕ) (got : List (List ℕ)) (rest : List ℕ) → outcome st.StartRecord [] [] text ≡ Taken got rest → (line : ℕ)
     → ¬ (IsOpenAt p text line)
-not_open p text got rest h line k = let no : Open ≡ Taken got rest = sym (open-outcome p text line k) ∙ h in cc no
+not_open p text got rest h line k =
+    let (all, is) = open-outcome p text line k in
+    let no : Open all ≡ Taken got rest = sym is ∙ h in cc no
 
 pub takes-record : {R : Type 0} (rem : R → Option (List ℕ)) (a b c : Input R) (text rest : List ℕ) (g g2 : Gathered) (line : ℕ)
     → Passes rem a b text (blank_front text) rest → 0 < length rest → whole_fields g ≡ [] → front_of_field g ≡ []
@@ -90,15 +97,15 @@ takes-record rem a b c text rest g g2 line h some w f at k =
       closed = not_open a.place text (whole_fields g2) k.rest whole;
     }
 
-opens-in : (p q : Place) (text rest : List ℕ) (line : ℕ) → text ≡ blank_front text ++ rest → q ≡ place_after p (blank_front text) → OpensIn q line rest
-    → IsOpenAt p text line
-opens-in p q text rest line e at h = record {
+opens-in : (p q : Place) (g : Gathered) (text rest : List ℕ) (e : ReadFault) → text ≡ blank_front text ++ rest → q ≡ place_after p (blank_front text)
+    → (h : OpensIn q g rest e) → IsOpenAt p text (place_after q h.before).line
+opens-in p q g text rest why e at h = record {
   before = blank_front text ++ h.before;
   inside = h.inside;
   splits = e ∙ ap (λ (l : List ℕ). blank_front text ++ l) h.splits ∙ sym (append_assoc (blank_front text) h.before (quote ∷ h.inside));
   opens = by h.before h.inside h.splits h.behind;
   stays = h.stays;
-  at_line = h.at_line ∙ ap (λ (z : Place). (place_after z h.before).line) at ∙ ap (λ (z : Place). z.line)
+  at_line = ap (λ (z : Place). (place_after z h.before).line) at ∙ ap (λ (z : Place). z.line)
       (sym (place_after-append p (blank_front text) h.before));
 }
   where
@@ -112,13 +119,82 @@ opens-in p q text rest line e at h = record {
         let first : is_line_byte c ≡ false = blank_front-next text c (before ++ (quote ∷ inside)) (e ∙ ap (λ (l : List ℕ). blank_front text ++ l) s) in
         inr (state_behind-append st.StartRecord st.StartRecord (blank_front text) (c ∷ before) blank ∙ state_behind-begins c before first ∙ k)
 
-pub explains-in_record : {R : Type 0} (rem : R → Option (List ℕ)) (old new : RecordReader R) (q : Place) (text rest : List ℕ) (e : ReadFault)
-    → text ≡ blank_front text ++ rest → q ≡ place_after (place_of old) (blank_front text) → FailsInRecord q rest e → Explains rem old new text e
-explains-in_record rem old new q text rest (fault.Read e) s at h = tt
-explains-in_record rem old new q text rest (fault.OpenQuote line) s at h = opens-in (place_of old) q text rest line s at h
-explains-in_record rem old new q text rest (fault.NotUtf8 line number) s at h = absurd h
-explains-in_record rem old new q text rest fault.Memory s at h = tt
-explains-in_record rem old new q text rest fault.TooLong s at h = too_long-later (place_of old) text (blank_front text) rest s (rw at at h)
+-- what is read from the first byte of a record
+reads-begun : (g : Gathered) (text rest x more : List ℕ) → whole_fields g ≡ [] → front_of_field g ≡ [] → text ≡ blank_front text ++ rest → rest ≡ x ++ more
+    → 0 < length x → read_from st.StartField g x ≡ fields_so_far (blank_front text ++ x)
+reads-begun g text rest [] more w f e is some = absurd (omega arith)
+reads-begun g text rest (c ∷ x) more w f e is some =
+    let first : is_line_byte c ≡ false = blank_front-next text c (x ++ more) (e ∙ ap (λ (l : List ℕ). blank_front text ++ l) is) in
+    rw (w, f) (sym (sym (read-of_outcome st.StartRecord [] [] (blank_front text ++ (c ∷ x)))
+    ∙ ap (λ (o : Outcome). fields_read o) (outcome-blank (blank_front text) (c ∷ x) (blank_front-lines text) ∙ outcome-begins c x first)))
+
+-- nothing of it is read before
+none-begun : (text : List ℕ) → fields_so_far (blank_front text ++ []) ≡ []
+unfolding outcome
+none-begun text = sym (read-of_outcome st.StartRecord [] [] (blank_front text ++ []))
+    ∙ ap (λ (o : Outcome). fields_read o) (outcome-blank (blank_front text) [] (blank_front-lines text))
+
+within-begun : (g : Gathered) (limits : Limits) (text rest x more : List ℕ) → whole_fields g ≡ [] → front_of_field g ≡ [] → text ≡ blank_front text ++ rest
+    → rest ≡ x ++ more → AreWithin limits (read_from st.StartField g x) → AreWithin limits (fields_so_far (blank_front text ++ x))
+within-begun g limits text rest [] more w f e is h = subst (λ (fs : List (List ℕ)). AreWithin limits fs) (sym (none-begun text)) (within-none limits)
+within-begun g limits text rest (c ∷ x) more w f e is h =
+    subst (λ (fs : List (List ℕ)). AreWithin limits fs) (reads-begun g text rest (c ∷ x) more w f e is (omega arith)) h
+
+first-begun : (g : Gathered) (limits : Limits) (text rest : List ℕ) (fields : List (List ℕ)) → whole_fields g ≡ [] → front_of_field g ≡ []
+    → text ≡ blank_front text ++ rest → IsFirstPast (read_from st.StartField g) limits rest fields → IsFirstPast fields_so_far limits text fields
+first-begun g limits text rest fields w f e h =
+    let one = append_assoc h.before (h.byte ∷ []) h.rest in
+    let size = length-append h.before (h.byte ∷ []) in record {
+      before = blank_front text ++ h.before;
+      byte = h.byte;
+      rest = h.rest;
+      splits = e ∙ ap (λ (l : List ℕ). blank_front text ++ l) h.splits ∙ sym (append_assoc (blank_front text) h.before (h.byte ∷ h.rest));
+      within = within-begun g limits text rest h.before (h.byte ∷ h.rest) w f e h.splits h.within;
+      behind = h.behind ∙ reads-begun g text rest (h.before ++ (h.byte ∷ [])) h.rest w f e (h.splits ∙ sym one) (omega (arith, size))
+          ∙ sym (ap (λ (l : List ℕ). fields_so_far l) (append_assoc (blank_front text) h.before (h.byte ∷ [])));
+    }
+
+-- a limit that is passed in the record
+pub explains-long : {R : Type 0} (rem : R → Option (List ℕ)) (old new : RecordReader R) (q : Place) (g : Gathered) (text rest : List ℕ) (e : ReadFault)
+    → text ≡ blank_front text ++ rest → q ≡ place_after (place_of old) (blank_front text) → whole_fields g ≡ [] → front_of_field g ≡ []
+    → g.limits ≡ limits_of old → g.line ≡ q.line → PassesLimit st.StartField g rest e → Explains rem old new text e
+explains-long rem old new q g text rest (fault.LongRecord line limit) s at w f limits line2 h = (
+  h.0 ∙ line2 ∙ ap (λ (z : Place). z.line) at,
+  record {
+    fields = h.1.fields;
+    first = first-begun g (limits_of old) text rest h.1.fields w f s (rw limits at h.1.first);
+    given = rw limits at h.1.given;
+    long = h.1.long;
+    each = rw limits at h.1.each;
+  },
+)
+explains-long rem old new q g text rest (fault.LongField line number limit) s at w f limits line2 h = (
+  h.0 ∙ line2 ∙ ap (λ (z : Place). z.line) at,
+  record {
+    earlier = h.1.earlier;
+    field = h.1.field;
+    first = first-begun g (limits_of old) text rest (h.1.earlier ++ (h.1.field ∷ [])) w f s (rw limits at h.1.first);
+    counts = h.1.counts;
+    given = rw limits at h.1.given;
+    long = h.1.long;
+  },
+)
+explains-long rem old new q g text rest (fault.Read e) s at w f limits line2 h = absurd h
+explains-long rem old new q g text rest (fault.OpenQuote line) s at w f limits line2 h = absurd h
+explains-long rem old new q g text rest (fault.NotUtf8 line number) s at w f limits line2 h = absurd h
+explains-long rem old new q g text rest fault.Memory s at w f limits line2 h = absurd h
+explains-long rem old new q g text rest fault.TooLong s at w f limits line2 h = absurd h
+
+pub explains-in_record : {R : Type 0} (rem : R → Option (List ℕ)) (old new : RecordReader R) (q : Place) (g : Gathered) (text rest : List ℕ) (e : ReadFault)
+    → text ≡ blank_front text ++ rest → q ≡ place_after (place_of old) (blank_front text) → whole_fields g ≡ [] → front_of_field g ≡ []
+    → g.limits ≡ limits_of old → g.line ≡ q.line → FailsInRecord q g rest e → Explains rem old new text e
+explains-in_record rem old new q g text rest e s at w f limits line (inl (inl h)) =
+    explains-fails rem old new text e (fails-later (place_of old) q text (blank_front text) rest e s at h)
+explains-in_record rem old new q g text rest e s at w f limits line (inl (inr h)) = explains-long rem old new q g text rest e s at w f limits line h
+explains-in_record rem old new q g text rest e s at w f limits line (inr h) = rw h.is (
+  opens-in (place_of old) q g text rest e s at h,
+  rw (limits, ← s) at (within-begun g g.limits text rest rest [] w f s (sym (append-nil rest)) h.within),
+)
 
 -- the same record, by other names
 pub takes-same : (p p2 : Place) (text : List ℕ) (line : ℕ) (f f2 : List (List ℕ)) (q q2 : Place) (rest : List ℕ) → p ≡ p2 → f ≡ f2 → q ≡ q2

@@ -1,5 +1,7 @@
 pub mod Lines
+pub mod Limits
 pub mod Records
 pub mod Reading
 pub mod Outcomes
+pub mod Counts
 pub mod Fronts

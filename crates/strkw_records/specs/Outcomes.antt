@@ -13,6 +13,7 @@ use Rattle.strkw_records.specs.declared.gathered.FieldEnd.TheVariants as end
 use Rattle.strkw_records.specs.declared.gathered.Gathered.{Gathered}
 use Rattle.strkw_records.specs.declared.input.Input.{Input}
 use Rattle.strkw_records.specs.declared.place.Place.{Place}
+use Rattle.strkw_records.specs.Limits.{AreWithin, IsLongField, IsLongRecord}
 use Rattle.strkw_records.specs.Lines.{is_line_byte, place_after}
 use Rattle.strkw_records.specs.Records.{InQuotes, IsTooLong, quote, state_behind}
 
@@ -20,10 +21,10 @@ use Rattle.strkw_records.specs.Records.{InQuotes, IsTooLong, quote, state_behind
 abbrev pub EndsPlain : ℕ → Type 0
 EndsPlain c = (c ≡ default_config.delimiter) ⊎ (is_line_byte c ≡ true)
 
--- what reading a text comes to: a quote that is open at the end, no record, or the fields of one
--- and the rest of the text
+-- what reading a text comes to: a quote that is open at the end, behind fields and in another; no
+-- record; or the fields of one, and the rest of the text
 pub data Outcome : Type 0 where
-  Open : Outcome
+  Open : List (List ℕ) → Outcome
   NoRecord : Outcome
   Taken : List (List ℕ) → List ℕ → Outcome
 
@@ -33,7 +34,7 @@ outcome_at_end st.StartRecord fields = NoRecord
 outcome_at_end st.AfterCr fields = NoRecord
 outcome_at_end st.StartField fields = Taken fields []
 outcome_at_end st.InField fields = Taken fields []
-outcome_at_end st.InQuoted fields = Open
+outcome_at_end st.InQuoted fields = Open fields
 outcome_at_end st.AfterQuote fields = Taken fields []
 outcome_at_end st.InEscape fields = Taken fields []
 outcome_at_end st.InComment fields = Taken fields []
@@ -45,6 +46,12 @@ outcome s fields field (c ∷ rest) =
     if is_end (step default_config s c).1 then Taken (fields ++ (field ∷ [])) rest
     else outcome (step default_config s c).0 (fields_after (step default_config s c).1 fields field)
     (field_after (step default_config s c).1 c field) rest
+
+-- the fields that were read
+abbrev pub fields_read : Outcome → List (List ℕ)
+fields_read (Open fields) = fields
+fields_read NoRecord = []
+fields_read (Taken fields rest) = fields
 
 -- the bytes that an input has left, where those of its source are known
 abbrev pub rest_of : {R : Type 0} → (R → Option (List ℕ)) → Input R → Option (List ℕ)
@@ -64,6 +71,10 @@ whole_fields g = fields_of g.fields
 abbrev pub front_of_field : Gathered → List ℕ
 front_of_field g = partial_of g.fields ++ g.field.items
 
+-- the fields that a record has, which a text goes on from a state, behind what was gathered
+abbrev pub read_from : State → Gathered → List ℕ → List (List ℕ)
+read_from s g text = fields_read (outcome s (whole_fields g) (front_of_field g) text)
+
 -- an input, which has this text left, went past bytes that took the machine, and what was gathered,
 -- from the one to the other
 pub record Gathers {R : Type 0} (rem : R → Option (List ℕ)) (old new : Input R) (text : List ℕ)
@@ -72,8 +83,8 @@ pub record Gathers {R : Type 0} (rem : R → Option (List ℕ)) (old new : Input
   pub rest : List ℕ
   pub passes : Passes rem old new text bytes rest
   pub behind : state_behind s bytes ≡ Some s2
-  pub same : outcome s (whole_fields before) (front_of_field before) text
-      ≡ outcome s2 (whole_fields after) (front_of_field after) rest
+  pub same : (more : List ℕ) → outcome s (whole_fields before) (front_of_field before) (bytes ++ more)
+      ≡ outcome s2 (whole_fields after) (front_of_field after) more
 
 -- an input, which has this text left, went past the end of a record, whose fields were gathered
 pub record Completes {R : Type 0} (rem : R → Option (List ℕ)) (old new : Input R) (text : List ℕ)
@@ -91,48 +102,60 @@ EndsField rem old new text s before after end.Comma =
     Gathers rem old new text s before st.StartField after × (front_of_field after ≡ [])
 EndsField rem old new text s before after end.Record = Completes rem old new text s before after
 
--- why reading on from a place failed, where no quote was open
+-- why reading on from a place failed, where no quote was open and no limit was passed
 abbrev pub Fails : Place → List ℕ → ReadFault → Type 0
 Fails place text (fault.Read e) = ⊤
 Fails place text (fault.OpenQuote line) = ⊥
 Fails place text (fault.NotUtf8 line number) = ⊥
+Fails place text (fault.LongRecord line limit) = ⊥
+Fails place text (fault.LongField line number limit) = ⊥
 Fails place text fault.Memory = ⊤
 Fails place text fault.TooLong = IsTooLong place text
 
--- the same behind a quote that opened on a line: it may be still open at the end
-abbrev pub FailsInQuotes : Place → ℕ → List ℕ → ReadFault → Type 0
-FailsInQuotes place opened text (fault.Read e) = ⊤
-FailsInQuotes place opened text (fault.OpenQuote line) = (line ≡ opened) × InQuotes text
-FailsInQuotes place opened text (fault.NotUtf8 line number) = ⊥
-FailsInQuotes place opened text fault.Memory = ⊤
-FailsInQuotes place opened text fault.TooLong = IsTooLong place text
+-- a text, from a state and behind what was gathered, passes a limit
+abbrev pub PassesLimit : State → Gathered → List ℕ → ReadFault → Type 0
+PassesLimit s g text (fault.LongRecord line limit) = (line ≡ g.line)
+    × IsLongRecord (read_from s g) g.limits text limit
+PassesLimit s g text (fault.LongField line number limit) = (line ≡ g.line)
+    × IsLongField (read_from s g) g.limits text number limit
+PassesLimit s g text _ = ⊥
+
+-- why reading on failed where no quote was open
+abbrev pub FailsOutside : Place → State → Gathered → List ℕ → ReadFault → Type 0
+FailsOutside place s g text why = Fails place text why ⊎ PassesLimit s g text why
+
+-- behind a quote that opened on a line: it is still open at the end of the text, within the limits
+pub record StaysOpen (opened : ℕ) (g : Gathered) (text : List ℕ) (why : ReadFault) : Type 0 where
+  pub is : why ≡ fault.OpenQuote opened
+  pub stays : InQuotes text
+  pub within : AreWithin g.limits (read_from st.InQuoted g text)
+
+abbrev pub FailsInQuotes : Place → ℕ → Gathered → List ℕ → ReadFault → Type 0
+FailsInQuotes place opened g text why = FailsOutside place st.InQuoted g text why
+    ⊎ StaysOpen opened g text why
 
 -- the same at the start of a field: a quote there may open, and be still open at the end
-pub record OpensAt (place : Place) (line : ℕ) (text : List ℕ) : Type 0 where
+pub record OpensAt (place : Place) (g : Gathered) (text : List ℕ) (why : ReadFault) : Type 0 where
   pub inside : List ℕ
+  pub is : why ≡ fault.OpenQuote place.line
   pub splits : text ≡ quote ∷ inside
   pub stays : InQuotes inside
-  pub at_line : line ≡ place.line
+  pub within : AreWithin g.limits (read_from st.StartField g text)
 
-abbrev pub FailsAtField : Place → List ℕ → ReadFault → Type 0
-FailsAtField place text (fault.Read e) = ⊤
-FailsAtField place text (fault.OpenQuote line) = OpensAt place line text
-FailsAtField place text (fault.NotUtf8 line number) = ⊥
-FailsAtField place text fault.Memory = ⊤
-FailsAtField place text fault.TooLong = IsTooLong place text
+abbrev pub FailsAtField : Place → Gathered → List ℕ → ReadFault → Type 0
+FailsAtField place g text why = FailsOutside place st.StartField g text why
+    ⊎ OpensAt place g text why
 
 -- the same at the start of a record: a quote may open at the start of one of its fields
-pub record OpensIn (place : Place) (line : ℕ) (text : List ℕ) : Type 0 where
+pub record OpensIn (place : Place) (g : Gathered) (text : List ℕ) (why : ReadFault) : Type 0 where
   pub before : List ℕ
   pub inside : List ℕ
+  pub is : why ≡ fault.OpenQuote (place_after place before).line
   pub splits : text ≡ before ++ quote ∷ inside
   pub behind : state_behind st.StartField before ≡ Some st.StartField
   pub stays : InQuotes inside
-  pub at_line : line ≡ (place_after place before).line
+  pub within : AreWithin g.limits (read_from st.StartField g text)
 
-abbrev pub FailsInRecord : Place → List ℕ → ReadFault → Type 0
-FailsInRecord place text (fault.Read e) = ⊤
-FailsInRecord place text (fault.OpenQuote line) = OpensIn place line text
-FailsInRecord place text (fault.NotUtf8 line number) = ⊥
-FailsInRecord place text fault.Memory = ⊤
-FailsInRecord place text fault.TooLong = IsTooLong place text
+abbrev pub FailsInRecord : Place → Gathered → List ℕ → ReadFault → Type 0
+FailsInRecord place g text why = FailsOutside place st.StartField g text why
+    ⊎ OpensIn place g text why

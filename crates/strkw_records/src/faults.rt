@@ -20,6 +20,22 @@ pub enum ReadFault {
         /// The place of its first such field, from 1.
         field: usize,
     },
+    /// A record has more bytes than its limit.
+    LongRecord {
+        /// The line on which the record begins, from 1.
+        line: u64,
+        /// The limit: how many bytes it may have.
+        limit: usize,
+    },
+    /// A field of a record has more bytes than its limit.
+    LongField {
+        /// The line on which the record begins, from 1.
+        line: u64,
+        /// The place of the field in the record, from 1.
+        field: usize,
+        /// The limit: how many bytes it may have.
+        limit: usize,
+    },
     /// Out of memory.
     Memory,
     /// There are more lines than a `u64` counts.
@@ -57,6 +73,12 @@ impl fmt::Display for ReadFault {
             }
             ReadFault::NotUtf8 { line, field } => {
                 write!(f, "{line}: field {field} is not UTF-8")
+            }
+            ReadFault::LongRecord { line, limit } => {
+                write!(f, "{line}: the record is longer than {limit} bytes")
+            }
+            ReadFault::LongField { line, field, limit } => {
+                write!(f, "{line}: field {field} is longer than {limit} bytes")
             }
             ReadFault::Memory => f.write_str("out of memory"),
             ReadFault::TooLong => f.write_str("the file has too many lines"),

@@ -1,18 +1,21 @@
 //! The fields of the record at hand.
 
-ghost use Rattle.std.specs.Prelude.{◌≡◌, ◌≢◌, ◌≤◌, ◌<◌, ◌++◌, ◌∷◌, ℕ, List, [], Some, None, true, length, slice_get, slice_index, take, drop, OnOk, IfOk, IfErr};
+ghost use Rattle.std.specs.Prelude.{◌≡◌, ◌≢◌, ◌≤◌, ◌<◌, ◌+◌, ◌-◌, ◌^◌, ◌++◌, ◌∷◌, ℕ, List, [], Some, None, true, length, slice_get, slice_index, take, drop, OnOk, IfOk, IfErr, IfSome};
 ghost use Rattle.csv.specs.Machine.{Runs, ends_at_end, step};
 ghost use Rattle.csv.specs.Reading.{default_config};
 ghost use Rattle.csv.specs.Records.{fields_of, partial_of};
 ghost use Rattle.csv.specs.declared.parser.State.TheVariants as st;
 ghost use Rattle.strkw_records.specs.Fronts.{TakesWhole};
 ghost use Rattle.strkw_records.specs.Lines.{HasNoLineByte};
-ghost use Rattle.strkw_records.specs.Outcomes.{Completes, EndsField, EndsPlain, Fails, FailsAtField, FailsInQuotes, FailsInRecord, Gathers, Passes, front_of_field, rest_of, whole_fields};
+ghost use Rattle.strkw_records.specs.Counts.{Counts, CountsTo, Ends, FailsByRun, FieldFits, HasComma, HasRoom, IsCounted, IsLongBy, IsLongByComma, size_of};
+ghost use Rattle.strkw_records.specs.Limits.{AreWithin};
+ghost use Rattle.strkw_records.specs.Outcomes.{Completes, EndsField, EndsPlain, Fails, FailsAtField, FailsInQuotes, FailsInRecord, FailsOutside, Gathers, Passes, front_of_field, rest_of, whole_fields};
 ghost use Rattle.strkw_records.specs.Records.{quote};
 
 use crate::faults::ReadFault;
 use crate::front::whole_front;
 use crate::input::Input;
+use crate::limits::Limits;
 use crate::runs::{plain_run, quoted_run};
 use csv::ByteRecord;
 use std::alloc::{AllocError, Global};
@@ -41,6 +44,11 @@ struct Whole {
 pub(crate) struct Gathered {
     pub(crate) fields: ByteRecord,
     field: Vec<u8>,
+    limits: Limits,
+    // The line on which the record begins, from 1.
+    line: u64,
+    // How many bytes the limit of the record leaves behind the whole fields, each with a comma.
+    room: usize,
 }
 
 impl Gathered {
@@ -49,31 +57,141 @@ impl Gathered {
         Gathered {
             fields: ByteRecord::new(alloc),
             field: Vec::new(alloc),
+            limits: Limits::none(),
+            line: 1,
+            room: usize::MAX,
         }
     }
 
-    /// Takes every field away.
-    pub(crate) fn clear(&mut self)
+    /// Takes every field away, before a record that begins on this line and is to keep to these limits.
+    pub(crate) fn begin(&mut self, line: u64, limits: Limits)
         ensures fields { whole_fields self.new ≡ [] }
         ensures front { front_of_field self.new ≡ [] }
+        ensures counted { IsCounted self.new }
+        ensures limits { self.new.limits ≡ limits }
+        ensures line { self.new.line ≡ line }
     {
         self.fields.clear();
         self.field.clear();
+        self.limits = limits;
+        self.line = line;
+        self.room = limits.record.unwrap_or(usize::MAX);
+    }
+
+    // How many more bytes the record may have.
+    #[inline(always)]
+    fn record_left(&self) -> usize
+        requires { IsCounted self.now }
+        ensures some { IfSome self.now.limits.record (λ limit. size_of self.now + result ≡ limit) }
+        ensures none { self.now.limits.record ≡ None → result ≡ 2 ^ 64 - 1 }
+    {
+        match self.limits.record {
+            Some(_) => self.room - self.field.len(),
+            None => usize::MAX,
+        }
+    }
+
+    // Refuses so many more bytes of the field, where the first of them that passes a limit passes the field's.
+    fn check_field(&self, count: usize) -> Result<(), ReadFault>
+        requires { IsCounted self.now }
+        ensures ok { OnOk result (FieldFits self.now count) }
+        ensures long { IfErr result (IsLongBy self.now count) }
+    {
+        let Some(limit) = self.limits.field else {
+            return Ok(());
+        };
+        let left = limit - self.field.len();
+        if left >= count || left > self.record_left() {
+            return Ok(());
+        }
+        // More fields than a `usize` counts are in no memory.
+        let field = self.fields.len().checked_add(1).ok_or(ReadFault::Memory)?;
+        Err(ReadFault::LongField {
+            line: self.line,
+            field,
+            limit,
+        })
+    }
+
+    // Whether so many more bytes of the field are within the limits.
+    #[inline(always)]
+    fn fits(&self, count: usize) -> bool
+        requires { IsCounted self.now }
+        ensures { result ≡ true → HasRoom self.now count }
+    {
+        let fits_field = match self.limits.field {
+            Some(limit) => count <= limit - self.field.len(),
+            None => true,
+        };
+        fits_field && count <= self.record_left()
+    }
+
+    // Refuses so many more bytes of the field, where they pass a limit.
+    #[inline(always)]
+    fn check_run(&self, count: usize) -> Result<(), ReadFault>
+        requires { IsCounted self.now }
+        ensures ok { OnOk result (HasRoom self.now count) }
+        ensures long { IfErr result (IsLongBy self.now count) }
+    {
+        if self.fits(count) {
+            return Ok(());
+        }
+        self.refuse_run(count)
+    }
+
+    // The same, where they may pass one.
+    #[inline(never)]
+    fn refuse_run(&self, count: usize) -> Result<(), ReadFault>
+        requires { IsCounted self.now }
+        ensures ok { OnOk result (HasRoom self.now count) }
+        ensures long { IfErr result (IsLongBy self.now count) }
+    {
+        self.check_field(count)?;
+        match self.limits.record {
+            Some(limit) if self.record_left() < count => Err(ReadFault::LongRecord {
+                line: self.line,
+                limit,
+            }),
+            _ => Ok(()),
+        }
+    }
+
+    // Refuses a comma behind so many more bytes of the field, where it passes the limit of the record.
+    fn check_comma(&self, count: usize, end: u8) -> Result<(), ReadFault>
+        requires counted { IsCounted self.now }
+        requires room { HasRoom self.now count }
+        ensures ok { OnOk result (end ≡ default_config.delimiter → HasComma self.now count) }
+        ensures long { IfErr result (λ fault. (end ≡ default_config.delimiter)
+            × IsLongByComma self.now count fault) }
+    {
+        match self.limits.record {
+            Some(limit) if end == b',' && self.record_left() == count => {
+                Err(ReadFault::LongRecord {
+                    line: self.line,
+                    limit,
+                })
+            }
+            _ => Ok(()),
+        }
     }
 
     // Takes the front of the piece into the field.
+    #[inline(always)]
     fn take_run<R: Read>(&mut self, input: &mut Input<R>, count: usize) -> Result<(), ReadFault>
-        requires { count ≤ length input.old.piece }
+        requires within { count ≤ length input.old.piece }
+        requires counted { IsCounted self.old }
         ensures piece { OnOk result (input.new.piece ≡ drop count input.old.piece) }
         ensures fields { whole_fields self.new ≡ whole_fields self.old }
         ensures front { OnOk result (front_of_field self.new
             ≡ front_of_field self.old ++ take count input.old.piece) }
+        ensures counted { OnOk result (Counts self.old self.new) }
         ensures passes { (text : List ℕ) → rest_of R.remaining input.old ≡ Some text
             → OnOk result (Passes R.remaining input.old input.new text
             (take count input.old.piece) (drop count text)) }
         ensures fails { (text : List ℕ) → rest_of R.remaining input.old ≡ Some text
-            → IfErr result (Fails input.old.place text) }
+            → IfErr result (FailsByRun input.old.place self.old count text) }
     {
+        self.check_run(count)?;
         self.field
             .extend_from_slice(&input.piece.unread()[..count])?;
         input.take(count)
@@ -82,11 +200,13 @@ impl Gathered {
     // Takes what stands behind a quote that opened on a line, and the quote that closes.
     #[inline(never)]
     fn take_quoted<R: Read>(&mut self, input: &mut Input<R>, line: u64) -> Result<(), ReadFault>
+        requires { IsCounted self.old }
+        ensures counted { OnOk result (Counts self.old self.new) }
         ensures ok { (text : List ℕ) → rest_of R.remaining input.old ≡ Some text
             → OnOk result ((h : Gathers R.remaining input.old input.new text
             st.InQuoted self.old st.AfterQuote self.new) × (slice_get h.rest 0 ≢ Some quote)) }
         ensures fails { (text : List ℕ) → rest_of R.remaining input.old ≡ Some text
-            → IfErr result (FailsInQuotes input.old.place line text) }
+            → IfErr result (FailsInQuotes input.old.place line self.old text) }
     {
         'pieces: for _ in 0..usize::MAX {
             if input.peek()?.is_none() {
@@ -110,10 +230,15 @@ impl Gathered {
     // Ends the field with these bytes.
     #[inline(always)]
     fn end_field(&mut self, last: &[u8]) -> Result<(), AllocError>
+        requires { IsCounted self.old }
         ensures fields { OnOk result (whole_fields self.new
             ≡ whole_fields self.old ++ ((front_of_field self.old ++ last.now) ∷ [])) }
         ensures front { OnOk result (front_of_field self.new ≡ []) }
+        ensures ended { OnOk result (Ends self.old (length last.now) self.new) }
     {
+        self.room = self.room.saturating_sub(self.field.len());
+        self.room = self.room.saturating_sub(last.len());
+        self.room = self.room.saturating_sub(1);
         if self.field.is_empty() {
             return self.fields.push_field(last);
         }
@@ -130,6 +255,8 @@ impl Gathered {
         input: &mut Input<R>,
         count: usize,
     ) -> Result<FieldEnd, ReadFault>
+        requires counted { IsCounted self.old }
+        requires room { HasRoom self.old count }
         requires within { count < length input.old.piece }
         requires run { Runs default_config st.InField (take count input.old.piece) }
         requires plain { HasNoLineByte (take count input.old.piece) }
@@ -138,11 +265,13 @@ impl Gathered {
             → IfOk result (EndsField R.remaining input.old input.new text
             st.InField self.old self.new) }
         ensures front { OnOk result (front_of_field self.new ≡ []) }
+        ensures counted { IfOk result (CountsTo self.old self.new) }
         ensures fails { (text : List ℕ) → rest_of R.remaining input.old ≡ Some text
-            → IfErr result (Fails input.old.place text) }
+            → IfErr result (FailsOutside input.old.place st.InField self.old text) }
     {
         let unread = input.piece.unread();
         let end = unread[count];
+        self.check_comma(count, end)?;
         self.end_field(&unread[..count])?;
         input.take_plain(count);
         input.take_byte()?;
@@ -156,12 +285,14 @@ impl Gathered {
     // Takes the rest of a field outside quotes, and what ends it.
     #[inline(always)]
     fn take_plain<R: Read>(&mut self, input: &mut Input<R>) -> Result<FieldEnd, ReadFault>
+        requires { IsCounted self.old }
         ensures ok { (text : List ℕ) → rest_of R.remaining input.old ≡ Some text
             → IfOk result (EndsField R.remaining input.old input.new text
             st.InField self.old self.new) }
         ensures front { OnOk result (front_of_field self.new ≡ []) }
+        ensures counted { IfOk result (CountsTo self.old self.new) }
         ensures fails { (text : List ℕ) → rest_of R.remaining input.old ≡ Some text
-            → IfErr result (Fails input.old.place text) }
+            → IfErr result (FailsOutside input.old.place st.InField self.old text) }
     {
         'pieces: for _ in 0..usize::MAX {
             if input.peek()?.is_none() {
@@ -170,6 +301,7 @@ impl Gathered {
             }
             let unread = input.piece.unread();
             let count = plain_run(unread);
+            self.check_run(count)?;
             if count < unread.len() {
                 return self.end_plain(input, count);
             }
@@ -183,12 +315,14 @@ impl Gathered {
     #[inline(always)]
     fn take_field<R: Read>(&mut self, input: &mut Input<R>) -> Result<FieldEnd, ReadFault>
         requires front { front_of_field self.old ≡ [] }
+        requires counted { IsCounted self.old }
         ensures ok { (text : List ℕ) → rest_of R.remaining input.old ≡ Some text
             → IfOk result (EndsField R.remaining input.old input.new text
             st.StartField self.old self.new) }
         ensures front { OnOk result (front_of_field self.new ≡ []) }
+        ensures counted { IfOk result (CountsTo self.old self.new) }
         ensures fails { (text : List ℕ) → rest_of R.remaining input.old ≡ Some text
-            → IfErr result (FailsAtField input.old.place text) }
+            → IfErr result (FailsAtField input.old.place self.old text) }
     {
         let is_quoted = input.is_quote_next()?;
         if is_quoted {
@@ -199,9 +333,25 @@ impl Gathered {
         self.take_plain(input)
     }
 
-    // Takes the fields that are whole at the front of bytes: those that commas end, or all that a record has left.
+    // Whether a whole field of so many bytes, and a comma behind it, are within the limits.
+    #[inline(always)]
+    fn has_room(&self, size: usize) -> bool
+        ensures { result ≡ true → (size < self.now.room)
+            × IfSome self.now.limits.field (λ limit. size ≤ limit) }
+    {
+        let fits = match self.limits.field {
+            Some(limit) => size <= limit,
+            None => true,
+        };
+        fits && size < self.room
+    }
+
+    // Takes the fields that are whole at the front of bytes: those that commas end, or all that a record has left. One
+    // that comes near a limit is left to be taken step by step.
     fn take_whole(&mut self, bytes: &[u8]) -> Result<Whole, AllocError>
         requires front { front_of_field self.old ≡ [] }
+        requires counted { IsCounted self.old }
+        ensures counted { IfOk result (λ whole. CountsTo self.old self.new whole.end) }
         ensures front { OnOk result (front_of_field self.new ≡ []) }
         ensures plain { IfOk result (λ whole. HasNoLineByte (take whole.count bytes.now)) }
         ensures takes { IfOk result (λ whole.
@@ -213,13 +363,18 @@ impl Gathered {
             let Some(front) = whole_front(rest) else {
                 break;
             };
-            self.fields.push_field(&rest[front.from..front.to])?;
+            let field = &rest[front.from..front.to];
+            if !self.has_room(field.len()) {
+                break;
+            }
+            self.fields.push_field(field)?;
             if rest[front.end] != b',' {
                 return Ok(Whole {
                     count: at + front.end,
                     end: FieldEnd::Record,
                 });
             }
+            self.room -= field.len() + 1;
             at += front.end + 1;
         }
         Ok(Whole {
@@ -231,11 +386,13 @@ impl Gathered {
     /// Takes the fields of a record, whose first byte is next, and what ends it.
     pub(crate) fn take_record<R: Read>(&mut self, input: &mut Input<R>) -> Result<(), ReadFault>
         requires front { front_of_field self.old ≡ [] }
+        requires counted { IsCounted self.old }
         ensures ok { (text : List ℕ) → rest_of R.remaining input.old ≡ Some text
             → OnOk result (Completes R.remaining input.old input.new text
             st.StartField self.old self.new) }
+        ensures within { OnOk result (AreWithin self.old.limits (whole_fields self.new)) }
         ensures fails { (text : List ℕ) → rest_of R.remaining input.old ≡ Some text
-            → IfErr result (FailsInRecord input.old.place text) }
+            → IfErr result (FailsInRecord input.old.place self.old text) }
     {
         'fields: for _ in 0..usize::MAX {
             let whole = self.take_whole(input.piece.unread())?;

@@ -7,6 +7,7 @@ mod front;
 mod gathered;
 mod input;
 pub mod laws;
+mod limits;
 mod piece;
 mod place;
 mod reader;
@@ -15,4 +16,5 @@ mod runs;
 mod tests;
 
 pub use faults::ReadFault;
+pub use limits::Limits;
 pub use reader::RecordReader;

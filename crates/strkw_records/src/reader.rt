@@ -7,6 +7,7 @@ ghost use Rattle.strkw_records.specs.Records.{IsFirstNotUtf8};
 use crate::faults::ReadFault;
 use crate::gathered::Gathered;
 use crate::input::Input;
+use crate::limits::Limits;
 use csv::{ByteRecord, StringRecord};
 use std::alloc::{AllocError, Global};
 use std::io::Read;
@@ -22,6 +23,7 @@ pub struct RecordReader<R> {
     alloc: Global,
     input: Input<R>,
     gathered: Gathered,
+    limits: Limits,
     // The start of the text is behind, and so is a byte order mark there.
     has_begun: bool,
 }
@@ -32,9 +34,10 @@ impl<R: Read> RecordReader<R> {
     ghost use Rattle.csv.specs.Reading.{default_config, strip_bom};
     ghost use Rattle.csv.specs.declared.parser.State.TheVariants as st;
     ghost use Rattle.strkw_records.specs.Lines.{first_place};
-    ghost use Rattle.strkw_records.specs.Reading.{Explains, Takes, place_of, unread_of};
+    ghost use Rattle.strkw_records.specs.Limits.{AreWithin, no_limits};
+    ghost use Rattle.strkw_records.specs.Reading.{Explains, Takes, limits_of, place_of, unread_of};
 
-    /// A reader of the records of a source, from its start. A byte order mark there is dropped.
+    /// A reader of the records of a source, from its start, however long they are. A byte order mark there is dropped.
     ///
     /// Errors: out of memory.
     pub fn new(alloc: Global, source: R) -> Result<RecordReader<R>, AllocError>
@@ -43,11 +46,31 @@ impl<R: Read> RecordReader<R> {
         ensures text { IfOk result (λ reader. unread_of R.remaining reader
             ≡ option_map strip_bom (R.remaining source)) }
         ensures place { IfOk result (λ reader. place_of reader ≡ first_place) }
+        ensures limits { IfOk result (λ reader. limits_of reader ≡ no_limits) }
+    {
+        RecordReader::with_limits(alloc, source, Limits::none())
+    }
+
+    /// The same, with limits: a record that passes one is refused as soon as it does, before a byte more is gathered.
+    ///
+    /// Errors: out of memory.
+    pub fn with_limits(
+        alloc: Global,
+        source: R,
+        limits: Limits,
+    ) -> Result<RecordReader<R>, AllocError>
+    where
+        R: Drop,
+        ensures text { IfOk result (λ reader. unread_of R.remaining reader
+            ≡ option_map strip_bom (R.remaining source)) }
+        ensures place { IfOk result (λ reader. place_of reader ≡ first_place) }
+        ensures limits { IfOk result (λ reader. limits_of reader ≡ limits) }
     {
         Ok(RecordReader {
             alloc,
             input: Input::new(alloc, source)?,
             gathered: Gathered::new(alloc),
+            limits,
             has_begun: false,
         })
     }
@@ -58,6 +81,7 @@ impl<R: Read> RecordReader<R> {
         ensures text { (text : List ℕ) → unread_of R.remaining self.old ≡ Some text
             → OnOk result (unread_of R.remaining self.new ≡ Some text) }
         ensures place { place_of self.new ≡ place_of self.old }
+        ensures limits { limits_of self.new ≡ limits_of self.old }
         ensures fails { (text : List ℕ)
             → IfErr result (Explains R.remaining self.old self.new text) }
     {
@@ -74,6 +98,7 @@ impl<R: Read> RecordReader<R> {
         ensures bad { IfErr result (IsFirstNotUtf8 (fields_of self.old.gathered.fields)) }
         ensures kept { OnErr result (row.new ≡ row.old) }
         ensures input { self.new.input ≡ self.old.input }
+        ensures limits { limits_of self.new ≡ limits_of self.old }
         ensures begun { self.new.has_begun ≡ self.old.has_begun }
     {
         if let Some(number) = first_not_utf8(&self.gathered.fields) {
@@ -90,25 +115,28 @@ impl<R: Read> RecordReader<R> {
     /// Reads the fields of the next record into a row, and answers the line, from 1, on which the record begins; none
     /// behind the last record. Blank lines before a record are counted, and so are line ends in quotes.
     ///
-    /// Errors: each `ReadFault`. The row is then as it was.
+    /// Errors: each `ReadFault`, `LongRecord` and `LongField` by the limits of the reader. The row is then as it was.
     pub fn read(&mut self, row: &mut StringRecord) -> Result<Option<u64>, ReadFault>
         ensures record { (text : List ℕ) → unread_of R.remaining self.old ≡ Some text
             → IfOk result (λ o. IfSome o (λ line.
             Takes R.remaining self.old self.new text line (fields_of row.new))) }
+        ensures within { IfOk result (λ o. IfSome o (λ line.
+            AreWithin (limits_of self.old) (fields_of row.new))) }
         ensures end { (text : List ℕ) → unread_of R.remaining self.old ≡ Some text
             → IfOk result (λ o. o ≡ None
             → next_record default_config st.StartRecord [] [] text ≡ None) }
         ensures fault { (text : List ℕ) → unread_of R.remaining self.old ≡ Some text
             → IfErr result (Explains R.remaining self.old self.new text) }
         ensures kept { OnErr result (row.new ≡ row.old) }
+        ensures limits { limits_of self.new ≡ limits_of self.old }
     {
         self.begin()?;
-        self.gathered.clear();
         let has_more = self.input.skip_blank_lines()?;
         if !has_more {
             return Ok(None);
         }
         let line = self.input.place.line;
+        self.gathered.begin(line, self.limits);
         self.gathered.take_record(&mut self.input)?;
         match self.give(row) {
             Ok(()) => Ok(Some(line)),

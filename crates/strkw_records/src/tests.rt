@@ -1,6 +1,6 @@
 //! Texts with the lines of their records, by the rules of RFC 4180 and those of line ends.
 
-use crate::{ReadFault, RecordReader};
+use crate::{Limits, ReadFault, RecordReader};
 use csv::StringRecord;
 use std::alloc::{AllocError, Global};
 use std::fmt::Write as _;
@@ -26,9 +26,33 @@ impl Read for SlowSource {
     }
 }
 
+// A source that gives some bytes, and then one over and over.
+#[derive(Drop)]
+struct EndlessSource {
+    head: &'static [u8],
+    byte: u8,
+}
+
+impl Read for EndlessSource {
+    fn read(&mut self, buf: &mut [u8]) -> io::Result<usize> {
+        let count = buf.len().min(self.head.len());
+        buf[..count].copy_from_slice(&self.head[..count]);
+        self.head = &self.head[count..];
+        for at in count..buf.len() {
+            buf[at] = self.byte;
+        }
+        Ok(buf.len())
+    }
+}
+
 // Each record of a source behind its line, and the fault that ended the reading, if one did.
 fn told<R: Read + Drop>(alloc: Global, source: R) -> Result<String, Fail> {
-    let mut reader = RecordReader::new(alloc, source)?;
+    told_by(alloc, RecordReader::new(alloc, source)?)
+}
+
+// The same of a reader.
+fn told_by<R: Read + Drop>(alloc: Global, reader: RecordReader<R>) -> Result<String, Fail> {
+    let mut reader = reader;
     let mut row = StringRecord::new(alloc);
     let mut out = String::new(alloc);
     for _ in 0..9u8 {
@@ -89,6 +113,219 @@ fn each_text_has_its_lines(rt: HostRuntime) -> Result<(), Fail> {
     Ok(())
 }
 
+// The limits of a record and of a field, a text, and what is told of it.
+const LIMITED: [(Option<usize>, Option<usize>, &[u8], &str); 22] = [
+    // As long as the limit, and longer by one byte.
+    (
+        Some(5),
+        None,
+        b"ab,cd\n",
+        "1 StringRecord([\"ab\", \"cd\"])\n",
+    ),
+    (
+        Some(5),
+        None,
+        b"ab,cde\n",
+        "1: the record is longer than 5 bytes\n",
+    ),
+    (
+        Some(5),
+        None,
+        b"abcd,",
+        "1 StringRecord([\"abcd\", \"\"])\n",
+    ),
+    (
+        Some(5),
+        None,
+        b"abcde,",
+        "1: the record is longer than 5 bytes\n",
+    ),
+    (Some(2), None, b",,", "1 StringRecord([\"\", \"\", \"\"])\n"),
+    (
+        Some(2),
+        None,
+        b",,,",
+        "1: the record is longer than 2 bytes\n",
+    ),
+    (Some(0), None, b"\n\"\"\n", "2 StringRecord([\"\"])\n"),
+    (
+        None,
+        Some(3),
+        b"abc,def",
+        "1 StringRecord([\"abc\", \"def\"])\n",
+    ),
+    (
+        None,
+        Some(3),
+        b"abc,defg",
+        "1: field 2 is longer than 3 bytes\n",
+    ),
+    // Quotes around a field do not count, a pair of quotes is one byte, and a line end in quotes counts.
+    (
+        Some(5),
+        Some(3),
+        b"\"abc\",d",
+        "1 StringRecord([\"abc\", \"d\"])\n",
+    ),
+    (
+        None,
+        Some(3),
+        b"\"a\"\"b\"",
+        "1 StringRecord([\"a\\\"b\"])\n",
+    ),
+    (
+        None,
+        Some(2),
+        b"\"ab\"\"\"",
+        "1: field 1 is longer than 2 bytes\n",
+    ),
+    (
+        Some(4),
+        None,
+        b"\"a\r\nb\"\r\n",
+        "1 StringRecord([\"a\\r\\nb\"])\n",
+    ),
+    (
+        Some(3),
+        None,
+        b"\"a\r\nb\"\r\n",
+        "1: the record is longer than 3 bytes\n",
+    ),
+    // A quote that stays open.
+    (
+        None,
+        Some(3),
+        b"\"abc",
+        "1: a quote that begins here is not closed\n",
+    ),
+    (
+        None,
+        Some(3),
+        b"\"abcd",
+        "1: field 1 is longer than 3 bytes\n",
+    ),
+    // Of two limits the one that is passed first, and by one byte that of the field.
+    (
+        Some(3),
+        Some(3),
+        b"abcd",
+        "1: field 1 is longer than 3 bytes\n",
+    ),
+    (
+        Some(2),
+        Some(3),
+        b"abcd",
+        "1: the record is longer than 2 bytes\n",
+    ),
+    (
+        Some(5),
+        Some(2),
+        b"a,bcd",
+        "1: field 2 is longer than 2 bytes\n",
+    ),
+    (
+        Some(3),
+        Some(2),
+        b"a,bcd",
+        "1: the record is longer than 3 bytes\n",
+    ),
+    // Blank lines and a byte order mark belong to no record.
+    (
+        Some(2),
+        None,
+        b"ab\n\n\nabc",
+        "1 StringRecord([\"ab\"])\n4: the record is longer than 2 bytes\n",
+    ),
+    (
+        Some(2),
+        None,
+        b"\xEF\xBB\xBF\nab",
+        "2 StringRecord([\"ab\"])\n",
+    ),
+];
+
+#[test]
+fn a_record_keeps_to_its_limits(rt: HostRuntime) -> Result<(), Fail> {
+    for (record_limit, field, text, wanted) in LIMITED {
+        let limits = Limits {
+            record: record_limit,
+            field,
+        };
+        let reader = RecordReader::with_limits(rt.alloc(), text, limits)?;
+        let whole = told_by(rt.alloc(), reader)?;
+        assert_eq!(rt; whole.as_str(), wanted);
+        let slow = SlowSource {
+            rest: text,
+            fails: false,
+        };
+        let reader = RecordReader::with_limits(rt.alloc(), slow, limits)?;
+        let slowly = told_by(rt.alloc(), reader)?;
+        assert_eq!(rt; slowly.as_str(), wanted);
+    }
+    Ok(())
+}
+
+// The head of a text, the byte that goes on without end, the limits, and what is told.
+const ENDLESS: [(&[u8], u8, Option<usize>, Option<usize>, &str); 6] = [
+    (
+        b"",
+        b',',
+        Some(1_000_000),
+        None,
+        "1: the record is longer than 1000000 bytes\n",
+    ),
+    (
+        b"",
+        b',',
+        Some(1_000_000),
+        Some(0),
+        "1: the record is longer than 1000000 bytes\n",
+    ),
+    (
+        b"\n\n",
+        b'x',
+        Some(100_000),
+        None,
+        "3: the record is longer than 100000 bytes\n",
+    ),
+    (
+        b"a,",
+        b'x',
+        None,
+        Some(65_536),
+        "1: field 2 is longer than 65536 bytes\n",
+    ),
+    (
+        b"a,\"",
+        b'\n',
+        None,
+        Some(65_536),
+        "1: field 2 is longer than 65536 bytes\n",
+    ),
+    (
+        b"a\nb,\"",
+        b'"',
+        Some(70_000),
+        None,
+        "1 StringRecord([\"a\"])\n2: the record is longer than 70000 bytes\n",
+    ),
+];
+
+#[test]
+fn an_endless_record_is_refused(rt: HostRuntime) -> Result<(), Fail> {
+    for (head, byte, record_limit, field, wanted) in ENDLESS {
+        let source = EndlessSource { head, byte };
+        let limits = Limits {
+            record: record_limit,
+            field,
+        };
+        let reader = RecordReader::with_limits(rt.alloc(), source, limits)?;
+        let read = told_by(rt.alloc(), reader)?;
+        assert_eq!(rt; read.as_str(), wanted);
+    }
+    Ok(())
+}
+
 #[test]
 fn a_record_is_read_behind_one_that_is_not_utf8(rt: HostRuntime) -> Result<(), Fail> {
     let text: &[u8] = b"a,\xFF\nb";
@@ -122,6 +359,26 @@ fn read_under_refusal(rt: HostRuntime) -> Result<(), Fail> {
     let text: &[u8] = b"a,\"b\"\"c\"\nd";
     let wanted = "1 StringRecord([\"a\", \"b\\\"c\"])\n2 StringRecord([\"d\"])\n";
     let read = told(rt.alloc(), text)?;
+    if read.as_str() == wanted {
+        Ok(())
+    } else {
+        Err(Fail::new(wanted))
+    }
+}
+
+// With ample memory it reads the record that keeps to the limits, and refuses the next.
+#[test]
+fn read_with_limits_under_refusal(rt: HostRuntime) -> Result<(), Fail> {
+    let wanted = "1 StringRecord([\"a\", \"b\\\"c\"])\n2: field 1 is longer than 3 bytes\n";
+    let limits = Limits {
+        record: Some(5),
+        field: Some(3),
+    };
+    let text: &[u8] = b"a,\"b\"\"c\"\n\"\"\"abc\"";
+    let read = told_by(
+        rt.alloc(),
+        RecordReader::with_limits(rt.alloc(), text, limits)?,
+    )?;
     if read.as_str() == wanted {
         Ok(())
     } else {

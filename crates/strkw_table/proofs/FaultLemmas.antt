@@ -1,5 +1,5 @@
 -- Why a file is not checked to its end.
-use Rattle.std.proofs.Common.{◌≡◌, ◌⊎◌, ℕ, List, [], length, subst, Option, Some, true, inl, inr}
+use Rattle.std.proofs.Common.{◌≡◌, ◌⊎◌, ℕ, List, [], length, subst, Option, Some, None, true, inl, inr}
 use Rattle.std.specs.Prelude.{Result, Ok, Err, IfErr}
 use Rattle.std.specs.List.{concat}
 use Rattle.serde_json.specs.Data.{Data}
@@ -8,24 +8,28 @@ use Rattle.strkw_keywords.specs.Object.{Settings}
 use Rattle.strkw_plan.specs.declared.faults.PlanFault.{PlanFault}
 use Rattle.strkw_plan.specs.declared.faults.PlanFault.TheVariants as refused
 use Rattle.strkw_plan.specs.declared.kind.PlanKind.TheVariants.{Columns}
-use Rattle.strkw_plan.specs.Plan.{Plan, plan_of}
+use Rattle.strkw_plan.specs.Compiled.{RefusesAmong, RefusesPlan}
+use Rattle.strkw_plan.specs.Plan.{Plan, plan_of, plan_problem}
 use Rattle.strkw_records.specs.declared.faults.ReadFault.{ReadFault}
 use Rattle.strkw_records.specs.declared.faults.ReadFault.TheVariants as read
 use Rattle.strkw_records.specs.declared.place.Place.{Place}
 use Rattle.strkw_records.specs.declared.reader.RecordReader.{RecordReader}
 use Rattle.strkw_records.specs.Lines.{first_place}
-use Rattle.strkw_records.specs.Reading.{Explains, place_of}
+use Rattle.strkw_records.specs.declared.limits.Limits.{Limits}
+use Rattle.strkw_records.specs.Limits.{AreWithin}
+use Rattle.strkw_records.specs.Reading.{Explains, limits_of, place_of}
 use Rattle.strkw_records.specs.Records.{LinedRecord, TakesRecord}
 use Rattle.strkw_table.specs.declared.faults.TableFault.{TableFault}
 use Rattle.strkw_table.specs.declared.faults.TableFault.TheVariants as fault
-use Rattle.strkw_table.specs.Faults.{IsHeader, IsNoPlanFault, IsUnexplained, IsWhy, IsWhyOfNames, IsWhyOfNext, IsWhyOfRows, IsWhyOfText, IsWhyUnread}
+use Rattle.strkw_table.specs.Faults.{HaveColumns, IsHeader, IsNoPlanFault, IsUnexplained, IsWhy, IsWhyOfNames, IsWhyOfNext, IsWhyOfRows, IsWhyOfText, IsWhyUnread, record_limits}
 use Rattle.strkw_table.specs.Fields.{AreDistinct, AreNamed, MessagesOf}
 use Rattle.strkw_table.specs.Gives.{GivesOfPlan, GivesOfReading}
-use Rattle.strkw_table.specs.Rows.{AreFirstRecords, HaveWidth, OfRecords}
+use Rattle.strkw_table.specs.Rows.{AreFirstRecords, HaveShape, OfRecords}
 
 -- a fault that is none of the plan needs no reason by the plan
 no_plan : (settings : Draft → Settings) (plan : Data) (why : TableFault) → IsNoPlanFault why → IsWhy settings plan why
 no_plan settings plan (fault.Plan why) p = absurd p
+no_plan settings plan (fault.Columns most found) p = tt
 no_plan settings plan (fault.Missing name) p = tt
 no_plan settings plan (fault.Twice name first second) p = tt
 no_plan settings plan fault.NoHeader p = tt
@@ -39,9 +43,31 @@ pub if_err-no_plan : {T : Type 0} (settings : Draft → Settings) (plan : Data) 
 if_err-no_plan settings plan (Ok x) p = tt
 if_err-no_plan settings plan (Err why) p = no_plan settings plan why p
 
+by_refusal : (settings : Draft → Settings) (plan : Data) (e : PlanFault) (why : TableFault) → RefusesPlan settings Columns plan e → GivesOfPlan e why → IsWhy settings plan why
+by_refusal settings plan (refused.NoPlan kind) why p gives = rw gives p
+by_refusal settings plan (refused.UnknownMember kind name nearest) why p gives = rw gives p
+by_refusal settings plan refused.NoNames why p gives = rw gives p
+by_refusal settings plan refused.NoEach why p gives = rw gives p
+by_refusal settings plan refused.NoLimits why p gives = rw gives p
+by_refusal settings plan (refused.UnknownLimit kind name nearest) why p gives = rw gives p
+by_refusal settings plan (refused.NoWholeLimit name) why p gives = rw gives p
+by_refusal settings plan (refused.Empty kind) why p gives = rw gives p
+by_refusal settings plan (refused.NoObject place) why p gives = rw gives p
+by_refusal settings plan (refused.UnknownKeyword place keyword nearest) why p gives = rw gives p
+by_refusal settings plan (refused.UncheckedKeyword place keyword) why p gives = rw gives p
+by_refusal settings plan (refused.Refused place refusal) why p gives = rw gives p
+by_refusal settings plan refused.Memory why p gives = rw gives tt
+
+-- why a schema of a good plan is not compiled is why the file is not checked
+pub why_of_schemas : (settings : Draft → Settings) (plan : Data) (p : Plan) (e : PlanFault) (why : TableFault) → plan_problem Columns plan ≡ None → plan_of Columns plan ≡ Some p
+    → RefusesAmong (settings p.draft) Columns p.schemas e → GivesOfPlan e why → IsWhy settings plan why
+why_of_schemas settings plan p e why good is (inl memory) gives = by_refusal settings plan e why (inl memory) gives
+why_of_schemas settings plan p e why good is (inr (name, schema, among, refuses)) gives = by_refusal settings plan e why (inr (inr (p, good, is, name, schema, among, refuses))) gives
+
 -- none of the plan is one of the names in a first record
 pub no_plan_of_names : (p : Plan) (names : List (List ℕ)) (why : TableFault) → IsWhyOfNames p names why → IsNoPlanFault why
 no_plan_of_names p names (fault.Plan why) named = cc named
+no_plan_of_names p names (fault.Columns most found) named = tt
 no_plan_of_names p names (fault.Missing name) named = tt
 no_plan_of_names p names (fault.Twice name first second) named = tt
 no_plan_of_names p names fault.NoHeader named = tt
@@ -53,40 +79,46 @@ no_plan_of_names p names fault.TooLong named = tt
 
 -- what a reader explains of its text is why the next record is not read
 unread : {R : Type 0} (rem : R → Option (List ℕ)) (old new : RecordReader R) (text : List ℕ) (e : ReadFault) → Explains rem old new text e
-    → IsWhyUnread (place_of old) text e
+    → IsWhyUnread (limits_of old) (place_of old) text e
 unread rem old new text (read.Read e) p = tt
-unread rem old new text (read.OpenQuote line) p = p
+unread rem old new text (read.OpenQuote line) p = p.0
 unread rem old new text (read.NotUtf8 line number) p =
-    let (fields, takes, first) = p in
+    let (fields, takes, first, within) = p in
     let (rest, at, taken) = takes in
     (fields, place_of new, rest, taken, first)
+unread rem old new text (read.LongRecord line most) p = p
+unread rem old new text (read.LongField line number most) p = p
 unread rem old new text read.Memory p = tt
 unread rem old new text read.TooLong p = tt
 
 pub why_of_read : {R : Type 0} (rem : R → Option (List ℕ)) (old new : RecordReader R) (text : List ℕ) (width : ℕ) (e : ReadFault) (why : TableFault)
     → Explains rem old new text e
-    → GivesOfReading e why → IsWhyOfNext width (place_of old) text why
+    → GivesOfReading e why → IsWhyOfNext (limits_of old) width (place_of old) text why
 why_of_read rem old new text width (read.Read e) why p gives = rw gives tt
-why_of_read rem old new text width (read.OpenQuote line) why p gives = rw gives p
+why_of_read rem old new text width (read.OpenQuote line) why p gives = rw gives p.0
+why_of_read rem old new text width (read.LongRecord line most) why p gives = rw gives p
+why_of_read rem old new text width (read.LongField line number most) why p gives = rw gives p
 why_of_read rem old new text width (read.NotUtf8 line number) why p gives = rw gives (unread rem old new text (read.NotUtf8 line number) p)
 why_of_read rem old new text width read.Memory why p gives = rw gives tt
 why_of_read rem old new text width read.TooLong why p gives = rw gives tt
 
 -- a fault that needs no reason has one at any record
-pub why_of_next : (width : ℕ) (place : Place) (text : List ℕ) (why : TableFault) → IsUnexplained why → IsWhyOfNext width place text why
-why_of_next width place text (fault.Plan why) p = absurd p
-why_of_next width place text (fault.Missing name) p = absurd p
-why_of_next width place text (fault.Twice name first second) p = absurd p
-why_of_next width place text fault.NoHeader p = absurd p
-why_of_next width place text (fault.Fields line expected found) p = absurd p
-why_of_next width place text (fault.Record why) p = absurd p
-why_of_next width place text fault.Write p = tt
-why_of_next width place text fault.Memory p = tt
-why_of_next width place text fault.TooLong p = tt
+pub why_of_next : (limits : Limits) (width : ℕ) (place : Place) (text : List ℕ) (why : TableFault) → IsUnexplained why → IsWhyOfNext limits width place text why
+why_of_next limits width place text (fault.Plan why) p = absurd p
+why_of_next limits width place text (fault.Columns most found) p = absurd p
+why_of_next limits width place text (fault.Missing name) p = absurd p
+why_of_next limits width place text (fault.Twice name first second) p = absurd p
+why_of_next limits width place text fault.NoHeader p = absurd p
+why_of_next limits width place text (fault.Fields line expected found) p = absurd p
+why_of_next limits width place text (fault.Record why) p = absurd p
+why_of_next limits width place text fault.Write p = tt
+why_of_next limits width place text fault.Memory p = tt
+why_of_next limits width place text fault.TooLong p = tt
 
-module _ {C : Type 0} (says : C → ℕ → List ℕ → List (List ℕ) → Type 0) (columns : List C) (place : Place) (text : List ℕ) (wrote : List ℕ → Type 0) where
-  pub why_of_rows : (why : TableFault) → IsUnexplained why → IsWhyOfRows says columns place text wrote why
+module _ {C : Type 0} (says : C → ℕ → List ℕ → List (List ℕ) → Type 0) (limits : Limits) (columns : List C) (place : Place) (text : List ℕ) (wrote : List ℕ → Type 0) where
+  pub why_of_rows : (why : TableFault) → IsUnexplained why → IsWhyOfRows says limits columns place text wrote why
   why_of_rows (fault.Plan why) p = absurd p
+  why_of_rows (fault.Columns most found) p = absurd p
   why_of_rows (fault.Missing name) p = absurd p
   why_of_rows (fault.Twice name first second) p = absurd p
   why_of_rows fault.NoHeader p = absurd p
@@ -98,9 +130,10 @@ module _ {C : Type 0} (says : C → ℕ → List ℕ → List (List ℕ) → Typ
 
   -- why the next record is not checked, behind those that are, is why one of the records is not
   pub why_behind : (earlier : List LinedRecord) (messages : List (List ℕ)) (behind : Place) (rest : List ℕ) (why : TableFault)
-      → AreFirstRecords place text earlier behind rest → HaveWidth (length columns) earlier → OfRecords says columns earlier messages
-      → ((IsUnexplained why → ⊥) → wrote (concat messages)) → IsWhyOfNext (length columns) behind rest why → IsWhyOfRows says columns place text wrote why
+      → AreFirstRecords place text earlier behind rest → HaveShape limits (length columns) earlier → OfRecords says columns earlier messages
+      → ((IsUnexplained why → ⊥) → wrote (concat messages)) → IsWhyOfNext limits (length columns) behind rest why → IsWhyOfRows says limits columns place text wrote why
   why_behind earlier messages behind rest (fault.Plan why) first width said written p = p
+  why_behind earlier messages behind rest (fault.Columns most found) first width said written p = p
   why_behind earlier messages behind rest (fault.Missing name) first width said written p = p
   why_behind earlier messages behind rest (fault.Twice name one other) first width said written p = p
   why_behind earlier messages behind rest fault.NoHeader first width said written p = p
@@ -114,9 +147,10 @@ module _ {C : Type 0} (says : C → ℕ → List ℕ → List (List ℕ) → Typ
 
   -- what was written may be said otherwise
   pub why_written : (other : List ℕ → Type 0) → ((lines : List ℕ) → wrote lines → other lines) → (why : TableFault)
-      → IsWhyOfRows says columns place text wrote why
-      → IsWhyOfRows says columns place text other why
+      → IsWhyOfRows says limits columns place text wrote why
+      → IsWhyOfRows says limits columns place text other why
   why_written other put (fault.Plan why) p = p
+  why_written other put (fault.Columns most found) p = p
   why_written other put (fault.Missing name) p = p
   why_written other put (fault.Twice name first second) p = p
   why_written other put fault.NoHeader p = p
@@ -141,6 +175,9 @@ module _ (settings : Draft → Settings) (plan : Data) (text : List ℕ) (wrote 
   why_of_plan (refused.UnknownMember kind name nearest) why gives written = rw gives written
   why_of_plan refused.NoNames why gives written = rw gives written
   why_of_plan refused.NoEach why gives written = rw gives written
+  why_of_plan refused.NoLimits why gives written = rw gives written
+  why_of_plan (refused.UnknownLimit kind name nearest) why gives written = rw gives written
+  why_of_plan (refused.NoWholeLimit name) why gives written = rw gives written
   why_of_plan (refused.Empty kind) why gives written = rw gives written
   why_of_plan (refused.NoObject place) why gives written = rw gives written
   why_of_plan (refused.UnknownKeyword place keyword nearest) why gives written = rw gives written
@@ -148,22 +185,29 @@ module _ (settings : Draft → Settings) (plan : Data) (text : List ℕ) (wrote 
   why_of_plan (refused.Refused place refusal) why gives written = rw gives written
   why_of_plan refused.Memory why gives written = rw gives tt
 
+  by_first : (p : Plan) (e : ReadFault) (why : TableFault) → plan_of Columns plan ≡ Some p → IsWhyUnread (record_limits p.limits) first_place text e
+      → GivesOfReading e why → wrote [] → IsWhyOfText settings plan text wrote why
+  by_first p (read.Read e) why is q gives written = rw gives (inl (p, is, written, q))
+  by_first p (read.OpenQuote line) why is q gives written = rw gives (inl (p, is, written, q))
+  by_first p (read.NotUtf8 line number) why is q gives written = rw gives (inl (p, is, written, q))
+  by_first p (read.LongRecord line most) why is q gives written = rw gives (inl (p, is, written, q))
+  by_first p (read.LongField line number most) why is q gives written = rw gives (inl (p, is, written, q))
+  by_first p read.Memory why is q gives written = rw gives tt
+  by_first p read.TooLong why is q gives written = rw gives tt
+
   -- and so does a first record that is not read
-  pub why_of_first : {R : Type 0} (rem : R → Option (List ℕ)) (old new : RecordReader R) (e : ReadFault) (why : TableFault) → place_of old ≡ first_place
+  pub why_of_first : {R : Type 0} (rem : R → Option (List ℕ)) (old new : RecordReader R) (p : Plan) (e : ReadFault) (why : TableFault) → plan_of Columns plan ≡ Some p
+      → place_of old ≡ first_place → limits_of old ≡ record_limits p.limits
       → Explains rem old new text e → GivesOfReading e why → wrote [] → IsWhyOfText settings plan text wrote why
-  why_of_first rem old new (read.Read e) why at p gives written = rw gives (inl (written, tt))
-  why_of_first rem old new (read.OpenQuote line) why at p gives written = rw gives
-      (inl (written, subst (λ place. IsWhyUnread place text (read.OpenQuote line)) at p))
-  why_of_first rem old new (read.NotUtf8 line number) why at p gives written =
-      rw gives (inl (written, subst (λ place. IsWhyUnread place text (read.NotUtf8 line number)) at (unread rem old new text (read.NotUtf8 line number) p)))
-  why_of_first rem old new read.Memory why at p gives written = rw gives tt
-  why_of_first rem old new read.TooLong why at p gives written = rw gives tt
+  why_of_first rem old new p e why is at keeps explained gives written =
+      by_first p e why is (subst (λ limits. IsWhyUnread limits first_place text e) keeps (subst (λ place. IsWhyUnread (limits_of old) place text e) at (unread rem old new text e explained))) gives written
 
   -- and one whose names are not those of the plan
   pub why_of_names : (p : Plan) (names : List (List ℕ)) (why : TableFault) → plan_of Columns plan ≡ Some p → IsHeader text names → IsWhyOfNames p names why
       → wrote []
       → IsWhyOfText settings plan text wrote why
   why_of_names p names (fault.Plan why) is header named written = cc named
+  why_of_names p names (fault.Columns most found) is header named written = (written, (p, names, is, header, named))
   why_of_names p names (fault.Missing name) is header named written = (written, (p, names, is, header, named))
   why_of_names p names (fault.Twice name first second) is header named written = (written, (p, names, is, header, named))
   why_of_names p names fault.NoHeader is header named written = cc named
@@ -175,26 +219,29 @@ module _ (settings : Draft → Settings) (plan : Data) (text : List ℕ) (wrote 
 
   -- why one of the records behind the first is not checked
   pub why_under_header : (p : Plan) (names : LinedRecord) (behind : Place) (rest : List ℕ) (why : TableFault) → plan_of Columns plan ≡ Some p
-      → AreNamed names.fields p.schemas
-      → (p.checks_each ≡ true) ⊎ AreDistinct names.fields → TakesRecord first_place text names.line names.fields behind rest
-      → IsWhyOfRows (MessagesOf (settings p.draft) p.schemas) names.fields behind rest wrote why → IsWhyOfText settings plan text wrote why
-  why_under_header p names behind rest (fault.Plan why) is named each header q = absurd q
-  why_under_header p names behind rest (fault.Missing name) is named each header q = absurd q
-  why_under_header p names behind rest (fault.Twice name first second) is named each header q = absurd q
-  why_under_header p names behind rest fault.NoHeader is named each header q = absurd q
-  why_under_header p names behind rest (fault.Fields line expected found) is named each header q = (p, names, behind, rest, is, named, each, header, q)
-  why_under_header p names behind rest (fault.Record why) is named each header q = inr (p, names, behind, rest, is, named, each, header, q)
-  why_under_header p names behind rest fault.Write is named each header q = tt
-  why_under_header p names behind rest fault.Memory is named each header q = tt
-  why_under_header p names behind rest fault.TooLong is named each header q = tt
+      → HaveColumns p names.fields → AreNamed names.fields p.schemas
+      → (p.checks_each ≡ true) ⊎ AreDistinct names.fields → AreWithin (record_limits p.limits) names.fields
+      → TakesRecord first_place text names.line names.fields behind rest
+      → IsWhyOfRows (MessagesOf (settings p.draft) p.schemas) (record_limits p.limits) names.fields behind rest wrote why → IsWhyOfText settings plan text wrote why
+  why_under_header p names behind rest (fault.Plan why) is few named each within header q = absurd q
+  why_under_header p names behind rest (fault.Columns most found) is few named each within header q = absurd q
+  why_under_header p names behind rest (fault.Missing name) is few named each within header q = absurd q
+  why_under_header p names behind rest (fault.Twice name first second) is few named each within header q = absurd q
+  why_under_header p names behind rest fault.NoHeader is few named each within header q = absurd q
+  why_under_header p names behind rest (fault.Fields line expected found) is few named each within header q = (p, names, behind, rest, is, few, named, each, within, header, q)
+  why_under_header p names behind rest (fault.Record why) is few named each within header q = inr (p, names, behind, rest, is, few, named, each, within, header, q)
+  why_under_header p names behind rest fault.Write is few named each within header q = tt
+  why_under_header p names behind rest fault.Memory is few named each within header q = tt
+  why_under_header p names behind rest fault.TooLong is few named each within header q = tt
 
 -- why one of the records is not checked by columns is why it is not by what they stand for
-module _ {C D : Type 0} (says : C → ℕ → List ℕ → List (List ℕ) → Type 0) (tells : D → ℕ → List ℕ → List (List ℕ) → Type 0) (columns : List C) (names : List D)
+module _ {C D : Type 0} (limits : Limits) (says : C → ℕ → List ℕ → List (List ℕ) → Type 0) (tells : D → ℕ → List ℕ → List (List ℕ) → Type 0) (columns : List C) (names : List D)
     (same : length columns ≡ length names)
     (along : (records : List LinedRecord) (messages : List (List ℕ)) → OfRecords says columns records messages → OfRecords tells names records messages) where
-  pub why_along : (place : Place) (text : List ℕ) (wrote : List ℕ → Type 0) (why : TableFault) → IsWhyOfRows says columns place text wrote why
-      → IsWhyOfRows tells names place text wrote why
+  pub why_along : (place : Place) (text : List ℕ) (wrote : List ℕ → Type 0) (why : TableFault) → IsWhyOfRows says limits columns place text wrote why
+      → IsWhyOfRows tells limits names place text wrote why
   why_along place text wrote (fault.Plan why) p = p
+  why_along place text wrote (fault.Columns most found) p = p
   why_along place text wrote (fault.Missing name) p = p
   why_along place text wrote (fault.Twice name first second) p = p
   why_along place text wrote fault.NoHeader p = p
@@ -205,14 +252,14 @@ module _ {C D : Type 0} (says : C → ℕ → List ℕ → List (List ℕ) → T
         behind,
         rest,
         first,
-        subst (λ n. HaveWidth n earlier) same width,
+        subst (λ n. HaveShape limits n earlier) same width,
         along earlier messages said,
         written,
-        subst (λ n. IsWhyOfNext n behind rest (fault.Fields line expected found)) same is,
+        subst (λ n. IsWhyOfNext limits n behind rest (fault.Fields line expected found)) same is,
       )
   why_along place text wrote (fault.Record why) p =
       let (earlier, messages, behind, rest, first, width, said, written, is) = p in
-      (earlier, messages, behind, rest, first, subst (λ n. HaveWidth n earlier) same width, along earlier messages said, written, is)
+      (earlier, messages, behind, rest, first, subst (λ n. HaveShape limits n earlier) same width, along earlier messages said, written, is)
   why_along place text wrote fault.Write p = p
   why_along place text wrote fault.Memory p = p
   why_along place text wrote fault.TooLong p = p

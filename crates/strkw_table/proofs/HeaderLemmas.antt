@@ -1,13 +1,30 @@
 -- The names in the first record of a file.
-use Rattle.std.proofs.Common.{◌≡◌, ◌<◌, ◌+◌, ℕ, zero, suc, List, [], ◌∷◌, length, Bool, true, false, Some, None, refl, sym, ap, subst, ◌∙◌, arith, bytes_eq, cond}
-use Rattle.std.specs.Prelude.{Option}
+use Rattle.std.proofs.Common.{Bor, ◌≡◌, ◌<◌, ◌+◌, ℕ, zero, suc, List, [], ◌∷◌, length, Bool, true, false, Some, None, refl, sym, ap, subst, ◌∙◌, arith, bytes_eq, cond, true≢false}
+use Rattle.std.specs.Option.{option_copied}
+use Rattle.std.specs.Prelude.{Option, is_some}
+use Rattle.std.specs.BTreeMap.{BTreeMap, get_by}
+use Rattle.std.specs.Cmp.Lexicographic.{slice_cmp}
 use Rattle.std.specs.Map.{update}
+use Rattle.std.specs.Ordering.{nat_cmp}
 use native.Mathlib.Decide.{dec_lt}
 use Rattle.std.proofs.lemmas.Bool.Decides.{not_from_Decides}
 use Rattle.std.proofs.lemmas.Slice.Eq.{bytes_eq-Decides}
 use Rattle.std.proofs.lemmas.Option.{none-some, same_Some}
 use Rattle.csv.specs.Records.{field_at}
 use Rattle.strkw_table.specs.Fields.{AreDistinct}
+
+-- where a name stands, of names with a place each
+abbrev pub place_in : BTreeMap (Bor (List ℕ)) ℕ → List ℕ → Option ℕ
+place_in places name = get_by (λ other. slice_cmp nat_cmp name other.now) places
+
+-- a place that was looked up, where it was found, and where it was not
+pub found_at : (found : Option (Bor ℕ)) (place : Option ℕ) → option_copied found ≡ place → is_some found ≡ true → (i : ℕ) × (place ≡ Some i)
+found_at None place is some = absurd (true≢false (sym some))
+found_at (Some i) place is some = (i.now, sym is)
+
+pub not_found : (found : Option (Bor ℕ)) (place : Option ℕ) → option_copied found ≡ place → is_some found ≡ false → place ≡ None
+not_found None place is none = sym is
+not_found (Some i) place is none = absurd (true≢false none)
 
 -- a place that has a field comes before one that has none
 pub field_before : (names : List (List ℕ)) (n i : ℕ) (name : List ℕ) → field_at names n ≡ None → field_at names i ≡ Some name → i < n
@@ -37,6 +54,10 @@ AreKnown names n place = (name : List ℕ) (i : ℕ) → place name ≡ Some i �
 
 abbrev pub HavePlaces : List (List ℕ) → ℕ → (List ℕ → Option ℕ) → Type 0
 HavePlaces names n place = (name : List ℕ) (i : ℕ) → i < n → field_at names i ≡ Some name → place name ≡ Some i
+
+-- each of the first fields has a place
+abbrev pub AreAll : List (List ℕ) → ℕ → (List ℕ → Option ℕ) → Type 0
+AreAll names n place = (name : List ℕ) (i : ℕ) → i < n → field_at names i ≡ Some name → place name ≡ None → ⊥
 
 module _ (names : List (List ℕ)) (n : ℕ) (key : List ℕ) (old new : List ℕ → Option ℕ) (here : field_at names n ≡ Some key)
     (updates : (name : List ℕ) → new name ≡ update bytes_eq old key (Some n) name) where
@@ -71,3 +92,17 @@ module _ (names : List (List ℕ)) (n : ℕ) (key : List ℕ) (old new : List �
 
   pub places_more : old key ≡ None → HavePlaces names n old → HavePlaces names (n + 1) new
   places_more none have name i less there = updates name ∙ places_by name i (bytes_eq key name) refl none have less there
+
+  some_by : (name : List ℕ) (i : ℕ) (b : Bool) → bytes_eq key name ≡ b → AreAll names n old → i < n + 1 → field_at names i ≡ Some name → cond b (Some n) (old name) ≡ None → ⊥
+  some_by name i true is all less there none = none-some n (sym none)
+  some_by name i false is all less there none =
+      elim (dec_lt i n) [
+        | yes earlier ↦ all name i earlier there none
+        | no later ↦
+            let same : i ≡ n = omega arith in
+            not_from_Decides (bytes_eq key name) (bytes_eq-Decides key name) is (same_Some key name (sym here ∙ subst (λ k. field_at names k ≡ Some name) same there))
+      ]
+
+  -- each of the first fields has a place, of which one more is the next
+  pub all_more : AreAll names n old → AreAll names (n + 1) new
+  all_more all name i less there none = some_by name i (bytes_eq key name) refl all less there (sym (updates name) ∙ none)

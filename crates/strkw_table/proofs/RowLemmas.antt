@@ -8,8 +8,10 @@ use Rattle.csv.specs.Reading.{default_config}
 use Rattle.csv.specs.Records.{field_at}
 use Rattle.csv.specs.declared.parser.State.TheVariants as st
 use Rattle.strkw_records.specs.declared.place.Place.{Place}
+use Rattle.strkw_records.specs.Limits.{AreWithin}
+use Rattle.strkw_records.specs.declared.limits.Limits.{Limits}
 use Rattle.strkw_records.specs.Records.{AreLinedRecords, LinedRecord, TakesRecord}
-use Rattle.strkw_table.specs.Rows.{AreFirstRecords, HaveWidth, OfField, OfFirst, OfRecord, OfRecords}
+use Rattle.strkw_table.specs.Rows.{AreFirstRecords, HaveShape, OfField, OfFirst, OfRecord, OfRecords}
 
 -- what is written and what is left, of what was gathered and more
 pub gathered : (messages more : List (List ℕ)) (written old mid put new : List ℕ) → concat messages ≡ written ++ old → mid ≡ old ++ concat more
@@ -53,16 +55,22 @@ pub under_header : (place behind : Place) (text rest : List ℕ) (header : Lined
 unfolding AreLinedRecords
 under_header place behind text rest header records one others = (behind, rest, one, others)
 
--- one record more has the width
-pub have_width-more : (width : ℕ) (records : List LinedRecord) (r : LinedRecord) → HaveWidth width records → length r.fields ≡ width
-    → HaveWidth width (records ++ r ∷ [])
-unfolding HaveWidth
-have_width-more width [] r have one = (one, tt)
-have_width-more width (first ∷ records) r have one = (have.0, have_width-more width records r have.1 one)
+-- one record more has the shape
+pub have_shape-more : (limits : Limits) (width : ℕ) (records : List LinedRecord) (r : LinedRecord) → HaveShape limits width records → length r.fields ≡ width
+    → AreWithin limits r.fields → HaveShape limits width (records ++ r ∷ [])
+unfolding HaveShape
+have_shape-more limits width [] r have one within = (one, within, tt)
+have_shape-more limits width (first ∷ records) r have one within = (have.0, have.1, have_shape-more limits width records r have.2 one within)
 
-pub have_width-none : (width : ℕ) → HaveWidth width []
-unfolding HaveWidth
-have_width-none width = tt
+-- and one at the front
+pub have_shape-front : (limits : Limits) (width : ℕ) (r : LinedRecord) (records : List LinedRecord) → length r.fields ≡ width → AreWithin limits r.fields
+    → HaveShape limits width records → HaveShape limits width (r ∷ records)
+unfolding HaveShape
+have_shape-front limits width r records one within have = (one, within, have)
+
+pub have_shape-none : (limits : Limits) (width : ℕ) → HaveShape limits width []
+unfolding HaveShape
+have_shape-none limits width = tt
 
 -- a value that is not missing is there
 pub if_some : {T : Type 0} (o : Option T) (P : T → Type 0) → IfSome o P → (o ≡ None → ⊥) → (x : T) × P x

@@ -1,5 +1,5 @@
 -- Why a file is not checked to its end.
-use Rattle.std.specs.Prelude.{◌≡◌, ◌≢◌, ◌⊎◌, ℕ, List, [], true, false, length, Some, None, string_bytes, ⊤}
+use Rattle.std.specs.Prelude.{◌≡◌, ◌≢◌, ◌⊎◌, ◌<◌, ◌≤◌, ℕ, List, [], true, false, length, Some, None, string_bytes, ⊤}
 use Rattle.std.specs.List.{concat}
 use Rattle.serde_json.specs.Data.{Data, Members}
 use Rattle.csv.specs.Machine.{next_record}
@@ -13,12 +13,16 @@ use Rattle.strkw_plan.specs.Compiled.{IsAmong, RefusesPlan}
 use Rattle.strkw_records.specs.declared.faults.ReadFault.{ReadFault}
 use Rattle.strkw_records.specs.declared.faults.ReadFault.TheVariants as read
 use Rattle.strkw_records.specs.declared.place.Place.{Place}
+use Rattle.strkw_plan.specs.declared.limits.Limits.{Limits as PlanLimits}
+use Rattle.strkw_records.specs.declared.limits.Limits.{Limits}
+use Rattle.strkw_records.specs.Limits.{AreWithin, IsLongField, IsLongRecord, fields_so_far}
 use Rattle.strkw_records.specs.Lines.{first_place}
+use Rattle.strkw_records.specs.Reading.{BeginsAt}
 use Rattle.strkw_records.specs.Records.{IsFirstNotUtf8, IsOpenAt, LinedRecord, TakesRecord}
 use Rattle.strkw_table.specs.declared.faults.TableFault.{TableFault}
 use Rattle.strkw_table.specs.declared.faults.TableFault.TheVariants as fault
 use Rattle.strkw_table.specs.Fields.{AreDistinct, AreNamed, IsNamed, IsTwice, MessagesOf}
-use Rattle.strkw_table.specs.Rows.{AreFirstRecords, HaveWidth, OfRecords, Says}
+use Rattle.strkw_table.specs.Rows.{AreFirstRecords, HaveShape, OfRecords, Says}
 
 -- ---- by the plan
 
@@ -42,13 +46,18 @@ IsUnexplained fault.TooLong = ⊤
 IsUnexplained _ = ⊥
 
 -- why the next record of a text, which stands at a place, is not read: a quote that opened on the line is open at
--- the end of the text; a field is not UTF-8. Of the other faults nothing is said.
-abbrev pub IsWhyUnread : Place → List ℕ → ReadFault → Type 0
-IsWhyUnread place text (read.OpenQuote line) = IsOpenAt place text line
-IsWhyUnread place text (read.NotUtf8 line number) = (fields : List (List ℕ)) × (behind : Place)
-    × (rest : List ℕ) × TakesRecord place text line fields behind rest
+-- the end of the text; a field is not UTF-8; the record, or a field of it, passes a limit. Of the other faults nothing
+-- is said.
+abbrev pub IsWhyUnread : Limits → Place → List ℕ → ReadFault → Type 0
+IsWhyUnread limits place text (read.OpenQuote line) = IsOpenAt place text line
+IsWhyUnread limits place text (read.NotUtf8 line number) = (fields : List (List ℕ))
+    × (behind : Place) × (rest : List ℕ) × TakesRecord place text line fields behind rest
     × IsFirstNotUtf8 fields number
-IsWhyUnread place text _ = ⊤
+IsWhyUnread limits place text (read.LongRecord line most) = BeginsAt place text line
+    × IsLongRecord fields_so_far limits text most
+IsWhyUnread limits place text (read.LongField line number most) = BeginsAt place text line
+    × IsLongField fields_so_far limits text number most
+IsWhyUnread limits place text _ = ⊤
 
 -- the next record begins on this line, and has so many fields, which are not as many as are expected
 abbrev pub HasOtherWidth : Place → List ℕ → ℕ → ℕ → ℕ → Type 0
@@ -56,38 +65,50 @@ HasOtherWidth place text line expected found = (fields : List (List ℕ)) × (be
     × (rest : List ℕ) × TakesRecord place text line fields behind rest
     × (found ≡ length fields) × (found ≢ expected)
 
--- why the next record is not checked, where each is to have so many fields
-abbrev pub IsWhyOfNext : ℕ → Place → List ℕ → TableFault → Type 0
-IsWhyOfNext width place text (fault.Fields line expected found) =
+-- why the next record is not checked, where each is to have so many fields and to be within the limits
+abbrev pub IsWhyOfNext : Limits → ℕ → Place → List ℕ → TableFault → Type 0
+IsWhyOfNext limits width place text (fault.Fields line expected found) =
     (expected ≡ width) × HasOtherWidth place text line expected found
-IsWhyOfNext width place text (fault.Record why) = IsWhyUnread place text why
-IsWhyOfNext width place text why = IsUnexplained why
+IsWhyOfNext limits width place text (fault.Record why) = IsWhyUnread limits place text why
+IsWhyOfNext limits width place text why = IsUnexplained why
 
 -- ---- by the records
 
 -- The records of a text, which stands at a place, were checked up to one of which this is said: those before it have
--- as many fields as there are columns, and the messages about them are what was written.
-abbrev pub StopsAt : {C : Type 0} → Says C → List C → Place → List ℕ → (List ℕ → Type 0)
+-- as many fields as there are columns and are within the limits, and the messages about them are what was written.
+abbrev pub StopsAt : {C : Type 0} → Says C → Limits → List C → Place → List ℕ → (List ℕ → Type 0)
     → (Place → List ℕ → Type 0) → Type 0
-StopsAt says columns place text wrote IsSaid = (earlier : List LinedRecord)
+StopsAt says limits columns place text wrote IsSaid = (earlier : List LinedRecord)
     × (messages : List (List ℕ)) × (behind : Place) × (rest : List ℕ)
     × AreFirstRecords place text earlier behind rest
-    × HaveWidth (length columns) earlier
+    × HaveShape limits (length columns) earlier
     × OfRecords says columns earlier messages
     × wrote (concat messages)
     × IsSaid behind rest
 
 -- why one of the records is not checked
-abbrev pub IsWhyOfRows : {C : Type 0} → Says C → List C → Place → List ℕ → (List ℕ → Type 0)
-    → TableFault → Type 0
-IsWhyOfRows says columns place text wrote (fault.Fields line expected found) =
-    StopsAt says columns place text wrote (λ behind rest.
-    IsWhyOfNext (length columns) behind rest (fault.Fields line expected found))
-IsWhyOfRows says columns place text wrote (fault.Record why) =
-    StopsAt says columns place text wrote (λ behind rest. IsWhyUnread behind rest why)
-IsWhyOfRows says columns place text wrote why = IsUnexplained why
+abbrev pub IsWhyOfRows : {C : Type 0} → Says C → Limits → List C → Place → List ℕ
+    → (List ℕ → Type 0) → TableFault → Type 0
+IsWhyOfRows says limits columns place text wrote (fault.Fields line expected found) =
+    StopsAt says limits columns place text wrote (λ behind rest.
+    IsWhyOfNext limits (length columns) behind rest (fault.Fields line expected found))
+IsWhyOfRows says limits columns place text wrote (fault.Record why) =
+    StopsAt says limits columns place text wrote (λ behind rest.
+    IsWhyUnread limits behind rest why)
+IsWhyOfRows says limits columns place text wrote why = IsUnexplained why
 
 -- ---- by the file
+
+-- how long a record may be by a plan
+abbrev pub record_limits : PlanLimits → Limits
+record_limits limits = record {
+  «record» = limits.longest_record;
+  field = limits.longest_field;
+}
+
+-- the names in a first record are no more than the plan's limits let them be
+abbrev pub HaveColumns : Plan → List (List ℕ) → Type 0
+HaveColumns p names = length names ≤ p.limits.most_columns
 
 -- these are the fields of the first record of a text
 abbrev pub IsHeader : List ℕ → List (List ℕ) → Type 0
@@ -100,9 +121,11 @@ IsWhyUnnamed schemas names (fault.Missing name) = (schema : Data)
     × IsAmong (string_bytes name) schema schemas × (IsNamed names (string_bytes name) → ⊥)
 IsWhyUnnamed schemas names why = why ≡ fault.Memory
 
--- why the names in a first record are not those of a plan: they lack one of the plan, or one stands there twice
--- where the plan does not say that each is checked
+-- why the names in a first record are not those of a plan: they are more than its limits let them be, they lack one of
+-- the plan, or one stands there twice where the plan does not say that each is checked
 abbrev pub IsWhyOfNames : Plan → List (List ℕ) → TableFault → Type 0
+IsWhyOfNames p names (fault.Columns most found) = (most ≡ p.limits.most_columns)
+    × (found ≡ length names) × (most < found)
 IsWhyOfNames p names (fault.Missing name) = IsWhyUnnamed p.schemas names (fault.Missing name)
 IsWhyOfNames p names (fault.Twice name first second) = (p.checks_each ≡ false)
     × IsTwice names (string_bytes name) first second
@@ -110,20 +133,27 @@ IsWhyOfNames p names why = why ≡ fault.Memory
 
 -- a text was checked by a plan up to a record of which this is said, its first record naming the columns
 abbrev pub IsCheckedTo : (Draft → Settings) → Data → List ℕ → (List ℕ → Type 0)
-    → (List (List ℕ) → Place → List ℕ → Type 0) → Type 0
+    → (Limits → List (List ℕ) → Place → List ℕ → Type 0) → Type 0
 IsCheckedTo settings plan text wrote IsSaid = (p : Plan) × (names : LinedRecord) × (behind : Place)
     × (rest : List ℕ)
     × (plan_of Columns plan ≡ Some p)
+    × HaveColumns p names.fields
     × AreNamed names.fields p.schemas
     × ((p.checks_each ≡ true) ⊎ AreDistinct names.fields)
+    × AreWithin (record_limits p.limits) names.fields
     × TakesRecord first_place text names.line names.fields behind rest
-    × StopsAt (MessagesOf (settings p.draft) p.schemas) names.fields behind rest wrote
-    (IsSaid names.fields)
+    × StopsAt (MessagesOf (settings p.draft) p.schemas) (record_limits p.limits) names.fields
+    behind rest wrote (IsSaid (record_limits p.limits) names.fields)
 
 -- the same of the first record, and nothing was written
 abbrev pub IsWhyOfHeader : Data → List ℕ → TableFault → Type 0
 IsWhyOfHeader plan text why = (p : Plan) × (names : List (List ℕ)) × (plan_of Columns plan ≡ Some p)
     × IsHeader text names × IsWhyOfNames p names why
+
+-- why its first record is not read, and nothing was written
+abbrev pub IsWhyOfFirst : Data → List ℕ → (List ℕ → Type 0) → ReadFault → Type 0
+IsWhyOfFirst plan text wrote why = (p : Plan) × (plan_of Columns plan ≡ Some p) × wrote []
+    × IsWhyUnread (record_limits p.limits) first_place text why
 
 -- Why a file with this text is not checked by its plan, and what was written then: nothing but the messages about the
 -- records before the one that is to blame. A fault of the plan is told by `IsWhy`; of writing, memory and too many
@@ -133,14 +163,17 @@ abbrev pub IsWhyOfText : (Draft → Settings) → Data → List ℕ → (List �
 IsWhyOfText settings plan text wrote (fault.Plan why) = wrote []
 IsWhyOfText settings plan text wrote (fault.Missing name) =
     wrote [] × IsWhyOfHeader plan text (fault.Missing name)
+IsWhyOfText settings plan text wrote (fault.Columns most found) =
+    wrote [] × IsWhyOfHeader plan text (fault.Columns most found)
 IsWhyOfText settings plan text wrote (fault.Twice name first second) =
     wrote [] × IsWhyOfHeader plan text (fault.Twice name first second)
 IsWhyOfText settings plan text wrote fault.NoHeader =
     wrote [] × (next_record default_config st.StartRecord [] [] text ≡ None)
 IsWhyOfText settings plan text wrote (fault.Fields line expected found) =
-    IsCheckedTo settings plan text wrote (λ names behind rest.
-    IsWhyOfNext (length names) behind rest (fault.Fields line expected found))
+    IsCheckedTo settings plan text wrote (λ limits names behind rest.
+    IsWhyOfNext limits (length names) behind rest (fault.Fields line expected found))
 IsWhyOfText settings plan text wrote (fault.Record why) =
-    (wrote [] × IsWhyUnread first_place text why)
-    ⊎ IsCheckedTo settings plan text wrote (λ names behind rest. IsWhyUnread behind rest why)
+    IsWhyOfFirst plan text wrote why
+    ⊎ IsCheckedTo settings plan text wrote (λ limits names behind rest.
+    IsWhyUnread limits behind rest why)
 IsWhyOfText settings plan text wrote why = ⊤

@@ -2,6 +2,8 @@
 use Rattle.std.specs.Prelude.{◌≡◌, ℕ, zero, suc, List, [], ◌∷◌, ◌++◌, length, Option, Some, None, slice_get, ⊤}
 use Rattle.csv.specs.Records.{field_at}
 use Rattle.strkw_records.specs.declared.place.Place.{Place}
+use Rattle.strkw_records.specs.Limits.{AreWithin}
+use Rattle.strkw_records.specs.declared.limits.Limits.{Limits}
 use Rattle.strkw_records.specs.Records.{LinedRecord, TakesRecord}
 
 -- What is said of columns. says column line field messages: these are the messages about a field of the column, in a
@@ -39,10 +41,11 @@ OfRecords says columns (r ∷ more) messages = (first : List (List ℕ)) × (res
     × OfRecords says columns more rest
     × (messages ≡ first ++ rest)
 
--- each record has so many fields
-unfoldable pub HaveWidth : ℕ → List LinedRecord → Type 0
-HaveWidth width [] = ⊤
-HaveWidth width (r ∷ more) = (length r.fields ≡ width) × HaveWidth width more
+-- each record has so many fields, and is within the limits
+unfoldable pub HaveShape : Limits → ℕ → List LinedRecord → Type 0
+HaveShape limits width [] = ⊤
+HaveShape limits width (r ∷ more) = (length r.fields ≡ width) × AreWithin limits r.fields
+    × HaveShape limits width more
 
 -- these are the first records of a text, which stands at a place; behind them are another place and the rest
 unfoldable pub AreFirstRecords : Place → List ℕ → List LinedRecord → Place → List ℕ → Type 0

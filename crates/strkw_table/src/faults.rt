@@ -14,6 +14,13 @@ use strkw_records::ReadFault;
 pub enum TableFault {
     /// The plan is refused.
     Plan(PlanFault),
+    /// The first record has more columns than the plan's limits let a file have.
+    Columns {
+        /// How many they let it have.
+        most: u64,
+        /// How many it has.
+        found: usize,
+    },
     /// The file has no column of this name.
     Missing(String),
     /// The first record has a name twice, and the plan does not say that each such column is checked.
@@ -81,6 +88,9 @@ impl fmt::Display for TableFault {
     fn fmt<W: fmt::Write>(&self, f: &mut fmt::Formatter<W>) -> fmt::Result {
         match self {
             TableFault::Plan(e) => write!(f, "{e}"),
+            TableFault::Columns { most, found } => {
+                write!(f, "the first record has {found} columns, more than {most}")
+            }
             TableFault::Missing(column) => {
                 let column = Shown(column);
                 write!(f, "the file has no column `{column}`")

@@ -1,6 +1,9 @@
 //! The names in the first record of a file.
 
-ghost use Rattle.std.specs.Prelude.{◌≡◌, ◌↔◌, None, IfErr, IfOk, IfSome, OnOk, IsTrue};
+ghost use Rattle.std.specs.Prelude.{◌≡◌, ℕ, List, Some, None, IfErr, IfOk, IfSome, OnOk};
+ghost use Rattle.std.specs.BTreeMap.{get_by};
+ghost use Rattle.std.specs.Cmp.Lexicographic.{slice_cmp};
+ghost use Rattle.std.specs.Ordering.{nat_cmp};
 ghost use Rattle.serde_json.specs.View.{members_view};
 ghost use Rattle.csv.specs.Records.{fields_of};
 ghost use Rattle.strkw_table.specs.Faults.{IsWhyUnnamed};
@@ -12,18 +15,26 @@ use serde_json::{Map, Value};
 use std::alloc::{AllocError, Global};
 use std::collections::BTreeMap;
 
-// Whether a name stands among the names.
-fn is_named(names: &StringRecord, name: &str) -> bool
-    ensures { IsTrue result ↔ IsNamed (fields_of names.now) name.now }
+// The names, each with a place where it stands. The only error is out of memory.
+fn places_of<'a>(
+    alloc: Global,
+    names: &'a StringRecord,
+) -> Result<BTreeMap<&'a str, usize>, AllocError>
+    ensures stand { IfOk result (λ places. (name : List ℕ) (place : ℕ)
+        → get_by (λ other. slice_cmp nat_cmp name other.now) places ≡ Some place
+        → IsNamed (fields_of names.now) name) }
+    ensures all { IfOk result (λ places. (name : List ℕ)
+        → get_by (λ other. slice_cmp nat_cmp name other.now) places ≡ None
+        → IsNamed (fields_of names.now) name → ⊥) }
 {
+    let mut places = BTreeMap::new(alloc);
     for at in 0..names.len() {
-        if let Some(other) = names.get(at) {
-            if other == name {
-                return true;
-            }
-        }
+        let Some(name) = names.get(at) else {
+            return Ok(places);
+        };
+        let _ = places.insert(name, at)?;
     }
-    false
+    Ok(places)
 }
 
 /// Refuses a plan that names a column which the file has not.
@@ -37,8 +48,9 @@ pub(crate) fn require_named(
     ensures why { IfErr result
         (IsWhyUnnamed (members_view schemas.now.entries) (fields_of names.now)) }
 {
+    let places = places_of(alloc, names)?;
     for (name, _schema) in schemas.iter() {
-        if !is_named(names, name) {
+        if places.get(name.as_str()).is_none() {
             return Err(TableFault::Missing(String::from_str(alloc, name)?));
         }
     }

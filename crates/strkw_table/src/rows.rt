@@ -8,11 +8,12 @@ ghost use Rattle.csv.specs.Reading.{default_config};
 ghost use Rattle.csv.specs.Records.{fields_of, field_at};
 ghost use Rattle.csv.specs.declared.parser.State.TheVariants as st;
 ghost use Rattle.strkw_keywords.specs.Handed.{lists_of};
-ghost use Rattle.strkw_records.specs.Reading.{Takes, place_of, unread_of};
+ghost use Rattle.strkw_records.specs.Limits.{AreWithin};
+ghost use Rattle.strkw_records.specs.Reading.{Takes, limits_of, place_of, unread_of};
 ghost use Rattle.strkw_records.specs.Records.{AreLinedRecords, LinedRecord};
 ghost use Rattle.strkw_table.specs.Columns.{AreUsable, ColumnMessages};
 ghost use Rattle.strkw_table.specs.Faults.{IsNoPlanFault, IsUnexplained, IsWhyOfNext, IsWhyOfRows};
-ghost use Rattle.strkw_table.specs.Rows.{AreFirstRecords, HaveWidth, OfField, OfRecord, OfRecords};
+ghost use Rattle.strkw_table.specs.Rows.{AreFirstRecords, HaveShape, OfField, OfRecord, OfRecords};
 
 use crate::faults::TableFault;
 use crate::schema_column::SchemaColumn;
@@ -109,7 +110,9 @@ fn check_next<E: RegexEngine, R: Read>(
         AreUsable E.outcome lists columns.now }
     ensures why { IfErr result IsNoPlanFault }
     ensures fault { (text : List ℕ) → unread_of R.remaining reader.old ≡ Some text
-        → IfErr result (IsWhyOfNext (length columns.now) (place_of reader.old) text) }
+        → IfErr result (IsWhyOfNext (limits_of reader.old) (length columns.now)
+        (place_of reader.old) text) }
+    ensures limits { limits_of reader.new ≡ limits_of reader.old }
     ensures end { (text : List ℕ) → unread_of R.remaining reader.old ≡ Some text
         → IfOk result (λ o. o ≡ None
         → next_record default_config st.StartRecord [] [] text ≡ None) }
@@ -121,6 +124,7 @@ fn check_next<E: RegexEngine, R: Read>(
         → IfOk result (λ o. IfSome o (λ count. (line : ℕ) × (messages : List (List ℕ))
         × Takes R.remaining reader.old reader.new text line (fields_of row.new)
         × (length (fields_of row.new) ≡ length columns.now)
+        × AreWithin (limits_of reader.old) (fields_of row.new)
         × OfRecord (ColumnMessages E.outcome lists) columns.now line (fields_of row.new) messages
         × (count ≡ length messages)
         × (string_bytes out.new ≡ string_bytes out.old ++ concat messages))) }
@@ -174,14 +178,14 @@ pub(crate) fn check_rows<E: RegexEngine, R: Read, W: Write, P: Watch>(
     ensures why { IfErr result IsNoPlanFault }
     ensures fault { let lists = lists_of admits accepted encoded decoding checks.now in
         (text : List ℕ) → unread_of R.remaining reader.old ≡ Some text
-        → IfErr result (IsWhyOfRows (ColumnMessages E.outcome lists) columns.now
-        (place_of reader.old) text
+        → IfErr result (IsWhyOfRows (ColumnMessages E.outcome lists) (limits_of reader.old)
+        columns.now (place_of reader.old) text
         (Appends (W.contents writer.old) (W.contents writer.new))) }
     ensures messages { let lists = lists_of admits accepted encoded decoding checks.now in
         (text : List ℕ) → unread_of R.remaining reader.old ≡ Some text
         → IfOk result (λ c. (records : List LinedRecord) × (messages : List (List ℕ))
         × AreLinedRecords (place_of reader.old) text records
-        × HaveWidth (length columns.now) records
+        × HaveShape (limits_of reader.old) (length columns.now) records
         × OfRecords (ColumnMessages E.outcome lists) columns.now records messages
         × Appends (W.contents writer.old) (W.contents writer.new) (concat messages)
         × (c.records ≡ length records) × (c.errors ≡ length messages)) }
@@ -210,8 +214,8 @@ fn gather_rows<E: RegexEngine, R: Read, W: Write, P: Watch>(
     ensures why { IfErr result IsNoPlanFault }
     ensures fault { let lists = lists_of admits accepted encoded decoding checks.now in
         (text : List ℕ) → unread_of R.remaining reader.old ≡ Some text
-        → IfErr result (IsWhyOfRows (ColumnMessages E.outcome lists) columns.now
-        (place_of reader.old) text (λ lines.
+        → IfErr result (IsWhyOfRows (ColumnMessages E.outcome lists) (limits_of reader.old)
+        columns.now (place_of reader.old) text (λ lines.
         (written : List ℕ)
         × Appends (W.contents writer.old) (W.contents writer.new) written
         × (lines ≡ written ++ string_bytes out.new))) }
@@ -220,7 +224,7 @@ fn gather_rows<E: RegexEngine, R: Read, W: Write, P: Watch>(
         → IfOk result (λ c. (records : List LinedRecord) × (messages : List (List ℕ))
         × (written : List ℕ)
         × AreLinedRecords (place_of reader.old) text records
-        × HaveWidth (length columns.now) records
+        × HaveShape (limits_of reader.old) (length columns.now) records
         × OfRecords (ColumnMessages E.outcome lists) columns.now records messages
         × Appends (W.contents writer.old) (W.contents writer.new) written
         × (concat messages ≡ written ++ string_bytes out.new)

@@ -13,9 +13,9 @@ ghost use Rattle.strkw_plan.specs.Rules.{rules_settings};
 ghost use Rattle.strkw_plan.specs.Plan as written;
 ghost use Rattle.strkw_plan.specs.Plan.{plan_of, plan_problem};
 ghost use Rattle.strkw_plan.specs.declared.kind.PlanKind.TheVariants.{Columns};
-ghost use Rattle.strkw_table.specs.Faults.{IsWhy, IsWhyOfNames, IsWhyOfText};
+ghost use Rattle.strkw_table.specs.Faults.{HaveColumns, IsWhy, IsWhyOfNames, IsWhyOfText, record_limits};
 ghost use Rattle.strkw_table.specs.Fields.{AreDistinct, AreNamed, MessagesOf};
-ghost use Rattle.strkw_table.specs.Rows.{HaveWidth, OfRecords};
+ghost use Rattle.strkw_table.specs.Rows.{HaveShape, OfRecords};
 
 use crate::faults::TableFault;
 use crate::header::{find_twice, require_named};
@@ -27,8 +27,8 @@ use std::alloc::Global;
 use std::io::{Read, Write};
 use strkw_cli::laws::lists_of_compile_are_in_use;
 use strkw_pattern::EngineBuilder;
-use strkw_plan::{Plan, PlanKind, Rules, plan_in};
-use strkw_records::RecordReader;
+use strkw_plan::{Limits as PlanLimits, Plan, PlanKind, Rules, plan_in};
+use strkw_records::{Limits, RecordReader};
 
 /// Checks the fields of a CSV file, whose first record names its columns, by a plan:
 /// `{"draft": .., "columns": {NAME: SCHEMA, ..}}`.
@@ -39,8 +39,11 @@ use strkw_records::RecordReader;
 /// last, and in each field in the order of the keywords. The schema objects are compiled, and the fields checked,
 /// under the caller's rules. A column that the plan does not name is not checked.
 ///
-/// Errors: as `TableFault` says. After `Plan`, `Missing`, `Twice` and `NoHeader` nothing was written; after `Fields`
-/// and `Record` there are the lines of the records before.
+/// The plan's limits bound the columns, and the bytes of a record and of a field; where they do not bound these,
+/// memory does.
+///
+/// Errors: as `TableFault` says. After `Plan`, `Columns`, `Missing`, `Twice` and `NoHeader` nothing was written; after
+/// `Fields` and `Record` there are the lines of the records before.
 pub fn check_table<B: EngineBuilder, R: Read + Drop, W: Write, P: Watch>(
     alloc: Global,
     rules: &Rules<'_, B>,
@@ -56,10 +59,11 @@ pub fn check_table<B: EngineBuilder, R: Read + Drop, W: Write, P: Watch>(
         → IfOk result (λ c. (p : written.Plan) × (names : LinedRecord)
         × (records : List LinedRecord) × (messages : List (List ℕ))
         × (plan_of Columns (view plan.now) ≡ Some p)
+        × HaveColumns p names.fields
         × AreNamed names.fields p.schemas
         × ((p.checks_each ≡ true) ⊎ AreDistinct names.fields)
         × AreLinedRecords first_place (strip_bom text) (names ∷ records)
-        × HaveWidth (length names.fields) records
+        × HaveShape (record_limits p.limits) (length names.fields) (names ∷ records)
         × OfRecords (MessagesOf (settings p.draft) p.schemas) names.fields records messages
         × Appends (W.contents writer.old) (W.contents writer.new) (concat messages)
         × (c.records ≡ length records) × (c.errors ≡ length messages)) }
@@ -75,7 +79,8 @@ pub fn check_table<B: EngineBuilder, R: Read + Drop, W: Write, P: Watch>(
     lists_of_compile_are_in_use::<B::Engine>();
     let plan = plan_in(alloc, PlanKind::Columns, plan)?;
     let objects = compile_objects(alloc, rules, &plan)?;
-    let mut reader = RecordReader::new(alloc, file)?;
+    let limits = record_limits(plan.limits);
+    let mut reader = RecordReader::with_limits(alloc, file, limits)?;
     let mut names = StringRecord::new(alloc);
     if reader.read(&mut names)?.is_none() {
         return Err(TableFault::NoHeader);
@@ -85,15 +90,40 @@ pub fn check_table<B: EngineBuilder, R: Read + Drop, W: Write, P: Watch>(
     check_rows(alloc, &columns, &rules.checks, &mut reader, writer, watch)
 }
 
-// Refuses a first record that has not all columns of the plan, or a name twice where the plan does not let that
-// pass.
+// How long a record may be by a plan.
+fn record_limits(limits: PlanLimits) -> Limits
+    ensures { result ≡ record_limits limits }
+{
+    Limits {
+        record: in_memory(limits.longest_record),
+        field: in_memory(limits.longest_field),
+    }
+}
+
+// A number of bytes, as memory counts them.
+fn in_memory(bytes: Option<u64>) -> Option<usize>
+    ensures { result ≡ bytes }
+{
+    Some(bytes? as usize)
+}
+
+// Refuses a first record that has more columns than the plan lets it have, or not all of the plan, or a name twice
+// where the plan does not let that pass.
 fn require_header(alloc: Global, plan: &Plan<'_>, names: &StringRecord) -> Result<(), TableFault>
+    ensures few { OnOk result (HaveColumns (plan_view plan.now) (fields_of names.now)) }
     ensures named { OnOk result
         (AreNamed (fields_of names.now) (members_view plan.now.schemas.now.entries)) }
     ensures distinct { OnOk result
         ((plan.now.checks_each ≡ true) ⊎ AreDistinct (fields_of names.now)) }
     ensures why { IfErr result (IsWhyOfNames (plan_view plan.now) (fields_of names.now)) }
 {
+    let most = plan.limits.most_columns;
+    if most < names.len() as u64 {
+        return Err(TableFault::Columns {
+            most,
+            found: names.len(),
+        });
+    }
     require_named(alloc, plan.schemas, names)?;
     if plan.checks_each {
         return Ok(());

@@ -1,19 +1,22 @@
-use Rattle.std.proofs.Common.{rules, ◌≡◌, Err, ◌++◌, ◌+◌, ◌∷◌, ◌∙◌, ℕ, List, [], refl, sym, ap, length-append, string_bytes}
+use Rattle.std.proofs.Common.{rules, ◌≡◌, Err, ◌++◌, ◌+◌, ◌∷◌, ◌∙◌, ℕ, List, [], refl, sym, ap, subst, length, length-append, string_bytes}
 use Rattle.std.specs.Io.KnownBytes.{Appends}
 use Rattle.std.proofs.KnownBytes.{Appends-nil, Appends-trans}
 use Rattle.csv.specs.Records.{fields_of}
 use Rattle.strkw_keywords.specs.Handed.{lists_of}
 use Rattle.strkw_table.specs.Columns.{ColumnMessages}
-use Rattle.strkw_records.specs.Reading.{place_of}
+use Rattle.strkw_records.specs.Limits.{AreWithin}
+use Rattle.strkw_records.specs.Reading.{limits_of, place_of}
 use Rattle.strkw_records.specs.Records.{LinedRecord}
+use Rattle.strkw_table.specs.Faults.{IsWhyOfNext}
 use Rattle.strkw_table.proofs.FaultLemmas.{why_behind}
-use Rattle.strkw_table.proofs.RowLemmas.{all_records, first_records-more, first_records-none, gathered, have_width-more, have_width-none, of_records-more, of_records-none}
+use Rattle.strkw_table.proofs.RowLemmas.{all_records, first_records-more, first_records-none, gathered, have_shape-more, have_shape-none, of_records-more, of_records-none}
 use Rattle.strkw_table.proofs.rows.gather_rows.Goals as goal
 
 pub loop-turn-init : goal.loop-turn-init
 loop-turn-init g c =
     let lists = lists_of (λ b. (goal.Format-dyn g b).admits b.1) (λ b. (goal.MediaTypeCheck-dyn g b).accepted b.1)
     (λ b. (goal.ContentCodec-dyn g b).encoded b.1) (λ b. (goal.ContentCodec-dyn g b).decoding b.1) c.args.checks.now in (
+      refl,
       refl,
       λ text source. (
         [],
@@ -22,7 +25,7 @@ loop-turn-init g c =
         text,
         source,
         first_records-none (place_of c.args.reader.now) text,
-        have_width-none _,
+        have_shape-none _ _,
         of_records-none (ColumnMessages g.E.RegexEngine.outcome lists) c.args.columns.now,
         Appends-nil _,
         sym c.requires.empty,
@@ -35,14 +38,15 @@ pub loop-turn-preserved : goal.loop-turn-preserved
 loop-turn-preserved g c =
     let lists = lists_of (λ b. (goal.Format-dyn g b).admits b.1) (λ b. (goal.MediaTypeCheck-dyn g b).accepted b.1)
     (λ b. (goal.ContentCodec-dyn g b).encoded b.1) (λ b. (goal.ContentCodec-dyn g b).decoding b.1) c.args.checks.now in
-    let (counted, all) = c.loop-turn.invariant in
+    let (counted, limited, all) = c.loop-turn.invariant in
     let sum : c.in_ok-checked.field-0 ≡ c.loop-turn.checked.errors + c.in-Some.more = search rules in
     let (put, appended, split) = c.in_ok-write_gathered.ensures.written in (
       ap (λ n. n + 1) counted,
+      c.in_ok-more.ensures.limits ∙ limited,
       λ text source.
           let (records, messages, written, left, at_left, first, width, all_said, appends, joined, row_count, count) = all text source in
           let fields = fields_of c.check_next.new.row in
-          let (line, more, takes, wide, said, more_count, more_out) = rw c.in-Some.is at (c.in_ok-more.ensures.record left at_left) in
+          let (line, more, takes, wide, within, said, more_count, more_out) = rw c.in-Some.is at (c.in_ok-more.ensures.record left at_left) in
           let (rest, at_rest, takes_record) = takes in
           let r : LinedRecord = record { line = line; fields = fields } in (
             records ++ r ∷ [],
@@ -52,7 +56,7 @@ loop-turn-preserved g c =
             at_rest,
             first_records-more (place_of c.args.reader.now) (place_of c.loop-turn.reader)
                 (place_of c.check_next.new.reader) text left rest records r first takes_record,
-            have_width-more _ records r width wide,
+            have_shape-more _ _ records r width wide (subst (λ limits. AreWithin limits fields) limited within),
             of_records-more (ColumnMessages g.E.RegexEngine.outcome lists) c.args.columns.now records r messages more all_said said,
             Appends-trans _ _ _ written put appends appended,
             gathered messages more written (string_bytes c.loop-turn.out) (string_bytes c.check_next.new.out) put
@@ -64,7 +68,7 @@ loop-turn-preserved g c =
 
 pub returns-in_default-clause-messages : goal.returns-in_default-clause-messages
 returns-in_default-clause-messages g c text source =
-    let (counted, all) = c.loop-turn.invariant in
+    let (counted, limited, all) = c.loop-turn.invariant in
     let (records, messages, written, left, at_left, first, width, all_said, appends, joined, row_count, count) = all text source in
     let none = c.in_ok-more.ensures.end left at_left (search rules) in
     let kept : string_bytes c.check_next.new.out ≡ string_bytes c.loop-turn.out = c.in_ok-more.ensures.kept (search rules) in (
@@ -87,10 +91,10 @@ returns-in_err-more-clause-fault g c text source =
     let says = ColumnMessages g.E.RegexEngine.outcome lists in
     let why = c.in_err-more.field-0.0 in
     let told : c.from_residual.result ≡ Err why = search rules in
-    let (counted, all) = c.loop-turn.invariant in
+    let (counted, limited, all) = c.loop-turn.invariant in
     let (records, messages, written, left, at_left, first, width, all_said, appends, joined, row_count, count) = all text source in
     let wrote : List ℕ → Type 0 = λ lines. (put : List ℕ)
     × Appends (g.W.Write.contents c.args.writer.now) (g.W.Write.contents c.loop-turn.writer) put × (lines ≡ put ++ string_bytes c.check_next.new.out) in
-    rw told (why_behind says c.args.columns.now (place_of c.args.reader.now) text wrote records messages (place_of c.loop-turn.reader) left why first width all_said
+    rw told (why_behind says (limits_of c.args.reader.now) c.args.columns.now (place_of c.args.reader.now) text wrote records messages (place_of c.loop-turn.reader) left why first width all_said
     (λ explained. (written, appends, joined ∙ ap (λ l. written ++ l) (sym (c.in_err-more.ensures.unsaid explained))))
-    (c.in_err-more.ensures.fault left at_left))
+    (subst (λ limits. IsWhyOfNext limits (length c.args.columns.now) (place_of c.loop-turn.reader) left why) limited (c.in_err-more.ensures.fault left at_left)))

@@ -1,4 +1,4 @@
-use Rattle.std.proofs.Common.{rules, ◌≡◌, Some, Err, subst}
+use Rattle.std.proofs.Common.{rules, ◌≡◌, ◌∙◌, Some, Err, length, refl, subst}
 use Rattle.std.specs.Prelude.{IfErr, ⊤}
 use Rattle.std.specs.BTreeMap.{get_by_text}
 use Rattle.serde_json.specs.View.{members_view, view}
@@ -9,16 +9,18 @@ use Rattle.strkw_plan.specs.Rules.{rules_settings}
 use Rattle.std.specs.Io.KnownBytes.{Appends}
 use Rattle.std.proofs.KnownBytes.{Appends-nil}
 use Rattle.strkw_records.specs.Lines.{first_place}
-use Rattle.strkw_records.specs.Reading.{place_of, unread_of}
+use Rattle.strkw_records.specs.Limits.{AreWithin}
+use Rattle.strkw_records.specs.Reading.{limits_of, place_of, unread_of}
 use Rattle.strkw_records.specs.Records.{LinedRecord, TakesRecord}
 use Rattle.strkw_table.specs.Columns.{ColumnMessages}
 use Rattle.strkw_table.specs.Fields.{MessagesOf}
-use Rattle.strkw_table.specs.Gives.{GivesOfReading}
-use Rattle.strkw_table.specs.Rows.{HaveWidth}
+use Rattle.strkw_table.specs.Gives.{GivesOfPlan, GivesOfReading}
+use Rattle.strkw_table.specs.Faults.{IsWhyOfRows, record_limits}
+use Rattle.strkw_table.specs.Rows.{HaveShape}
 use Rattle.std.proofs.lemmas.Result.{IfErr-weaker, IfOk-weaker}
-use Rattle.strkw_table.proofs.RowLemmas.{if_some, under_header}
+use Rattle.strkw_table.proofs.RowLemmas.{have_shape-front, if_some, under_header}
 use Rattle.strkw_table.proofs.ColumnLemmas.{are_columns-length, column_fields, columns_usable, of_records-along}
-use Rattle.strkw_table.proofs.FaultLemmas.{if_err-no_plan, no_plan_of_names, why_along, why_of_first, why_of_names, why_under_header}
+use Rattle.strkw_table.proofs.FaultLemmas.{if_err-no_plan, no_plan_of_names, why_along, why_of_first, why_of_names, why_of_schemas, why_under_header}
 use Rattle.strkw_table.proofs.table.check_table.Goals as goal
 
 pub check_rows-requires : goal.check_rows-requires
@@ -32,6 +34,15 @@ check_rows-requires g c =
           (λ schema k of. c.lists_of_compile_are_in_use.ensures s schema k of)
           (fields_of c.read.new.row) c.in_ok-columns.columns.items c.in_ok-columns.ensures place column (rw c.deref.ensures.value at e);
     }
+
+pub returns-in_err-objects-clause-why : goal.returns-in_err-objects-clause-why
+returns-in_err-objects-clause-why g c =
+    let settings = rules_settings g.B.EngineBuilder.takes g.B.EngineBuilder.outcome (λ b. (goal.Format-dyn g b).admits b.1) (λ b. (goal.MediaTypeCheck-dyn g b).accepted b.1)
+    (λ b. (goal.ContentCodec-dyn g b).encoded b.1) (λ b. (goal.ContentCodec-dyn g b).decoding b.1) c.args.rules.now in
+    let e = c.in_err-objects.field-0.0 in
+    let gives : IfErr c.from_residual-in_err-objects.result (GivesOfPlan e) = search rules in
+    IfErr-weaker c.from_residual-in_err-objects.result _ _ (λ why given. why_of_schemas settings (view c.args.plan.now) (plan_view c.in_ok-plan.plan) e why
+    c.in_ok-plan.ensures.good c.in_ok-plan.ensures.plan c.in_err-objects.ensures.refused given) gives
 
 pub returns-in_err-require_header-clause-why : goal.returns-in_err-require_header-clause-why
 returns-in_err-require_header-clause-why g c =
@@ -52,6 +63,10 @@ returns-clause-messages g c text source =
     let unread : unread_of g.R.Read.remaining c.in_ok-reader.reader ≡ Some (strip_bom text) = rw source at c.in_ok-reader.ensures.text in
     let (line, takes) = if_some (c.in_ok-read.field-0) _ (c.in_ok-read.ensures.record (strip_bom text) unread) (search rules) in
     let (rest, at_rest, header) = takes in
+    let limits = record_limits plan.limits in
+    let given : limits_of c.in_ok-reader.reader ≡ limits = c.in_ok-reader.ensures.limits ∙ c.record_limits-limits.ensures in
+    let keeps : limits_of c.read.new.self ≡ limits = c.in_ok-read.ensures.limits ∙ given in
+    let within : AreWithin limits fields = subst (λ l. AreWithin l fields) given ((if_some (c.in_ok-read.field-0) _ c.in_ok-read.ensures.within (search rules)).1) in
     let names : LinedRecord = record { line = line; fields = fields } in
     IfOk-weaker c.check_rows.result _ _ (λ x h.
     let (records, messages, are, width, said, appends, rows, errors) = h in (
@@ -60,12 +75,14 @@ returns-clause-messages g c text source =
       records,
       messages,
       c.in_ok-plan.ensures.plan,
+      c.in_ok-require_header.ensures.few,
       c.in_ok-require_header.ensures.named,
       c.in_ok-require_header.ensures.distinct,
       under_header first_place (place_of c.read.new.self) (strip_bom text) rest names records
           (subst (λ p. TakesRecord p (strip_bom text) line fields (place_of c.read.new.self) rest) c.in_ok-reader.ensures.place header) are,
-      subst (λ n. HaveWidth n records) (are_columns-length (get_by_text c.in_ok-objects.objects) fields columns c.in_ok-columns.ensures)
-          (rw c.deref.ensures.value at width),
+      have_shape-front limits (length fields) names records refl within
+          (subst (λ n. HaveShape limits n records) (are_columns-length (get_by_text c.in_ok-objects.objects) fields columns c.in_ok-columns.ensures)
+          (subst (λ l. HaveShape l (length columns) records) keeps (rw c.deref.ensures.value at width))),
       of_records-along (ColumnMessages outcome s.lists) (MessagesOf s plan.schemas) columns fields
           (λ n at field m q. column_fields outcome s plan.schemas
           (get_by_text c.in_ok-objects.objects) c.in_ok-objects.ensures.compiled fields columns c.in_ok-columns.ensures n at field m q)
@@ -85,7 +102,8 @@ returns-in_err-read-clause-fault g c text source =
     let explained = c.in_err-read.ensures.fault (strip_bom text) unread in
     let gives : IfErr c.from_residual-in_err-read.result (GivesOfReading e) = search rules in
     IfErr-weaker c.from_residual-in_err-read.result _ _ (λ why given. why_of_first settings (view c.args.plan.now) (strip_bom text) wrote g.R.Read.remaining
-    c.in_ok-reader.reader c.read.new.self e why c.in_ok-reader.ensures.place explained given (Appends-nil _)) gives
+    c.in_ok-reader.reader c.read.new.self (plan_view c.in_ok-plan.plan) e why c.in_ok-plan.ensures.plan c.in_ok-reader.ensures.place
+    (c.in_ok-reader.ensures.limits ∙ c.record_limits-limits.ensures) explained given (Appends-nil _)) gives
 
 pub returns-in_err-require_header-clause-fault : goal.returns-in_err-require_header-clause-fault
 returns-in_err-require_header-clause-fault g c text source =
@@ -117,11 +135,16 @@ returns-clause-fault g c text source =
     let (line, takes) = if_some (c.in_ok-read.field-0) _ (c.in_ok-read.ensures.record (strip_bom text) unread) (search rules) in
     let (rest, at_rest, taken) = takes in
     let header = subst (λ p. TakesRecord p (strip_bom text) line fields (place_of c.read.new.self) rest) c.in_ok-reader.ensures.place taken in
+    let limits = record_limits plan.limits in
+    let given : limits_of c.in_ok-reader.reader ≡ limits = c.in_ok-reader.ensures.limits ∙ c.record_limits-limits.ensures in
+    let keeps : limits_of c.read.new.self ≡ limits = c.in_ok-read.ensures.limits ∙ given in
+    let within : AreWithin limits fields = subst (λ l. AreWithin l fields) given ((if_some (c.in_ok-read.field-0) _ c.in_ok-read.ensures.within (search rules)).1) in
     let names : LinedRecord = record { line = line; fields = fields } in
     let messages = of_records-along (ColumnMessages outcome s.lists) (MessagesOf s plan.schemas) columns fields
     (λ n at field m q. column_fields outcome s plan.schemas (get_by_text c.in_ok-objects.objects) c.in_ok-objects.ensures.compiled fields columns
     c.in_ok-columns.ensures n at field m q) same in
     IfErr-weaker c.check_rows.result _ _ (λ why h. why_under_header settings (view c.args.plan.now) (strip_bom text) wrote plan names (place_of c.read.new.self) rest why
-    c.in_ok-plan.ensures.plan c.in_ok-require_header.ensures.named c.in_ok-require_header.ensures.distinct header
-    (why_along (ColumnMessages outcome s.lists) (MessagesOf s plan.schemas) columns fields same messages (place_of c.read.new.self) rest wrote why h))
-    (rw c.deref.ensures.value at (c.check_rows.ensures.fault rest at_rest))
+    c.in_ok-plan.ensures.plan c.in_ok-require_header.ensures.few c.in_ok-require_header.ensures.named c.in_ok-require_header.ensures.distinct within header
+    (why_along limits (ColumnMessages outcome s.lists) (MessagesOf s plan.schemas) columns fields same messages (place_of c.read.new.self) rest wrote why h))
+    (subst (λ l. IfErr c.check_rows.result (IsWhyOfRows (ColumnMessages outcome s.lists) l columns (place_of c.read.new.self) rest wrote)) keeps
+    (rw c.deref.ensures.value at (c.check_rows.ensures.fault rest at_rest)))

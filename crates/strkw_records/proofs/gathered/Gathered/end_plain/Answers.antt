@@ -1,14 +1,15 @@
-use Rattle.std.proofs.Common.{refl, get_or}
+use Rattle.std.proofs.Common.{refl, get_or, sym, inl, arith}
 use Rattle.std.proofs.lemmas.Result.{err_from_is_err_and}
+use Rattle.strkw_records.proofs.CountLemmas.{counted-comma, long-comma, within-end}
 use Rattle.strkw_records.proofs.GatherLemmas.{ends-comma, ends-line_end, fails-later, line_end-of}
-use Rattle.strkw_records.proofs.InputLemmas.{head-behind}
+use Rattle.strkw_records.proofs.InputLemmas.{byte-front, head-behind, take-length}
 use Rattle.strkw_records.proofs.gathered.Gathered.end_plain.Goals as goal
 
 pub returns-in_err-take_byte-clause-fails : goal.returns-in_err-take_byte-clause-fails
 returns-in_err-take_byte-clause-fails g c text e =
     let (x, is, same) = err_from_is_err_and c.from_residual-in_err-take_byte.result c.from_residual-in_err-take_byte.ensures.1 in
     let past = c.take_plain.ensures.passes text e in
-    rw (is, same) (fails-later _ _ text _ _ _ past.splits past.place (c.in_err-take_byte.ensures.fails _ past.left))
+    rw (is, same) (inl (fails-later _ _ text _ _ _ past.splits past.place (c.in_err-take_byte.ensures.fails _ past.left)))
 
 pub returns-then-end-eq44-clause-ok : goal.returns-then-end-eq44-clause-ok
 returns-then-end-eq44-clause-ok g c text e =
@@ -32,3 +33,26 @@ returns-else-end-eq44-clause-ok g c text e =
     let run = rw c.unread-unread.ensures at c.in_ok-end_field.ensures.fields in
     ends-line_end g.R.Read.remaining c.args.input.now c.take_plain.new.self c.take_byte.new.self text _ _ _ _ c.args.self.now c.end_field.new.self
     past next c.requires.run (line_end-of _ other c.requires.stops) run
+
+pub returns-in_err-check_comma-clause-fails : goal.returns-in_err-check_comma-clause-fails
+returns-in_err-check_comma-clause-fails g c text e =
+    let (x, is, same) = err_from_is_err_and c.from_residual.result c.from_residual.ensures.1 in
+    let (comma, long) = c.in_err-check_comma.ensures.long in
+    let here = rw c.unread-unread.ensures at comma in
+    let front = byte-front c.args.input.now.piece (g.R.Read.remaining c.args.input.now.source) text c.args.count 44 e c.requires.within here in
+    let size = sym (take-length c.args.count c.args.input.now.piece (omega (arith, c.requires.within))) in
+    rw (is, same) (long-comma _ _ text _ front.0 c.args.count _ size front.1 c.requires.run c.requires.counted c.requires.room long)
+
+pub returns-then-end-eq44-clause-counted : goal.returns-then-end-eq44-clause-counted
+returns-then-end-eq44-clause-counted g c =
+    let run = rw c.unread-unread.ensures at c.in_ok-end_field.ensures.fields in
+    let size = sym (take-length c.args.count c.args.input.now.piece (omega (arith, c.requires.within))) in
+    let ended = rw (c.unread-unread.ensures, size) at c.in_ok-end_field.ensures.ended in
+    counted-comma c.args.self.now c.end_field.new.self c.args.count _ size c.requires.counted c.requires.room
+    (c.in_ok-check_comma.ensures.ok c.if-end-eq44.true) ended run c.in_ok-end_field.ensures.front
+
+pub returns-else-end-eq44-clause-counted : goal.returns-else-end-eq44-clause-counted
+returns-else-end-eq44-clause-counted g c =
+    let run = rw c.unread-unread.ensures at c.in_ok-end_field.ensures.fields in
+    let size = sym (take-length c.args.count c.args.input.now.piece (omega (arith, c.requires.within))) in
+    within-end c.args.self.now c.args.count _ _ size c.requires.counted c.requires.room run

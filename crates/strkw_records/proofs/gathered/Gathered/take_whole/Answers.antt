@@ -1,12 +1,13 @@
-use Rattle.std.proofs.Common.{arith}
+use Rattle.std.proofs.Common.{arith, refl}
 use Rattle.csv.proofs.WriteFacts.{slice-end}
 use Rattle.strkw_records.specs.Lines.{HasNoLineByte}
-use Rattle.strkw_records.proofs.FrontLemmas.{no_front, no_line-comma, no_line-front, takes_fields-front, takes_fields-none, takes_last-front, within-comma}
+use Rattle.strkw_records.proofs.CountLemmas.{counted-whole, counts-later, counts-none, within-whole}
+use Rattle.strkw_records.proofs.FrontLemmas.{no_front, no_line-comma, no_line-front, pushed, takes_fields-front, takes_fields-none, takes_last-front, within-comma}
 use Rattle.strkw_records.proofs.gathered.Gathered.take_whole.Goals as goal
 
 pub fields-init : goal.fields-init
 unfolding HasNoLineByte
-fields-init c = record { within = omega arith; front = c.requires.front; plain = tt; takes = takes_fields-none c.args.self.now }
+fields-init c = record { within = omega arith; counts = counts-none c.args.self.now c.requires.counted; front = c.requires.front; plain = tt; takes = takes_fields-none c.args.self.now }
 
 pub returns-then-rest-front-ne44-clause-plain : goal.returns-then-rest-front-ne44-clause-plain
 returns-then-rest-front-ne44-clause-plain c =
@@ -19,15 +20,39 @@ returns-then-rest-front-ne44-clause-takes c =
     c.fields.invariant.within
     c.fields.invariant.takes c.in-Some.ensures c.if-rest-front-ne44.true c.fields.invariant.front c.in_ok-push_field.ensures.fields
 
+pub returns-then-rest-front-ne44-clause-counted : goal.returns-then-rest-front-ne44-clause-counted
+returns-then-rest-front-ne44-clause-counted c =
+    let counts = c.fields.invariant.counts in
+    let fits = c.has_room.ensures c.if-not-has_room.false in
+    let all = pushed c.fields.self _ _ c.fields.invariant.front c.in_ok-push_field.ensures.fields in
+    rw counts.limits at (within-whole c.fields.self _ _ counts.counted fits.0 fits.1 all)
+
+pub returns-after-fields-clause-counted : goal.returns-after-fields-clause-counted
+returns-after-fields-clause-counted c = c.fields.invariant.counts
+
+pub returns-in_default-clause-counted : goal.returns-in_default-clause-counted
+returns-in_default-clause-counted c = c.fields.invariant.counts
+
+pub returns-then-not-has_room-clause-counted : goal.returns-then-not-has_room-clause-counted
+returns-then-not-has_room-clause-counted c = c.fields.invariant.counts
+
 pub fields-preserved : goal.fields-preserved
 fields-preserved c =
     let v = c.fields.invariant in
     let e = slice-end c.args.bytes.now c.fields.at in
     let k = c.in-Some.ensures in
     let comma = c.if-rest-front-ne44.false in
+    let fits = c.has_room.ensures c.if-not-has_room.false in
+    let front = no_front _ _ c.fields.self.field.items v.front c.in_ok-push_field.ensures.partial in
     record {
       within = within-comma c.args.bytes.now _ c.fields.at c.in-Some.front e v.within k;
-      front = no_front _ _ c.fields.self.field.items v.front c.in_ok-push_field.ensures.partial;
+      counts = counts-later _ _ _ v.counts (record {
+        limits = refl;
+        line = refl;
+        counted = counted-whole c.fields.self _ _ v.counts.counted fits.0 fits.1 refl refl (pushed c.fields.self _ _ v.front c.in_ok-push_field.ensures.fields)
+            front;
+      });
+      front = front;
       plain = no_line-comma c.args.bytes.now _ c.fields.at c.in-Some.front e v.within v.plain k comma;
       takes = takes_fields-front c.args.self.now c.fields.self _ c.args.bytes.now _ c.fields.at c.in-Some.front e v.within v.takes k comma v.front
           c.in_ok-push_field.ensures.fields;

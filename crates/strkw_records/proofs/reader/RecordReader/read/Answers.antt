@@ -23,18 +23,24 @@ returns-in_err-take_record-clause-fault g c text e =
     let start = sym (unread-begun g.R.Read.remaining c.begin.new.self c.in_ok-begin.ensures.begun) ∙ c.in_ok-begin.ensures.text text e in
     let (rest, passed, more) = c.in_ok-has_more.ensures.passes text start in
     let at = passed.place ∙ ap (λ (z : Place). place_after z (blank_front text)) c.begin.ensures.place in
-    rw (is, same) (explains-in_record g.R.Read.remaining c.args.self.now
-    (record { alloc = c.begin.new.self.alloc; input = c.take_record.new.input; gathered = c.take_record.new.self; has_begun = c.begin.new.self.has_begun })
-    c.skip_blank_lines.new.self.place text rest _ passed.splits at (c.in_err-take_record.ensures.fails rest passed.left))
+    rw (is, same) (explains-in_record g.R.Read.remaining c.args.self.now (record {
+      alloc = c.begin.new.self.alloc;
+      input = c.take_record.new.input;
+      gathered = c.take_record.new.self;
+      limits = c.begin.new.self.limits;
+      has_begun = c.begin.new.self.has_begun;
+    })
+    c.skip_blank_lines.new.self.place c.begin-2.new.self text rest _ passed.splits at c.begin-2.ensures.fields c.begin-2.ensures.front
+    (c.begin-2.ensures.limits ∙ c.begin.ensures.limits) c.begin-2.ensures.line (c.in_err-take_record.ensures.fails rest passed.left))
 
 pub returns-in-Ok-clause-record : goal.returns-in-Ok-clause-record
 returns-in-Ok-clause-record g c text e =
     let start = sym (unread-begun g.R.Read.remaining c.begin.new.self c.in_ok-begin.ensures.begun) ∙ c.in_ok-begin.ensures.text text e in
     let (rest, passed, more) = c.in_ok-has_more.ensures.passes text start in
     let k = c.in_ok-take_record.ensures.ok rest passed.left in
-    let taken = takes-record g.R.Read.remaining c.begin.new.self.input c.skip_blank_lines.new.self c.take_record.new.input text rest c.clear.new.self
+    let taken = takes-record g.R.Read.remaining c.begin.new.self.input c.skip_blank_lines.new.self c.take_record.new.input text rest c.begin-2.new.self
     c.take_record.new.self
-    c.skip_blank_lines.new.self.place.line passed (more.0 c.if-not-has_more.false) c.clear.ensures.fields c.clear.ensures.front refl k
+    c.skip_blank_lines.new.self.place.line passed (more.0 c.if-not-has_more.false) c.begin-2.ensures.fields c.begin-2.ensures.front refl k
     in
     let begun = c.give.ensures.begun ∙ c.in_ok-begin.ensures.begun in
     let unread = unread-begun g.R.Read.remaining c.give.new.self begun ∙ ap (rest_of g.R.Read.remaining) c.give.ensures.input ∙ k.passes.left in (
@@ -48,9 +54,9 @@ returns-in-Err-clause-fault g c text e =
     let start = sym (unread-begun g.R.Read.remaining c.begin.new.self c.in_ok-begin.ensures.begun) ∙ c.in_ok-begin.ensures.text text e in
     let (rest, passed, more) = c.in_ok-has_more.ensures.passes text start in
     let k = c.in_ok-take_record.ensures.ok rest passed.left in
-    let taken = takes-record g.R.Read.remaining c.begin.new.self.input c.skip_blank_lines.new.self c.take_record.new.input text rest c.clear.new.self
+    let taken = takes-record g.R.Read.remaining c.begin.new.self.input c.skip_blank_lines.new.self c.take_record.new.input text rest c.begin-2.new.self
     c.take_record.new.self
-    c.skip_blank_lines.new.self.place.line passed (more.0 c.if-not-has_more.false) c.clear.ensures.fields c.clear.ensures.front refl k
+    c.skip_blank_lines.new.self.place.line passed (more.0 c.if-not-has_more.false) c.begin-2.ensures.fields c.begin-2.ensures.front refl k
     in
     let begun = c.give.ensures.begun ∙ c.in_ok-begin.ensures.begun in
     let unread = unread-begun g.R.Read.remaining c.give.new.self begun ∙ ap (rest_of g.R.Read.remaining) c.give.ensures.input ∙ k.passes.left in (
@@ -61,4 +67,9 @@ returns-in-Err-clause-fault g c text e =
         takes-same _ _ text _ _ _ _ _ _ c.begin.ensures.place refl (sym (place-of c.give.ensures.input)) taken,
       ),
       c.in-Err.ensures.bad,
+      rw (c.begin-2.ensures.limits, c.begin.ensures.limits) at c.in_ok-take_record.ensures.within,
     )
+
+pub returns-in-Ok-clause-within : goal.returns-in-Ok-clause-within
+returns-in-Ok-clause-within g c =
+    rw (c.begin-2.ensures.limits, c.begin.ensures.limits, ← c.in-Ok.ensures.ok) at c.in_ok-take_record.ensures.within

@@ -1,0 +1,103 @@
+//! Limits: documents read within one, with each growth refused, and first records of very many columns.
+
+use crate::Unwatched;
+use crate::tests::json;
+use std::alloc::{AllocError, Global};
+use std::test::Fail;
+use strkw_document::{DocumentTextFault, read_document};
+use strkw_pattern::NoPatterns;
+use strkw_plan::Rules;
+use strkw_table::{TableFault, check_table};
+
+// What is told of a document's bytes: its text as JSON, or what its fault says.
+fn document(alloc: Global, bytes: &[u8], longest: Option<u64>) -> Result<String, Fail> {
+    match read_document(alloc, bytes, longest) {
+        Ok(value) => Ok(format!(in alloc; "{value}")?),
+        Err(DocumentTextFault::Memory) => Err(AllocError.into()),
+        Err(fault) => Ok(format!(in alloc; "{fault}")?),
+    }
+}
+
+// Where it had memory it reads a document, or says why it is none.
+#[test]
+fn read_document_under_refusal(rt: HostRuntime) -> Result<(), Fail> {
+    let long = "the document is longer than 4 bytes";
+    for (bytes, longest, wanted) in [
+        (&b"[12]"[..], Some(4), "[12]"),
+        (&b"[12] "[..], Some(4), long),
+        (&b"[123]"[..], Some(4), long),
+        (&b"[123]"[..], None, "[123]"),
+        (&b"[12]"[..], Some(u64::MAX), "[12]"),
+        (&b"\"\xff\""[..], Some(4), "the document is not UTF-8"),
+        (&b"\"\xff\"  "[..], Some(4), long),
+        (
+            &b"[1"[..],
+            Some(2),
+            "the document is not JSON: EOF while parsing at line 1 column 2",
+        ),
+        (
+            &b""[..],
+            Some(0),
+            "the document is not JSON: EOF while parsing at line 1 column 0",
+        ),
+    ] {
+        if document(rt.alloc(), bytes, longest)?.as_str() != wanted {
+            return Err(Fail::new(wanted));
+        }
+    }
+    Ok(())
+}
+
+// What is told of a file whose first record has one name so many times, and whose second record so many empty fields.
+fn file_of_columns(alloc: Global, plan: &str, columns: usize) -> Result<String, Fail> {
+    let plan = json(alloc, plan)?;
+    let mut file = String::new(alloc);
+    for _ in 1..columns {
+        file.push_str("a,")?;
+    }
+    file.push_str("a\n")?;
+    for _ in 1..columns {
+        file.push_str(",")?;
+    }
+    let mut out = Vec::new(alloc);
+    let rules = Rules::new(&NoPatterns);
+    match check_table(
+        alloc,
+        &rules,
+        &plan,
+        file.as_bytes(),
+        &mut out,
+        &mut Unwatched,
+    ) {
+        Ok(checked) => Ok(format!(in alloc; "{} errors", checked.errors)?),
+        Err(TableFault::Memory) => Err(AllocError.into()),
+        Err(fault) => Ok(format!(in alloc; "{fault}")?),
+    }
+}
+
+// A file has 10,000 columns at most, where its plan does not let it have more.
+#[test]
+fn a_file_has_ten_thousand_columns_at_most(rt: HostRuntime) -> Result<(), Fail> {
+    let each = r#"{"draft":7,"columns":{"a":{"minLength":1}},"duplicates":"each"}"#;
+    let more =
+        r#"{"draft":7,"columns":{"a":{"minLength":1}},"duplicates":"each","limits":{"columns":10001}}"#;
+    for (plan, columns, wanted) in [
+        (each, 10_000, "10000 errors"),
+        (
+            each,
+            10_001,
+            "the first record has 10001 columns, more than 10000",
+        ),
+        (more, 10_001, "10001 errors"),
+        (
+            more,
+            10_002,
+            "the first record has 10002 columns, more than 10001",
+        ),
+    ] {
+        if file_of_columns(rt.alloc(), plan, columns)?.as_str() != wanted {
+            return Err(Fail::new(wanted));
+        }
+    }
+    Ok(())
+}

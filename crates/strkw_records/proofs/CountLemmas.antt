@@ -1,0 +1,331 @@
+-- What was gathered, counted against the limits.
+use Rattle.std.proofs.Common.{◌≡◌, ◌≤◌, ◌<◌, ◌+◌, ◌-◌, ℕ, zero, suc, List, [], ◌∷◌, ◌++◌, take, drop, length, refl, sym, ap, arith, ◌∙◌, append_assoc, get_or, Option, Some, None, subst, inl, inr, length-append}
+use Rattle.std.specs.Prelude.{IfSome, unwrap_or}
+use Rattle.std.proofs.lemmas.List.{append-nil, take_more, take-append-drop}
+use Rattle.csv.specs.Machine.{Runs}
+use Rattle.csv.specs.Reading.{default_config}
+use Rattle.csv.specs.Records.{Row, fields_of, partial_of}
+use Rattle.csv.specs.declared.parser.State.{State}
+use Rattle.csv.specs.declared.parser.State.TheVariants as st
+use Rattle.strkw_records.specs.declared.faults.ReadFault.{ReadFault}
+use Rattle.strkw_records.specs.declared.faults.ReadFault.TheVariants as fault
+use Rattle.strkw_records.specs.declared.gathered.FieldEnd.{FieldEnd}
+use Rattle.strkw_records.specs.declared.gathered.FieldEnd.TheVariants as end
+use Rattle.strkw_records.specs.declared.gathered.Gathered.{Gathered}
+use Rattle.strkw_records.specs.declared.limits.Limits.{Limits}
+use Rattle.strkw_records.specs.declared.place.Place.{Place}
+use Rattle.strkw_records.specs.Counts.{Counts, CountsTo, Ends, FailsByRun, HasComma, HasRoom, IsCounted, IsLongBy, IsLongByComma, size_of}
+use Rattle.strkw_records.specs.Limits.{AreShort, AreWithin, IsFirstPast, with_commas}
+use Rattle.strkw_records.specs.Outcomes.{FailsOutside, Outcome, fields_read, front_of_field, read_from, whole_fields}
+use Rattle.strkw_records.specs.Records.{quote}
+use Rattle.strkw_records.proofs.InputLemmas.{take-length, take-none}
+use Rattle.strkw_records.proofs.OutcomeLemmas.{closed, opened, outcome-comma, outcome-run, outcome-step, read-inside, read-none, read-plain, read-quoted, runs-take}
+
+-- what holds of a limit, if there is one
+pub each-some : (o : Option ℕ) (Q : ℕ → Type 0) → ((n : ℕ) → o ≡ Some n → Q n) → IfSome o Q
+each-some None Q f = tt
+each-some (Some n) Q f = f n refl
+
+pub at-some : (o : Option ℕ) (P : ℕ → Type 0) (n : ℕ) → o ≡ Some n → IfSome o P → P n
+at-some None P n e h = cc e
+at-some (Some m) P n e h = let same : m ≡ n = cc in subst P same h
+
+-- one more field
+pub with_commas-more : (fields : List (List ℕ)) (field : List ℕ) → with_commas (fields ++ (field ∷ [])) ≡ with_commas fields + (length field + 1)
+unfolding with_commas
+with_commas-more [] field = omega arith
+with_commas-more (f ∷ fields) field = let more = with_commas-more fields field in omega (arith, more)
+
+pub short-more : (limit : ℕ) (fields : List (List ℕ)) (field : List ℕ) → AreShort limit fields → length field ≤ limit → AreShort limit (fields ++ (field ∷ []))
+short-more limit [] field h k = (k, tt)
+short-more limit (f ∷ fields) field h k = (h.0, short-more limit fields field h.1 k)
+
+-- the front of a field, with more bytes that there is room for
+pub within-more : (g : Gathered) (y : List ℕ) → IsCounted g → HasRoom g (length y)
+    → AreWithin g.limits (whole_fields g ++ ((front_of_field g ++ y) ∷ []))
+within-more g y k h = record {
+  whole = each-some g.limits.«record» _ (λ n is.
+      let fits = at-some g.limits.«record» _ n is h.whole in
+      let more = with_commas-more (whole_fields g) (front_of_field g ++ y) in
+      let long = length-append (front_of_field g) y in
+      omega (arith, fits, more, long));
+  each = each-some g.limits.field _ (λ n is.
+      let fits = at-some g.limits.field _ n is h.each in
+      let short = at-some g.limits.field _ n is k.each in
+      let long = length-append (front_of_field g) y in
+      short-more n (whole_fields g) (front_of_field g ++ y) short.0 (omega (arith, fits, long)));
+}
+
+-- no field at all
+pub within-none : (limits : Limits) → AreWithin limits []
+unfolding with_commas
+within-none limits = record {
+  whole = each-some limits.«record» _ (λ n is. omega arith);
+  each = each-some limits.field _ (λ n is. tt);
+}
+
+pub room-none : (g : Gathered) → IsCounted g → HasRoom g 0
+room-none g k = record {
+  whole = each-some g.limits.«record» _ (λ n is. let fits = at-some g.limits.«record» _ n is k.whole in omega (arith, fits.0, fits.1));
+  each = each-some g.limits.field _ (λ n is. let fits = at-some g.limits.field _ n is k.each in omega (arith, fits.1));
+}
+
+-- two names of one limit
+pub some-same : (o : Option ℕ) (n m : ℕ) → o ≡ Some n → o ≡ Some m → n ≡ m
+some-same o n m h k = let e : Some n ≡ Some m = sym h ∙ k in cc e
+
+-- nothing is in either part
+pub nil-left : (x y : List ℕ) → x ++ y ≡ [] → x ≡ []
+nil-left [] y e = refl
+nil-left (c ∷ x) y e = cc e
+
+pub nil-right : (x y : List ℕ) → x ++ y ≡ [] → y ≡ []
+nil-right [] y e = e
+nil-right (c ∷ x) y e = cc e
+
+pub front-items : (g : Gathered) → partial_of g.fields ≡ [] → front_of_field g ≡ g.field.items
+front-items g e = ap (λ (l : List ℕ). l ++ g.field.items) e
+
+-- no fields yet
+pub counted-none : (g : Gathered) (most : ℕ) → whole_fields g ≡ [] → partial_of g.fields ≡ [] → g.field.items ≡ []
+    → g.room ≡ unwrap_or g.limits.«record» most → IsCounted g
+unfolding with_commas
+counted-none g most w p i e = record {
+  no_partial = p;
+  whole = each-some g.limits.«record» _ (λ n is.
+      let room : g.room ≡ n = rw is at e in
+      let size = ap length (front-items g p ∙ i) in
+      let none = ap with_commas w in
+      (omega (arith, none, room), omega (arith, size)));
+  each = each-some g.limits.field _ (λ n is. let size = ap length (front-items g p ∙ i) in (rw w tt, omega (arith, size)));
+}
+
+-- more bytes of the field
+pub counted-run : (g g2 : Gathered) (y : List ℕ) → IsCounted g → HasRoom g (length y) → g2.limits ≡ g.limits → g2.room ≡ g.room
+    → g2.fields ≡ g.fields → front_of_field g2 ≡ front_of_field g ++ y → IsCounted g2
+counted-run g g2 y k h limits room fields f = record {
+  no_partial = rw fields k.no_partial;
+  whole = each-some g2.limits.«record» _ (λ n is.
+      let given = sym (ap (λ (l : Limits). l.«record») limits) ∙ is in
+      let have = at-some g.limits.«record» _ n given k.whole in
+      let fits = at-some g.limits.«record» _ n given h.whole in
+      let same = ap (λ (r : Row). with_commas (fields_of r)) fields in
+      let long = ap length f ∙ length-append (front_of_field g) y in
+      (omega (arith, have.0, room, same), omega (arith, have.0, fits, room, long)));
+  each = each-some g2.limits.field _ (λ n is.
+      let given = sym (ap (λ (l : Limits). l.field) limits) ∙ is in
+      let have = at-some g.limits.field _ n given k.each in
+      let fits = at-some g.limits.field _ n given h.each in
+      let long = ap length f ∙ length-append (front_of_field g) y in
+      (rw fields have.0, omega (arith, fits, long)));
+}
+
+-- the end of the field, and a comma
+pub counted-comma : (g g2 : Gathered) (n : ℕ) (y : List ℕ) → length y ≡ n → IsCounted g → HasRoom g n → HasComma g n → Ends g n g2
+    → whole_fields g2 ≡ whole_fields g ++ ((front_of_field g ++ y) ∷ []) → front_of_field g2 ≡ [] → Counts g g2
+counted-comma g g2 n y size k h comma e w f = record {
+  limits = e.limits;
+  line = e.line;
+  counted = record {
+    no_partial = nil-left (partial_of g2.fields) g2.field.items f;
+    whole = each-some g2.limits.«record» _ (λ r is.
+        let given = sym (ap (λ (l : Limits). l.«record») e.limits) ∙ is in
+        let have = at-some g.limits.«record» _ r given k.whole in
+        let fits = at-some g.limits.«record» _ r given comma in
+        let all = ap with_commas w ∙ with_commas-more (whole_fields g) (front_of_field g ++ y) in
+        let long = length-append (front_of_field g) y in
+        let items = ap length (front-items g k.no_partial) in
+        let room = e.room in
+        let none = ap length f in
+        (omega (arith, have.0, fits, all, long, items, room, size), omega (arith, none)));
+    each = each-some g2.limits.field _ (λ r is.
+        let given = sym (ap (λ (l : Limits). l.field) e.limits) ∙ is in
+        let have = at-some g.limits.field _ r given k.each in
+        let fits = at-some g.limits.field _ r given h.each in
+        let long = length-append (front_of_field g) y in
+        let none = ap length f in
+        (rw w (short-more r (whole_fields g) (front_of_field g ++ y) have.0 (omega (arith, fits, long, size))), omega (arith, none)));
+  };
+}
+
+-- a field that is taken whole
+pub counted-whole : (g g2 : Gathered) (field : List ℕ) → IsCounted g → length field < g.room → IfSome g.limits.field (λ limit. length field ≤ limit)
+    → g2.limits ≡ g.limits → g2.room ≡ g.room - (length field + 1) → whole_fields g2 ≡ whole_fields g ++ (field ∷ []) → front_of_field g2 ≡ [] → IsCounted g2
+counted-whole g g2 field k fits short limits room w f = record {
+  no_partial = nil-left (partial_of g2.fields) g2.field.items f;
+  whole = each-some g2.limits.«record» _ (λ r is.
+      let given = sym (ap (λ (l : Limits). l.«record») limits) ∙ is in
+      let have = at-some g.limits.«record» _ r given k.whole in
+      let all = ap with_commas w ∙ with_commas-more (whole_fields g) field in
+      let none = ap length f in
+      (omega (arith, have.0, fits, all, room), omega (arith, none)));
+  each = each-some g2.limits.field _ (λ r is.
+      let given = sym (ap (λ (l : Limits). l.field) limits) ∙ is in
+      let have = at-some g.limits.field _ r given k.each in
+      let most = at-some g.limits.field _ r given short in
+      let none = ap length f in
+      (rw w (short-more r (whole_fields g) field have.0 most), omega (arith, none)));
+}
+
+pub within-whole : (g : Gathered) (field : List ℕ) (all : List (List ℕ)) → IsCounted g → length field < g.room
+    → IfSome g.limits.field (λ limit. length field ≤ limit) → all ≡ whole_fields g ++ (field ∷ []) → AreWithin g.limits all
+within-whole g field all k fits short w = record {
+  whole = each-some g.limits.«record» _ (λ r is.
+      let have = at-some g.limits.«record» _ r is k.whole in
+      let size = ap with_commas w ∙ with_commas-more (whole_fields g) field in
+      omega (arith, have.0, fits, size));
+  each = each-some g.limits.field _ (λ r is.
+      let have = at-some g.limits.field _ r is k.each in
+      let most = at-some g.limits.field _ r is short in
+      rw w (short-more r (whole_fields g) field have.0 most));
+}
+
+-- the end of the last field
+pub within-end : (g : Gathered) (n : ℕ) (y : List ℕ) (all : List (List ℕ)) → length y ≡ n → IsCounted g → HasRoom g n
+    → all ≡ whole_fields g ++ ((front_of_field g ++ y) ∷ []) → AreWithin g.limits all
+within-end g n y all size k h w = subst (λ (fs : List (List ℕ)). AreWithin g.limits fs) (sym w) (within-more g y k (rw size h))
+
+-- more of the same record
+pub counts-none : (g : Gathered) → IsCounted g → Counts g g
+counts-none g k = record { limits = refl; line = refl; counted = k }
+
+pub counts-later : (g g1 g2 : Gathered) → Counts g g1 → Counts g1 g2 → Counts g g2
+counts-later g g1 g2 h k = record { limits = k.limits ∙ h.limits; line = k.line ∙ h.line; counted = k.counted }
+
+pub counts-to : (g g1 g2 : Gathered) (end : FieldEnd) → Counts g g1 → CountsTo g1 g2 end → CountsTo g g2 end
+counts-to g g1 g2 end.Comma h k = counts-later g g1 g2 h k
+counts-to g g1 g2 end.Record h k = rw h.limits at k
+
+-- a text, at one of the bytes of its front
+split-at : (x rest text : List ℕ) (n : ℕ) → text ≡ x ++ rest → n < length x → text ≡ take n x ++ (get_or x n 0 ∷ (drop (n + 1) x ++ rest))
+split-at x rest text n e h =
+    e ∙ ap (λ (l : List ℕ). l ++ rest) (sym (take-append-drop (n + 1) x))
+    ∙ ap (λ (l : List ℕ). (l ++ drop (n + 1) x) ++ rest) (take_more x n 0 h)
+    ∙ append_assoc (take n x ++ (get_or x n 0 ∷ [])) (drop (n + 1) x) rest
+    ∙ append_assoc (take n x) (get_or x n 0 ∷ []) (drop (n + 1) x ++ rest)
+
+-- what is read behind bytes that only join the field
+abbrev pub Joins : State → Gathered → List ℕ → Type 0
+Joins s g x = (k : ℕ) → read_from s g (take k x) ≡ whole_fields g ++ ((front_of_field g ++ take k x) ∷ [])
+
+first-at : (s : State) (g : Gathered) (text x rest : List ℕ) (n : ℕ) → text ≡ x ++ rest → n < length x → Joins s g x → IsCounted g → HasRoom g n
+    → IsFirstPast (read_from s g) g.limits text (whole_fields g ++ ((front_of_field g ++ take (n + 1) x) ∷ []))
+first-at s g text x rest n e lt j k h = record {
+  before = take n x;
+  byte = get_or x n 0;
+  rest = drop (n + 1) x ++ rest;
+  splits = split-at x rest text n e lt;
+  within = within-end g n (take n x) (read_from s g (take n x)) (sym (take-length n x (omega (arith, lt)))) k h (j n);
+  behind = sym (ap (λ (l : List ℕ). read_from s g l) (sym (take_more x n 0 lt)) ∙ j (n + 1));
+}
+
+-- so long is the field behind them
+front-size : (g : Gathered) (x : List ℕ) (n : ℕ) → n < length x → length (front_of_field g ++ take (n + 1) x) ≡ length (front_of_field g) + (n + 1)
+front-size g x n lt =
+    let long = length-append (front_of_field g) (take (n + 1) x) in
+    let size = take-length (n + 1) x (omega (arith, lt)) in
+    omega (arith, long, size)
+
+-- bytes of a field, of which one passes a limit
+pub long-joins : (p : Place) (s : State) (g : Gathered) (text x rest : List ℕ) (e : ReadFault) → text ≡ x ++ rest → Joins s g x → IsCounted g
+    → IsLongBy g (length x) e → FailsOutside p s g text e
+long-joins p s g text x rest (fault.LongField line number limit) is j k h =
+    let have = at-some g.limits.field _ limit h.given k.each in
+    let lt : limit - length (front_of_field g) < length x = let long = h.long in omega (arith, have.1, long) in
+    let room : HasRoom g (limit - length (front_of_field g)) = record {
+      whole = each-some g.limits.«record» _ (λ r given. let first = at-some g.limits.«record» _ r given h.first in omega (arith, have.1, first));
+      each = each-some g.limits.field _ (λ r given. let same = some-same g.limits.field r limit given h.given in omega (arith, have.1, same));
+    } in
+    let size = front-size g x (limit - length (front_of_field g)) lt in
+    inr (
+      h.at_line,
+      record {
+        earlier = whole_fields g;
+        field = front_of_field g ++ take ((limit - length (front_of_field g)) + 1) x;
+        first = first-at s g text x rest (limit - length (front_of_field g)) is lt j k room;
+        counts = h.counts;
+        given = h.given;
+        long = omega (arith, have.1, size);
+      },
+    )
+long-joins p s g text x rest (fault.LongRecord line limit) is j k h =
+    let have = at-some g.limits.«record» _ limit h.given k.whole in
+    let long = h.long in
+    let lt : limit - size_of g < length x = omega (arith, have.0, have.1, long) in
+    let room : HasRoom g (limit - size_of g) = record {
+      whole = each-some g.limits.«record» _ (λ r given. let same = some-same g.limits.«record» r limit given h.given in omega (arith, have.0, have.1, same));
+      each = each-some g.limits.field _ (λ r given. let first = at-some g.limits.field _ r given h.first in omega (arith, have.0, have.1, first));
+    } in
+    let size = front-size g x (limit - size_of g) lt in
+    let all = with_commas-more (whole_fields g) (front_of_field g ++ take ((limit - size_of g) + 1) x) in
+    inr (
+      h.at_line,
+      record {
+        fields = whole_fields g ++ ((front_of_field g ++ take ((limit - size_of g) + 1) x) ∷ []);
+        first = first-at s g text x rest (limit - size_of g) is lt j k room;
+        given = h.given;
+        long = omega (arith, have.0, have.1, size, all);
+        each = each-some g.limits.field _ (λ r given.
+            let first = at-some g.limits.field _ r given h.first in
+            let short = at-some g.limits.field _ r given k.each in
+            short-more r (whole_fields g) _ short.0 (omega (arith, have.0, have.1, first, size)));
+      },
+    )
+long-joins p s g text x rest (fault.Read e) is j k h = absurd h
+long-joins p s g text x rest (fault.OpenQuote line) is j k h = absurd h
+long-joins p s g text x rest (fault.NotUtf8 line number) is j k h = absurd h
+long-joins p s g text x rest fault.Memory is j k h = inl tt
+long-joins p s g text x rest fault.TooLong is j k h = absurd h
+
+-- the same, of bytes that were not gathered
+pub by-run : (p : Place) (s : State) (g : Gathered) (text x rest : List ℕ) (n : ℕ) (e : ReadFault) → length x ≡ n → text ≡ x ++ rest → Joins s g x
+    → IsCounted g → FailsByRun p g n text e → FailsOutside p s g text e
+by-run p s g text x rest n e size is j k (inl h) = inl h
+by-run p s g text x rest n e size is j k (inr h) = long-joins p s g text x rest e is j k (rw (← size) at h)
+
+pub joins-plain : (g : Gathered) (x : List ℕ) → Runs default_config st.InField x → Joins st.InField g x
+joins-plain g x r k = read-plain (whole_fields g) (front_of_field g) (take k x) (runs-take st.InField k x r)
+
+pub joins-quoted : (g : Gathered) (x : List ℕ) → Runs default_config st.InQuoted x → Joins st.InQuoted g x
+joins-quoted g x r k = read-quoted (whole_fields g) (front_of_field g) (take k x) (runs-take st.InQuoted k x r)
+
+-- the second of a pair of quotes
+pub joins-pair : (g : Gathered) → Joins st.AfterQuote g (quote ∷ [])
+joins-pair g zero = read-none st.AfterQuote (whole_fields g) (front_of_field g) closed
+    ∙ ap (λ (f : List ℕ). whole_fields g ++ (f ∷ [])) (sym (append-nil (front_of_field g)))
+joins-pair g (suc k) =
+    ap (λ (l : List ℕ). read_from st.AfterQuote g (quote ∷ l)) (take-none k)
+    ∙ ap (λ (o : Outcome). fields_read o) (outcome-step st.AfterQuote (whole_fields g) (front_of_field g) quote [] refl)
+    ∙ read-inside (whole_fields g) (front_of_field g ++ (quote ∷ []))
+    ∙ ap (λ (l : List ℕ). whole_fields g ++ ((front_of_field g ++ (quote ∷ l)) ∷ [])) (sym (take-none k))
+
+-- a comma that passes the limit of the record
+pub long-comma : (p : Place) (g : Gathered) (text x rest : List ℕ) (n : ℕ) (e : ReadFault) → length x ≡ n → text ≡ x ++ (44 ∷ rest)
+    → Runs default_config st.InField x → IsCounted g → HasRoom g n → IsLongByComma g n e → FailsOutside p st.InField g text e
+long-comma p g text x rest n e count is r k h c =
+    let size = length-append (front_of_field g) x in
+    let one = with_commas-more (whole_fields g) (front_of_field g ++ x) in
+    let all = with_commas-more (whole_fields g ++ ((front_of_field g ++ x) ∷ [])) [] in
+    let full = c.full in
+    rw c.is (inr (
+      refl,
+      record {
+        fields = (whole_fields g ++ ((front_of_field g ++ x) ∷ [])) ++ ([] ∷ []);
+        first = record {
+          before = x;
+          byte = 44;
+          rest = rest;
+          splits = is;
+          within = within-end g n x (read_from st.InField g x) count k h (read-plain (whole_fields g) (front_of_field g) x r);
+          behind = sym (ap (λ (o : Outcome). fields_read o) (outcome-run st.InField (whole_fields g) (front_of_field g) x (44 ∷ []) r
+              ∙ outcome-comma (whole_fields g) (front_of_field g ++ x) [])
+              ∙ read-none st.StartField (whole_fields g ++ ((front_of_field g ++ x) ∷ [])) [] opened);
+        };
+        given = c.given;
+        long = omega (arith, size, one, all, full, count);
+        each = each-some g.limits.field _ (λ m given.
+            let short = at-some g.limits.field _ m given k.each in
+            let fits = at-some g.limits.field _ m given h.each in
+            short-more m _ [] (short-more m (whole_fields g) (front_of_field g ++ x) short.0 (omega (arith, fits, size, count))) (omega arith));
+      },
+    ))

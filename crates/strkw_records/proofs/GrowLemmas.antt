@@ -1,0 +1,189 @@
+-- A record grows byte by byte.
+use Rattle.std.proofs.Common.{◌≡◌, ◌≤◌, ℕ, List, [], ◌∷◌, ◌++◌, length, Bool, true, false, refl, sym, arith, ◌∙◌, append_assoc, length-append, subst}
+use Rattle.std.specs.Prelude.{◌==◌, if◌then◌else◌}
+use Rattle.csv.specs.Machine.{after_end, ends_with, field_after, fields_after, is_end, step}
+use Rattle.csv.specs.Reading.{default_config}
+use Rattle.csv.specs.declared.parser.Action.{Action}
+use Rattle.csv.specs.declared.parser.Action.TheVariants as act
+use Rattle.csv.specs.declared.parser.State.{State}
+use Rattle.csv.specs.declared.parser.State.TheVariants as st
+use Rattle.strkw_records.specs.declared.limits.Limits.{Limits}
+use Rattle.strkw_records.specs.Limits.{AreShort, AreWithin, IsFirstPast, IsLongField, IsLongRecord, fields_so_far, with_commas}
+use Rattle.strkw_records.specs.Outcomes.{Taken, fields_read, outcome}
+use Rattle.strkw_records.proofs.CountLemmas.{at-some, short-more, with_commas-more}
+use Rattle.strkw_records.proofs.OutcomeLemmas.{read-of_outcome}
+
+-- fields that go on as others
+abbrev pub Grows : List (List ℕ) → List (List ℕ) → Type 0
+Grows before after = (with_commas before ≤ with_commas after) × ((limit : ℕ) → AreShort limit after → AreShort limit before)
+
+grows-same : (fields : List (List ℕ)) → Grows fields fields
+grows-same fields = (omega arith, λ limit h. h)
+
+grows-none : (fields : List (List ℕ)) → Grows [] fields
+unfolding with_commas
+grows-none fields = (omega arith, λ limit h. tt)
+
+grows-trans : (a b c : List (List ℕ)) → Grows a b → Grows b c → Grows a c
+grows-trans a b c h k =
+    let one = h.0 in
+    let two = k.0 in
+    (omega (arith, one, two), λ limit s. h.1 limit (k.1 limit s))
+
+-- the last field, and those before it
+short-parts : (limit : ℕ) (fields : List (List ℕ)) (field : List ℕ) → AreShort limit (fields ++ (field ∷ []))
+    → AreShort limit fields × (length field ≤ limit)
+short-parts limit [] field h = (tt, h.0)
+short-parts limit (f ∷ fields) field h = let more = short-parts limit fields field h.1 in ((h.0, more.0), more.1)
+
+grows-copy : (fields : List (List ℕ)) (field : List ℕ) (c : ℕ) → Grows (fields ++ (field ∷ [])) (fields ++ ((field ++ (c ∷ [])) ∷ []))
+grows-copy fields field c =
+    let one = with_commas-more fields field in
+    let two = with_commas-more fields (field ++ (c ∷ [])) in
+    let size = length-append field (c ∷ []) in (
+      omega (arith, one, two, size),
+      λ limit h. let parts = short-parts limit fields (field ++ (c ∷ [])) h in
+          let last = parts.1 in short-more limit fields field parts.0 (omega (arith, last, size)),
+    )
+
+grows-comma : (fields : List (List ℕ)) (field : List ℕ) → Grows (fields ++ (field ∷ [])) ((fields ++ (field ∷ [])) ++ ([] ∷ []))
+grows-comma fields field =
+    let one = with_commas-more (fields ++ (field ∷ [])) [] in
+    (omega (arith, one), λ limit h. (short-parts limit (fields ++ (field ∷ [])) [] h).0)
+
+-- one byte that ends no record
+grows-step : (a : Action) (fields : List (List ℕ)) (field : List ℕ) (c : ℕ) → is_end a ≡ false
+    → Grows (fields ++ (field ∷ [])) (fields_after a fields field ++ (field_after a c field ∷ []))
+grows-step act.Copy fields field c e = grows-copy fields field c
+grows-step act.Skip fields field c e = grows-same (fields ++ (field ∷ []))
+grows-step act.EndField fields field c e = grows-comma fields field
+grows-step act.EndRecord fields field c e = cc e
+
+-- the states in a record
+data Within : State → Type 0 where
+  start_field : Within st.StartField
+  in_field : Within st.InField
+  in_quoted : Within st.InQuoted
+  after_quote : Within st.AfterQuote
+
+-- one of two steps
+abbrev pub pick : Bool → State × Action → State × Action → State × Action
+pick b x y = if b then x else y
+
+-- a step outside quotes, by whether the byte is a comma or a line end
+abbrev pub outside : Bool → Bool → State → State × Action
+outside p q s = pick p (st.StartField, act.EndField) (pick q (s, act.EndRecord) (st.InField, act.Copy))
+
+within-outside : (p q : Bool) (s : State) → is_end (outside p q s).1 ≡ false → Within (outside p q s).0
+within-outside true q s e = start_field
+within-outside false true s e = cc e
+within-outside false false s e = in_field
+
+within-plain : (c : ℕ) → is_end (step default_config st.InField c).1 ≡ false → Within (step default_config st.InField c).0
+within-plain c e = within-outside (c == 44) (ends_with default_config.terminator c) (after_end default_config.terminator c) e
+
+-- the same where a quote leads to another state in the record
+within-quote : (b : Bool) (s : State) (a : Action) (c : ℕ) → Within s → is_end (pick b (s, a) (step default_config st.InField c)).1 ≡ false
+    → Within (pick b (s, a) (step default_config st.InField c)).0
+within-quote true s a c w e = w
+within-quote false s a c w e = within-plain c e
+
+within-inside : (b : Bool) → Within (pick b (st.AfterQuote, act.Skip) (st.InQuoted, act.Copy)).0
+within-inside true = after_quote
+within-inside false = in_quoted
+
+within-step : (s : State) (c : ℕ) → Within s → is_end (step default_config s c).1 ≡ false → Within (step default_config s c).0
+within-step _ c start_field e = within-quote (c == 34) st.InQuoted act.Skip c in_quoted e
+within-step _ c in_field e = within-plain c e
+within-step _ c in_quoted e = within-inside (c == 34)
+within-step _ c after_quote e = within-quote (c == 34) st.InQuoted act.Copy c in_quoted e
+
+-- what was gathered, and what a text then comes to
+grows-text : (s : State) (fields : List (List ℕ)) (field text : List ℕ) → Within s → Grows (fields ++ (field ∷ [])) (fields_read (outcome s fields field text))
+unfolding outcome
+grows-text _ fields field [] start_field = grows-same (fields ++ (field ∷ []))
+grows-text _ fields field [] in_field = grows-same (fields ++ (field ∷ []))
+grows-text _ fields field [] in_quoted = grows-same (fields ++ (field ∷ []))
+grows-text _ fields field [] after_quote = grows-same (fields ++ (field ∷ []))
+grows-text s fields field (c ∷ text) w = by (is_end (step default_config s c).1) refl
+    (λ e. grows-text (step default_config s c).0 (fields_after (step default_config s c).1 fields field) (field_after (step default_config s c).1 c field) text
+    (within-step s c w e))
+  where
+    by : (b : Bool) → is_end (step default_config s c).1 ≡ b
+        → (is_end (step default_config s c).1 ≡ false
+        → Grows (fields_after (step default_config s c).1 fields field ++ (field_after (step default_config s c).1 c field ∷ []))
+        (fields_read (outcome (step default_config s c).0 (fields_after (step default_config s c).1 fields field)
+        (field_after (step default_config s c).1 c field) text)))
+        → Grows (fields ++ (field ∷ [])) (fields_read (if b then Taken (fields ++ (field ∷ [])) text
+        else outcome (step default_config s c).0 (fields_after (step default_config s c).1 fields field) (field_after (step default_config s c).1 c field) text))
+    by true e more = grows-same (fields ++ (field ∷ []))
+    by false e more = grows-trans _ _ _ (grows-step (step default_config s c).1 fields field c e) (more e)
+
+-- the states before a record and in it
+data Reached : State → Type 0 where
+  before : Reached st.StartRecord
+  within : (s : State) → Within s → Reached s
+
+reached-begins : (b : Bool) (c : ℕ) → is_end (pick b (st.StartRecord, act.Skip) (step default_config st.StartField c)).1 ≡ false
+    → Reached (pick b (st.StartRecord, act.Skip) (step default_config st.StartField c)).0
+reached-begins true c e = before
+reached-begins false c e = within _ (within-step st.StartField c start_field e)
+
+reached-step : (s : State) (c : ℕ) → Reached s → is_end (step default_config s c).1 ≡ false → Reached (step default_config s c).0
+reached-step _ c before e = reached-begins (ends_with default_config.terminator c) c e
+reached-step _ c (within s w) e = within _ (within-step s c w e)
+
+-- a front of a text, and the text
+grows-front : (s : State) (fields : List (List ℕ)) (field x more : List ℕ) → Reached s
+    → Grows (fields_read (outcome s fields field x)) (fields_read (outcome s fields field (x ++ more)))
+unfolding outcome
+grows-front _ fields field [] more before = grows-none _
+grows-front _ fields field [] more (within _ start_field) = grows-text st.StartField fields field more start_field
+grows-front _ fields field [] more (within _ in_field) = grows-text st.InField fields field more in_field
+grows-front _ fields field [] more (within _ in_quoted) = grows-text st.InQuoted fields field more in_quoted
+grows-front _ fields field [] more (within _ after_quote) = grows-text st.AfterQuote fields field more after_quote
+grows-front s fields field (c ∷ x) more r = by (is_end (step default_config s c).1) refl
+    (λ e. grows-front (step default_config s c).0 (fields_after (step default_config s c).1 fields field) (field_after (step default_config s c).1 c field) x more
+    (reached-step s c r e))
+  where
+    by : (b : Bool) → is_end (step default_config s c).1 ≡ b
+        → (is_end (step default_config s c).1 ≡ false
+        → Grows (fields_read (outcome (step default_config s c).0 (fields_after (step default_config s c).1 fields field)
+        (field_after (step default_config s c).1 c field) x))
+        (fields_read (outcome (step default_config s c).0 (fields_after (step default_config s c).1 fields field)
+        (field_after (step default_config s c).1 c field) (x ++ more))))
+        → Grows (fields_read (if b then Taken (fields ++ (field ∷ [])) x
+        else outcome (step default_config s c).0 (fields_after (step default_config s c).1 fields field) (field_after (step default_config s c).1 c field) x))
+        (fields_read (if b then Taken (fields ++ (field ∷ [])) (x ++ more)
+        else outcome (step default_config s c).0 (fields_after (step default_config s c).1 fields field) (field_after (step default_config s c).1 c field)
+        (x ++ more)))
+    by true e later = grows-same (fields ++ (field ∷ []))
+    by false e later = later e
+
+-- the next record of a text, and that of a front
+grows-so_far : (x more : List ℕ) → Grows (fields_so_far x) (fields_so_far (x ++ more))
+grows-so_far x more =
+    subst (λ (fs : List (List ℕ)). Grows fs (fields_so_far (x ++ more))) (read-of_outcome st.StartRecord [] [] x)
+    (subst (λ (fs : List (List ℕ)). Grows (fields_read (outcome st.StartRecord [] [] x)) fs) (read-of_outcome st.StartRecord [] [] (x ++ more))
+    (grows-front st.StartRecord [] [] x more before))
+
+grows-past : (limits : Limits) (text : List ℕ) (fields : List (List ℕ)) → IsFirstPast fields_so_far limits text fields → Grows fields (fields_so_far text)
+grows-past limits text fields h =
+    let whole : (h.before ++ (h.byte ∷ [])) ++ h.rest ≡ text = append_assoc h.before (h.byte ∷ []) h.rest ∙ sym h.splits in
+    subst (λ (fs : List (List ℕ)). Grows fs (fields_so_far text)) (sym h.behind)
+    (subst (λ (l : List ℕ). Grows (fields_so_far (h.before ++ (h.byte ∷ []))) (fields_so_far l)) whole (grows-so_far (h.before ++ (h.byte ∷ [])) h.rest))
+
+-- within the limits none is passed
+pub within-no_long_record : (limits : Limits) (text : List ℕ) (limit : ℕ) → AreWithin limits (fields_so_far text)
+    → ¬ (IsLongRecord fields_so_far limits text limit)
+within-no_long_record limits text limit h k =
+    let most = at-some limits.«record» _ limit k.given h.whole in
+    let grown = (grows-past limits text k.fields k.first).0 in
+    let long = k.long in absurd (omega (arith, most, grown, long))
+
+pub within-no_long_field : (limits : Limits) (text : List ℕ) (number limit : ℕ) → AreWithin limits (fields_so_far text)
+    → ¬ (IsLongField fields_so_far limits text number limit)
+within-no_long_field limits text number limit h k =
+    let short = (grows-past limits text (k.earlier ++ (k.field ∷ [])) k.first).1 limit (at-some limits.field _ limit k.given h.each) in
+    let last = (short-parts limit k.earlier k.field short).1 in
+    let long = k.long in absurd (omega (arith, last, long))
