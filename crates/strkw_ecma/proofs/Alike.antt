@@ -1,200 +1,147 @@
--- Characters of one class: a covered pattern does not tell them apart.
-use Rattle.std.proofs.Common.{◌≡◌, ◌⊎◌, ℕ, zero, suc, ◌≤◌, ◌<◌, Bool, true, false, ◌&&◌, ◌||◌, List, [], ◌∷◌, Option, Some, None, length, get_or, refl, sym, ap, ◌∙◌, ⊎_elim, true≢false, if◌then◌else◌, arith, leb, eqb}
-use Rattle.std.proofs.lemmas.Bool.{leb-true, leb-false, le-leb, lt-leb, eqb-true, eq-eqb}
-use Rattle.std.proofs.Math.Utf8.{scalar_cases}
-use Rattle.std.specs.Char.{IsScalar}
-use Rattle.strkw_ecma.specs.Tree.{Look, Pattern, empty, class, look, cat, alt, star, plus, start, end, boundary, no_boundary, in_set, in_sets, differ, is_member}
+-- Characters about which the classes of a pattern give the same answers: the pattern does not tell them apart.
+use Rattle.std.proofs.Common.{◌≡◌, ℕ, zero, suc, ◌+◌, ◌*◌, ◌<◌, Bool, true, false, ◌&&◌, ◌||◌, List, [], ◌∷◌, Vec, Global, Option, Some, None, length, get_or, refl, sym, ap, ◌∙◌, ⊎_elim, true≢false, if◌then◌else◌, ◌==◌, option_map, arith}
+use Rattle.std.proofs.lemmas.Bool.{eqb-true}
+use Rattle.std.specs.Prelude.{is_some}
+use Rattle.strkw_ecma.specs.Tree.{Look, Pattern, empty, class, look, cat, alt, star, plus, start, end, boundary, no_boundary, in_sets, differ}
 use Rattle.strkw_ecma.specs.Meaning.{is_word, is_edge, holds}
-use Rattle.strkw_ecma.specs.Marks.{leaves, step}
-use Rattle.strkw_ecma.specs.Codes.{max_code_point}
-use Rattle.strkw_ecma.specs.Table.{class_of, has, has_if_some, next_char, covers_set, covers_sets, covers}
+use Rattle.strkw_ecma.specs.Marks.{leaves, step, classes, marked}
+use Rattle.strkw_ecma.specs.Columns.{answers, place_of, asks_word, has_boundary, TellsSets, Tells}
 use Rattle.strkw_ecma.specs.declared.tree.CharSet.{CharSet}
-use Rattle.strkw_ecma.specs.declared.tree.CharSet.TheVariants.{Range, Property}
-use Rattle.strkw_ecma.proofs.Steps.{and_left, and_right, or_left, or_right}
+use Rattle.strkw_ecma.proofs.Steps.{or_case, or_left, or_right}
 
-one_more : Bool → ℕ → ℕ
-one_more x n = if x then suc n else n
+-- between characters that ^, $ and, where p has them, \b and \B do not tell apart
+unfoldable pub SameWord : Pattern → Option ℕ → Option ℕ → Type 0
+SameWord p b e = has_boundary p ≡ true → is_word b ≡ is_word e
 
-pub class_most : (ts : List ℕ) (c : ℕ) → class_of ts c ≤ length ts
-class_most [] c = omega arith
-class_most (t ∷ ts) c = by (leb t c) (class_most ts c)
-  where
-    by : (x : Bool) → class_of ts c ≤ length ts → (if x then suc (class_of ts c) else class_of ts c) ≤ suc (length ts)
-    by true h = omega arith
-    by false h = omega arith
+pub first_word : (p q : Pattern) (b e : Option ℕ) → ((has_boundary p || has_boundary q) ≡ true → is_word b ≡ is_word e) → SameWord p b e
+unfolding SameWord
+first_word p q b e same h = same (or_left _ _ h)
 
--- a greater character is in no lesser class
-class_grows : (ts : List ℕ) (c d : ℕ) → c ≤ d → class_of ts c ≤ class_of ts d
-class_grows [] c d h = omega arith
-class_grows (t ∷ ts) c d h = by (leb t c) (leb t d) refl refl (class_grows ts c d h)
-  where
-    by : (x y : Bool) → leb t c ≡ x → leb t d ≡ y → class_of ts c ≤ class_of ts d
-        → (if x then suc (class_of ts c) else class_of ts c) ≤ (if y then suc (class_of ts d) else class_of ts d)
-    by true true e f m = omega arith
-    by false false e f m = m
-    by false true e f m = omega arith
-    by true false e f m =
-        let low : t ≤ c = leb-true t c e in
-        let high : d < t = leb-false t d f in
-        absurd (omega arith)
+pub other_word : (p q : Pattern) (b e : Option ℕ) → ((has_boundary p || has_boundary q) ≡ true → is_word b ≡ is_word e) → SameWord q b e
+unfolding SameWord
+other_word p q b e same h = same (or_right (has_boundary p) _ h)
 
--- the first character of a class tells none of the class apart
-one_first : (t n m c d : ℕ) (x y : Bool) → leb t c ≡ x → leb t d ≡ y → c ≤ d → n ≤ m
-    → (if x then suc n else n) ≡ (if y then suc m else m) → (x ≡ y) × (n ≡ m)
-one_first t n m c d true true e f h g k = (refl, omega arith)
-one_first t n m c d false false e f h g k = (refl, k)
-one_first t n m c d true false e f h g k =
-    let low : t ≤ c = leb-true t c e in
-    let high : d < t = leb-false t d f in
-    absurd (omega arith)
-one_first t n m c d false true e f h g k = absurd (omega arith)
+module _ (b e a d : Option ℕ) (edge : is_edge b ≡ is_edge e) (next_edge : is_edge a ≡ is_edge d) where
+  same_look : (l : Look) → (asks_word l ≡ true → is_word b ≡ is_word e) → (asks_word l ≡ true → is_word a ≡ is_word d)
+      → holds l b a ≡ holds l e d
+  same_look start word next_word = edge
+  same_look end word next_word = next_edge
+  same_look boundary word next_word = rw (word refl, next_word refl) refl
+  same_look no_boundary word next_word = rw (word refl, next_word refl) refl
 
-of_two : (u t c d : ℕ) (rest x : Bool) → eqb u t ≡ x → (x || rest) ≡ true → leb u c ≡ leb u d → (rest ≡ true → leb t c ≡ leb t d)
-    → leb t c ≡ leb t d
-of_two u t c d rest true is e here there =
-    let same : u ≡ t = eqb-true u t is in
-    ap (λ (v : ℕ). leb v c) (sym same) ∙ here ∙ ap (λ (v : ℕ). leb v d) same
-of_two u t c d rest false is e here there = there e
+  pub same_leaves : (p : Pattern) (x : Bool) → SameWord p b e → SameWord p a d → leaves b a p x ≡ leaves e d p x
+  unfolding SameWord
+  same_leaves empty x word next = refl
+  same_leaves (class m n rs) x word next = refl
+  same_leaves (look l) x word next = ap (λ (y : Bool). x && y) (same_look l word next)
+  same_leaves (cat p q) x word next =
+      ap (leaves b a q) (same_leaves p x (first_word p q b e word) (first_word p q a d next))
+      ∙ same_leaves q _ (other_word p q b e word) (other_word p q a d next)
+  same_leaves (alt p q) x word next =
+      ap (λ (y : Bool). y || leaves b a q x) (same_leaves p x (first_word p q b e word) (first_word p q a d next))
+      ∙ ap (λ (y : Bool). leaves e d p x || y) (same_leaves q x (other_word p q b e word) (other_word p q a d next))
+  same_leaves (star p) x word next = ap (λ (y : Bool). x || y) (same_leaves p false word next)
+  same_leaves (plus p) x word next =
+      ap (λ (y : Bool). leaves b a p (x || y)) (same_leaves p false word next) ∙ same_leaves p _ word next
 
-same_ordered : (ts : List ℕ) (c d : ℕ) → c ≤ d → class_of ts c ≡ class_of ts d → (t : ℕ) → has ts t ≡ true → leb t c ≡ leb t d
-same_ordered [] c d h k t e = absurd (true≢false (sym e))
-same_ordered (u ∷ us) c d h k t e =
-    let here = one_first u _ _ c d (leb u c) (leb u d) refl refl h (class_grows us c d h) k in
-    of_two u t c d (has us t) (eqb u t) refl e here.0 (same_ordered us c d h here.1 t)
+-- the digits are the answers
+one_digit : (a b : ℕ) (x y : Bool) → 2 * a + (if x then 1 else 0) ≡ 2 * b + (if y then 1 else 0) → (a ≡ b) × (x ≡ y)
+one_digit a b true true e = (omega arith, refl)
+one_digit a b false false e = (omega arith, refl)
+one_digit a b true false e = absurd (omega arith)
+one_digit a b false true e = absurd (omega arith)
 
-either_way : (c d : ℕ) → (c ≤ d) ⊎ (d ≤ c)
-either_way c d = grind arith
+same_before : (ks : List (Vec CharSet Global)) (a b c d : ℕ) → answers a ks c ≡ answers b ks d → a ≡ b
+same_before [] a b c d e = e
+same_before (k ∷ ks) a b c d e = (one_digit a b _ _ (same_before ks _ _ c d e)).0
 
--- characters of one class have reached the same first characters
-pub SameFirsts : List ℕ → ℕ → ℕ → Type 0
-SameFirsts ts c d = (t : ℕ) → has ts t ≡ true → leb t c ≡ leb t d
+pub told_at : (ks : List (Vec CharSet Global)) (n : ℕ) (k : Vec CharSet Global) (a b c d : ℕ) → n < length ks → k ≡ get_or ks n k
+    → answers a ks c ≡ answers b ks d → in_sets k.items c ≡ in_sets k.items d
+told_at [] n k a b c d h is e = absurd (omega arith)
+told_at (j ∷ ks) zero k a b c d h is e =
+    let here : in_sets j.items c ≡ in_sets j.items d = (one_digit a b _ _ (same_before ks _ _ c d e)).1 in
+    ap (λ (l : Vec CharSet Global). in_sets l.items c) is ∙ here ∙ ap (λ (l : Vec CharSet Global). in_sets l.items d) (sym is)
+told_at (j ∷ ks) (suc n) k a b c d h is e = told_at ks n k _ _ c d (omega arith) is e
 
-pub same_firsts : (ts : List ℕ) (c d : ℕ) → class_of ts c ≡ class_of ts d → SameFirsts ts c d
-unfolding SameFirsts
-same_firsts ts c d k =
-    ⊎_elim (λ h. same_ordered ts c d h k) (λ h t e. sym (same_ordered ts d c h (sym k) t e)) (either_way c d)
+-- sets that are those of a class are told
+pub told_by : (ks : List (Vec CharSet Global)) (n : ℕ) (k : Vec CharSet Global) (rs : List CharSet) → n < length ks → k ≡ get_or ks n k
+    → ((c : ℕ) → in_sets k.items c ≡ in_sets rs c) → TellsSets ks rs
+told_by ks n k rs h is same c d e = sym (same c) ∙ told_at ks n k 0 0 c d h is e ∙ same d
 
--- not above the end of a range, and not above what stands behind it
-above : (r c : ℕ) (x : Bool) → leb (suc r) c ≡ x → leb c r ≡ (if x then false else true)
-above r c true e = let h : suc r ≤ c = leb-true (suc r) c e in lt-leb c r (omega arith)
-above r c false e = let h : c < suc r = leb-false (suc r) c e in le-leb c r (omega arith)
+none_some : (i : ℕ) → None ≡ Some i → ⊥
+none_some i h = true≢false (sym (ap is_some h))
 
--- between characters that \b, ^ and $ do not tell apart
-module _ (b e a d : Option ℕ) (word : is_word b ≡ is_word e) (edge : is_edge b ≡ is_edge e)
-    (next_word : is_word a ≡ is_word d) (next_edge : is_edge a ≡ is_edge d) where
-  same_look : (l : Look) → holds l b a ≡ holds l e d
-  same_look start = edge
-  same_look end = next_edge
-  same_look boundary = rw (word, next_word) refl
-  same_look no_boundary = rw (word, next_word) refl
+-- the place of a number has it
+place_step : (k n : ℕ) (ks : List ℕ) (x : Bool) (o : Option ℕ) → (k == n) ≡ x → place_of ks n ≡ o
+    → ((i : ℕ) → place_of ks n ≡ Some i → (i < length ks) × (get_or ks i 0 ≡ n))
+    → (i : ℕ) → (if x then Some 0 else option_map suc o) ≡ Some i → (i < suc (length ks)) × (get_or (k ∷ ks) i 0 ≡ n)
+place_step k n ks true o e f rest i h =
+    let first : 0 ≡ i = cc in
+    let same : k ≡ n = eqb-true k n e in
+    rw (sym first) (omega arith, same)
+place_step k n ks false None e f rest i h = absurd (none_some i h)
+place_step k n ks false (Some j) e f rest i h =
+    let next : suc j ≡ i = cc in
+    let there = rest j f in
+    rw (sym next) (omega (arith, there.0), there.1)
 
-  pub same_leaves : (p : Pattern) (x : Bool) → leaves b a p x ≡ leaves e d p x
-  same_leaves empty x = refl
-  same_leaves (class m n rs) x = refl
-  same_leaves (look l) x = ap (λ (y : Bool). x && y) (same_look l)
-  same_leaves (cat p q) x = ap (leaves b a q) (same_leaves p x) ∙ same_leaves q _
-  same_leaves (alt p q) x =
-      ap (λ (y : Bool). y || leaves b a q x) (same_leaves p x) ∙ ap (λ (y : Bool). leaves e d p x || y) (same_leaves q x)
-  same_leaves (star p) x = ap (λ (y : Bool). x || y) (same_leaves p false)
-  same_leaves (plus p) x = ap (λ (y : Bool). leaves b a p (x || y)) (same_leaves p false) ∙ same_leaves p _
+pub place_is : (ks : List ℕ) (n i : ℕ) → place_of ks n ≡ Some i → (i < length ks) × (get_or ks i 0 ≡ n)
+place_is [] n i h = absurd (none_some i h)
+place_is (k ∷ ks) n i h = place_step k n ks (k == n) (place_of ks n) refl refl (place_is ks n) i h
 
--- the character d is in the class of c, and not below c
-module _ (ts : List ℕ) (c d : ℕ) (same : SameFirsts ts c d) (ordered : c ≤ d) (scalar : IsScalar d) where
-  both_below : (r : ℕ) → d ≤ r → leb c r ≡ leb d r
-  both_below r h = le-leb c r (omega arith) ∙ sym (le-leb d r h)
+module _ (ks : List (Vec CharSet Global)) (c d : ℕ) (same : answers 0 ks c ≡ answers 0 ks d) where
+  -- as far as the pattern asks for word characters, both are, or neither
+  pub next_word : (p : Pattern) → Tells ks p → SameWord p (Some c) (Some d)
+  unfolding SameWord
+  next_word empty t h = absurd (true≢false (sym h))
+  next_word (class m n rs) t h = absurd (true≢false (sym h))
+  next_word (look l) t h = t h c d same
+  next_word (cat p q) t h = ⊎_elim (next_word p t.0) (next_word q t.1) (or_case (has_boundary p) (has_boundary q) h)
+  next_word (alt p q) t h = ⊎_elim (next_word p t.0) (next_word q t.1) (or_case (has_boundary p) (has_boundary q) h)
+  next_word (star p) t h = next_word p t h
+  next_word (plus p) t h = next_word p t h
 
-  -- behind U+D7FF the next character is U+E000
-  over_surrogates : (x : Bool) → leb 0xE000 d ≡ x → leb 0xE000 c ≡ x → leb c 0xD7FF ≡ leb d 0xD7FF
-  over_surrogates true e f =
-      let one : 0xE000 ≤ d = leb-true 0xE000 d e in
-      let other : 0xE000 ≤ c = leb-true 0xE000 c f in
-      lt-leb c 0xD7FF (omega arith) ∙ sym (lt-leb d 0xD7FF (omega arith))
-  over_surrogates false e f =
-      let low : d < 0xE000 = leb-false 0xE000 d e in
-      ⊎_elim (λ h. both_below 0xD7FF (omega arith)) (λ h. absurd (omega (arith, h.0))) (scalar_cases d scalar)
+  module _ (b e : Option ℕ) (edge : is_edge b ≡ is_edge e) where
+    pub left : (p : Pattern) (x : Bool) → SameWord p b e → Tells ks p → leaves b (Some c) p x ≡ leaves e (Some d) p x
+    left p x word t = same_leaves b e (Some c) (Some d) edge refl p x word (next_word p t)
 
-  by_end : (r : ℕ) (x y : Bool) → eqb r max_code_point ≡ x → eqb r 0xD7FF ≡ y
-      → has_if_some ts (if x then None else if y then Some 0xE000 else Some (suc r)) ≡ true → leb c r ≡ leb d r
-  unfolding SameFirsts
-  by_end r true y e f h =
-      let last : r ≡ max_code_point = eqb-true r max_code_point e in
-      ⊎_elim (λ h. both_below r (omega arith)) (λ h. both_below r (omega (arith, h.1))) (scalar_cases d scalar)
-  by_end r false true e f h =
-      let before : r ≡ 0xD7FF = eqb-true r 0xD7FF f in
-      rw before (over_surrogates _ refl (same 0xE000 h))
-  by_end r false false e f h = above r c (leb (suc r) d) (same (suc r) h) ∙ sym (above r d (leb (suc r) d) refl)
+    pub same_step : (p : Pattern) (x : Bool) → SameWord p b e → Tells ks p → step b (Some c) p x ≡ step e (Some d) p x
+    unfolding SameWord
+    same_step empty x word t = refl
+    same_step (class m n rs) x word t = ap (λ (y : Bool). class (x && differ n y) n rs) (t c d same)
+    same_step (look l) x word t = refl
+    same_step (cat p q) x word t =
+        let one = first_word p q b e word in
+        let other = other_word p q b e word in
+        let q_is = ap (step b (Some c) q) (left p x one t.0) ∙ same_step q _ other t.1 in
+        ap (λ (y : Pattern). cat y (step b (Some c) q (leaves b (Some c) p x))) (same_step p x one t.0) ∙ ap (cat (step e (Some d) p x)) q_is
+    same_step (alt p q) x word t =
+        ap (λ (y : Pattern). alt y (step b (Some c) q x)) (same_step p x (first_word p q b e word) t.0)
+        ∙ ap (alt (step e (Some d) p x)) (same_step q x (other_word p q b e word) t.1)
+    same_step (star p) x word t =
+        ap (λ (y : Bool). star (step b (Some c) p (x || y))) (left p false word t) ∙ ap star (same_step p _ word t)
+    same_step (plus p) x word t =
+        ap (λ (y : Bool). plus (step b (Some c) p (x || y))) (left p false word t) ∙ ap plus (same_step p _ word t)
 
-  same_high : (r : ℕ) → has_if_some ts (next_char r) ≡ true → leb c r ≡ leb d r
-  same_high r h = by_end r _ _ refl refl h
+-- with marks a pattern asks the same
+pub marked_tells : (ks : List (Vec CharSet Global)) (ms : List Bool) (p : Pattern) (at : ℕ) → Tells ks p → Tells ks (marked ms at p)
+marked_tells ks ms empty at t = t
+marked_tells ks ms (class m n rs) at t = t
+marked_tells ks ms (look l) at t = t
+marked_tells ks ms (cat p q) at t = (marked_tells ks ms p at t.0, marked_tells ks ms q (at + classes p) t.1)
+marked_tells ks ms (alt p q) at t = (marked_tells ks ms p at t.0, marked_tells ks ms q (at + classes p) t.1)
+marked_tells ks ms (star p) at t = marked_tells ks ms p at t
+marked_tells ks ms (plus p) at t = marked_tells ks ms p at t
 
-  same_set : (r : CharSet) → covers_set ts r ≡ true → in_set r c ≡ in_set r d
-  unfolding SameFirsts
-  same_set (Range l r) h =
-      let low : leb l c ≡ leb l d = same l (and_left _ _ h) in
-      let high : leb c r ≡ leb d r = same_high r (and_right (has ts l) _ h) in
-      rw (low, high) refl
-  same_set (Property n p) h = absurd (true≢false (sym h))
+marked_boundary : (ms : List Bool) (p : Pattern) (at : ℕ) → has_boundary (marked ms at p) ≡ has_boundary p
+marked_boundary ms empty at = refl
+marked_boundary ms (class m n rs) at = refl
+marked_boundary ms (look l) at = refl
+marked_boundary ms (cat p q) at = rw (marked_boundary ms p at, marked_boundary ms q (at + classes p)) refl
+marked_boundary ms (alt p q) at = rw (marked_boundary ms p at, marked_boundary ms q (at + classes p)) refl
+marked_boundary ms (star p) at = marked_boundary ms p at
+marked_boundary ms (plus p) at = marked_boundary ms p at
 
-  pub same_sets : (rs : List CharSet) → covers_sets ts rs ≡ true → in_sets rs c ≡ in_sets rs d
-  same_sets [] h = refl
-  same_sets (r ∷ rs) h =
-      let here = same_set r (and_left _ _ h) in
-      let rest = same_sets rs (and_right (covers_set ts r) _ h) in
-      ap (λ (x : Bool). x || in_sets rs c) here ∙ ap (λ (x : Bool). in_set r d || x) rest
-
-  same_member : (n : Bool) (rs : List CharSet) → covers_sets ts rs ≡ true → is_member n rs c ≡ is_member n rs d
-  same_member n rs h = ap (differ n) (same_sets rs h)
-
-  module _ (b e : Option ℕ) (word : is_word b ≡ is_word e) (edge : is_edge b ≡ is_edge e)
-      (next_word : is_word (Some c) ≡ is_word (Some d)) where
-    left : (p : Pattern) (x : Bool) → leaves b (Some c) p x ≡ leaves e (Some d) p x
-    left = same_leaves b e (Some c) (Some d) word edge next_word refl
-
-    pub same_step : (p : Pattern) (x : Bool) → covers ts p ≡ true → step b (Some c) p x ≡ step e (Some d) p x
-    same_step empty x h = refl
-    same_step (class m n rs) x h = ap (λ (y : Bool). class (x && y) n rs) (same_member n rs h)
-    same_step (look l) x h = refl
-    same_step (cat p q) x h =
-        let p_is = same_step p x (and_left _ _ h) in
-        let q_is = ap (step b (Some c) q) (left p x) ∙ same_step q _ (and_right _ _ h) in
-        ap (λ (y : Pattern). cat y (step b (Some c) q (leaves b (Some c) p x))) p_is ∙ ap (cat (step e (Some d) p x)) q_is
-    same_step (alt p q) x h =
-        ap (λ (y : Pattern). alt y (step b (Some c) q x)) (same_step p x (and_left _ _ h))
-        ∙ ap (alt (step e (Some d) p x)) (same_step q x (and_right _ _ h))
-    same_step (star p) x h = ap (λ (y : Bool). star (step b (Some c) p (x || y))) (left p false) ∙ ap star (same_step p _ h)
-    same_step (plus p) x h = ap (λ (y : Bool). plus (step b (Some c) p (x || y))) (left p false) ∙ ap plus (same_step p _ h)
-
--- a step keeps the classes
-pub step_covers : (ts : List ℕ) (b a : Option ℕ) (p : Pattern) (x : Bool) → covers ts (step b a p x) ≡ covers ts p
-step_covers ts b a empty x = refl
-step_covers ts b a (class m n rs) x = refl
-step_covers ts b a (look l) x = refl
-step_covers ts b a (cat p q) x = rw (step_covers ts b a p x, step_covers ts b a q (leaves b a p x)) refl
-step_covers ts b a (alt p q) x = rw (step_covers ts b a p x, step_covers ts b a q x) refl
-step_covers ts b a (star p) x = step_covers ts b a p _
-step_covers ts b a (plus p) x = step_covers ts b a p _
-
--- the character 0 is the first of a class, and so every character is in one
-class_there : (t : ℕ) (ts : List ℕ) (c : ℕ) (x : Bool) → leb t c ≡ x → (y : Bool) → eqb t 0 ≡ y → (y || has ts 0) ≡ true
-    → (has ts 0 ≡ true → 0 < class_of ts c) → 0 < (if x then suc (class_of ts c) else class_of ts c)
-class_there t ts c true e y f g rest = omega arith
-class_there t ts c false e true f g rest =
-    let zero : t ≡ 0 = eqb-true t 0 f in
-    let above : c < t = leb-false t c e in
-    absurd (omega arith)
-class_there t ts c false e false f g rest = rest g
-
-pub in_some_class : (ts : List ℕ) (c : ℕ) → has ts 0 ≡ true → 0 < class_of ts c
-in_some_class [] c h = absurd (true≢false (sym h))
-in_some_class (t ∷ ts) c h = class_there t ts c (leb t c) refl (eqb t 0) refl h (in_some_class ts c)
-
--- of the first characters, each is one
-pub has_each : (ts : List ℕ) (k : ℕ) → k < length ts → has ts (get_or ts k 0) ≡ true
-has_each [] k h = absurd (omega arith)
-has_each (t ∷ ts) zero h = or_left _ _ (eq-eqb t t refl)
-has_each (t ∷ ts) (suc k) h = or_right _ _ (has_each ts k (omega arith))
-
--- no first character is above those of its class
-pub first_below : (ts : List ℕ) (t c : ℕ) → SameFirsts ts t c → has ts t ≡ true → t ≤ c
-unfolding SameFirsts
-first_below ts t c same h = leb-true t c (sym (same t h) ∙ le-leb t t (omega arith))
+pub marked_word : (ms : List Bool) (p : Pattern) (b e : Option ℕ) → SameWord p b e → SameWord (marked ms 0 p) b e
+unfolding SameWord
+marked_word ms p b e same h = same (sym (marked_boundary ms p 0) ∙ h)

@@ -1,4 +1,5 @@
 pub mod Steps
+pub mod Marked
 pub mod Counted
 pub mod Sizes
 pub mod Search

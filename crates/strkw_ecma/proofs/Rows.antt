@@ -1,22 +1,24 @@
 -- Entries and rows of a table, one by one.
-use Rattle.std.proofs.Common.{◌≡◌, ◌⊎◌, ℕ, ◌+◌, ◌<◌, ◌==◌, Bool, true, false, List, Option, Some, None, slice_get, sym, ap, subst, ◌∙◌, ⊎_elim, arith}
+use Rattle.std.proofs.Common.{◌≡◌, ◌⊎◌, ℕ, ◌+◌, ◌*◌, ◌/◌, ◌%◌, ◌<◌, ◌==◌, Bool, true, false, List, Option, Some, None, slice_get, length, get_or, sym, ap, subst, ◌∙◌, ⊎_elim, arith}
+use Rattle.std.proofs.lemmas.List.{get_or_default}
+use Rattle.std.proofs.Math.Nat.{mul_comm}
 use Rattle.strkw_ecma.specs.Tree.{Pattern}
-use Rattle.strkw_ecma.specs.Marks.{leaves, step}
-use Rattle.strkw_ecma.specs.Shape.{pattern_of}
-use Rattle.strkw_ecma.specs.Table.{found, row_after, IsBehind, IsEntry, IsRow}
+use Rattle.strkw_ecma.specs.Marks.{leaves, step, marked}
+use Rattle.strkw_ecma.specs.Table.{found, row_after, marks_in, IsBehind, IsEntry, IsRow}
 use Rattle.strkw_ecma.specs.declared.states.State.{State}
 
--- of a state whose marks are p, and q behind the character
-pub entry_is : (states : List State) (s : State) (row c entry : ℕ) (p q : Pattern) (f : Bool) → p ≡ pattern_of s.tree
-    → f ≡ leaves s.last (Some c) p true → q ≡ step s.last (Some c) p true → (entry == found) ≡ f
-    → (f ≡ false → IsBehind states (row_after row entry) q c)
-    → IsEntry states s row c entry
-entry_is states s row c entry p q f same left marks is next =
-    let left_is : f ≡ leaves s.last (Some c) (pattern_of s.tree) true = left ∙ ap (λ (r : Pattern). leaves s.last (Some c) r true) same in
-    let marks_are : q ≡ step s.last (Some c) (pattern_of s.tree) true = marks ∙ ap (λ (r : Pattern). step s.last (Some c) r true) same in
+-- of a state with the marks ms, and ns behind the character
+pub entry_is : (p : Pattern) (end : ℕ) (states : List State) (s : State) (row c entry : ℕ) (ms ns : List Bool) (f : Bool)
+    → s.marks.items ≡ ms → f ≡ leaves s.last (Some c) (marked ms 0 p) true
+    → marked ns 0 p ≡ step s.last (Some c) (marked ms 0 p) true → (entry == found) ≡ f
+    → (f ≡ false → IsBehind p end states (row_after end row entry) ns c)
+    → IsEntry p end states s row c entry
+entry_is p end states s row c entry ms ns f same left marks is next =
+    let same_marks : marked ms 0 p ≡ marks_in p s = ap (λ (l : List Bool). marked l 0 p) (sym same) in
+    let left_is : f ≡ leaves s.last (Some c) (marks_in p s) true = left ∙ ap (λ (r : Pattern). leaves s.last (Some c) r true) same_marks in
     record {
       finds = is ∙ left_is;
-      goes = λ none. let t = next (left_is ∙ none) in (t.0, t.1, t.2 ∙ marks_are, t.3, t.4);
+      goes = λ none. (ns, marks ∙ ap (λ (r : Pattern). step s.last (Some c) r true) same_marks, next (left_is ∙ none));
     }
 
 last_or_before : (row n : ℕ) → row < n + 1 → (row < n) ⊎ (row ≡ n)
@@ -35,7 +37,17 @@ pub one_more : (P : ℕ → Type 0) (n : ℕ) → P n → ((k : ℕ) → k < n �
 one_more P n here before k h =
     ⊎_elim (λ below. before k below) (λ same. subst P (sym same) here) (last_or_before k n h)
 
-pub row_of : (firsts entries : List ℕ) (states : List State) (n row : ℕ) (t : State) → slice_get states n ≡ Some t
-    → IsRow firsts entries states t row → (s : State) → slice_get states n ≡ Some s → IsRow firsts entries states s row
-row_of firsts entries states n row t here right s there =
-    subst (λ (x : State). IsRow firsts entries states x row) (same_state t s (sym here ∙ there)) right
+pub row_of : (p : Pattern) (firsts entries : List ℕ) (states : List State) (n row : ℕ) (t : State) → slice_get states n ≡ Some t
+    → IsRow p firsts entries states t row → (s : State) → slice_get states n ≡ Some s → IsRow p firsts entries states s row
+row_of p firsts entries states n row t here right s there =
+    subst (λ (x : State). IsRow p firsts entries states x row) (same_state t s (sym here ∙ there)) right
+
+-- an item of a loop over a list
+pub item_is : (xs ys : List ℕ) (k x : ℕ) → ys ≡ xs → x ≡ get_or ys k x → k < length xs → x ≡ get_or xs k 0
+item_is xs ys k x same is within = is ∙ ap (λ (l : List ℕ). get_or l k x) same ∙ get_or_default xs k x 0 within
+
+-- the row of a number
+pub whole_row : (row n : ℕ) → row % (n + 1) ≡ 0 → row ≡ row / (n + 1) * (n + 1)
+whole_row row n h =
+    let turned : (n + 1) * (row / (n + 1)) ≡ row / (n + 1) * (n + 1) = mul_comm (n + 1) (row / (n + 1)) in
+    omega arith

@@ -8,9 +8,9 @@ use Rattle.strkw_ecma.specs.declared.outline.Outline.TheVariants as outline
 use Rattle.strkw_ecma.specs.declared.tree.Tree.{Tree, Tree-F, fold-roll-Tree}
 use Rattle.strkw_ecma.specs.declared.tree.Tree.TheVariants.{Class, Then, Or, Star, Plus, rolls-Class, rolls-Then, rolls-Or, rolls-Star, rolls-Plus}
 
-pub pattern-Class : (marked negated : Bool) (sets : Vec CharSet Global) → pattern_of (Class marked negated sets) ≡ class marked negated sets.items
-pattern-Class marked negated sets =
-    ap pattern_of (sym (rolls-Class marked negated sets)) ∙ fold-roll-Tree Pattern node_pattern (Tree-F.Class marked negated sets)
+pub pattern-Class : (negated : Bool) (sets : Vec CharSet Global) → pattern_of (Class negated sets) ≡ class false negated sets.items
+pattern-Class negated sets =
+    ap pattern_of (sym (rolls-Class negated sets)) ∙ fold-roll-Tree Pattern node_pattern (Tree-F.Class negated sets)
 
 pub pattern-Then : (first second : Box Tree Global) → pattern_of (Then first second) ≡ cat (pattern_of first.value) (pattern_of second.value)
 pattern-Then first second = ap pattern_of (sym (rolls-Then first second)) ∙ fold-roll-Tree Pattern node_pattern (Tree-F.Then first second)

@@ -1,99 +1,107 @@
--- A right table gives the answers of the search.
-use Rattle.std.proofs.Common.{◌≡◌, ℕ, suc, ◌-◌, ◌<◌, ◌≤◌, ◌==◌, true, false, List, length, get_or, Option, Some, None, refl, sym, ap, subst, ◌∙◌, arith}
-use Rattle.std.proofs.lemmas.Str.{scalars-chars}
-use Rattle.std.specs.Char.{IsScalar}
-use Rattle.std.specs.Str.{chars}
+-- What a right table comes to is what the search of the pattern does.
+use Rattle.std.proofs.Common.{◌≡◌, ℕ, ◌+◌, ◌*◌, ◌<◌, ◌==◌, Bool, true, false, List, Vec, Global, length, get_or, Option, Some, None, refl, sym, ap, ◌∙◌, arith}
 use Rattle.strkw_ecma.specs.Tree.{Pattern}
-use Rattle.strkw_ecma.specs.Sets.{word_characters}
 use Rattle.strkw_ecma.specs.Meaning.{is_word, is_edge}
-use Rattle.strkw_ecma.specs.Marks.{leaves, step}
-use Rattle.strkw_ecma.specs.Shape.{pattern_of}
-use Rattle.strkw_ecma.specs.Table.{class_of, entry_at, row_after, found, covers, IsRowOf, IsEntry, IsRow, IsTable, Searches}
+use Rattle.strkw_ecma.specs.Marks.{leaves, step, marked, is_clean}
+use Rattle.strkw_ecma.specs.Columns.{answers, column_of, has_boundary, Tells}
+use Rattle.strkw_ecma.specs.Table.{entry_at, row_after, found, marks_in, IsRowOf, IsEntry, IsRow, IsTable, Searches}
 use Rattle.strkw_ecma.specs.declared.states.State.{State}
-use Rattle.strkw_ecma.proofs.Alike.{class_most, first_below, has_each, in_some_class, same_firsts, SameFirsts, same_leaves, same_sets, same_step, step_covers}
+use Rattle.strkw_ecma.specs.declared.tree.CharSet.{CharSet}
+use Rattle.strkw_ecma.proofs.Alike.{SameWord, same_leaves, same_step, left, next_word, place_is, marked_tells, marked_word}
+use Rattle.strkw_ecma.proofs.Marked.{unmarked}
 use Rattle.strkw_ecma.proofs.Walks.{walks}
 
-module _ (firsts entries : List ℕ) (states : List State) (p : Pattern) (table : IsTable firsts entries states p) where
+same_word_none : (r : Pattern) → SameWord r None None
+unfolding SameWord
+same_word_none r h = refl
+
+module _ (classes : List (Vec CharSet Global)) (keys samples entries : List ℕ) (states : List State) (p : Pattern) (clean : is_clean p ≡ true)
+    (table : IsTable classes keys samples entries states p) where
+  abbrev end_column : ℕ
+  end_column = length samples
+
   -- the row stands for the marks of p behind b
   pub record At (row : ℕ) (q : Pattern) (b : Option ℕ) : Type 0 where
     pub state : State
-    pub of_row : IsRowOf states row state
-    pub marks : pattern_of state.tree ≡ q
-    pub word : is_word state.last ≡ is_word b
+    pub of_row : IsRowOf end_column states row state
+    pub marks : marks_in p state ≡ q
+    pub word : SameWord p state.last b
     pub edge : is_edge state.last ≡ is_edge b
-    pub covered : covers firsts q ≡ true
 
-  row_of : (row : ℕ) (q : Pattern) (b : Option ℕ) → (at : At row q b) → IsRow firsts entries states at.state row
+  row_of : (row : ℕ) (q : Pattern) (b : Option ℕ) → (at : At row q b) → IsRow p samples entries states at.state row
   row_of row q b at = table.rows row at.state at.of_row
 
-  ends : (row : ℕ) (q : Pattern) (b : Option ℕ) → At row q b → (entry_at entries row 0 == found) ≡ leaves b None q true
+  ends : (row : ℕ) (q : Pattern) (b : Option ℕ) → At row q b → (entry_at entries row end_column == found) ≡ leaves b None q true
   ends row q b at =
-      (row_of row q b at).ends ∙ same_leaves at.state.last b None None at.word at.edge refl refl (pattern_of at.state.tree) true
+      (row_of row q b at).ends
+      ∙ same_leaves at.state.last b None None at.edge refl (marks_in p at.state) true (marked_word _ p _ _ at.word) (same_word_none _)
       ∙ ap (λ (r : Pattern). leaves b None r true) at.marks
 
-  module _ (row : ℕ) (q : Pattern) (b : Option ℕ) (c : ℕ) (char : IsScalar c) (at : At row q b) where
-    -- the first character of the class
-    abbrev first : ℕ
-    first = get_or firsts (class_of firsts c - 1) 0
+  module _ (row : ℕ) (q : Pattern) (b : Option ℕ) (c k : ℕ) (has : column_of classes keys c ≡ Some k) (at : At row q b) where
+    -- the character that stands for the column
+    abbrev sample : ℕ
+    sample = get_or samples k 0
 
-    class_is : class_of firsts c ≡ suc (class_of firsts c - 1)
-    class_is = let some : 0 < class_of firsts c = in_some_class firsts c table.first in omega arith
+    within : k < length keys
+    within = (place_is keys (answers 0 classes c) k has).0
 
-    within : class_of firsts c - 1 < length firsts
-    within =
-        let some : 0 < class_of firsts c = in_some_class firsts c table.first in
-        let most : class_of firsts c ≤ length firsts = class_most firsts c in
-        omega arith
+    alike : answers 0 classes sample ≡ answers 0 classes c
+    alike = sym (table.sampled k within) ∙ (place_is keys (answers 0 classes c) k has).1
 
-    alike : SameFirsts firsts first c
-    alike = same_firsts firsts first c (table.numbered _ within ∙ sym class_is)
+    tells : Tells classes (marks_in p at.state)
+    tells = marked_tells classes at.state.marks.items p 0 table.told
 
-    below : first ≤ c
-    below = first_below firsts first c alike (has_each firsts _ within)
+    word : SameWord (marks_in p at.state) at.state.last b
+    word = marked_word at.state.marks.items p at.state.last b at.word
 
-    entry : IsEntry states at.state row first (entry_at entries row (class_of firsts c))
-    entry = subst (λ (k : ℕ). IsEntry states at.state row first (entry_at entries row k)) (sym class_is) ((row_of row q b at).reads _ within)
+    entry : IsEntry p end_column states at.state row sample (entry_at entries row k)
+    entry = (row_of row q b at).reads k (rw table.lengths within)
 
-    next_word : is_word (Some first) ≡ is_word (Some c)
-    next_word = same_sets firsts first c alike below char word_characters table.words
+    here : leaves at.state.last (Some sample) (marks_in p at.state) true ≡ leaves b (Some c) q true
+    here =
+        left classes sample c alike at.state.last b at.edge (marks_in p at.state) true word tells
+        ∙ ap (λ (r : Pattern). leaves b (Some c) r true) at.marks
 
-    left_is : (r : Pattern) → leaves at.state.last (Some first) r true ≡ leaves b (Some c) r true
-    left_is r = same_leaves at.state.last b (Some first) (Some c) at.word at.edge next_word refl r true
-
-    here : leaves at.state.last (Some first) (pattern_of at.state.tree) true ≡ leaves b (Some c) q true
-    here = left_is (pattern_of at.state.tree) ∙ ap (λ (r : Pattern). leaves b (Some c) r true) at.marks
-
-    stepped : step at.state.last (Some first) (pattern_of at.state.tree) true ≡ step b (Some c) q true
+    stepped : step at.state.last (Some sample) (marks_in p at.state) true ≡ step b (Some c) q true
     stepped =
-        ap (λ (r : Pattern). step at.state.last (Some first) r true) at.marks
-        ∙ same_step firsts first c alike below char at.state.last b at.word at.edge next_word q true at.covered
+        same_step classes sample c alike at.state.last b at.edge (marks_in p at.state) true word tells
+        ∙ ap (λ (r : Pattern). step b (Some c) r true) at.marks
 
-    pub finds : (entry_at entries row (class_of firsts c) == found) ≡ leaves b (Some c) q true
+    pub finds : (entry_at entries row k == found) ≡ leaves b (Some c) q true
     finds = entry.finds ∙ here
 
-    pub goes : leaves b (Some c) q true ≡ false → At (row_after row (entry_at entries row (class_of firsts c))) (step b (Some c) q true) (Some c)
+    behind_word : (t : State) → (has_boundary p ≡ true → is_word t.last ≡ is_word (Some sample)) → SameWord p t.last (Some c)
+    unfolding SameWord
+    behind_word t same h = same h ∙ next_word classes sample c alike p table.told h
+
+    pub goes : leaves b (Some c) q true ≡ false → At (row_after end_column row (entry_at entries row k)) (step b (Some c) q true) (Some c)
     goes none =
         let next = entry.goes (here ∙ none) in
+        let behind = next.2 in
         record {
-          state = next.0;
-          of_row = next.1;
-          marks = next.2 ∙ stepped;
-          word = next.3 ∙ next_word;
-          edge = next.4;
-          covered = step_covers firsts b (Some c) q true ∙ at.covered;
+          state = behind.0;
+          of_row = behind.1;
+          marks = ap (λ (l : List Bool). marked l 0 p) behind.2 ∙ next.1 ∙ stepped;
+          word = behind_word behind.0 behind.3;
+          edge = behind.4;
         }
+
+  first_word : (s : State) → s.last ≡ None → SameWord p s.last None
+  unfolding SameWord
+  first_word s e h = ap is_word e
 
   begins : At 0 p None
   begins =
       let first = table.begins in
+      let row : 0 ≡ 0 * (end_column + 1) = omega arith in
       record {
         state = first.0;
-        of_row = (0, refl, first.1);
-        marks = first.2;
-        word = ap is_word first.3;
+        of_row = (0, row, first.1);
+        marks = unmarked first.0.marks.items p 0 clean first.2;
+        word = first_word first.0 first.3;
         edge = ap is_edge first.3;
-        covered = table.covered;
       }
 
-  pub answers : Searches firsts entries p
-  answers text utf8 = walks firsts entries At ends finds goes (chars text) 0 p None (scalars-chars text utf8) begins
+  pub searches : Searches (column_of classes keys) (length keys) entries p
+  searches text answer h =
+      walks (column_of classes keys) end_column entries At ends finds goes text 0 p None answer begins (rw table.lengths h)

@@ -1,56 +1,62 @@
--- The walk over a table, character by character, and that a right table gives the answers of the search.
-use Rattle.std.proofs.Common.{◌≡◌, ◌⊎◌, ⊎_elim, ◌≤◌, ℕ, suc, ◌+◌, ◌<◌, ◌==◌, Bool, true, false, ◌||◌, List, [], ◌∷◌, length, get_or, drop, drop-cons, Option, Some, None, refl, sym, ap, ◌∙◌, arith}
-use Rattle.std.proofs.Math.Utf8.{scalar}
+-- The walk over a table, character by character: what it comes to is what the search does.
+use Rattle.std.proofs.Common.{◌≡◌, ◌⊎◌, ⊎_elim, ◌≤◌, ℕ, suc, ◌+◌, ◌<◌, ◌==◌, Bool, true, false, ◌||◌, List, [], ◌∷◌, length, get_or, drop, drop-cons, Option, Some, None, option_and_then, if◌then◌else◌, refl, sym, ap, ◌∙◌, true≢false, arith}
+use Rattle.std.specs.Prelude.{is_some}
 use Rattle.std.proofs.lemmas.Bool.{eq-eqb}
 use Rattle.std.proofs.lemmas.List.{get_or_past}
-use Rattle.std.specs.Char.{IsScalar}
-use Rattle.std.specs.Str.{all_scalars}
 use Rattle.strkw_ecma.specs.Tree.{Pattern}
 use Rattle.strkw_ecma.specs.Marks.{leaves, step}
 use Rattle.strkw_ecma.specs.Search.{search_from}
-use Rattle.strkw_ecma.specs.Table.{class_of, entry_at, found, next_row, row_after, stride, walk}
-use Rattle.strkw_ecma.proofs.Steps.{and_left, and_right}
+use Rattle.strkw_ecma.specs.Table.{entry_at, found, next_row, row_after, walk}
 
 pub at_place : (text : List ℕ) (k next c : ℕ) → k < length text → c ≡ get_or text k c → next ≡ suc k → drop k text ≡ c ∷ drop next text
 at_place text k next c within is follows =
     drop-cons text k c within ∙ ap (λ (d : ℕ). d ∷ drop (suc k) text) (sym is) ∙ ap (λ (n : ℕ). c ∷ drop n text) (sym follows)
 
-or_true : (x y : Bool) → x ≡ true → (x || y) ≡ true
-or_true x y e = rw e refl
-
-or_false : (x y : Bool) → x ≡ false → (x || y) ≡ y
-or_false x y e = rw e refl
-
 below_or_past : (i n : ℕ) → (i < n) ⊎ (n ≤ i)
 below_or_past i n = grind arith
 
+some_is : {A : Type 0} (x y : A) → Some x ≡ Some y → x ≡ y
+some_is x y e = cc
+
 -- one turn of the walk over a text, at its first character
-module _ (firsts entries text rest : List ℕ) (row c class entry : ℕ) (answer : Bool) (so_far : walk firsts entries row text ≡ answer)
-    (begins : text ≡ c ∷ rest) (class_is : class ≡ class_of firsts c) (entry_is : entry ≡ entry_at entries row class) where
-  read_is : entry ≡ entry_at entries row (class_of firsts c)
-  read_is = entry_is ∙ ap (entry_at entries row) class_is
+module _ (column : ℕ → Option ℕ) (end : ℕ) (entries text rest : List ℕ) (row c k entry : ℕ) (answer : Option Bool)
+    (so_far : walk column end entries row text ≡ answer) (begins : text ≡ c ∷ rest) (column_is : column c ≡ Some k)
+    (entry_is : entry ≡ entry_at entries row k) where
+  Turn : ℕ → Option Bool
+  Turn e = if e == found then Some true else walk column end entries (row_after end row e) rest
 
-  here : ((entry == found) || walk firsts entries (row_after row entry) rest) ≡ answer
+  here : Turn entry ≡ answer
+  unfolding Turn
   here =
-      ap (λ (e : ℕ). (e == found) || walk firsts entries (row_after row e) rest) read_is
-      ∙ sym (ap (walk firsts entries row) begins) ∙ so_far
+      ap Turn entry_is
+      ∙ sym (ap (λ (o : Option ℕ). option_and_then (λ (n : ℕ). Turn (entry_at entries row n)) o) column_is)
+      ∙ sym (ap (walk column end entries row) begins) ∙ so_far
 
-  pub turn_found : entry ≡ found → true ≡ answer
-  turn_found e = sym (or_true _ _ (eq-eqb _ _ e)) ∙ here
+  pub turn_found : entry ≡ found → Some true ≡ answer
+  unfolding Turn
+  turn_found e = sym (rw (eq-eqb _ _ e) refl) ∙ here
 
-  after : (to : ℕ) → to ≡ row_after row entry → (entry == found) ≡ false → walk firsts entries to rest ≡ answer
-  after to f e = ap (λ (r : ℕ). walk firsts entries r rest) f ∙ sym (or_false _ _ e) ∙ here
+  after : (to : ℕ) → to ≡ row_after end row entry → (entry == found) ≡ false → walk column end entries to rest ≡ answer
+  unfolding Turn
+  after to f e = ap (λ (r : ℕ). walk column end entries r rest) f ∙ sym (rw e refl) ∙ here
 
-  pub turn_next : entry ≡ next_row → (to : ℕ) → to ≡ row + stride → walk firsts entries to rest ≡ answer
-  turn_next e to f = after to (f ∙ sym (ap (row_after row) e)) (ap (λ (x : ℕ). x == found) e)
+  pub turn_next : entry ≡ next_row → (to : ℕ) → to ≡ row + (end + 1) → walk column end entries to rest ≡ answer
+  turn_next e to f = after to (f ∙ sym (ap (row_after end row) e)) (ap (λ (x : ℕ). x == found) e)
 
-  pub turn_goes : (entry == next_row) ≡ false → (entry == found) ≡ false → (to : ℕ) → to ≡ entry → walk firsts entries to rest ≡ answer
+  pub turn_goes : (entry == next_row) ≡ false → (entry == found) ≡ false → (to : ℕ) → to ≡ entry → walk column end entries to rest ≡ answer
   turn_goes e f to g = after to (rw e g) f
 
-pub walk_ends : (firsts entries text : List ℕ) (row entry : ℕ) (answer : Bool) → walk firsts entries row text ≡ answer → text ≡ []
-    → entry ≡ entry_at entries row 0 → (entry == found) ≡ answer
-walk_ends firsts entries text row entry answer so_far none is =
-    ap (λ (x : ℕ). x == found) is ∙ sym (ap (walk firsts entries row) none) ∙ so_far
+-- a character that has no column
+pub walk_stops : (column : ℕ → Option ℕ) (end : ℕ) (entries text rest : List ℕ) (row c : ℕ) (answer : Option Bool)
+    → walk column end entries row text ≡ answer → text ≡ c ∷ rest → column c ≡ None → None ≡ answer
+walk_stops column end entries text rest row c answer so_far begins none =
+    sym (ap (λ (o : Option ℕ). option_and_then (λ (n : ℕ). if entry_at entries row n == found then Some true else walk column end entries (row_after end row (entry_at entries row n)) rest) o) none)
+    ∙ sym (ap (walk column end entries row) begins) ∙ so_far
+
+pub walk_ends : (column : ℕ → Option ℕ) (end : ℕ) (entries text : List ℕ) (row entry : ℕ) (answer : Option Bool)
+    → walk column end entries row text ≡ answer → text ≡ [] → entry ≡ entry_at entries row end → Some (entry == found) ≡ answer
+walk_ends column end entries text row entry answer so_far none is =
+    ap (λ (x : ℕ). Some (x == found)) is ∙ sym (ap (walk column end entries row) none) ∙ so_far
 
 -- only a row of the table has an entry that is not 0
 pub within_table : (entries : List ℕ) (row column : ℕ) → entry_at entries row column ≡ next_row → row + column < length entries
@@ -59,19 +65,28 @@ within_table entries row column e =
     (below_or_past (row + column) (length entries))
 
 -- a relation of rows to states of the search that each entry keeps
-module _ (firsts entries : List ℕ) (At : ℕ → Pattern → Option ℕ → Type 0)
-    (ends : (row : ℕ) (p : Pattern) (b : Option ℕ) → At row p b → (entry_at entries row 0 == found) ≡ leaves b None p true)
-    (finds : (row : ℕ) (p : Pattern) (b : Option ℕ) (c : ℕ) → IsScalar c → At row p b
-    → (entry_at entries row (class_of firsts c) == found) ≡ leaves b (Some c) p true)
-    (goes : (row : ℕ) (p : Pattern) (b : Option ℕ) (c : ℕ) → IsScalar c → At row p b → leaves b (Some c) p true ≡ false
-    → At (row_after row (entry_at entries row (class_of firsts c))) (step b (Some c) p true) (Some c)) where
-  one_turn : (x y l m : Bool) → x ≡ l → (l ≡ false → y ≡ m) → (x || y) ≡ (l || m)
-  one_turn x y true m e f = or_true x y e
-  one_turn x y false m e f = or_false x y e ∙ f refl
+module _ (column : ℕ → Option ℕ) (end : ℕ) (entries : List ℕ) (At : ℕ → Pattern → Option ℕ → Type 0)
+    (ends : (row : ℕ) (p : Pattern) (b : Option ℕ) → At row p b → (entry_at entries row end == found) ≡ leaves b None p true)
+    (finds : (row : ℕ) (p : Pattern) (b : Option ℕ) (c k : ℕ) → column c ≡ Some k → At row p b
+    → (entry_at entries row k == found) ≡ leaves b (Some c) p true)
+    (goes : (row : ℕ) (p : Pattern) (b : Option ℕ) (c k : ℕ) → column c ≡ Some k → At row p b → leaves b (Some c) p true ≡ false
+    → At (row_after end row (entry_at entries row k)) (step b (Some c) p true) (Some c)) where
+  -- the search goes on where nothing is found
+  one_turn : (x l m : Bool) (o : Option Bool) (answer : Bool) → x ≡ l → (l ≡ false → o ≡ Some answer → answer ≡ m)
+      → (if x then Some true else o) ≡ Some answer → answer ≡ (l || m)
+  one_turn x true m o answer e f h = sym (some_is true answer (sym (rw e refl) ∙ h))
+  one_turn x false m o answer e f h = f refl (sym (rw e refl) ∙ h)
 
-  pub walks : (text : List ℕ) (row : ℕ) (p : Pattern) (b : Option ℕ) → all_scalars text ≡ true → At row p b
-      → walk firsts entries row text ≡ search_from p b text
-  walks [] row p b h at = ends row p b at
-  walks (c ∷ cs) row p b h at =
-      let char : IsScalar c = and_left _ _ h in
-      one_turn _ _ _ _ (finds row p b c char at) (λ no. walks cs _ _ _ (and_right (scalar c) _ h) (goes row p b c char at no))
+  at_column : (c : ℕ) (f : ℕ → Option Bool) (o : Option ℕ) (answer : Bool) (A : Type 0) → column c ≡ o
+      → ((k : ℕ) → column c ≡ Some k → f k ≡ Some answer → A) → option_and_then f o ≡ Some answer → A
+  at_column c f None answer A is there h = absurd (true≢false (sym (ap is_some h)))
+  at_column c f (Some k) answer A is there h = there k is h
+
+  pub walks : (text : List ℕ) (row : ℕ) (p : Pattern) (b : Option ℕ) (answer : Bool) → At row p b
+      → walk column end entries row text ≡ Some answer → answer ≡ search_from p b text
+  walks [] row p b answer at h = sym (some_is _ answer h) ∙ ends row p b at
+  walks (c ∷ cs) row p b answer at h =
+      at_column c _ (column c) answer _ refl
+      (λ k is.
+      one_turn _ _ _ _ answer (finds row p b c k is at) (λ no. walks cs _ _ _ answer (goes row p b c k is at no)))
+      h

@@ -27,4 +27,6 @@ pub mod Laws
 pub mod Parts
 pub mod Refusals
 pub mod RefusalParts
+pub mod Columns
 pub mod Table
+pub mod Searches

@@ -1,5 +1,5 @@
 -- The marks of a pattern: at a place of the text they stand at the classes that have just read the character before it.
-use Rattle.std.specs.Prelude.{◌≡◌, ℕ, ◌≤◌, Bool, true, false, ◌&&◌, ◌||◌, not, ◌⊎◌, List, length, Option, Some, None}
+use Rattle.std.specs.Prelude.{◌≡◌, ℕ, ◌+◌, ◌≤◌, ◌<◌, get_or, Bool, true, false, ◌&&◌, ◌||◌, not, ◌⊎◌, List, length, Option, Some, None}
 use Rattle.strkw_ecma.specs.Tree.{Pattern, empty, class, look, cat, alt, star, plus, is_member}
 use Rattle.strkw_ecma.specs.Meaning.{Rounds, holds, Matches}
 use Rattle.strkw_ecma.specs.declared.tree.CharSet.{CharSet}
@@ -44,6 +44,32 @@ Rest text (plus p) i j = (l : ℕ) × Rest text p i l × Rounds (Matches text p)
 -- at place k a match is under way, or one begins at k or later
 abbrev pub Later : List ℕ → Pattern → ℕ → Type 0
 Later text p k = ((j : ℕ) × Rest text p k j) ⊎ ((i j : ℕ) × (k ≤ i) × (i ≤ length text) × Matches text p i j)
+
+-- how many classes stand in a pattern
+abbrev pub classes : Pattern → ℕ
+classes empty = 0
+classes (class m n rs) = 1
+classes (look l) = 0
+classes (cat p q) = classes p + classes q
+classes (alt p q) = classes p + classes q
+classes (star p) = classes p
+classes (plus p) = classes p
+
+-- the pattern with marks of a list, in the order of its classes, from the one at a place on
+abbrev pub marked : List Bool → ℕ → Pattern → Pattern
+marked ms at empty = empty
+marked ms at (class m n rs) = class (get_or ms at false) n rs
+marked ms at (look l) = look l
+marked ms at (cat p q) = cat (marked ms at p) (marked ms (at + classes p) q)
+marked ms at (alt p q) = alt (marked ms at p) (marked ms (at + classes p) q)
+marked ms at (star p) = star (marked ms at p)
+marked ms at (plus p) = plus (marked ms at p)
+
+-- two lists of marks that differ from one place to another alone
+pub record SameOutside (from to : ℕ) (ms ns : List Bool) : Type 0 where
+  pub lengths : length ns ≡ length ms
+  pub before : (k : ℕ) → k < from → get_or ns k false ≡ get_or ms k false
+  pub behind : (k : ℕ) → to ≤ k → get_or ns k false ≡ get_or ms k false
 
 -- no class bears a mark
 abbrev pub is_clean : Pattern → Bool

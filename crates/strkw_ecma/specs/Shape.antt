@@ -14,7 +14,7 @@ use Rattle.strkw_ecma.specs.declared.outline.Outline.TheFolds.{fold-Outline}
 -- one node, with the patterns of its children in their places
 abbrev pub node_pattern : Tree-F Pattern → Pattern
 node_pattern Tree-F.Empty = empty
-node_pattern (Tree-F.Class marked negated ranges) = class marked negated ranges.items
+node_pattern (Tree-F.Class negated sets) = class false negated sets.items
 node_pattern Tree-F.Start = look start
 node_pattern Tree-F.End = look end
 node_pattern Tree-F.Boundary = look boundary

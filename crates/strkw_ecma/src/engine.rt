@@ -1,10 +1,11 @@
 //! The engine, and what builds it.
 
-ghost use Rattle.std.specs.Prelude.{◌≡◌, true, Some, IsOk};
+ghost use Rattle.std.specs.Prelude.{◌≡◌, ◌≤◌, true, Some, IsOk};
 ghost use Rattle.std.specs.Str.{chars};
-ghost use Rattle.strkw_ecma.specs.Table.{Searches};
+ghost use Rattle.strkw_ecma.specs.Searches.{IsSearchedBy};
 ghost use Rattle.strkw_ecma.specs.declared.table.Table.{Table};
-ghost use Rattle.strkw_ecma.specs.Marks.{is_clean};
+ghost use Rattle.strkw_ecma.specs.Marks.{is_clean, classes};
+ghost use Rattle.strkw_ecma.specs.Size.{max_steps};
 ghost use Rattle.strkw_ecma.specs.Shape.{pattern_of};
 ghost use Rattle.strkw_ecma.specs.Outcomes.{takes_pattern, pattern_outcome};
 
@@ -22,13 +23,14 @@ pub struct EcmaMatcher {
     tree: Tree,
     table: Option<Table>,
     ghost clean: { is_clean (pattern_of tree) ≡ true },
-    ghost exact: { (t : Table) → table ≡ Some t → Searches t.firsts.items t.entries.items (pattern_of tree) },
+    ghost few: { classes (pattern_of tree) ≤ max_steps },
+    ghost exact: { (t : Table) → table ≡ Some t → IsSearchedBy t (pattern_of tree) },
 }
 
 impl EcmaMatcher {
     ghost use Rattle.strkw_ecma.specs.Engine.{has_table as spec_has_table};
 
-    /// Whether matches are read off a table, so that none of them takes memory.
+    /// Whether matches are read off a table, as long as the characters of the text have columns of it.
     pub fn has_table(&self) -> bool
         ensures { result ≡ spec_has_table self.now }
     {
@@ -38,24 +40,22 @@ impl EcmaMatcher {
 
 impl RegexEngine for EcmaMatcher {
     ghost use Rattle.strkw_pattern.specs.Engine.{IsAnswer};
-    ghost use Rattle.strkw_ecma.specs.Engine.{engine_outcome, has_table as spec_has_table};
+    ghost use Rattle.strkw_ecma.specs.Engine.{engine_outcome};
 
     ghost outcome = { engine_outcome };
 
-    /// Whether the pattern is found in the text (RegExpBuiltinExec, ECMA-262 2024, section 22.2.7.2), in one pass. The only
-    /// error is `EngineFailure::Memory`: where the pattern has no table, a call copies its tree, and allocates nothing else;
-    /// where it has one, nothing is allocated.
-    fn is_match(&self, alloc: Global, text: &str) -> Result<bool, EngineFailure>
+    /// Whether the pattern is found in the text (RegExpBuiltinExec, ECMA-262 2024, section 22.2.7.2), in one pass, or where
+    /// a character has no column of the table, in two. It takes no memory, and there is no error.
+    fn is_match(&self, _alloc: Global, text: &str) -> Result<bool, EngineFailure>
         ensures answer { IsAnswer (engine_outcome self.now (chars text.now)) result }
-        ensures by_table { spec_has_table self.now ≡ true → IsOk result }
+        ensures never_fails { IsOk result }
     {
         if let Some(table) = &self.table {
-            return Ok(table.is_found(text));
+            if let Some(found) = table.is_found(text) {
+                return Ok(found);
+            }
         }
-        match self.tree.copy(alloc) {
-            Ok(mut tree) => Ok(is_found(&mut tree, text)),
-            Err(AllocError) => Err(EngineFailure::Memory),
-        }
+        Ok(is_found(&self.tree, text))
     }
 }
 

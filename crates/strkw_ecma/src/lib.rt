@@ -5,6 +5,7 @@
 
 mod classes;
 mod codes;
+mod columns;
 mod counts;
 mod engine;
 pub mod laws;
@@ -17,6 +18,8 @@ mod properties;
 mod reader;
 mod refusals;
 mod runs;
+mod same_sets;
+mod samples;
 mod sets;
 mod size;
 mod states;

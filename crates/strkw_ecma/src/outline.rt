@@ -64,7 +64,6 @@ impl Outline {
         match self {
             Outline::Empty => Ok(Tree::Empty),
             Outline::Class { negated, sets } => Ok(Tree::Class {
-                marked: false,
                 negated: *negated,
                 sets: Vec::from_slice(alloc, sets)?,
             }),

@@ -1,14 +1,17 @@
-//! How the table of a pattern is made, and that it is right: each entry is compared with a step of the marks.
+//! A table that is made, and whether it is right: each entry is compared with a step of the marks.
 
 ghost use Rattle.std.specs.Prelude.{◌≡◌, ◌^◌, ◌==◌, ◌≤◌, ◌<◌};
 ghost use Rattle.std.specs.Prelude.{ℕ, suc, List, length, true, false, IsTrue, IfOk, None, Some, get_or, slice_get};
+ghost use Rattle.strkw_ecma.specs.Size.{max_steps};
+ghost use Rattle.strkw_ecma.specs.Marks.{classes as spec_classes};
 ghost use Rattle.strkw_ecma.specs.Meaning.{is_word as spec_is_word, is_edge as spec_is_edge};
 ghost use Rattle.strkw_ecma.specs.Shape.{pattern_of};
-ghost use Rattle.strkw_ecma.specs.Table.{class_of as spec_class_of, entry_at as spec_entry_at, row_after as spec_row_after, found, has, has_if_some as spec_has_if_some, covers as spec_covers, covers_set as spec_covers_set, covers_sets as spec_covers_sets, stride, IsRowOf, IsBehind, IsEntry, IsRow, IsTable};
+ghost use Rattle.strkw_ecma.specs.Columns.{has_boundary as spec_has_boundary, answers as spec_answers};
+ghost use Rattle.strkw_ecma.specs.Table.{row_after as spec_row_after, found, IsRowOf, IsBehind, IsEntry, IsRow, IsTable};
 
-use crate::marks::{is_word, leaves_tree, set_marks, step_tree};
-use crate::sets::WORD_CHARACTERS;
-use crate::table::{FOUND, NEXT_ROW, STRIDE, Table, class_of, entry_at, next_char};
+use crate::columns::{MOST_CLASSES, MOST_COLUMNS, answers, tells};
+use crate::marks::{are_same_marks, are_unmarked, class_count, is_word, leaves_tree, step_tree};
+use crate::table::{FOUND, NEXT_ROW, entry_at};
 use crate::tree::{CharSet, Tree};
 use std::alloc::{AllocError, Global};
 
@@ -16,285 +19,248 @@ use std::alloc::{AllocError, Global};
 /// marks have the same `digest`.
 #[derive(Drop)]
 pub(crate) struct State {
-    pub(crate) tree: Tree,
+    pub(crate) marks: Vec<bool>,
     pub(crate) last: Option<char>,
     pub(crate) digest: u64,
 }
 
+/// A table that is made: a state for each row, and for each column a character that stands for all of it.
+#[derive(Drop)]
+pub(crate) struct Draft {
+    pub(crate) samples: Vec<char>,
+    pub(crate) states: Vec<State>,
+    pub(crate) entries: Vec<u16>,
+}
+
+// Whether `\b` or `\B` stands in the pattern.
+#[cycle(has_boundary)]
+fn has_boundary(tree: &Tree) -> bool
+    ensures { result ≡ spec_has_boundary (pattern_of tree.now) }
+{
+    match tree {
+        Tree::Boundary | Tree::NoBoundary => true,
+        Tree::Empty | Tree::Start | Tree::End | Tree::Class { .. } => false,
+        Tree::Then(one, other) | Tree::Or(one, other) => {
+            has_boundary(one) || has_boundary(other)
+        }
+        Tree::Star(body) | Tree::Plus(body) => has_boundary(body),
+    }
+}
+
 impl State {
-    // Whether it is that of these marks behind a character.
-    pub(crate) fn is_that_of(&self, tree: &Tree, last: char) -> bool
-        ensures marks { IsTrue result → pattern_of self.now.tree ≡ pattern_of tree.now }
-        ensures word { IsTrue result → spec_is_word self.now.last ≡ spec_is_word (Some last) }
+    // Whether it is that of these marks behind a character. The pattern tells word characters from others only where it has
+    // `\b` or `\B`.
+    pub(crate) fn is_that_of(&self, tree: &Tree, marks: &[bool], last: char) -> bool
+        ensures marks { IsTrue result → self.now.marks.items ≡ marks.now }
+        ensures word { IsTrue result → spec_has_boundary (pattern_of tree.now) ≡ true
+            → spec_is_word self.now.last ≡ spec_is_word (Some last) }
         ensures edge { IsTrue result → spec_is_edge self.now.last ≡ false }
     {
         self.last.is_some()
-            && is_word(self.last) == is_word(Some(last))
-            && is_same(&self.tree, tree)
+            && (is_word(self.last) == is_word(Some(last)) || !has_boundary(tree))
+            && are_same_marks(&self.marks, marks)
+    }
+
+    // Whether it is that at the beginning of a text.
+    fn is_first(&self) -> bool
+        ensures unmarked { IsTrue result → (k : ℕ) → get_or self.now.marks.items k false ≡ false }
+        ensures last { IsTrue result → self.now.last ≡ None }
+    {
+        self.last.is_none() && are_unmarked(&self.marks)
     }
 }
 
-// Whether both are one range: of properties there is no table.
-fn is_same_set(one: CharSet, other: CharSet) -> bool
-    ensures { IsTrue result → one ≡ other }
+/// Makes some marks those of a state, as far as there are so many. Nothing is proved of it: who needs that they are the same
+/// compares them.
+pub(crate) fn set_marks(marks: &mut [bool], state: &State)
+    ensures { length marks.new ≡ length marks.old }
 {
-    match (one, other) {
-        (CharSet::Range(low, high), CharSet::Range(other_low, other_high)) => {
-            low == other_low && high == other_high
-        }
-        _ => false,
+    for (mark, given) in marks.iter_mut().zip(&state.marks) {
+        *mark = *given;
     }
 }
 
-fn are_same_sets(one: &[CharSet], other: &[CharSet]) -> bool
-    ensures { IsTrue result → one.now ≡ other.now }
-{
-    let mut rest = other;
-    for set in one {
-        match rest.split_first() {
-            Some((first, others)) if is_same_set(*set, *first) => rest = others,
-            _ => return false,
-        }
-    }
-    rest.is_empty()
-}
-
-// Whether both are one pattern with the same marks.
-#[cycle(same)]
-fn is_same(one: &Tree, other: &Tree) -> bool
-    ensures { IsTrue result → pattern_of one.now ≡ pattern_of other.now }
-{
-    match (one, other) {
-        (Tree::Empty, Tree::Empty)
-        | (Tree::Start, Tree::Start)
-        | (Tree::End, Tree::End)
-        | (Tree::Boundary, Tree::Boundary)
-        | (Tree::NoBoundary, Tree::NoBoundary) => true,
-        (
-            Tree::Class {
-                marked,
-                negated,
-                sets,
-            },
-            Tree::Class {
-                marked: other_marked,
-                negated: other_negated,
-                sets: other_sets,
-            },
-        ) => marked == other_marked && negated == other_negated && are_same_sets(sets, other_sets),
-        (Tree::Then(one, two), Tree::Then(other, more))
-        | (Tree::Or(one, two), Tree::Or(other, more)) => {
-            is_same(one, other) && is_same(two, more)
-        }
-        (Tree::Star(one), Tree::Star(other)) | (Tree::Plus(one), Tree::Plus(other)) => is_same(
-            one, other,
-        ),
-        _ => false,
-    }
-}
-
-fn has_first(firsts: &[char], c: char) -> bool
-    ensures { result ≡ has firsts.now c }
-{
-    for first in firsts {
-        if *first == c {
-            return true;
-        }
-    }
-    false
-}
-
-// Whether a class begins with the character, if there is one.
-fn has_if_some(firsts: &[char], c: Option<char>) -> bool
-    ensures { result ≡ spec_has_if_some firsts.now c }
-{
-    match c {
-        Some(c) => has_first(firsts, c),
-        None => true,
-    }
-}
-
-// Whether a class begins with the range, and one behind it; of properties there is no table.
-fn covers_set(firsts: &[char], set: CharSet) -> bool
-    ensures { result ≡ spec_covers_set firsts.now set }
-{
-    match set {
-        CharSet::Range(low, high) => {
-            has_first(firsts, low) && has_if_some(firsts, next_char(high))
-        }
-        CharSet::Property(..) => false,
-    }
-}
-
-fn covers_sets(firsts: &[char], sets: &[CharSet]) -> bool
-    ensures { IsTrue result → spec_covers_sets firsts.now sets.now ≡ true }
-{
-    for set in sets {
-        if !covers_set(firsts, *set) {
-            return false;
-        }
-    }
-    true
-}
-
-// The same for all sets of a pattern.
-#[cycle(covers)]
-pub(crate) fn covers(firsts: &[char], tree: &Tree) -> bool
-    ensures { IsTrue result → spec_covers firsts.now (pattern_of tree.now) ≡ true }
-{
-    match tree {
-        Tree::Empty | Tree::Start | Tree::End | Tree::Boundary | Tree::NoBoundary => true,
-        Tree::Class { sets, .. } => covers_sets(firsts, sets),
-        Tree::Then(one, other) | Tree::Or(one, other) => covers(firsts, one)
-            && covers(firsts, other),
-        Tree::Star(body) | Tree::Plus(body) => covers(firsts, body),
-    }
-}
-
-// Whether the characters are the first ones of the classes 1, 2, ..
-fn are_numbered(firsts: &[char]) -> bool
-    ensures { IsTrue result → (k : ℕ) → k < length firsts.now → spec_class_of firsts.now (get_or firsts.now k 0) ≡ suc k }
-{
-    for (k, first) in firsts.iter().enumerate() {
-        if class_of(firsts, *first) != k + 1 {
-            return false;
-        }
-    }
-    true
-}
-
-// The row that an entry of a row leads to.
-fn row_after(row: usize, entry: usize) -> usize
-    requires { row < 2 ^ 32 }
-    ensures { result ≡ spec_row_after row entry }
+// The row that an entry of a row leads to, where the last column has a number.
+fn row_after(end: usize, row: usize, entry: usize) -> usize
+    requires end { end < 256 }
+    requires row { row < 2 ^ 32 }
+    ensures { result ≡ spec_row_after end row entry }
 {
     match entry {
-        NEXT_ROW => row + STRIDE,
+        NEXT_ROW => row + (end + 1),
         place => place,
     }
 }
 
-// Whether the row is that of these marks behind a character.
-fn is_behind(states: &[State], row: usize, after: &Tree, c: char) -> bool
-    ensures { IsTrue result → IsBehind states.now row (pattern_of after.now) c }
-{
-    let number = row / STRIDE;
-    if number * STRIDE != row {
-        return false;
-    }
-    match states.get(number) {
-        Some(state) => state.is_that_of(after, c),
-        None => false,
-    }
-}
-
-// Whether an entry of a row says that the pattern is found, or else leads to the row of these marks behind a character.
-fn leads_to(
-    states: &[State],
-    row: usize,
-    entry: usize,
-    is_found: bool,
-    after: &Tree,
-    c: char,
-) -> bool
-    requires { row < 2 ^ 32 }
-    ensures finds { IsTrue result → (entry == found) ≡ is_found }
-    ensures state { IsTrue result → is_found ≡ false → IsBehind states.now (spec_row_after row entry) (pattern_of after.now) c }
-{
-    if is_found {
-        return entry == FOUND;
-    }
-    entry != FOUND && is_behind(states, row_after(row, entry), after, c)
-}
-
-// Whether an entry of a row is right for a state and the next character. The marks are stepped in a tree that is at hand.
-fn is_entry(
-    at_hand: &mut Tree,
-    states: &[State],
-    state: &State,
-    row: usize,
-    c: char,
-    entry: usize,
-) -> bool
-    requires { row < 2 ^ 32 }
-    ensures { IsTrue result → IsEntry states.now state.now row c entry }
-{
-    set_marks(at_hand, &state.tree);
-    if !is_same(at_hand, &state.tree) {
-        return false;
-    }
-    let is_found = step_tree(at_hand, state.last, Some(c), true);
-    leads_to(states, row, entry, is_found, at_hand, c)
-}
-
-// Whether a row is right for a state.
-fn is_row(
-    at_hand: &mut Tree,
-    firsts: &[char],
-    entries: &[u16],
-    states: &[State],
-    state: &State,
-    row: usize,
-) -> bool
-    requires few { length firsts.now < stride }
-    requires row { row < 2 ^ 32 }
-    ensures { IsTrue result → IsRow firsts.now entries.now states.now state.now row }
-{
-    let ends = leaves_tree(&state.tree, state.last, None, true);
-    if (entry_at(entries, row, 0) == FOUND) != ends {
-        return false;
-    }
-    for (k, first) in firsts.iter().enumerate() {
-        let entry = entry_at(entries, row, k + 1);
-        if !is_entry(at_hand, states, state, row, *first, entry) {
+impl Draft {
+    // Whether the row is that of these marks behind a character.
+    fn is_behind(&self, tree: &Tree, row: usize, marks: &[bool], c: char) -> bool
+        ensures { IsTrue result
+            → IsBehind (pattern_of tree.now) (length self.now.samples.items)
+            self.now.states.items row marks.now c }
+    {
+        let stride = self.samples.len() + 1;
+        if row % stride != 0 {
             return false;
         }
-    }
-    true
-}
-
-// Whether each row is right for its state.
-fn are_rows(at_hand: &mut Tree, firsts: &[char], entries: &[u16], states: &[State]) -> bool
-    requires rows { length states.now ≤ 255 }
-    requires few { length firsts.now < stride }
-    ensures { IsTrue result → (row : ℕ) (s : State) → IsRowOf states.now row s → IsRow firsts.now entries.now states.now s row }
-{
-    for (number, state) in states.iter().enumerate() {
-        if !is_row(at_hand, firsts, entries, states, state, number * STRIDE) {
-            return false;
+        match self.states.get(row / stride) {
+            Some(state) => state.is_that_of(tree, marks, c),
+            None => false,
         }
     }
-    true
-}
 
-// Whether the first state is that of a pattern at the beginning of a text.
-fn begins(states: &[State], tree: &Tree) -> bool
-    ensures { IsTrue result → (s : State) × (slice_get states.now 0 ≡ Some s) × (pattern_of s.tree ≡ pattern_of tree.now) × (s.last ≡ None) }
-{
-    match states.first() {
-        Some(state) => state.last.is_none() && is_same(&state.tree, tree),
-        None => false,
+    // Whether an entry of a row says that the pattern is found, or else leads to the row of these marks behind a character.
+    fn leads_to(
+        &self,
+        tree: &Tree,
+        row: usize,
+        entry: usize,
+        is_found: bool,
+        marks: &[bool],
+        c: char,
+    ) -> bool
+        requires few { length self.now.samples.items < 256 }
+        requires row { row < 2 ^ 32 }
+        ensures finds { IsTrue result → (entry == found) ≡ is_found }
+        ensures state { IsTrue result → is_found ≡ false
+            → IsBehind (pattern_of tree.now) (length self.now.samples.items) self.now.states.items
+            (spec_row_after (length self.now.samples.items) row entry) marks.now c }
+    {
+        if is_found {
+            return entry == FOUND;
+        }
+        let next = row_after(self.samples.len(), row, entry);
+        entry != FOUND && self.is_behind(tree, next, marks, c)
     }
-}
 
-pub(crate) fn is_table(
-    alloc: Global,
-    firsts: &[char],
-    entries: &[u16],
-    states: &[State],
-    tree: &Tree,
-) -> Result<bool, AllocError>
-    ensures { IfOk result (λ right. IsTrue right → IsTable firsts.now entries.now states.now (pattern_of tree.now)) }
-{
-    if firsts.len() >= STRIDE || states.len() > 255 {
-        return Ok(false);
+    // Whether an entry of a row is right for a state and the next character. The marks at hand are stepped.
+    fn is_entry(
+        &self,
+        tree: &Tree,
+        at_hand: &mut [bool],
+        state: &State,
+        row: usize,
+        c: char,
+        entry: usize,
+    ) -> bool
+        requires fits { spec_classes (pattern_of tree.now) ≤ length at_hand.old }
+        requires few { length self.now.samples.items < 256 }
+        requires row { row < 2 ^ 32 }
+        ensures length { length at_hand.new ≡ length at_hand.old }
+        ensures right { IsTrue result
+            → IsEntry (pattern_of tree.now) (length self.now.samples.items)
+            self.now.states.items state.now row c entry }
+    {
+        set_marks(at_hand, state);
+        if !are_same_marks(&state.marks, at_hand) {
+            return false;
+        }
+        let is_found = step_tree(tree, at_hand, 0, state.last, Some(c), true).leaves;
+        self.leads_to(tree, row, entry, is_found, at_hand, c)
     }
-    if !covers(firsts, tree) || !covers_sets(firsts, &WORD_CHARACTERS) {
-        return Ok(false);
+
+    // Whether a row is right for a state.
+    fn is_row(&self, tree: &Tree, at_hand: &mut [bool], state: &State, row: usize) -> bool
+        requires fits { spec_classes (pattern_of tree.now) ≤ length at_hand.old }
+        requires few { length self.now.samples.items < 256 }
+        requires row { row < 2 ^ 32 }
+        ensures length { length at_hand.new ≡ length at_hand.old }
+        ensures right { IsTrue result
+            → IsRow (pattern_of tree.now) self.now.samples.items self.now.entries.items
+            self.now.states.items state.now row }
+    {
+        if state.marks.len() != at_hand.len() {
+            return false;
+        }
+        let ends = leaves_tree(tree, &state.marks, 0, state.last, None, true).leaves;
+        let entries = self.entries.as_slice();
+        if (entry_at(entries, row, self.samples.len()) == FOUND) != ends {
+            return false;
+        }
+        for (k, sample) in self.samples.as_slice().iter().enumerate() {
+            if !self.is_entry(
+                tree,
+                at_hand,
+                state,
+                row,
+                *sample,
+                entry_at(entries, row, k),
+            ) {
+                return false;
+            }
+        }
+        true
     }
-    if !has_first(firsts, '\0') || !are_numbered(firsts) || !begins(states, tree) {
-        return Ok(false);
+
+    // Whether each row is right for its state.
+    fn are_rows(&self, tree: &Tree, at_hand: &mut [bool]) -> bool
+        requires fits { spec_classes (pattern_of tree.now) ≤ length at_hand.old }
+        requires rows { length self.now.states.items ≤ 65535 }
+        requires few { length self.now.samples.items < 256 }
+        ensures { IsTrue result → (row : ℕ) (s : State)
+            → IsRowOf (length self.now.samples.items) self.now.states.items row s
+            → IsRow (pattern_of tree.now) self.now.samples.items self.now.entries.items
+            self.now.states.items s row }
+    {
+        let stride = self.samples.len() + 1;
+        for (number, state) in self.states.as_slice().iter().enumerate() {
+            if !self.is_row(tree, at_hand, state, number * stride) {
+                return false;
+            }
+        }
+        true
     }
-    let mut at_hand = tree.copy(alloc)?;
-    Ok(are_rows(&mut at_hand, firsts, entries, states))
+
+    // Whether the first state is that of a pattern without marks at the beginning of a text.
+    fn begins(&self) -> bool
+        ensures { IsTrue result → (s : State) × (slice_get self.now.states.items 0 ≡ Some s)
+            × ((k : ℕ) → get_or s.marks.items k false ≡ false) × (s.last ≡ None) }
+    {
+        match self.states.first() {
+            Some(state) => state.is_first(),
+            None => false,
+        }
+    }
+
+    // Whether these are the answers about the characters that stand for the columns.
+    fn are_keys(&self, classes: &[Vec<CharSet>], keys: &[u64]) -> bool
+        requires { length classes.now ≤ 64 }
+        ensures lengths { IsTrue result → length self.now.samples.items ≡ length keys.now }
+        ensures sampled { IsTrue result → (k : ℕ) → k < length keys.now
+            → get_or keys.now k 0 ≡ spec_answers 0 classes.now (get_or self.now.samples.items k 0) }
+    {
+        let samples = self.samples.as_slice();
+        if samples.len() != keys.len() {
+            return false;
+        }
+        for (k, key) in keys.iter().enumerate() {
+            if *key != answers(classes, samples[k]) {
+                return false;
+            }
+        }
+        true
+    }
+
+    /// Whether the table is right, with the answers of these classes that have its columns.
+    pub(crate) fn is_table(
+        &self,
+        alloc: Global,
+        classes: &[Vec<CharSet>],
+        keys: &[u64],
+        tree: &Tree,
+    ) -> Result<bool, AllocError>
+        requires { spec_classes (pattern_of tree.now) ≤ max_steps }
+        ensures { IfOk result (λ right. IsTrue right
+            → IsTable classes.now keys.now self.now.samples.items self.now.entries.items
+            self.now.states.items (pattern_of tree.now)) }
+    {
+        if classes.len() > MOST_CLASSES || keys.len() > MOST_COLUMNS || self.states.len() > 65535 {
+            return Ok(false);
+        }
+        if !tells(classes, tree) || !self.are_keys(classes, keys) || !self.begins() {
+            return Ok(false);
+        }
+        let mut at_hand = vec![in alloc; false; class_count(tree)]?;
+        Ok(self.are_rows(tree, &mut at_hand))
+    }
 }

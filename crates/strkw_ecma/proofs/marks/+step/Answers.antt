@@ -1,31 +1,41 @@
-use Rattle.std.proofs.Common.{◌≡◌, ◌||◌, ◌∙◌}
-use Rattle.strkw_ecma.proofs.Shapes.{pattern-Then, pattern-Or, pattern-Star, pattern-Plus}
+use Rattle.std.proofs.Common.{refl}
+use Rattle.strkw_ecma.specs.Shape.{pattern_of}
+use Rattle.strkw_ecma.proofs.Marked.{second_kept, then_stepped, or_stepped}
+use Rattle.strkw_ecma.proofs.Shapes.{pattern-Then, pattern-Or}
 use Rattle.strkw_ecma.proofs.marks.+step.Goals as goal
-use Rattle.strkw_ecma.proofs.marks.+step.Goals.{then-enters-6, else-enters-6, then-enters-7, else-enters-7}
+
+pub returns-in-Then-clause-left : goal.returns-in-Then-clause-left
+returns-in-Then-clause-left t c =
+    let p = pattern_of c.deref-in-Then.result.now in
+    let q = pattern_of c.deref-in-Then-2.result.now in
+    let one = c.step_tree-between in
+    let other = c.step_tree in
+    let kept = second_kept c.args.at one.result.next p q one.ensures.next c.args.marks.now one.new.marks other.new.marks one.ensures.others other.ensures.others in
+    rw (c.in-Then.is, pattern-Then) (cc (kept, one.ensures.left, other.ensures.left))
 
 pub returns-in-Then-clause-marks : goal.returns-in-Then-clause-marks
-returns-in-Then-clause-marks t c = rw (c.in-Then.is, pattern-Then, pattern-Then) (cc)
+returns-in-Then-clause-marks t c =
+    let p = pattern_of c.deref-in-Then.result.now in
+    let q = pattern_of c.deref-in-Then-2.result.now in
+    let one = c.step_tree-between in
+    let other = c.step_tree in
+    let stepped = then_stepped c.args.at one.result.next p q one.ensures.next c.args.marks.now one.new.marks other.new.marks one.ensures.others other.ensures.others c.args.last c.args.next c.args.enters one.result.leaves one.ensures.marks other.ensures.marks one.ensures.left in
+    rw (c.in-Then.is, pattern-Then) (cc (stepped))
 
-pub returns-then-by_one-clause-marks : goal.returns-then-by_one-clause-marks
-returns-then-by_one-clause-marks t c = rw (c.in-Or.is, pattern-Or, pattern-Or) (cc)
+pub returns-in-Or-clause-left : goal.returns-in-Or-clause-left
+returns-in-Or-clause-left t c =
+    let p = pattern_of c.deref-in-Or.result.now in
+    let q = pattern_of c.deref-in-Or-2.result.now in
+    let one = c.step_tree-by_one in
+    let other = c.step_tree-by_other in
+    let kept = second_kept c.args.at one.result.next p q one.ensures.next c.args.marks.now one.new.marks other.new.marks one.ensures.others other.ensures.others in
+    rw (c.in-Or.is, pattern-Or) (cc (kept, one.ensures.left, other.ensures.left))
 
-pub returns-else-by_one-clause-marks : goal.returns-else-by_one-clause-marks
-returns-else-by_one-clause-marks t c = rw (c.in-Or.is, pattern-Or, pattern-Or) (cc)
-
-pub returns-after-enters-6-clause-marks : goal.returns-after-enters-6-clause-marks
-returns-after-enters-6-clause-marks t c =
-    let y : c.if-enters-6.enters ≡ (c.args.enters || c.leaves_tree-again.result) =
-    elim c.if-enters-6.branch [
-      | then-enters-6 w ↦ rw (w.if-enters-6.true) (w.enters-is ∙ w.if-enters-6.true)
-      | else-enters-6 w ↦ rw (w.if-enters-6.false) w.enters-is
-    ] in
-    rw (c.in-Star.is, pattern-Star, pattern-Star) (cc (y, c.leaves_tree-again.ensures, c.step_tree-in-Star.ensures.marks))
-
-pub returns-after-enters-7-clause-marks : goal.returns-after-enters-7-clause-marks
-returns-after-enters-7-clause-marks t c =
-    let y : c.if-enters-7.begins ≡ (c.args.enters || c.leaves_tree-more.result) =
-    elim c.if-enters-7.branch [
-      | then-enters-7 w ↦ rw (w.if-enters-7.true) (w.begins-is ∙ w.if-enters-7.true)
-      | else-enters-7 w ↦ rw (w.if-enters-7.false) w.begins-is
-    ] in
-    rw (c.in-Plus.is, pattern-Plus, pattern-Plus) (cc (y, c.leaves_tree-more.ensures, c.step_tree-in-Plus.ensures.marks))
+pub returns-in-Or-clause-marks : goal.returns-in-Or-clause-marks
+returns-in-Or-clause-marks t c =
+    let p = pattern_of c.deref-in-Or.result.now in
+    let q = pattern_of c.deref-in-Or-2.result.now in
+    let one = c.step_tree-by_one in
+    let other = c.step_tree-by_other in
+    let stepped = or_stepped c.args.at one.result.next p q one.ensures.next c.args.marks.now one.new.marks other.new.marks one.ensures.others other.ensures.others c.args.last c.args.next c.args.enters c.args.enters one.ensures.marks other.ensures.marks refl in
+    rw (c.in-Or.is, pattern-Or) (cc (stepped))

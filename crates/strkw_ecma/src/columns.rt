@@ -1,0 +1,93 @@
+//! The columns of a table: characters about which the classes of a pattern give the same answers share one.
+
+ghost use Rattle.std.specs.Prelude.{◌≡◌, ◌≤◌, ◌<◌, length, IsTrue, IfSome};
+ghost use Rattle.strkw_ecma.specs.Columns.{answers as spec_answers, place_of as spec_place_of, column_of, AreColumns, TellsSets, Tells};
+ghost use Rattle.strkw_ecma.specs.Shape.{pattern_of};
+
+use crate::marks::contains;
+use crate::same_sets::are_same_sets;
+use crate::sets::WORD_CHARACTERS;
+use crate::tree::{CharSet, Tree};
+
+/// The most classes of a pattern that has a table: their answers are the digits of a number.
+pub(crate) const MOST_CLASSES: usize = 64;
+
+/// The most columns, but for that of the end of the text.
+pub(crate) const MOST_COLUMNS: usize = 255;
+
+/// Whether the sets of each class have the character, as the digits of a number.
+pub(crate) fn answers(classes: &[Vec<CharSet>], c: char) -> u64
+    requires { length classes.now ≤ 64 }
+    ensures { result ≡ spec_answers 0 classes.now c }
+{
+    let mut answers = 0u64;
+    for class in classes {
+        answers = 2 * answers + u64::from(contains(class, c));
+    }
+    answers
+}
+
+/// The place of a number.
+pub(crate) fn place_of(keys: &[u64], key: u64) -> Option<usize>
+    ensures place { result ≡ spec_place_of keys.now key }
+    ensures within { IfSome result (λ k. k < length keys.now) }
+{
+    for (place, known) in keys.iter().enumerate() {
+        if *known == key {
+            return Some(place);
+        }
+    }
+    None
+}
+
+/// The classes that are asked about a character, the answers that have a column, in the order of the columns, and the columns
+/// of ASCII characters.
+#[derive(Drop)]
+pub(crate) struct Columns {
+    pub(crate) classes: Vec<Vec<CharSet>>,
+    pub(crate) keys: Vec<u64>,
+    pub(crate) ascii: Vec<u8>,
+    ghost few: { length classes.items ≤ 64 },
+    ghost few_columns: { length keys.items < 256 },
+    ghost right: { AreColumns classes.items keys.items ascii.items },
+}
+
+impl Columns {
+    /// The column of a character, where its answers have one.
+    pub(crate) fn column(&self, c: char) -> Option<usize>
+        ensures column { result ≡ column_of self.now.classes.items self.now.keys.items c }
+        ensures within { IfSome result (λ k. k < 256) }
+    {
+        match self.ascii.get(u32::from(c) as usize) {
+            Some(column) => Some(usize::from(*column)),
+            None => place_of(&self.keys, answers(&self.classes, c)),
+        }
+    }
+}
+
+/// Whether these sets are those of some class.
+pub(crate) fn tells_sets(classes: &[Vec<CharSet>], sets: &[CharSet]) -> bool
+    ensures { IsTrue result → TellsSets classes.now sets.now }
+{
+    for class in classes {
+        if are_same_sets(class, sets) {
+            return true;
+        }
+    }
+    false
+}
+
+/// Whether the answers of the classes tell all that a pattern asks about a character.
+#[cycle(tells)]
+pub(crate) fn tells(classes: &[Vec<CharSet>], tree: &Tree) -> bool
+    ensures { IsTrue result → Tells classes.now (pattern_of tree.now) }
+{
+    match tree {
+        Tree::Empty | Tree::Start | Tree::End => true,
+        Tree::Boundary | Tree::NoBoundary => tells_sets(classes, &WORD_CHARACTERS),
+        Tree::Class { sets, .. } => tells_sets(classes, sets),
+        Tree::Then(one, other) | Tree::Or(one, other) => tells(classes, one)
+            && tells(classes, other),
+        Tree::Star(body) | Tree::Plus(body) => tells(classes, body),
+    }
+}
