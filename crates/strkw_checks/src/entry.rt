@@ -1,8 +1,8 @@
 //! The validator of one entry of a schema object.
 
-use crate::doubles::{ScriptedBuilder, ScriptedEngine};
 use serde_json::{Map, Value};
 use std::alloc::Global;
+use strkw_doubles::{ScriptedBuilder, ScriptedEngine};
 use strkw_keywords::{
     Context, Keyword, Validator, content, format, max_length, member, min_length, pattern,
 };

@@ -3,8 +3,8 @@
 use crate::tests::json;
 use std::alloc::{AllocError, Global};
 use std::test::Fail;
-use strkw_checks::{check_named, codec_named};
 use strkw_document::{DocumentFault, check_document};
+use strkw_doubles::{check_named, codec_named};
 use strkw_keywords::{Checks, NamedCodec, NamedFormat, NamedMediaType, Options};
 use strkw_pattern::NoPatterns;
 use strkw_plan::Rules;

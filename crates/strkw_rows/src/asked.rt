@@ -4,8 +4,9 @@ use crate::lists::parts;
 use crate::{entry, object, row, shown};
 use serde_json::{Map, Value};
 use std::alloc::{AllocError, Global};
-use strkw_checks::{Name, ScriptedBuilder, ScriptedEngine, compiled};
+use strkw_checks::compiled;
 use strkw_cli::{StringKeywords, compile_strings};
+use strkw_doubles::{Name, ScriptedBuilder, ScriptedEngine};
 use strkw_keywords::{Checks, Context, Uses, Validate, Validator};
 
 /// Appends what is compiled of the object, or of the one entry that the row names, and its answers; and where a pattern

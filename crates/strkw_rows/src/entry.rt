@@ -3,7 +3,7 @@
 use crate::answers::{Answers, appended, first_error, lent, word};
 use crate::shown::{OUT_OF_MEMORY, errors};
 use std::alloc::{AllocError, Global};
-use strkw_checks::ScriptedEngine;
+use strkw_doubles::ScriptedEngine;
 use strkw_keywords::{Checks, Uses, Validate, Validator};
 use strkw_report::{EvaluationResult, Node, Site};
 

@@ -8,7 +8,7 @@ use crate::row;
 use serde_json::Value;
 use std::alloc::{AllocError, Global};
 use std::cell::Cell;
-use strkw_checks::{Row, ScriptedBuilder, check_named, codec_named, outcome_named};
+use strkw_doubles::{Row, ScriptedBuilder, check_named, codec_named, outcome_named};
 use strkw_keywords::{Checks, Context, NamedCodec, NamedFormat, NamedMediaType};
 
 /// Appends what a row's schema object says of each of its instances.

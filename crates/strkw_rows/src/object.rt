@@ -3,8 +3,8 @@
 use crate::answers::{Answers, appended, first_error, lent, word};
 use crate::shown::{OUT_OF_MEMORY, errors};
 use std::alloc::{AllocError, Global};
-use strkw_checks::ScriptedEngine;
 use strkw_cli::{Note, StringKeywords};
+use strkw_doubles::ScriptedEngine;
 use strkw_keywords::Checks;
 use strkw_report::{Node, Site};
 

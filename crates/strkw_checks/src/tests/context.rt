@@ -1,10 +1,10 @@
 //! What the calls are lent, and whether they left it as it was.
 
-use crate::{Row, ScriptedBuilder, check_named};
 use serde_json::Value;
 use std::alloc::{AllocError, Global};
 use std::cell::Cell;
 use std::test::Fail;
+use strkw_doubles::{Row, ScriptedBuilder, check_named};
 use strkw_keywords::{Checks, Context, Fault, NamedFormat, Options};
 use strkw_pattern::Outcome;
 use strkw_report::{

@@ -5,10 +5,11 @@ use super::context::{
     Call, are_lent, builder, collects, context, ended_well, error_lines, even_format,
     gives_the_first, is_as_made, is_at, json, lent_errors, root_site,
 };
-use crate::{ScriptedBuilder, ScriptedEngine, compiled};
+use crate::compiled;
 use serde_json::Value;
 use std::alloc::{AllocError, Global};
 use std::test::Fail;
+use strkw_doubles::{ScriptedBuilder, ScriptedEngine};
 use strkw_keywords::{Checks, Context, Keyword, Uses, Validate, Validator};
 use strkw_report::{CompileError, Draft, Site};
 

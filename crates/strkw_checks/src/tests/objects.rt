@@ -7,7 +7,6 @@ use super::context::{
     gives_the_first, is_as_made, is_at, json, lent_errors, root_site,
 };
 use super::devices::{answers, ends, script};
-use crate::{ScriptedBuilder, ScriptedEngine};
 use serde_json::Value;
 use std::alloc::{AllocError, Global};
 use std::test::Fail;
@@ -15,6 +14,7 @@ use strkw_cli::{
     BoundedRunFault, MemorySink, MemorySource, Note, RunFault, Sink, StringKeywords,
     compile_strings, run, run_bounded,
 };
+use strkw_doubles::{ScriptedBuilder, ScriptedEngine};
 use strkw_keywords::{Checks, Context};
 use strkw_report::{CompileError, Draft, Site};
 

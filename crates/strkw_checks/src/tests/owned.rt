@@ -6,11 +6,11 @@ use super::context::{
     builder, context, even_format, is_as_made, is_at, json, no_memory_at_the_root, root_site,
 };
 use super::objects::note_lines;
-use crate::{ScriptedBuilder, ScriptedEngine};
 use serde_json::{Map, Value};
 use std::alloc::{AllocError, Global};
 use std::test::Fail;
 use strkw_cli::{Note, StringKeywords, compile_owned};
+use strkw_doubles::{ScriptedBuilder, ScriptedEngine};
 use strkw_keywords::{Checks, Context, Uses, Validator, take_content_schema};
 use strkw_report::{CompileError, Draft};
 

@@ -5,7 +5,7 @@ use Rattle.std.specs.String.{string_bytes}
 use Rattle.std.proofs.lemmas.Str.{encodes-chars}
 use Rattle.strkw_pattern.specs.declared.engine.Outcome.{Outcome}
 use Rattle.strkw_pattern.specs.declared.engine.Outcome.TheVariants as outcome
-use Rattle.strkw_checks.proofs.doubles.ScriptedBuilderEngineBuilder.build.Goals as goal
+use Rattle.strkw_doubles.proofs.doubles.ScriptedBuilderEngineBuilder.build.Goals as goal
 
 pub returns-then-not-has_pattern-clause-refused : goal.returns-then-not-has_pattern-clause-refused
 returns-then-not-has_pattern-clause-refused c = λ _. rw (encodes-chars c.args.pattern.now c.utf8.pattern) (sym c.has_pattern.ensures ∙ c.if-not-has_pattern.true)

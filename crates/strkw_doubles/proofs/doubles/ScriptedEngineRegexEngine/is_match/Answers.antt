@@ -1,6 +1,6 @@
 use Rattle.std.proofs.Common.{sym, ◌∙◌}
 use Rattle.std.proofs.lemmas.Str.{encodes-chars}
-use Rattle.strkw_checks.proofs.doubles.ScriptedEngineRegexEngine.is_match.Goals as goal
+use Rattle.strkw_doubles.proofs.doubles.ScriptedEngineRegexEngine.is_match.Goals as goal
 
 pub returns-in-Match : goal.returns-in-Match
 returns-in-Match c = record { answer = rw (encodes-chars c.args.text.now c.utf8.text, ← c.as_str.ensures.value) (sym c.outcome_in.ensures ∙ c.in-Match.is) }
