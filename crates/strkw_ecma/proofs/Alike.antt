@@ -1,11 +1,12 @@
 -- Characters about which the classes of a pattern give the same answers: the pattern does not tell them apart.
-use Rattle.std.proofs.Common.{◌≡◌, ℕ, zero, suc, ◌+◌, ◌*◌, ◌<◌, Bool, true, false, ◌&&◌, ◌||◌, List, [], ◌∷◌, Vec, Global, Option, Some, None, length, get_or, refl, sym, ap, ◌∙◌, ⊎_elim, true≢false, if◌then◌else◌, ◌==◌, option_map, arith}
+use Rattle.std.proofs.Common.{◌≡◌, ℕ, zero, suc, ◌+◌, ◌*◌, ◌<◌, Bool, true, false, ◌&&◌, ◌||◌, List, [], ◌∷◌, Vec, Global, Option, Some, None, length, drop, get_or, refl, sym, ap, ◌∙◌, ⊎_elim, true≢false, if◌then◌else◌, ◌==◌, option_map, arith}
 use Rattle.std.proofs.lemmas.Bool.{eqb-true}
 use Rattle.std.specs.Prelude.{is_some}
 use Rattle.strkw_ecma.specs.Tree.{Look, Pattern, empty, class, look, cat, alt, star, plus, start, end, boundary, no_boundary, in_sets, differ}
 use Rattle.strkw_ecma.specs.Meaning.{is_word, is_edge, holds}
 use Rattle.strkw_ecma.specs.Marks.{leaves, step, classes, marked}
-use Rattle.strkw_ecma.specs.Columns.{answers, place_of, asks_word, has_boundary, TellsSets, Tells}
+use Rattle.strkw_ecma.specs.Columns.{answers, place_of, has_boundary, TellsSets, Tells}
+use Rattle.strkw_ecma.specs.Program.{asks_word}
 use Rattle.strkw_ecma.specs.declared.tree.CharSet.{CharSet}
 use Rattle.strkw_ecma.proofs.Steps.{or_case, or_left, or_right}
 
@@ -124,24 +125,24 @@ module _ (ks : List (Vec CharSet Global)) (c d : ℕ) (same : answers 0 ks c ≡
         ap (λ (y : Bool). plus (step b (Some c) p (x || y))) (left p false word t) ∙ ap plus (same_step p _ word t)
 
 -- with marks a pattern asks the same
-pub marked_tells : (ks : List (Vec CharSet Global)) (ms : List Bool) (p : Pattern) (at : ℕ) → Tells ks p → Tells ks (marked ms at p)
-marked_tells ks ms empty at t = t
-marked_tells ks ms (class m n rs) at t = t
-marked_tells ks ms (look l) at t = t
-marked_tells ks ms (cat p q) at t = (marked_tells ks ms p at t.0, marked_tells ks ms q (at + classes p) t.1)
-marked_tells ks ms (alt p q) at t = (marked_tells ks ms p at t.0, marked_tells ks ms q (at + classes p) t.1)
-marked_tells ks ms (star p) at t = marked_tells ks ms p at t
-marked_tells ks ms (plus p) at t = marked_tells ks ms p at t
+pub marked_tells : (ks : List (Vec CharSet Global)) (ms : List Bool) (p : Pattern) → Tells ks p → Tells ks (marked ms p)
+marked_tells ks ms empty t = t
+marked_tells ks ms (class m n rs) t = t
+marked_tells ks ms (look l) t = t
+marked_tells ks ms (cat p q) t = (marked_tells ks ms p t.0, marked_tells ks (drop (classes p) ms) q t.1)
+marked_tells ks ms (alt p q) t = (marked_tells ks ms p t.0, marked_tells ks (drop (classes p) ms) q t.1)
+marked_tells ks ms (star p) t = marked_tells ks ms p t
+marked_tells ks ms (plus p) t = marked_tells ks ms p t
 
-marked_boundary : (ms : List Bool) (p : Pattern) (at : ℕ) → has_boundary (marked ms at p) ≡ has_boundary p
-marked_boundary ms empty at = refl
-marked_boundary ms (class m n rs) at = refl
-marked_boundary ms (look l) at = refl
-marked_boundary ms (cat p q) at = rw (marked_boundary ms p at, marked_boundary ms q (at + classes p)) refl
-marked_boundary ms (alt p q) at = rw (marked_boundary ms p at, marked_boundary ms q (at + classes p)) refl
-marked_boundary ms (star p) at = marked_boundary ms p at
-marked_boundary ms (plus p) at = marked_boundary ms p at
+marked_boundary : (ms : List Bool) (p : Pattern) → has_boundary (marked ms p) ≡ has_boundary p
+marked_boundary ms empty = refl
+marked_boundary ms (class m n rs) = refl
+marked_boundary ms (look l) = refl
+marked_boundary ms (cat p q) = rw (marked_boundary ms p, marked_boundary (drop (classes p) ms) q) refl
+marked_boundary ms (alt p q) = rw (marked_boundary ms p, marked_boundary (drop (classes p) ms) q) refl
+marked_boundary ms (star p) = marked_boundary ms p
+marked_boundary ms (plus p) = marked_boundary ms p
 
-pub marked_word : (ms : List Bool) (p : Pattern) (b e : Option ℕ) → SameWord p b e → SameWord (marked ms 0 p) b e
+pub marked_word : (ms : List Bool) (p : Pattern) (b e : Option ℕ) → SameWord p b e → SameWord (marked ms p) b e
 unfolding SameWord
-marked_word ms p b e same h = same (sym (marked_boundary ms p 0) ∙ h)
+marked_word ms p b e same h = same (sym (marked_boundary ms p) ∙ h)

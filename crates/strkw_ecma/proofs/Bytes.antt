@@ -24,14 +24,14 @@ module _ (t : Columns) (text bytes columns : List ℕ) (all : bytes ≡ text) (a
 
   begins : drop k text ≡ encode_utf8 b ++ drop (k + 1) text
   begins =
-      let most : length t.ascii.items ≤ 128 = t.right.ascii in
+      let most : length t.ascii.items ≤ 128 = t.few_ascii in
       let small : b < 128 = omega (arith, in_ascii) in
       drop_more text k 0 in_text
       ∙ ap (λ (c : ℕ). c ∷ drop (k + 1) text) (sym (b_is ∙ ap (λ (l : List ℕ). get_or l k 0) all))
       ∙ ap (λ (s : List ℕ). s ++ drop (k + 1) text) (sym (encode_ascii b small))
 
   right : column_of t.classes.items t.keys.items b ≡ Some column
-  right = t.right.right b in_ascii ∙ ap Some (sym (column_is ∙ entry_is ∙ ap (λ (l : List ℕ). get_or l b 0) ascii))
+  right = t.right_ascii b in_ascii ∙ ap Some (sym (column_is ∙ entry_is ∙ ap (λ (l : List ℕ). get_or l b 0) ascii))
 
   pub reads_byte : ReadsByte t text k b column
   reads_byte = record {

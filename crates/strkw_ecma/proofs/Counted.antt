@@ -1,128 +1,87 @@
--- The steps of a search: each character takes at most those of the pattern.
-use Rattle.std.proofs.Common.{◌≡◌, ℕ, ◌+◌, ◌*◌, ◌≤◌, Bool, true, false, ◌||◌, List, [], ◌∷◌, length, Option, Some, None, if◌then◌else◌, refl, ap, ◌∙◌, arith}
-use Rattle.strkw_ecma.specs.Tree.{Pattern, empty, class, look, cat, alt, star, plus}
-use Rattle.strkw_ecma.specs.Marks.{leaves, step}
+-- The steps of a search: each character takes at most twice those of the pattern.
+use Rattle.std.proofs.Common.{◌≡◌, ℕ, ◌+◌, ◌*◌, ◌≤◌, Bool, true, false, ◌||◌, List, [], ◌∷◌, length, Option, Some, None, if◌then◌else◌, refl, sym, ap, ◌∙◌, arith}
+use Rattle.std.proofs.lemmas.List.{append-nil}
+use Rattle.strkw_ecma.specs.Tree.{Pattern}
+use Rattle.strkw_ecma.specs.Marks.{leaves, step, marks_of}
 use Rattle.strkw_ecma.specs.Search.{search_from}
-use Rattle.strkw_ecma.specs.Size.{nodes, steps}
-use Rattle.strkw_ecma.specs.Counted.{Asked, Moved, asked, moved, later, searched, IsSearchedWithin}
-use Rattle.strkw_ecma.proofs.Steps.{plus_leaves}
-
--- a node at least is asked once
-pub nodes_least : (p : Pattern) → nodes p ≤ steps p
-nodes_least empty = omega arith
-nodes_least (class m n rs) = omega arith
-nodes_least (look l) = omega arith
-nodes_least (cat p q) = omega (arith, nodes_least p, nodes_least q)
-nodes_least (alt p q) = omega (arith, nodes_least p, nodes_least q)
-nodes_least (star p) = omega (arith, nodes_least p)
-nodes_least (plus p) = omega (arith, nodes_least p)
+use Rattle.strkw_ecma.specs.Program.{Instruction, program}
+use Rattle.strkw_ecma.specs.Size.{instruction_steps, steps_of, steps}
+use Rattle.strkw_ecma.specs.Walk.{top, Asked, Walked, Following, begun, back_over, over, left_by, marks_behind, asked, followed, walked}
+use Rattle.strkw_ecma.specs.Counted.{Counted, after, asking, following, walking, searching, IsSearchedWithin}
+use Rattle.strkw_ecma.proofs.Programs.{walked_is}
+use Rattle.strkw_ecma.proofs.Marked.{step_program}
 
 module _ (b a : Option ℕ) where
-  asked_answer : (p : Pattern) (x : Bool) → (asked b a p x).answer ≡ leaves b a p x
-  asked_answer empty x = refl
-  asked_answer (class m n rs) x = refl
-  asked_answer (look l) x = refl
-  asked_answer (cat p q) x = asked_answer q (asked b a p x).answer ∙ ap (leaves b a q) (asked_answer p x)
-  asked_answer (alt p q) x =
-      ap (λ (y : Bool). y || (asked b a q x).answer) (asked_answer p x) ∙ ap (λ (y : Bool). leaves b a p x || y) (asked_answer q x)
-  asked_answer (star p) x = ap (λ (y : Bool). x || y) (asked_answer p false)
-  asked_answer (plus p) x = asked_answer p x ∙ plus_leaves b a p x
+  asking_result : (is : List Instruction) (ms : List Bool) → (asking b a is ms).result ≡ asked b a is ms
+  asking_result [] ms = refl
+  asking_result (i ∷ is) ms = ap (back_over b a i (top ms)) (asking_result is (marks_behind b a i ms))
 
-  asked_steps : (p : Pattern) (x : Bool) → (asked b a p x).steps ≡ nodes p
-  asked_steps empty x = refl
-  asked_steps (class m n rs) x = refl
-  asked_steps (look l) x = refl
-  asked_steps (cat p q) x = omega (arith, asked_steps p x, asked_steps q (asked b a p x).answer)
-  asked_steps (alt p q) x = omega (arith, asked_steps p x, asked_steps q x)
-  asked_steps (star p) x = omega (arith, asked_steps p false)
-  asked_steps (plus p) x = omega (arith, asked_steps p x)
+  asking_steps : (is : List Instruction) (ms : List Bool) → (asking b a is ms).steps ≡ steps_of is
+  asking_steps [] ms = refl
+  asking_steps (i ∷ is) ms = ap (λ (n : ℕ). instruction_steps i + n) (asking_steps is (marks_behind b a i ms))
 
-  moved_answer : (p : Pattern) (x : Bool) → (moved b a p x).answer ≡ leaves b a p x
-  moved_answer empty x = refl
-  moved_answer (class m n rs) x = refl
-  moved_answer (look l) x = refl
-  moved_answer (cat p q) x = moved_answer q (moved b a p x).answer ∙ ap (leaves b a q) (moved_answer p x)
-  moved_answer (alt p q) x =
-      ap (λ (y : Bool). y || (moved b a q x).answer) (moved_answer p x) ∙ ap (λ (y : Bool). leaves b a p x || y) (moved_answer q x)
-  moved_answer (star p) x = ap (λ (y : Bool). x || y) (asked_answer p false)
-  moved_answer (plus p) x =
-      moved_answer p (x || (asked b a p false).answer) ∙ ap (λ (y : Bool). leaves b a p (x || y)) (asked_answer p false)
+  following_result : (is : List Instruction) (s : Following) (ms : List Bool) → (following b a is s ms).result ≡ followed b a is s ms
+  following_result [] s ms = refl
+  following_result (i ∷ is) s ms =
+      ap (left_by b a i (top ms) s) (following_result is (over b a i (top ms) s) (marks_behind b a i ms))
 
-  moved_marks : (p : Pattern) (x : Bool) → (moved b a p x).marks ≡ step b a p x
-  moved_marks empty x = refl
-  moved_marks (class m n rs) x = refl
-  moved_marks (look l) x = refl
-  moved_marks (cat p q) x =
-      ap (λ (r : Pattern). cat r (moved b a q (moved b a p x).answer).marks) (moved_marks p x)
-      ∙ ap (cat (step b a p x)) (moved_marks q (moved b a p x).answer ∙ ap (step b a q) (moved_answer p x))
-  moved_marks (alt p q) x =
-      ap (λ (r : Pattern). alt r (moved b a q x).marks) (moved_marks p x) ∙ ap (alt (step b a p x)) (moved_marks q x)
-  moved_marks (star p) x =
-      ap star (moved_marks p (x || (asked b a p false).answer) ∙ ap (λ (y : Bool). step b a p (x || y)) (asked_answer p false))
-  moved_marks (plus p) x =
-      ap plus (moved_marks p (x || (asked b a p false).answer) ∙ ap (λ (y : Bool). step b a p (x || y)) (asked_answer p false))
+  following_steps : (is : List Instruction) (s : Following) (ms : List Bool) → (following b a is s ms).steps ≡ steps_of is
+  following_steps [] s ms = refl
+  following_steps (i ∷ is) s ms =
+      ap (λ (n : ℕ). instruction_steps i + n) (following_steps is (over b a i (top ms) s) (marks_behind b a i ms))
 
-  moved_steps : (p : Pattern) (x : Bool) → (moved b a p x).steps ≡ steps p
-  moved_steps empty x = refl
-  moved_steps (class m n rs) x = refl
-  moved_steps (look l) x = refl
-  moved_steps (cat p q) x = omega (arith, moved_steps p x, moved_steps q (moved b a p x).answer)
-  moved_steps (alt p q) x = omega (arith, moved_steps p x, moved_steps q x)
-  moved_steps (star p) x = omega (arith, asked_steps p false, moved_steps p (x || (asked b a p false).answer))
-  moved_steps (plus p) x = omega (arith, asked_steps p false, moved_steps p (x || (asked b a p false).answer))
+  walking_result : (is : List Instruction) (ms : List Bool) → (walking b a is ms).result ≡ walked b a is ms
+  walking_result is ms =
+      following_result is (begun (asking b a is ms).result.again) ms
+      ∙ ap (λ (s : Asked). followed b a is (begun s.again) ms) (asking_result is ms)
 
-  -- marks add nothing
-  same_nodes : (p : Pattern) (x : Bool) → nodes (step b a p x) ≡ nodes p
-  same_nodes empty x = refl
-  same_nodes (class m n rs) x = refl
-  same_nodes (look l) x = refl
-  same_nodes (cat p q) x = omega (arith, same_nodes p x, same_nodes q (leaves b a p x))
-  same_nodes (alt p q) x = omega (arith, same_nodes p x, same_nodes q x)
-  same_nodes (star p) x = omega (arith, same_nodes p (x || leaves b a p false))
-  same_nodes (plus p) x = omega (arith, same_nodes p (x || leaves b a p false))
+  walking_steps : (is : List Instruction) (ms : List Bool) → (walking b a is ms).steps ≡ 2 * steps_of is
+  walking_steps is ms =
+      omega (arith, asking_steps is ms, following_steps is (begun (asking b a is ms).result.again) ms)
 
-  same_steps : (p : Pattern) (x : Bool) → steps (step b a p x) ≡ steps p
-  same_steps empty x = refl
-  same_steps (class m n rs) x = refl
-  same_steps (look l) x = refl
-  same_steps (cat p q) x = omega (arith, same_steps p x, same_steps q (leaves b a p x))
-  same_steps (alt p q) x = omega (arith, same_steps p x, same_steps q x)
-  same_steps (star p) x =
-      let y = x || leaves b a p false in omega (arith, same_steps p y, same_nodes p y)
-  same_steps (plus p) x =
-      let y = x || leaves b a p false in omega (arith, same_steps p y, same_nodes p y)
+  -- of the program of a pattern, with its marks
+  walk_of : (p : Pattern) → (walking b a (program p) (marks_of p)).result ≡ record { leaves = leaves b a p true; marks = marks_of (step b a p true) }
+  walk_of p =
+      walking_result (program p) (marks_of p)
+      ∙ ap (walked b a (program p)) (sym (append-nil (marks_of p)))
+      ∙ walked_is b a p []
+      ∙ ap (λ (ms : List Bool). record { leaves = leaves b a p true; marks = ms }) (append-nil (marks_of (step b a p true)))
 
 -- one character more
-answer_on : (x : Moved) (rest : Asked) (l f : Bool) → x.answer ≡ l → rest.answer ≡ f
-    → (if x.answer then record { answer = true; steps = x.steps } else later x.steps rest).answer ≡ (l || f)
-answer_on x rest true f e g = rw e refl
-answer_on x rest false f e g = rw e g
+result_on : (x : Counted Walked) (rest : Counted Bool) (l f : Bool) → x.result.leaves ≡ l → rest.result ≡ f
+    → (if x.result.leaves then record { result = true; steps = x.steps } else after x.steps rest).result ≡ (l || f)
+result_on x rest true f e g = rw e refl
+result_on x rest false f e g = rw e g
 
-steps_on : (y : Bool) (n most more : ℕ) (rest : Asked) → n ≤ most → rest.steps ≤ more
-    → (if y then record { answer = true; steps = n } else later n rest).steps ≤ most + more
+steps_on : (y : Bool) (n most more : ℕ) (rest : Counted Bool) → n ≤ most → rest.steps ≤ more
+    → (if y then record { result = true; steps = n } else after n rest).steps ≤ most + more
 steps_on true n most more rest h g = omega (arith, h)
 steps_on false n most more rest h g = omega (arith, h, g)
 
-searched_answer : (p : Pattern) (last : Option ℕ) (text : List ℕ) → (searched p last text).answer ≡ search_from p last text
-searched_answer p last [] = asked_answer last None p true
-searched_answer p last (c ∷ cs) =
-    let one = moved last (Some c) p true in
-    answer_on one (searched one.marks (Some c) cs) _ _ (moved_answer last (Some c) p true)
-    (searched_answer one.marks (Some c) cs ∙ ap (λ (q : Pattern). search_from q (Some c) cs) (moved_marks last (Some c) p true))
+searching_result : (p : Pattern) (last : Option ℕ) (text : List ℕ)
+    → (searching (program p) (marks_of p) last text).result ≡ search_from p last text
+searching_result p last [] = ap (λ (w : Walked). w.leaves) (walk_of last None p)
+searching_result p last (c ∷ cs) =
+    let one = walking last (Some c) (program p) (marks_of p) in
+    let behind = step last (Some c) p true in
+    result_on one (searching (program p) one.result.marks (Some c) cs) _ _
+    (ap (λ (w : Walked). w.leaves) (walk_of last (Some c) p))
+    (ap (λ (w : Walked). (searching (program p) w.marks (Some c) cs).result) (walk_of last (Some c) p)
+    ∙ ap (λ (is : List Instruction). (searching is (marks_of behind) (Some c) cs).result) (sym (step_program last (Some c) p true))
+    ∙ searching_result behind (Some c) cs)
 
-searched_steps : (most : ℕ) (p : Pattern) (last : Option ℕ) (text : List ℕ) → steps p ≤ most
-    → (searched p last text).steps ≤ most * (length text + 1)
-searched_steps most p last [] h = omega (arith, h, nodes_least p, asked_steps last None p true)
-searched_steps most p last (c ∷ cs) h =
-    let one = moved last (Some c) p true in
-    let same : steps one.marks ≡ steps p = ap steps (moved_marks last (Some c) p true) ∙ same_steps last (Some c) p true in
-    let rest = searched_steps most one.marks (Some c) cs (omega (arith, same, h)) in
-    let more = steps_on one.answer one.steps most (most * (length cs + 1)) (searched one.marks (Some c) cs)
-    (omega (arith, moved_steps last (Some c) p true, h)) rest in
+searching_steps : (most : ℕ) (is : List Instruction) (ms : List Bool) (last : Option ℕ) (text : List ℕ) → 2 * steps_of is ≤ most
+    → (searching is ms last text).steps ≤ most * (length text + 1)
+searching_steps most is ms last [] h = omega (arith, h, walking_steps last None is ms)
+searching_steps most is ms last (c ∷ cs) h =
+    let one = walking last (Some c) is ms in
+    let rest = searching_steps most is one.result.marks (Some c) cs h in
+    let more = steps_on one.result.leaves one.steps most (most * (length cs + 1)) (searching is one.result.marks (Some c) cs)
+    (omega (arith, walking_steps last (Some c) is ms, h)) rest in
     omega (arith, more)
 
-pub searched_within : (most : ℕ) (p : Pattern) (text : List ℕ) → steps p ≤ most → IsSearchedWithin most p text
+pub searched_within : (most : ℕ) (p : Pattern) (text : List ℕ) → 2 * steps p ≤ most → IsSearchedWithin most p text
 searched_within most p text h = record {
-  answer = searched_answer p None text;
-  steps = searched_steps most p None text h;
+  answer = searching_result p None text;
+  steps = searching_steps most (program p) (marks_of p) None text h;
 }

@@ -1,5 +1,5 @@
 -- The laws of a pattern's text.
-use Rattle.std.proofs.Common.{◌≡◌, ◌↔◌, ◌⊎◌, inl, inr, ℕ, zero, suc, Bool, true, false, List, Option, Some, None, IsTrue, refl, sym, ap, subst, ◌∙◌, true≢false, length, leb, nat_le, ◌≤◌, if◌then◌else◌, option_map, arith}
+use Rattle.std.proofs.Common.{◌≡◌, ◌↔◌, ◌⊎◌, inl, inr, ℕ, zero, suc, Bool, true, false, List, Option, Some, None, IsTrue, refl, sym, ap, subst, ◌∙◌, true≢false, length, leb, nat_le, ◌≤◌, if◌then◌else◌, option_map}
 use Rattle.std.specs.Prelude.{is_some}
 use Rattle.std.proofs.lemmas.Bool.{leb-true, le-leb}
 use Rattle.strkw_pattern.specs.Matcher.{outcome_of}
@@ -12,7 +12,7 @@ use Rattle.strkw_ecma.specs.Lookahead.{is_apart}
 use Rattle.strkw_ecma.specs.Size.{steps, max_steps}
 use Rattle.strkw_ecma.specs.Meaning.{Found}
 use Rattle.strkw_ecma.specs.Tree.{Pattern, empty, alt}
-use Rattle.strkw_ecma.specs.Marks.{is_clean, classes}
+use Rattle.strkw_ecma.specs.Marks.{is_clean}
 use Rattle.strkw_ecma.specs.Patterns.{pattern, alternative_pattern, term_pattern, atom_pattern, Times, any_times, some_times, once_at_most, exact_times, least_times, range_times, times, repeated, quantified_pattern}
 use Rattle.strkw_ecma.specs.Outcomes.{outcome_of_read, search_outcome}
 use Rattle.strkw_ecma.specs.Laws.{IsPattern, IsExact}
@@ -21,7 +21,6 @@ use Rattle.strkw_ecma.proofs.Spelled.{IsSpelled, sound}
 use Rattle.strkw_ecma.proofs.Formed.{IsFormed, read_formed}
 use Rattle.strkw_ecma.proofs.Answers.{search_is_exact}
 use Rattle.strkw_ecma.proofs.Steps.{and_true}
-use Rattle.strkw_ecma.proofs.Marked.{classes_least}
 
 clean_repeated : (n : ℕ) (p : Pattern) → is_clean p ≡ true → is_clean (repeated n p) ≡ true
 clean_repeated zero p h = refl
@@ -163,10 +162,10 @@ pub none_of : (o : Option Disjunction) → None ≡ option_map pattern o → is_
 none_of None e = refl
 none_of (Some d) e = absurd (true≢false (ap is_some (sym e)))
 
-pub few_of : (p : Pattern) (source : List ℕ) → Some p ≡ option_map pattern (read_pattern source) → classes p ≤ max_steps
-few_of p source e =
+-- and that it is not too large
+pub small_read : (p : Pattern) (source : List ℕ) → Some p ≡ option_map pattern (read_pattern source) → steps p ≤ max_steps
+small_read p source e =
     let taken = derived_of source (is_apart source) _ (read source) refl refl refl (sound source) (read_formed source)
     (some_of p (read_pattern source) e) in
     let same : p ≡ pattern taken.0 = same_pattern p _ (e ∙ ap (option_map pattern) (read_is source taken.0 taken.1)) in
-    let small : steps (pattern taken.0) ≤ max_steps = taken.1.small in
-    rw same (omega (arith, classes_least (pattern taken.0), small))
+    rw same taken.1.small

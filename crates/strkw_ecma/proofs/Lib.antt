@@ -1,6 +1,11 @@
 pub mod Steps
 pub mod Marked
 pub mod Counted
+pub mod Programs
+pub mod Written
+pub mod Few
+pub mod Copies
+pub mod Machines
 pub mod Sizes
 pub mod Search
 pub mod Shapes

@@ -1,43 +1,225 @@
 -- Marks that stand beside a pattern, as a list.
-use Rattle.std.proofs.Common.{◌≡◌, ◌⊎◌, ℕ, zero, suc, ◌+◌, ◌<◌, ◌≤◌, Bool, true, false, List, [], ◌∷◌, replicate, Option, get_or, inl, inr, refl, sym, ap, ◌∙◌, true≢false, arith}
+use Rattle.std.proofs.Common.{◌≡◌, ◌⊎◌, ℕ, zero, suc, ◌+◌, ◌<◌, ◌≤◌, Bool, true, false, ◌||◌, List, [], ◌∷◌, ◌++◌, length, drop, drop_at, drop-drop, replicate, Option, get_or, get_or-drop, length-append, length-drop, inl, inr, refl, sym, ap, ◌∙◌, true≢false, arith}
 use Rattle.std.specs.Cmp.Lexicographic.{pointwise}
 use Rattle.std.proofs.Math.Bool.{beq}
 use Rattle.std.specs.List.{list_any}
-use Rattle.std.proofs.lemmas.List.{get_or_past, get_or-replicate, length-replicate}
+use Rattle.std.proofs.lemmas.List.{append_assoc, get_or_past, get_or-replicate, length-replicate}
+use Rattle.strkw_ecma.specs.declared.tree.CharSet.{CharSet}
 use Rattle.strkw_ecma.specs.Tree.{Pattern, empty, class, look, cat, alt, star, plus}
-use Rattle.strkw_ecma.specs.Marks.{leaves, step, classes, marked, SameOutside, is_clean}
-use Rattle.strkw_ecma.specs.Size.{steps}
+use Rattle.strkw_ecma.specs.Marks.{leaves, step, classes, marked, marks_of, is_clean}
+use Rattle.strkw_ecma.specs.Program.{Instruction, fork, other, join, star_begin, star_end, plus_begin, plus_end, if_class, if_option, program, alternatives}
+use Rattle.strkw_ecma.specs.Walk.{walked}
+use Rattle.strkw_ecma.proofs.Programs.{walked_is}
 use Rattle.strkw_ecma.proofs.Steps.{and_left, and_right}
 
--- a pattern takes its own marks alone
-pub same_marked : (ms ns : List Bool) (p : Pattern) (at : ℕ)
-    → ((k : ℕ) → at ≤ k → k < at + classes p → get_or ns k false ≡ get_or ms k false) → marked ns at p ≡ marked ms at p
-same_marked ms ns empty at h = refl
-same_marked ms ns (class m n rs) at h = ap (λ (b : Bool). class b n rs) (h at (omega arith) (omega arith))
-same_marked ms ns (look l) at h = refl
-same_marked ms ns (cat p q) at h =
-    ap (λ (r : Pattern). cat r (marked ns (at + classes p) q)) (same_marked ms ns p at (λ k low high. h k low (omega arith)))
-    ∙ ap (cat (marked ms at p)) (same_marked ms ns q (at + classes p) (λ k low high. h k (omega arith) (omega arith)))
-same_marked ms ns (alt p q) at h =
-    ap (λ (r : Pattern). alt r (marked ns (at + classes p) q)) (same_marked ms ns p at (λ k low high. h k low (omega arith)))
-    ∙ ap (alt (marked ms at p)) (same_marked ms ns q (at + classes p) (λ k low high. h k (omega arith) (omega arith)))
-same_marked ms ns (star p) at h = ap star (same_marked ms ns p at h)
-same_marked ms ns (plus p) at h = ap plus (same_marked ms ns p at h)
+none_behind : (ms : List Bool) (n : ℕ) → ((k : ℕ) → get_or ms k false ≡ false) → (k : ℕ) → get_or (drop n ms) k false ≡ false
+none_behind ms n none k = get_or-drop n ms k false ∙ none (n + k)
 
 -- with no marks a pattern without marks is itself
-pub unmarked : (ms : List Bool) (p : Pattern) (at : ℕ) → is_clean p ≡ true → ((k : ℕ) → get_or ms k false ≡ false) → marked ms at p ≡ p
-unmarked ms empty at h none = refl
-unmarked ms (class true n rs) at h none = absurd (true≢false (sym h))
-unmarked ms (class false n rs) at h none = ap (λ (b : Bool). class b n rs) (none at)
-unmarked ms (look l) at h none = refl
-unmarked ms (cat p q) at h none =
-    ap (λ (r : Pattern). cat r (marked ms (at + classes p) q)) (unmarked ms p at (and_left _ _ h) none)
-    ∙ ap (cat p) (unmarked ms q (at + classes p) (and_right (is_clean p) _ h) none)
-unmarked ms (alt p q) at h none =
-    ap (λ (r : Pattern). alt r (marked ms (at + classes p) q)) (unmarked ms p at (and_left _ _ h) none)
-    ∙ ap (alt p) (unmarked ms q (at + classes p) (and_right (is_clean p) _ h) none)
-unmarked ms (star p) at h none = ap star (unmarked ms p at h none)
-unmarked ms (plus p) at h none = ap plus (unmarked ms p at h none)
+pub unmarked : (ms : List Bool) (p : Pattern) → is_clean p ≡ true → ((k : ℕ) → get_or ms k false ≡ false) → marked ms p ≡ p
+unmarked ms empty h none = refl
+unmarked ms (class true n rs) h none = absurd (true≢false (sym h))
+unmarked ms (class false n rs) h none = ap (λ (b : Bool). class b n rs) (none 0)
+unmarked ms (look l) h none = refl
+unmarked ms (cat p q) h none =
+    ap (λ (r : Pattern). cat r (marked (drop (classes p) ms) q)) (unmarked ms p (and_left _ _ h) none)
+    ∙ ap (cat p) (unmarked (drop (classes p) ms) q (and_right (is_clean p) _ h) (none_behind ms (classes p) none))
+unmarked ms (alt p q) h none =
+    ap (λ (r : Pattern). alt r (marked (drop (classes p) ms) q)) (unmarked ms p (and_left _ _ h) none)
+    ∙ ap (alt p) (unmarked (drop (classes p) ms) q (and_right (is_clean p) _ h) (none_behind ms (classes p) none))
+unmarked ms (star p) h none = ap star (unmarked ms p h none)
+unmarked ms (plus p) h none = ap plus (unmarked ms p h none)
+
+-- Other marks change neither which classes there are, nor the program.
+pub same_classes : (ms : List Bool) (p : Pattern) → classes (marked ms p) ≡ classes p
+same_classes ms empty = refl
+same_classes ms (class m n rs) = refl
+same_classes ms (look l) = refl
+same_classes ms (cat p q) = omega (arith, same_classes ms p, same_classes (drop (classes p) ms) q)
+same_classes ms (alt p q) = omega (arith, same_classes ms p, same_classes (drop (classes p) ms) q)
+same_classes ms (star p) = same_classes ms p
+same_classes ms (plus p) = same_classes ms p
+
+same_if_class : {A : Type 0} (ms : List Bool) (p : Pattern) (f : Bool → List CharSet → A) (x : A) → if_class (marked ms p) f x ≡ if_class p f x
+same_if_class ms empty f x = refl
+same_if_class ms (class m n rs) f x = refl
+same_if_class ms (look l) f x = refl
+same_if_class ms (cat p q) f x = refl
+same_if_class ms (alt p q) f x = refl
+same_if_class ms (star p) f x = refl
+same_if_class ms (plus p) f x = refl
+
+same_if_option : {A : Type 0} (ms ns : List Bool) (p q : Pattern) (f : Bool → List CharSet → A) (x : A)
+    → if_option (marked ms p) (marked ns q) f x ≡ if_option p q f x
+same_if_option ms ns empty q f x = same_if_class ns q f x
+same_if_option ms ns (class m n rs) q f x = refl
+same_if_option ms ns (look l) q f x = refl
+same_if_option ms ns (cat p r) q f x = refl
+same_if_option ms ns (alt p r) q f x = refl
+same_if_option ms ns (star p) q f x = refl
+same_if_option ms ns (plus p) q f x = refl
+
+IsSame : List Bool → Pattern → Type 0
+IsSame ms p = (program (marked ms p) ≡ program p) × (alternatives (marked ms p) ≡ alternatives p)
+
+loop_is_same : (ms : List Bool) (p : Pattern) (begin end : Instruction) (f : Bool → List CharSet → List Instruction) → program (marked ms p) ≡ program p
+    → if_class (marked ms p) f (begin ∷ (program (marked ms p) ++ (end ∷ []))) ≡ if_class p f (begin ∷ (program p ++ (end ∷ [])))
+loop_is_same ms p begin end f e =
+    same_if_class ms p f _ ∙ ap (λ (is : List Instruction). if_class p f (begin ∷ (is ++ (end ∷ [])))) e
+
+choice_is_same : (ms ns : List Bool) (p q : Pattern) (f : Bool → List CharSet → List Instruction)
+    → alternatives (marked ms p) ≡ alternatives p → program (marked ns q) ≡ program q
+    → if_option (marked ms p) (marked ns q) f (fork ∷ (alternatives (marked ms p) ++ (other ∷ (program (marked ns q) ++ (join ∷ [])))))
+    ≡ if_option p q f (fork ∷ (alternatives p ++ (other ∷ (program q ++ (join ∷ [])))))
+choice_is_same ms ns p q f e g =
+    same_if_option ms ns p q f _
+    ∙ ap (λ (is : List Instruction). if_option p q f (fork ∷ (is ++ (other ∷ (program (marked ns q) ++ (join ∷ [])))))) e
+    ∙ ap (λ (is : List Instruction). if_option p q f (fork ∷ (alternatives p ++ (other ∷ (is ++ (join ∷ [])))))) g
+
+cat_is_same : (ms : List Bool) (p q : Pattern) → program (marked ms p) ≡ program p → program (marked (drop (classes p) ms) q) ≡ program q
+    → program (marked ms (cat p q)) ≡ program (cat p q)
+cat_is_same ms p q e f =
+    ap (λ (is : List Instruction). is ++ program (marked (drop (classes p) ms) q)) e ∙ ap (λ (is : List Instruction). program p ++ is) f
+
+both_are_same : (ms : List Bool) (p : Pattern) → IsSame ms p
+unfolding IsSame
+both_are_same ms empty = (refl, refl)
+both_are_same ms (class m n rs) = (refl, refl)
+both_are_same ms (look l) = (refl, refl)
+both_are_same ms (cat p q) =
+    let e = cat_is_same ms p q (both_are_same ms p).0 (both_are_same (drop (classes p) ms) q).0 in (e, e)
+both_are_same ms (alt p q) =
+    let e : alternatives (marked ms p) ≡ alternatives p = (both_are_same ms p).1 in
+    let f : program (marked (drop (classes p) ms) q) ≡ program q = (both_are_same (drop (classes p) ms) q).0 in (
+      choice_is_same ms (drop (classes p) ms) p q _ e f,
+      ap (λ (is : List Instruction). is ++ (other ∷ program (marked (drop (classes p) ms) q))) e
+          ∙ ap (λ (is : List Instruction). alternatives p ++ (other ∷ is)) f,
+    )
+both_are_same ms (star p) = let e = loop_is_same ms p star_begin star_end _ (both_are_same ms p).0 in (e, e)
+both_are_same ms (plus p) = let e = loop_is_same ms p plus_begin plus_end _ (both_are_same ms p).0 in (e, e)
+
+pub same_program : (ms : List Bool) (p : Pattern) → program (marked ms p) ≡ program p
+unfolding IsSame
+same_program ms p = (both_are_same ms p).0
+
+-- the last marks are those of a pattern
+pub marked_again : (ms ns : List Bool) (p : Pattern) → marked ns (marked ms p) ≡ marked ns p
+marked_again ms ns empty = refl
+marked_again ms ns (class m n rs) = refl
+marked_again ms ns (look l) = refl
+marked_again ms ns (cat p q) =
+    ap (λ (r : Pattern). cat r (marked (drop (classes (marked ms p)) ns) (marked (drop (classes p) ms) q))) (marked_again ms ns p)
+    ∙ ap (λ (k : ℕ). cat (marked ns p) (marked (drop k ns) (marked (drop (classes p) ms) q))) (same_classes ms p)
+    ∙ ap (cat (marked ns p)) (marked_again (drop (classes p) ms) (drop (classes p) ns) q)
+marked_again ms ns (alt p q) =
+    ap (λ (r : Pattern). alt r (marked (drop (classes (marked ms p)) ns) (marked (drop (classes p) ms) q))) (marked_again ms ns p)
+    ∙ ap (λ (k : ℕ). alt (marked ns p) (marked (drop k ns) (marked (drop (classes p) ms) q))) (same_classes ms p)
+    ∙ ap (alt (marked ns p)) (marked_again (drop (classes p) ms) (drop (classes p) ns) q)
+marked_again ms ns (star p) = ap star (marked_again ms ns p)
+marked_again ms ns (plus p) = ap plus (marked_again ms ns p)
+
+pub marks_count : (p : Pattern) → length (marks_of p) ≡ classes p
+marks_count empty = refl
+marks_count (class m n rs) = refl
+marks_count (look l) = refl
+marks_count (cat p q) = length-append (marks_of p) (marks_of q) ∙ omega (arith, marks_count p, marks_count q)
+marks_count (alt p q) = length-append (marks_of p) (marks_of q) ∙ omega (arith, marks_count p, marks_count q)
+marks_count (star p) = marks_count p
+marks_count (plus p) = marks_count p
+
+-- a pattern with its own marks is itself
+pub own_marks : (p : Pattern) (ms : List Bool) → marked (marks_of p ++ ms) p ≡ p
+own_marks empty ms = refl
+own_marks (class m n rs) ms = refl
+own_marks (look l) ms = refl
+own_marks (cat p q) ms =
+    rw (append_assoc (marks_of p) (marks_of q) ms, drop_at (marks_of p) (marks_of q ++ ms) (classes p) (marks_count p))
+    (ap (λ (r : Pattern). cat r (marked (marks_of q ++ ms) q)) (own_marks p (marks_of q ++ ms)) ∙ ap (cat p) (own_marks q ms))
+own_marks (alt p q) ms =
+    rw (append_assoc (marks_of p) (marks_of q) ms, drop_at (marks_of p) (marks_of q ++ ms) (classes p) (marks_count p))
+    (ap (λ (r : Pattern). alt r (marked (marks_of q ++ ms) q)) (own_marks p (marks_of q ++ ms)) ∙ ap (alt p) (own_marks q ms))
+own_marks (star p) ms = ap star (own_marks p ms)
+own_marks (plus p) ms = ap plus (own_marks p ms)
+
+-- as many marks as there are classes become its own, and the others stay
+both_taken : (ms : List Bool) (n m : ℕ) (xs ys : List Bool) → xs ++ drop n ms ≡ ms → ys ++ drop m (drop n ms) ≡ drop n ms
+    → (xs ++ ys) ++ drop (n + m) ms ≡ ms
+both_taken ms n m xs ys e f =
+    append_assoc xs ys (drop (n + m) ms) ∙ ap (λ (zs : List Bool). xs ++ (ys ++ zs)) (sym (drop-drop m n ms))
+    ∙ ap (λ (zs : List Bool). xs ++ zs) f ∙ e
+
+pub marks_taken : (ms : List Bool) (p : Pattern) → classes p ≤ length ms → marks_of (marked ms p) ++ drop (classes p) ms ≡ ms
+marks_taken ms empty h = refl
+marks_taken [] (class m n rs) h = absurd (omega (arith, h))
+marks_taken (x ∷ ms) (class m n rs) h = refl
+marks_taken ms (look l) h = refl
+marks_taken ms (cat p q) h =
+    both_taken ms (classes p) (classes q) _ _ (marks_taken ms p (omega (arith, h)))
+    (marks_taken (drop (classes p) ms) q (omega (arith, h, length-drop (classes p) ms)))
+marks_taken ms (alt p q) h =
+    both_taken ms (classes p) (classes q) _ _ (marks_taken ms p (omega (arith, h)))
+    (marks_taken (drop (classes p) ms) q (omega (arith, h, length-drop (classes p) ms)))
+marks_taken ms (star p) h = marks_taken ms p h
+marks_taken ms (plus p) h = marks_taken ms p h
+
+module _ (b a : Option ℕ) where
+  step_classes : (p : Pattern) (x : Bool) → classes (step b a p x) ≡ classes p
+  step_classes empty x = refl
+  step_classes (class m n rs) x = refl
+  step_classes (look l) x = refl
+  step_classes (cat p q) x = omega (arith, step_classes p x, step_classes q (leaves b a p x))
+  step_classes (alt p q) x = omega (arith, step_classes p x, step_classes q x)
+  step_classes (star p) x = step_classes p (x || leaves b a p false)
+  step_classes (plus p) x = step_classes p (x || leaves b a p false)
+
+  -- a step is of the same pattern, with other marks
+  step_marked : (ms : List Bool) (p : Pattern) (x : Bool) → marked ms (step b a p x) ≡ marked ms p
+  step_marked ms empty x = refl
+  step_marked ms (class m n rs) x = refl
+  step_marked ms (look l) x = refl
+  step_marked ms (cat p q) x =
+      ap (λ (r : Pattern). cat r (marked (drop (classes (step b a p x)) ms) (step b a q (leaves b a p x)))) (step_marked ms p x)
+      ∙ ap (λ (k : ℕ). cat (marked ms p) (marked (drop k ms) (step b a q (leaves b a p x)))) (step_classes p x)
+      ∙ ap (cat (marked ms p)) (step_marked (drop (classes p) ms) q (leaves b a p x))
+  step_marked ms (alt p q) x =
+      ap (λ (r : Pattern). alt r (marked (drop (classes (step b a p x)) ms) (step b a q x))) (step_marked ms p x)
+      ∙ ap (λ (k : ℕ). alt (marked ms p) (marked (drop k ms) (step b a q x))) (step_classes p x)
+      ∙ ap (alt (marked ms p)) (step_marked (drop (classes p) ms) q x)
+  step_marked ms (star p) x = ap star (step_marked ms p (x || leaves b a p false))
+  step_marked ms (plus p) x = ap plus (step_marked ms p (x || leaves b a p false))
+
+  -- so it has the same program
+  pub step_program : (p : Pattern) (x : Bool) → program (step b a p x) ≡ program p
+  step_program p x =
+      sym (same_program [] (step b a p x)) ∙ ap program (step_marked [] p x) ∙ same_program [] p
+
+  -- What a walk over the program comes to, with the marks in a list: the answer of the pattern, and its marks behind the
+  -- character.
+  pub record IsStepOf (p : Pattern) (ms ns : List Bool) (left : Bool) : Type 0 where
+    pub leaves_is : left ≡ leaves b a (marked ms p) true
+    pub marks_are : marked ns p ≡ step b a (marked ms p) true
+    pub lengths : length ns ≡ length ms
+
+  pub walk_steps : (p : Pattern) (ms : List Bool) → classes p ≤ length ms
+      → IsStepOf p ms (walked b a (program p) ms).marks (walked b a (program p) ms).leaves
+  walk_steps p ms h =
+      let q = marked ms p in
+      let rest = drop (classes p) ms in
+      let taken : marks_of q ++ rest ≡ ms = marks_taken ms p h in
+      let walk = ap (λ is. walked b a is ms) (sym (same_program ms p)) ∙ ap (walked b a (program q)) (sym taken) ∙ walked_is b a q rest in
+      let stepped = step b a q true in
+      let behind = ap (λ w. w.marks) walk in
+      record {
+        leaves_is = ap (λ w. w.leaves) walk;
+        marks_are =
+            ap (λ (ns : List Bool). marked ns p) behind
+            ∙ sym (marked_again ms (marks_of stepped ++ rest) p)
+            ∙ sym (step_marked (marks_of stepped ++ rest) q true)
+            ∙ own_marks stepped rest;
+        lengths =
+            ap length behind ∙ length-append (marks_of stepped) rest
+            ∙ omega (arith, marks_count stepped, step_classes q true, same_classes ms p, length-drop (classes p) ms, h);
+      }
 
 below_or_past : (k n : ℕ) → (k < n) ⊎ (n ≤ k)
 below_or_past k n = grind arith
@@ -69,45 +251,3 @@ none_among [] h k = refl
 none_among (true ∷ ms) h k = absurd (true≢false h)
 none_among (false ∷ ms) h zero = refl
 none_among (false ∷ ms) h (suc k) = none_among ms h k
-
--- a class takes a step at least
-pub classes_least : (p : Pattern) → classes p ≤ steps p
-classes_least empty = omega arith
-classes_least (class m n rs) = omega arith
-classes_least (look l) = omega arith
-classes_least (cat p q) = omega (arith, classes_least p, classes_least q)
-classes_least (alt p q) = omega (arith, classes_least p, classes_least q)
-classes_least (star p) = omega (arith, classes_least p)
-classes_least (plus p) = omega (arith, classes_least p)
-
--- two parts one behind the other in the list, each of which changes its own marks
-module _ (at next : ℕ) (p q : Pattern) (next_is : next ≡ at + classes p) (ms ns os : List Bool)
-    (one : SameOutside at (at + classes p) ms ns) (other : SameOutside next (next + classes q) ns os) where
-  pub both_changed : SameOutside at (at + (classes p + classes q)) ms os
-  both_changed = record {
-    lengths = other.lengths ∙ one.lengths;
-    before = λ k h. other.before k (omega arith) ∙ one.before k h;
-    behind = λ k h. other.behind k (omega arith) ∙ one.behind k (omega arith);
-  }
-
-  pub first_kept : marked os at p ≡ marked ns at p
-  first_kept = same_marked ns os p at (λ k low high. other.before k (omega arith))
-
-  pub second_kept : marked ns next q ≡ marked ms (at + classes p) q
-  second_kept = ap (λ (k : ℕ). marked ns k q) next_is ∙ same_marked ms ns q (at + classes p) (λ k low high. one.behind k low)
-
-  module _ (b a : Option ℕ) (x y : Bool) (first : marked ns at p ≡ step b a (marked ms at p) x)
-      (second : marked os next q ≡ step b a (marked ns next q) y) where
-    pub then_stepped : y ≡ leaves b a (marked ms at p) x → marked os at (cat p q) ≡ step b a (marked ms at (cat p q)) x
-    then_stepped left =
-        ap (λ (r : Pattern). cat r (marked os (at + classes p) q)) (first_kept ∙ first)
-        ∙ ap (cat (step b a (marked ms at p) x))
-        (ap (λ (k : ℕ). marked os k q) (sym next_is) ∙ second ∙ ap (λ (r : Pattern). step b a r y) second_kept
-        ∙ ap (step b a (marked ms (at + classes p) q)) left)
-
-    pub or_stepped : y ≡ x → marked os at (alt p q) ≡ step b a (marked ms at (alt p q)) x
-    or_stepped same =
-        ap (λ (r : Pattern). alt r (marked os (at + classes p) q)) (first_kept ∙ first)
-        ∙ ap (alt (step b a (marked ms at p) x))
-        (ap (λ (k : ℕ). marked os k q) (sym next_is) ∙ second ∙ ap (λ (r : Pattern). step b a r y) second_kept
-        ∙ ap (step b a (marked ms (at + classes p) q)) same)

@@ -9,12 +9,12 @@ use Rattle.strkw_ecma.specs.declared.states.State.{State}
 
 -- of a state with the marks ms, and ns behind the character
 pub entry_is : (p : Pattern) (end : ℕ) (states : List State) (s : State) (row c entry : ℕ) (ms ns : List Bool) (f : Bool)
-    → s.marks.items ≡ ms → f ≡ leaves s.last (Some c) (marked ms 0 p) true
-    → marked ns 0 p ≡ step s.last (Some c) (marked ms 0 p) true → (entry == found) ≡ f
+    → s.marks.items ≡ ms → f ≡ leaves s.last (Some c) (marked ms p) true
+    → marked ns p ≡ step s.last (Some c) (marked ms p) true → (entry == found) ≡ f
     → (f ≡ false → IsBehind p end states (row_after end row entry) ns c)
     → IsEntry p end states s row c entry
 entry_is p end states s row c entry ms ns f same left marks is next =
-    let same_marks : marked ms 0 p ≡ marks_in p s = ap (λ (l : List Bool). marked l 0 p) (sym same) in
+    let same_marks : marked ms p ≡ marks_in p s = ap (λ (l : List Bool). marked l p) (sym same) in
     let left_is : f ≡ leaves s.last (Some c) (marks_in p s) true = left ∙ ap (λ (r : Pattern). leaves s.last (Some c) r true) same_marks in
     record {
       finds = is ∙ left_is;

@@ -1,31 +1,71 @@
--- The equations of `pattern_of`, one for each variant with parts, and that of the outline of a class.
-use Rattle.std.proofs.Common.{◌≡◌, Bool, false, Vec, Box, Global, sym, ap, ◌∙◌}
-use Rattle.strkw_ecma.specs.Tree.{Pattern, class, cat, alt, star, plus}
+-- The equations of `outlined`, one for each variant.
+use Rattle.std.proofs.Common.{◌≡◌, ℕ, zero, suc, nat_eq, Bool, false, Vec, Box, Global, refl, sym, ap, ◌∙◌, arith}
+use Rattle.std.proofs.lemmas.Bool.Decides.{nat_tests}
+use Rattle.strkw_ecma.specs.Tree.{Pattern, empty, class, look, cat, alt, start, end, boundary, no_boundary}
+use Rattle.strkw_ecma.specs.Patterns.{Times, exact_times, repeated, quantified_pattern}
+use Rattle.strkw_ecma.specs.Program.{is_class, is_empty, program, alternatives}
 use Rattle.strkw_ecma.specs.declared.tree.CharSet.{CharSet}
-use Rattle.strkw_ecma.specs.Shape.{pattern_of, node_pattern, outlined, outlined_node}
-use Rattle.strkw_ecma.specs.declared.outline.Outline.{Outline-F, fold-roll-Outline}
-use Rattle.strkw_ecma.specs.declared.outline.Outline.TheVariants as outline
-use Rattle.strkw_ecma.specs.declared.tree.Tree.{Tree, Tree-F, fold-roll-Tree}
-use Rattle.strkw_ecma.specs.declared.tree.Tree.TheVariants.{Class, Then, Or, Star, Plus, rolls-Class, rolls-Then, rolls-Or, rolls-Star, rolls-Plus}
+use Rattle.strkw_ecma.specs.Shape.{outlined, outlined_node, quantifier_of}
+use Rattle.strkw_ecma.specs.declared.outline.Quantifier.{Quantifier}
+use Rattle.strkw_ecma.specs.declared.outline.Quantifier.TheVariants.{ZeroOrOne, Exactly}
+use Rattle.strkw_ecma.specs.declared.outline.Outline.{Outline, Outline-F, roll-Outline, map-Outline, fold-roll-Outline}
+use Rattle.strkw_ecma.specs.declared.outline.Outline.TheVariants.{Empty, Class, Start, End, Boundary, NoBoundary, Then, Or, Repeated, rolls-Empty, rolls-Class, rolls-Start, rolls-End, rolls-Boundary, rolls-NoBoundary, rolls-Then, rolls-Or, rolls-Repeated}
 
-pub pattern-Class : (negated : Bool) (sets : Vec CharSet Global) → pattern_of (Class negated sets) ≡ class false negated sets.items
-pattern-Class negated sets =
-    ap pattern_of (sym (rolls-Class negated sets)) ∙ fold-roll-Tree Pattern node_pattern (Tree-F.Class negated sets)
+by_node : (node : Outline-F Outline) (o : Outline) → roll-Outline node ≡ o
+    → outlined o ≡ outlined_node (map-Outline Outline Pattern outlined node)
+by_node node o rolls = ap outlined (sym rolls) ∙ fold-roll-Outline Pattern outlined_node node
 
-pub pattern-Then : (first second : Box Tree Global) → pattern_of (Then first second) ≡ cat (pattern_of first.value) (pattern_of second.value)
-pattern-Then first second = ap pattern_of (sym (rolls-Then first second)) ∙ fold-roll-Tree Pattern node_pattern (Tree-F.Then first second)
+pub outlined-Empty : outlined Empty ≡ empty
+outlined-Empty = by_node Outline-F.Empty _ rolls-Empty
 
-pub pattern-Or : (one other : Box Tree Global) → pattern_of (Or one other) ≡ alt (pattern_of one.value) (pattern_of other.value)
-pattern-Or one other = ap pattern_of (sym (rolls-Or one other)) ∙ fold-roll-Tree Pattern node_pattern (Tree-F.Or one other)
+pub outlined-Start : outlined Start ≡ look start
+outlined-Start = by_node Outline-F.Start _ rolls-Start
 
-pub pattern-Star : (body : Box Tree Global) → pattern_of (Star body) ≡ star (pattern_of body.value)
-pattern-Star body = ap pattern_of (sym (rolls-Star body)) ∙ fold-roll-Tree Pattern node_pattern (Tree-F.Star body)
+pub outlined-End : outlined End ≡ look end
+outlined-End = by_node Outline-F.End _ rolls-End
 
-pub pattern-Plus : (body : Box Tree Global) → pattern_of (Plus body) ≡ plus (pattern_of body.value)
-pattern-Plus body = ap pattern_of (sym (rolls-Plus body)) ∙ fold-roll-Tree Pattern node_pattern (Tree-F.Plus body)
+pub outlined-Boundary : outlined Boundary ≡ look boundary
+outlined-Boundary = by_node Outline-F.Boundary _ rolls-Boundary
 
-pub ruleset shapes = (pattern-Class, pattern-Then, pattern-Or, pattern-Star, pattern-Plus)
+pub outlined-NoBoundary : outlined NoBoundary ≡ look no_boundary
+outlined-NoBoundary = by_node Outline-F.NoBoundary _ rolls-NoBoundary
 
-pub outlined-Class : (negated : Bool) (sets : Vec CharSet Global) → outlined (outline.Class negated sets) ≡ class false negated sets.items
-outlined-Class negated sets =
-    ap outlined (sym (outline.rolls-Class negated sets)) ∙ fold-roll-Outline Pattern outlined_node (Outline-F.Class negated sets)
+pub outlined-Class : (negated : Bool) (sets : Vec CharSet Global)
+    → outlined (Class negated sets) ≡ class false negated sets.items
+outlined-Class negated sets = by_node (Outline-F.Class negated sets) _ (rolls-Class negated sets)
+
+pub outlined-Then : (first second : Box Outline Global)
+    → outlined (Then first second) ≡ cat (outlined first.value) (outlined second.value)
+outlined-Then first second = by_node (Outline-F.Then first second) _ (rolls-Then first second)
+
+pub outlined-Or : (one other : Box Outline Global)
+    → outlined (Or one other) ≡ alt (outlined one.value) (outlined other.value)
+outlined-Or one other = by_node (Outline-F.Or one other) _ (rolls-Or one other)
+
+pub outlined-Repeated : (q : Quantifier) (body : Box Outline Global)
+    → outlined (Repeated q body) ≡ quantified_pattern (quantifier_of q) (outlined body.value)
+outlined-Repeated q body = by_node (Outline-F.Repeated q body) _ (rolls-Repeated q body)
+
+pub ruleset plain_shapes =
+    (outlined-Empty, outlined-Class, outlined-Start, outlined-End, outlined-Boundary, outlined-NoBoundary)
+
+pub ruleset shapes = (plain_shapes, outlined-Then, outlined-Or, outlined-Repeated)
+
+-- what is repeated is no class
+pub no_class : (t : Times) (p : Pattern) → is_class (quantified_pattern t p) ≡ false
+no_class (exact_times zero) p = refl
+no_class (exact_times (suc n)) p = refl
+no_class _ p = refl
+
+-- and is nothing where it is so with no copies
+pub is_no_copy : (n : ℕ) (p : Pattern) → nat_eq n 0 ≡ is_empty (repeated n p)
+is_no_copy zero p = refl
+is_no_copy (suc n) p = grind (arith, nat_tests)
+
+-- what may be missing stands among alternatives otherwise than by itself
+pub same_beside : (q : Quantifier) (p : Pattern) → (q ≡ ZeroOrOne → ⊥)
+    → alternatives (quantified_pattern (quantifier_of q) p) ≡ program (quantified_pattern (quantifier_of q) p)
+same_beside ZeroOrOne p h = absurd (h refl)
+same_beside (Exactly zero) p h = refl
+same_beside (Exactly (suc n)) p h = refl
+same_beside _ p h = refl

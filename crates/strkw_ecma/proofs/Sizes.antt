@@ -1,75 +1,101 @@
 -- What is counted up to a limit of the parts is what is so counted of the whole.
-use Rattle.std.proofs.Common.{◌≡◌, ℕ, zero, suc, ◌+◌, ◌*◌, ◌≤◌, nat_le, Bool, true, false, refl, sym, ap, ◌∙◌, true≢false, arith}
-use Rattle.std.proofs.lemmas.Bool.{le-leb, leb-true, leb-false}
-use Rattle.strkw_ecma.specs.Tree.{Pattern}
+use Rattle.std.proofs.Common.{◌≡◌, ℕ, zero, suc, ◌+◌, ◌*◌, ◌≤◌, nat_le, Bool, true, false, ◌&&◌, List, [], ◌∷◌, ◌++◌, refl, sym, ap, ◌∙◌, true≢false, arith}
+use Rattle.std.proofs.lemmas.Bool.{leb-true, leb-false}
+use Rattle.std.proofs.lemmas.Bool.Decides.{nat_tests}
+use Rattle.strkw_ecma.specs.Tree.{Pattern, empty, cat, alt, star, plus}
 use Rattle.strkw_ecma.specs.Patterns.{repeated}
-use Rattle.strkw_ecma.specs.Size.{nodes, steps, max_steps, max_term_steps}
+use Rattle.strkw_ecma.specs.Program.{Instruction, other, join, star_end, plus_end, is_class, is_empty, program, alternatives}
+use Rattle.strkw_ecma.specs.Size.{steps_of, steps, max_steps, max_term_steps}
 use Rattle.strkw_ecma.specs.Sizes.{capped}
+use Rattle.strkw_ecma.proofs.Programs.{by_class, by_option}
 
-pub both_capped : (a b : ℕ) → capped (capped a + capped b + 1) ≡ capped (a + b + 1)
-both_capped a b = omega arith
+-- what is the same of all numbers beyond the most steps
+abbrev IsFlat : {A : Type 0} → (ℕ → A) → Type 0
+IsFlat f = (x y : ℕ) → max_steps + 1 ≤ x → max_steps + 1 ≤ y → f x ≡ f y
 
--- copies, where the one is within the limit or not
-few_capped : (n a : ℕ) → a ≤ max_steps + 1 → capped (n * (capped a + 1) + 1) ≡ capped (n * (a + 1) + 1)
-few_capped n a h =
-    let same : capped a ≡ a = omega (arith, h) in
-    ap (λ (x : ℕ). capped (n * (x + 1) + 1)) same
+-- is the same of a number up to the limit as of the number
+of_capped : {A : Type 0} (f : ℕ → A) → IsFlat f → (n : ℕ) → f (capped n) ≡ f n
+of_capped f flat n = by_order (nat_le n (max_steps + 1)) refl
+  where
+    by_order : (b : Bool) → nat_le n (max_steps + 1) ≡ b → f (capped n) ≡ f n
+    by_order true e = ap f (omega (arith, leb-true n (max_steps + 1) e))
+    by_order false e =
+        let h = leb-false n (max_steps + 1) e in
+        flat (capped n) n (omega (arith, h)) (omega (arith, h))
 
 once_least : (n a : ℕ) → a ≤ suc n * a
 once_least n a = omega arith
 
-many_capped : (n a : ℕ) → max_steps + 1 ≤ a → capped (n * (capped a + 1) + 1) ≡ capped (n * (a + 1) + 1)
-many_capped zero a h = omega arith
-many_capped (suc n) a h = omega (arith, h, once_least n (capped a + 1), once_least n (a + 1))
+flat_copies : {A : Type 0} (f : ℕ → A) → IsFlat f → (n : ℕ) → IsFlat (λ x. f (n * x))
+flat_copies f flat zero x y h g = ap f (omega arith)
+flat_copies f flat (suc n) x y h g =
+    flat (suc n * x) (suc n * y) (omega (arith, h, once_least n x)) (omega (arith, g, once_least n y))
 
-pub copies_capped : (n a : ℕ) → capped (n * (capped a + 1) + 1) ≡ capped (n * (a + 1) + 1)
-copies_capped n a = by_order (nat_le a (max_steps + 1)) refl
-  where
-    by_order : (b : Bool) → nat_le a (max_steps + 1) ≡ b → capped (n * (capped a + 1) + 1) ≡ capped (n * (a + 1) + 1)
-    by_order true e = few_capped n a (leb-true a (max_steps + 1) e)
-    by_order false e = many_capped n a (omega (arith, leb-false a (max_steps + 1) e))
+flat_capped : IsFlat capped
+flat_capped x y h g = omega (arith, h, g)
 
-nodes_repeated : (n : ℕ) (p : Pattern) → nodes (repeated n p) ≡ n * (nodes p + 1) + 1
-nodes_repeated zero p = omega arith
-nodes_repeated (suc n) p = omega (arith, nodes_repeated n p)
-
-steps_repeated : (n : ℕ) (p : Pattern) → steps (repeated n p) ≡ n * (steps p + 1) + 1
-steps_repeated zero p = omega arith
-steps_repeated (suc n) p = omega (arith, steps_repeated n p)
-
-pub nodes_of_copies : (n : ℕ) (p : Pattern) (a : ℕ) → a ≡ capped (nodes p) → capped (n * (a + 1) + 1) ≡ capped (nodes (repeated n p))
-nodes_of_copies n p a e =
-    ap (λ (x : ℕ). capped (n * (x + 1) + 1)) e ∙ copies_capped n (nodes p) ∙ ap capped (sym (nodes_repeated n p))
-
-pub steps_of_copies : (n : ℕ) (p : Pattern) (a : ℕ) → a ≡ capped (steps p) → capped (n * (a + 1) + 1) ≡ capped (steps (repeated n p))
-steps_of_copies n p a e =
-    ap (λ (x : ℕ). capped (n * (x + 1) + 1)) e ∙ copies_capped n (steps p) ∙ ap capped (sym (steps_repeated n p))
+flat_test : (most : ℕ) → most ≤ max_steps → IsFlat (λ x. nat_le x most)
+flat_test most within x y h g = grind (arith, nat_tests)
 
 -- the limits
-same_test : (a b c d : ℕ) → (a ≤ b → c ≤ d) → (c ≤ d → a ≤ b) → nat_le a b ≡ nat_le c d
-same_test a b c d f g = by_test (nat_le a b) (nat_le c d) refl refl
-  where
-    by_test : (x y : Bool) → nat_le a b ≡ x → nat_le c d ≡ y → nat_le a b ≡ nat_le c d
-    by_test true y e h = e ∙ sym (le-leb c d (f (leb-true a b e)))
-    by_test false true e h = absurd (true≢false (sym (le-leb a b (g (leb-true c d h))) ∙ e))
-    by_test false false e h = e ∙ sym h
-
 pub small_whole : (n : ℕ) → nat_le (capped n) max_steps ≡ nat_le n max_steps
-small_whole n = same_test _ _ _ _ (λ h. omega (arith, h)) (λ h. omega (arith, h))
-
-small_few : (k n : ℕ) → n ≤ max_steps + 1 → nat_le (k * capped n) max_term_steps ≡ nat_le (k * n) max_term_steps
-small_few k n h =
-    let same : capped n ≡ n = omega (arith, h) in
-    ap (λ (x : ℕ). nat_le (k * x) max_term_steps) same
-
-small_many : (k n : ℕ) → max_steps + 1 ≤ n → nat_le (k * capped n) max_term_steps ≡ nat_le (k * n) max_term_steps
-small_many zero n h = same_test _ _ _ _ (λ _. omega arith) (λ _. omega arith)
-small_many (suc k) n h =
-    same_test _ _ _ _ (λ g. omega (arith, h, g, once_least k (capped n))) (λ g. omega (arith, h, g, once_least k n))
+small_whole n = of_capped (λ x. nat_le x max_steps) (flat_test max_steps (omega arith)) n
 
 pub small_term : (k n : ℕ) → nat_le (k * capped n) max_term_steps ≡ nat_le (k * n) max_term_steps
-small_term k n = by_order (nat_le n (max_steps + 1)) refl
-  where
-    by_order : (b : Bool) → nat_le n (max_steps + 1) ≡ b → nat_le (k * capped n) max_term_steps ≡ nat_le (k * n) max_term_steps
-    by_order true e = small_few k n (leb-true n (max_steps + 1) e)
-    by_order false e = small_many k n (omega (arith, leb-false n (max_steps + 1) e))
+small_term k n =
+    let flat = flat_test max_term_steps (omega arith) in
+    of_capped (λ x. nat_le (k * x) max_term_steps) (flat_copies (λ x. nat_le x max_term_steps) flat k) n
+
+-- sums and products
+pub sum_capped : (a b c x y : ℕ) → x ≡ capped a → y ≡ capped b → capped (x + y + c) ≡ capped (a + b + c)
+sum_capped a b c x y e f = omega (arith, e, f)
+
+pub more_capped : (a c x : ℕ) → x ≡ capped a → capped (0 + x + c) ≡ capped (a + c)
+more_capped a c x e = omega (arith, e)
+
+product_capped : (n a : ℕ) → capped (n * capped a) ≡ capped (n * a)
+product_capped n a = of_capped (λ x. capped (n * x)) (flat_copies capped flat_capped n) a
+
+-- the steps of a pattern by those of its parts
+more_steps : (xs ys : List Instruction) → steps_of (xs ++ ys) ≡ steps_of xs + steps_of ys
+more_steps [] ys = omega arith
+more_steps (i ∷ xs) ys = omega (arith, more_steps xs ys)
+
+pub cat_steps : (p q : Pattern) → steps (cat p q) ≡ steps p + steps q
+cat_steps p q = more_steps (program p) (program q)
+
+pub alt_steps : (p q : Pattern) → (is_empty p && is_class q) ≡ false
+    → steps (alt p q) ≡ steps_of (alternatives p) + steps q + 3
+alt_steps p q h =
+    by_option (λ is. steps_of is ≡ steps_of (alternatives p) + steps q + 3) p q _ _
+    (λ m n rs e f. absurd (true≢false (rw (e, f) at h)))
+    (omega (arith, more_steps (alternatives p) (other ∷ (program q ++ (join ∷ []))), more_steps (program q) (join ∷ [])))
+
+pub option_steps : (p : Pattern) → is_class p ≡ false → steps (alt empty p) ≡ steps p + 3
+option_steps p h = omega (arith, alt_steps empty p h)
+
+pub beside_steps : (p q : Pattern) → steps_of (alternatives (alt p q)) ≡ steps_of (alternatives p) + steps q + 1
+beside_steps p q = omega (arith, more_steps (alternatives p) (other ∷ program q))
+
+pub star_steps : (p : Pattern) → is_class p ≡ false → steps (star p) ≡ steps p + 2
+star_steps p h =
+    by_class (λ is. steps_of is ≡ steps p + 2) p _ _ (λ m n rs e. absurd (true≢false (rw e at h)))
+    (omega (arith, more_steps (program p) (star_end ∷ [])))
+
+pub plus_steps : (p : Pattern) → is_class p ≡ false → steps (plus p) ≡ steps p + 2
+plus_steps p h =
+    by_class (λ is. steps_of is ≡ steps p + 2) p _ _ (λ m n rs e. absurd (true≢false (rw e at h)))
+    (omega (arith, more_steps (program p) (plus_end ∷ [])))
+
+repeated_steps : (n : ℕ) (p : Pattern) → steps (repeated n p) ≡ n * steps p
+repeated_steps zero p = omega arith
+repeated_steps (suc n) p = omega (arith, cat_steps p (repeated n p), repeated_steps n p)
+
+-- and up to the limit
+pub both_steps : (p q : Pattern) (x y : ℕ) → x ≡ capped (steps p) → y ≡ capped (steps q)
+    → capped (x + y + 0) ≡ capped (steps (cat p q))
+both_steps p q x y e f = omega (arith, sum_capped (steps p) (steps q) 0 x y e f, cat_steps p q)
+
+pub copies_steps : (n : ℕ) (p : Pattern) (x : ℕ) → x ≡ capped (steps p) → capped (n * x) ≡ capped (steps (repeated n p))
+copies_steps n p x e =
+    ap (λ (y : ℕ). capped (n * y)) e ∙ product_capped n (steps p) ∙ ap capped (sym (repeated_steps n p))

@@ -49,7 +49,7 @@ module _ (classes : List (Vec CharSet Global)) (keys samples entries : List ℕ)
     alike = sym (table.sampled k within) ∙ (place_is keys (answers 0 classes c) k has).1
 
     tells : Tells classes (marks_in p at.state)
-    tells = marked_tells classes at.state.marks.items p 0 table.told
+    tells = marked_tells classes at.state.marks.items p table.told
 
     word : SameWord (marks_in p at.state) at.state.last b
     word = marked_word at.state.marks.items p at.state.last b at.word
@@ -81,7 +81,7 @@ module _ (classes : List (Vec CharSet Global)) (keys samples entries : List ℕ)
         record {
           state = behind.0;
           of_row = behind.1;
-          marks = ap (λ (l : List Bool). marked l 0 p) behind.2 ∙ next.1 ∙ stepped;
+          marks = ap (λ (l : List Bool). marked l p) behind.2 ∙ next.1 ∙ stepped;
           word = behind_word behind.0 behind.3;
           edge = behind.4;
         }
@@ -97,7 +97,7 @@ module _ (classes : List (Vec CharSet Global)) (keys samples entries : List ℕ)
       record {
         state = first.0;
         of_row = (0, row, first.1);
-        marks = unmarked first.0.marks.items p 0 clean first.2;
+        marks = unmarked first.0.marks.items p clean first.2;
         word = first_word first.0 first.3;
         edge = ap is_edge first.3;
       }

@@ -1,7 +1,8 @@
 -- Columns of a table: characters about which the classes of a pattern give the same answers share one.
-use Rattle.std.specs.Prelude.{◌≡◌, ℕ, suc, ◌+◌, ◌*◌, ◌≤◌, ◌<◌, ◌==◌, Bool, true, false, ◌||◌, List, [], ◌∷◌, length, get_or, Vec, Option, Some, None, option_map, if◌then◌else◌}
+use Rattle.std.specs.Prelude.{◌≡◌, ℕ, suc, ◌+◌, ◌*◌, ◌<◌, ◌==◌, Bool, true, false, ◌||◌, List, [], ◌∷◌, length, get_or, Vec, Option, Some, None, option_map, if◌then◌else◌}
 use Rattle.std.specs.declared.alloc.Global.{Global}
-use Rattle.strkw_ecma.specs.Tree.{Look, start, end, boundary, no_boundary, Pattern, empty, class, look, cat, alt, star, plus, in_sets}
+use Rattle.strkw_ecma.specs.Tree.{Pattern, empty, class, look, cat, alt, star, plus, in_sets}
+use Rattle.strkw_ecma.specs.Program.{asks_word}
 use Rattle.strkw_ecma.specs.Sets.{word_characters}
 use Rattle.strkw_ecma.specs.declared.tree.CharSet.{CharSet}
 
@@ -19,20 +20,13 @@ place_of (k ∷ ks) n = if k == n then Some 0 else option_map suc (place_of ks n
 abbrev pub column_of : List (Vec CharSet Global) → List ℕ → ℕ → Option ℕ
 column_of classes keys c = place_of keys (answers 0 classes c)
 
--- of characters from 0 on, which are ASCII, the columns
-pub record AreColumns (classes : List (Vec CharSet Global)) (keys columns : List ℕ) : Type 0 where
-  pub ascii : length columns ≤ 128
-  pub right : (c : ℕ) → c < length columns → column_of classes keys c ≡ Some (get_or columns c 0)
+-- of characters from 0 on, the columns
+abbrev pub AreColumns : List (Vec CharSet Global) → List ℕ → List ℕ → Type 0
+AreColumns classes keys columns = (c : ℕ) → c < length columns → column_of classes keys c ≡ Some (get_or columns c 0)
 
 -- the answers tell whether a character is in these sets
 abbrev pub TellsSets : List (Vec CharSet Global) → List CharSet → Type 0
 TellsSets classes rs = (c d : ℕ) → answers 0 classes c ≡ answers 0 classes d → in_sets rs c ≡ in_sets rs d
-
-abbrev pub asks_word : Look → Bool
-asks_word start = false
-asks_word end = false
-asks_word boundary = true
-asks_word no_boundary = true
 
 -- `\b` or `\B` stands in the pattern
 abbrev pub has_boundary : Pattern → Bool

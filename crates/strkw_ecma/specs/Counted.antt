@@ -1,79 +1,54 @@
--- The search with its steps counted: one at each node that is asked, and at a class more for its sets. What is
--- repeated is asked what leaves it, and then for its marks.
-use Rattle.std.specs.Prelude.{◌≡◌, ℕ, ◌+◌, ◌*◌, ◌≤◌, Bool, true, false, ◌&&◌, ◌||◌, List, [], ◌∷◌, length, Option, Some, None, if◌then◌else◌}
-use Rattle.strkw_ecma.specs.Tree.{Pattern, empty, class, look, cat, alt, star, plus}
-use Rattle.strkw_ecma.specs.Size.{class_steps}
-use Rattle.strkw_ecma.specs.Meaning.{holds}
-use Rattle.strkw_ecma.specs.Marks.{reads}
+-- The search with its steps counted: at each instruction of the program, backwards and then forwards, as much as it takes.
+use Rattle.std.specs.Prelude.{◌≡◌, ℕ, ◌+◌, ◌*◌, ◌≤◌, Bool, true, false, List, [], ◌∷◌, length, Option, Some, None, if◌then◌else◌}
+use Rattle.strkw_ecma.specs.Tree.{Pattern}
+use Rattle.strkw_ecma.specs.Marks.{marks_of}
 use Rattle.strkw_ecma.specs.Search.{search_from}
+use Rattle.strkw_ecma.specs.Program.{Instruction, program}
+use Rattle.strkw_ecma.specs.Size.{instruction_steps}
+use Rattle.strkw_ecma.specs.Walk.{top, Asked, Walked, Following, begun, back_over, over, left_by, marks_behind}
 
--- an answer, and the steps to it
-pub record Asked : Type 0 where
-  pub answer : Bool
+-- what some steps come to, and how many they are
+pub record Counted (A : Type 0) : Type 0 where
+  pub result : A
   pub steps : ℕ
 
--- an answer, the marks behind the next character, and the steps to both
-pub record Moved : Type 0 where
-  pub answer : Bool
-  pub marks : Pattern
-  pub steps : ℕ
+-- after some steps more
+abbrev pub after : {A : Type 0} → ℕ → Counted A → Counted A
+after n x = record { result = x.result; steps = n + x.steps }
 
 module _ (b a : Option ℕ) where
-  -- whether a way through the pattern ends between the characters b and a (`leaves`)
-  abbrev pub asked : Pattern → Bool → Asked
-  asked empty enters = record { answer = enters; steps = 1 }
-  asked (class m n rs) enters = record { answer = m; steps = 1 }
-  asked (look l) enters = record { answer = enters && holds l b a; steps = 1 }
-  asked (cat p q) enters =
-      let one = asked p enters in
-      let two = asked q one.answer in
-      record { answer = two.answer; steps = one.steps + two.steps + 1 }
-  asked (alt p q) enters =
-      let one = asked p enters in
-      let two = asked q enters in
-      record { answer = one.answer || two.answer; steps = one.steps + two.steps + 1 }
-  asked (star p) enters =
-      let one = asked p false in
-      record { answer = enters || one.answer; steps = one.steps + 1 }
-  asked (plus p) enters =
-      let one = asked p enters in
-      record { answer = one.answer; steps = one.steps + 1 }
+  -- backwards (`asked`)
+  abbrev pub asking : List Instruction → List Bool → Counted Asked
+  asking [] ms = record { result = record { ends = true; goes_on = false; around = []; again = [] }; steps = 0 }
+  asking (i ∷ is) ms =
+      let rest = asking is (marks_behind b a i ms) in
+      record { result = back_over b a i (top ms) rest.result; steps = instruction_steps i + rest.steps }
 
-  -- and the marks after the character a is read (`step`)
-  abbrev pub moved : Pattern → Bool → Moved
-  moved empty enters = record { answer = enters; marks = empty; steps = 1 }
-  moved (class m n rs) enters =
-      record { answer = m; marks = class (enters && reads a n rs) n rs; steps = class_steps rs }
-  moved (look l) enters = record { answer = enters && holds l b a; marks = look l; steps = 1 }
-  moved (cat p q) enters =
-      let one = moved p enters in
-      let two = moved q one.answer in
-      record { answer = two.answer; marks = cat one.marks two.marks; steps = one.steps + two.steps + 1 }
-  moved (alt p q) enters =
-      let one = moved p enters in
-      let two = moved q enters in
-      record { answer = one.answer || two.answer; marks = alt one.marks two.marks; steps = one.steps + two.steps + 1 }
-  moved (star p) enters =
-      let again = asked p false in
-      let one = moved p (enters || again.answer) in
-      record { answer = enters || again.answer; marks = star one.marks; steps = one.steps + again.steps + 1 }
-  moved (plus p) enters =
-      let again = asked p false in
-      let one = moved p (enters || again.answer) in
-      record { answer = one.answer; marks = plus one.marks; steps = one.steps + again.steps + 1 }
+  -- forwards (`followed`)
+  abbrev pub following : List Instruction → Following → List Bool → Counted Walked
+  following [] s ms = record { result = record { leaves = s.enters; marks = ms }; steps = 0 }
+  following (i ∷ is) s ms =
+      let rest = following is (over b a i (top ms) s) (marks_behind b a i ms) in
+      record { result = left_by b a i (top ms) s rest.result; steps = instruction_steps i + rest.steps }
 
-abbrev pub later : ℕ → Asked → Asked
-later n x = record { answer = x.answer; steps = n + x.steps }
+  -- both (`walked`)
+  abbrev pub walking : List Instruction → List Bool → Counted Walked
+  walking is ms =
+      let back = asking is ms in
+      after back.steps (following is (begun back.result.again) ms)
 
--- whether the pattern is found in the rest of a text, behind the character `last` (`search_from`)
-abbrev pub searched : Pattern → Option ℕ → List ℕ → Asked
-searched p last [] = asked last None p true
-searched p last (c ∷ cs) =
-    let one = moved last (Some c) p true in
-    if one.answer then record { answer = true; steps = one.steps }
-    else later one.steps (searched one.marks (Some c) cs)
+-- whether a program with these marks is found in the rest of a text, behind the character `last`
+abbrev pub searching : List Instruction → List Bool → Option ℕ → List ℕ → Counted Bool
+searching is ms last [] =
+    let one = walking last None is ms in
+    record { result = one.result.leaves; steps = one.steps }
+searching is ms last (c ∷ cs) =
+    let one = walking last (Some c) is ms in
+    if one.result.leaves then record { result = true; steps = one.steps }
+    else after one.steps (searching is one.result.marks (Some c) cs)
 
--- the search comes to what the definition does, in at most so many steps for each character and the end of the text
+-- The search by the program of a pattern comes to what the definition does, in at most so many steps for each character and the
+-- end of the text.
 pub record IsSearchedWithin (most : ℕ) (p : Pattern) (text : List ℕ) : Type 0 where
-  pub answer : (searched p None text).answer ≡ search_from p None text
-  pub steps : (searched p None text).steps ≤ most * (length text + 1)
+  pub answer : (searching (program p) (marks_of p) None text).result ≡ search_from p None text
+  pub steps : (searching (program p) (marks_of p) None text).steps ≤ most * (length text + 1)

@@ -5,7 +5,10 @@ pub mod Meaning
 pub mod Marks
 pub mod Shape
 pub mod Numbers
+pub mod Program
+pub mod Walk
 pub mod Size
+pub mod Machine
 pub mod Sizes
 pub mod Escapes
 pub mod Lookahead

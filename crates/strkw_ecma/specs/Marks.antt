@@ -1,5 +1,5 @@
 -- The marks of a pattern: at a place of the text they stand at the classes that have just read the character before it.
-use Rattle.std.specs.Prelude.{◌≡◌, ℕ, ◌+◌, ◌≤◌, ◌<◌, get_or, Bool, true, false, ◌&&◌, ◌||◌, not, ◌⊎◌, List, length, Option, Some, None}
+use Rattle.std.specs.Prelude.{◌≡◌, ℕ, ◌+◌, ◌≤◌, get_or, drop, Bool, true, false, ◌&&◌, ◌||◌, not, ◌⊎◌, List, [], ◌∷◌, ◌++◌, length, Option, Some, None}
 use Rattle.strkw_ecma.specs.Tree.{Pattern, empty, class, look, cat, alt, star, plus, is_member}
 use Rattle.strkw_ecma.specs.Meaning.{Rounds, holds, Matches}
 use Rattle.strkw_ecma.specs.declared.tree.CharSet.{CharSet}
@@ -55,21 +55,15 @@ classes (alt p q) = classes p + classes q
 classes (star p) = classes p
 classes (plus p) = classes p
 
--- the pattern with marks of a list, in the order of its classes, from the one at a place on
-abbrev pub marked : List Bool → ℕ → Pattern → Pattern
-marked ms at empty = empty
-marked ms at (class m n rs) = class (get_or ms at false) n rs
-marked ms at (look l) = look l
-marked ms at (cat p q) = cat (marked ms at p) (marked ms (at + classes p) q)
-marked ms at (alt p q) = alt (marked ms at p) (marked ms (at + classes p) q)
-marked ms at (star p) = star (marked ms at p)
-marked ms at (plus p) = plus (marked ms at p)
-
--- two lists of marks that differ from one place to another alone
-pub record SameOutside (from to : ℕ) (ms ns : List Bool) : Type 0 where
-  pub lengths : length ns ≡ length ms
-  pub before : (k : ℕ) → k < from → get_or ns k false ≡ get_or ms k false
-  pub behind : (k : ℕ) → to ≤ k → get_or ns k false ≡ get_or ms k false
+-- the pattern with the first marks of a list, in the order of its classes
+abbrev pub marked : List Bool → Pattern → Pattern
+marked ms empty = empty
+marked ms (class m n rs) = class (get_or ms 0 false) n rs
+marked ms (look l) = look l
+marked ms (cat p q) = cat (marked ms p) (marked (drop (classes p) ms) q)
+marked ms (alt p q) = alt (marked ms p) (marked (drop (classes p) ms) q)
+marked ms (star p) = star (marked ms p)
+marked ms (plus p) = plus (marked ms p)
 
 -- no class bears a mark
 abbrev pub is_clean : Pattern → Bool
@@ -80,3 +74,13 @@ is_clean (cat p q) = is_clean p && is_clean q
 is_clean (alt p q) = is_clean p && is_clean q
 is_clean (star p) = is_clean p
 is_clean (plus p) = is_clean p
+
+-- the marks of a pattern, in the order of its classes
+abbrev pub marks_of : Pattern → List Bool
+marks_of empty = []
+marks_of (class m n rs) = m ∷ []
+marks_of (look l) = []
+marks_of (cat p q) = marks_of p ++ marks_of q
+marks_of (alt p q) = marks_of p ++ marks_of q
+marks_of (star p) = marks_of p
+marks_of (plus p) = marks_of p

@@ -1,11 +1,10 @@
--- How large a pattern is: the steps that a search takes for one character. A step is a node that is asked, and of a
--- class one more for each eight ranges and for each property. What leaves a pattern asks each node once. The marks behind a character ask each node once too, and what is repeated
--- once more, for what leaves it: so a node counts once, and once more for each quantifier around it. A counted term has the
--- steps of all its copies.
+-- How large a pattern is: the steps of its program, each of which takes one of a search, backwards and forwards, for each
+-- character. A step is an instruction, and of a class one more for each eight ranges and for each property.
 use Rattle.std.specs.Prelude.{ℕ, ◌+◌, ◌/◌, List, [], ◌∷◌}
 use Rattle.strkw_ecma.specs.declared.tree.CharSet.{CharSet}
 use Rattle.strkw_ecma.specs.declared.tree.CharSet.TheVariants.{Range, Property}
-use Rattle.strkw_ecma.specs.Tree.{Pattern, empty, class, look, cat, alt, star, plus}
+use Rattle.strkw_ecma.specs.Tree.{Pattern}
+use Rattle.strkw_ecma.specs.Program.{Instruction, read, assert, fork, other, join, star_begin, star_end, plus_begin, plus_end, program}
 
 -- of a counted term, its copies each with the steps of what is repeated
 abbrev pub max_term_steps : ℕ
@@ -13,7 +12,7 @@ max_term_steps = 2000
 
 -- of a whole pattern
 abbrev pub max_steps : ℕ
-max_steps = 5200
+max_steps = 2600
 
 -- to look a character up takes what eight ranges do
 abbrev pub set_cost : CharSet → ℕ
@@ -27,20 +26,20 @@ sets_cost (r ∷ rs) = set_cost r + sets_cost rs
 abbrev pub class_steps : List CharSet → ℕ
 class_steps rs = sets_cost rs / 8 + 1
 
-abbrev pub nodes : Pattern → ℕ
-nodes empty = 1
-nodes (class m n rs) = 1
-nodes (look l) = 1
-nodes (cat p q) = nodes p + nodes q + 1
-nodes (alt p q) = nodes p + nodes q + 1
-nodes (star p) = nodes p + 1
-nodes (plus p) = nodes p + 1
+abbrev pub instruction_steps : Instruction → ℕ
+instruction_steps (read again optional n rs) = class_steps rs
+instruction_steps (assert l) = 1
+instruction_steps fork = 1
+instruction_steps other = 1
+instruction_steps join = 1
+instruction_steps star_begin = 1
+instruction_steps star_end = 1
+instruction_steps plus_begin = 1
+instruction_steps plus_end = 1
+
+abbrev pub steps_of : List Instruction → ℕ
+steps_of [] = 0
+steps_of (i ∷ is) = instruction_steps i + steps_of is
 
 abbrev pub steps : Pattern → ℕ
-steps empty = 1
-steps (class m n rs) = class_steps rs
-steps (look l) = 1
-steps (cat p q) = steps p + steps q + 1
-steps (alt p q) = steps p + steps q + 1
-steps (star p) = steps p + nodes p + 1
-steps (plus p) = steps p + nodes p + 1
+steps p = steps_of (program p)

@@ -48,13 +48,13 @@ IsBehind p end states row ms c =
 
 -- the pattern with the marks of a state
 abbrev pub marks_in : Pattern → State → Pattern
-marks_in p s = marked s.marks.items 0 p
+marks_in p s = marked s.marks.items p
 
 -- the entry of a row is right for a state of the search and the next character
 pub record IsEntry (p : Pattern) (end : ℕ) (states : List State) (s : State) (row c entry : ℕ) : Type 0 where
   pub finds : (entry == found) ≡ leaves s.last (Some c) (marks_in p s) true
   pub goes : leaves s.last (Some c) (marks_in p s) true ≡ false
-      → (ms : List Bool) × (marked ms 0 p ≡ step s.last (Some c) (marks_in p s) true)
+      → (ms : List Bool) × (marked ms p ≡ step s.last (Some c) (marks_in p s) true)
       × IsBehind p end states (row_after end row entry) ms c
 
 -- the row is right for a state, and for the character that stands for each column

@@ -78,7 +78,8 @@ impl ClassReader {
     // After one more item, and `None` where it bounds no range with the one before the `-`.
     pub(crate) fn with_item(self, item: Item) -> Result<Option<ClassReader>, AllocError>
         ensures { let k = class_of self in
-            IfOk result (λ r. option_map class_of r ≡ took k.negated k.sets k.pending (item_of item)) }
+            IfOk result (λ r. option_map class_of r
+            ≡ took k.negated k.sets k.pending (item_of item)) }
     {
         let ClassReader {
             negated,

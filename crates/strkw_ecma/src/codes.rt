@@ -22,8 +22,8 @@ pub(crate) enum Wanted {
     Four,
 }
 
-// What has been read: `\c`; `\u`; digits, as the number that they make; a leading surrogate; that and a backslash; `\u{` and
-// digits.
+// What has been read: `\c`; `\u`; digits, as the number that they make; a leading surrogate; that and a backslash;
+// `\u{` and digits.
 #[derive(Clone, Copy)]
 pub(crate) enum Coding {
     Letter,
@@ -114,7 +114,8 @@ impl Width {
     }
 
     fn on_digit(self, wanted: Wanted, number: u32, c: char) -> Coded
-        ensures { coded_of result ≡ digit_or_none (width_of self) (wanted_of wanted) (spec_with_hex_digit number c) }
+        ensures { coded_of result
+            ≡ digit_or_none (width_of self) (wanted_of wanted) (spec_with_hex_digit number c) }
     {
         match with_hex_digit(number, c) {
             Some(longer) => self.digit_read(wanted, longer),

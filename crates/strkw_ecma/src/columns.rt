@@ -2,12 +2,13 @@
 
 ghost use Rattle.std.specs.Prelude.{◌≡◌, ◌≤◌, ◌<◌, length, IsTrue, IfSome};
 ghost use Rattle.strkw_ecma.specs.Columns.{answers as spec_answers, place_of as spec_place_of, column_of, AreColumns, TellsSets, Tells};
-ghost use Rattle.strkw_ecma.specs.Shape.{pattern_of};
+ghost use Rattle.strkw_ecma.specs.Machine.{pattern_of};
 
 use crate::marks::contains;
+use crate::program::Program;
 use crate::same_sets::are_same_sets;
 use crate::sets::WORD_CHARACTERS;
-use crate::tree::{CharSet, Tree};
+use crate::tree::CharSet;
 
 /// The most classes of a pattern that has a table: their answers are the digits of a number.
 pub(crate) const MOST_CLASSES: usize = 64;
@@ -40,16 +41,19 @@ pub(crate) fn place_of(keys: &[u64], key: u64) -> Option<usize>
     None
 }
 
-/// The classes that are asked about a character, the answers that have a column, in the order of the columns, and the columns
-/// of ASCII characters.
+/// The classes that are asked about a character, the answers that have a column, in the order of the columns, and the
+/// columns of the characters that are one byte, and of those that are one or two.
 #[derive(Drop)]
 pub(crate) struct Columns {
     pub(crate) classes: Vec<Vec<CharSet>>,
     pub(crate) keys: Vec<u64>,
     pub(crate) ascii: Vec<u8>,
+    pub(crate) near: Vec<u8>,
     ghost few: { length classes.items ≤ 64 },
     ghost few_columns: { length keys.items < 256 },
-    ghost right: { AreColumns classes.items keys.items ascii.items },
+    ghost few_ascii: { length ascii.items ≤ 128 },
+    ghost right_ascii: { AreColumns classes.items keys.items ascii.items },
+    ghost right_near: { AreColumns classes.items keys.items near.items },
 }
 
 impl Columns {
@@ -58,7 +62,7 @@ impl Columns {
         ensures column { result ≡ column_of self.now.classes.items self.now.keys.items c }
         ensures within { IfSome result (λ k. k < 256) }
     {
-        match self.ascii.get(u32::from(c) as usize) {
+        match self.near.get(u32::from(c) as usize) {
             Some(column) => Some(usize::from(*column)),
             None => place_of(&self.keys, answers(&self.classes, c)),
         }
@@ -78,16 +82,16 @@ pub(crate) fn tells_sets(classes: &[Vec<CharSet>], sets: &[CharSet]) -> bool
 }
 
 /// Whether the answers of the classes tell all that a pattern asks about a character.
-#[cycle(tells)]
-pub(crate) fn tells(classes: &[Vec<CharSet>], tree: &Tree) -> bool
-    ensures { IsTrue result → Tells classes.now (pattern_of tree.now) }
+pub(crate) fn tells(classes: &[Vec<CharSet>], program: &Program) -> bool
+    ensures { IsTrue result → Tells classes.now (pattern_of program.now) }
 {
-    match tree {
-        Tree::Empty | Tree::Start | Tree::End => true,
-        Tree::Boundary | Tree::NoBoundary => tells_sets(classes, &WORD_CHARACTERS),
-        Tree::Class { sets, .. } => tells_sets(classes, sets),
-        Tree::Then(one, other) | Tree::Or(one, other) => tells(classes, one)
-            && tells(classes, other),
-        Tree::Star(body) | Tree::Plus(body) => tells(classes, body),
+    if program.has_boundary && !tells_sets(classes, &WORD_CHARACTERS) {
+        return false;
     }
+    for class in &program.code.classes {
+        if !tells_sets(classes, &class.sets) {
+            return false;
+        }
+    }
+    true
 }

@@ -1,30 +1,28 @@
 //! The engine, and what builds it.
 
-ghost use Rattle.std.specs.Prelude.{◌≡◌, ◌≤◌, true, Some, IsOk};
+ghost use Rattle.std.specs.Prelude.{◌≡◌, true, Some, IsOk};
 ghost use Rattle.std.specs.Str.{chars};
 ghost use Rattle.strkw_ecma.specs.Searches.{IsSearchedBy};
 ghost use Rattle.strkw_ecma.specs.declared.table.Table.{Table};
-ghost use Rattle.strkw_ecma.specs.Marks.{is_clean, classes};
-ghost use Rattle.strkw_ecma.specs.Size.{max_steps};
-ghost use Rattle.strkw_ecma.specs.Shape.{pattern_of};
+ghost use Rattle.strkw_ecma.specs.Marks.{is_clean};
+ghost use Rattle.strkw_ecma.specs.Machine.{pattern_of};
 ghost use Rattle.strkw_ecma.specs.Outcomes.{takes_pattern, pattern_outcome};
 
+use crate::finding::is_found;
 use crate::making::table_of;
-use crate::marks::is_found;
+use crate::program::Program;
 use crate::reader::read;
 use crate::table::Table;
-use crate::tree::Tree;
 use std::alloc::{AllocError, Global};
 use strkw_pattern::{BuildRefusal, EngineBuilder, EngineFailure, RegexEngine};
 
 /// A pattern that is ready to be matched. `EcmaPatterns` builds it.
 #[derive(Drop)]
 pub struct EcmaMatcher {
-    tree: Tree,
+    program: Program,
     table: Option<Table>,
-    ghost clean: { is_clean (pattern_of tree) ≡ true },
-    ghost few: { classes (pattern_of tree) ≤ max_steps },
-    ghost exact: { (t : Table) → table ≡ Some t → IsSearchedBy t (pattern_of tree) },
+    ghost clean: { is_clean (pattern_of program) ≡ true },
+    ghost exact: { (t : Table) → table ≡ Some t → IsSearchedBy t (pattern_of program) },
 }
 
 impl EcmaMatcher {
@@ -44,8 +42,8 @@ impl RegexEngine for EcmaMatcher {
 
     ghost outcome = { engine_outcome };
 
-    /// Whether the pattern is found in the text (RegExpBuiltinExec, ECMA-262 2024, section 22.2.7.2), in one pass, or where
-    /// a character has no column of the table, in two. It takes no memory, and there is no error.
+    /// Whether the pattern is found in the text (RegExpBuiltinExec, ECMA-262 2024, section 22.2.7.2), in one pass, or
+    /// where a character has no column of the table, in two. It takes no memory, and there is no error.
     fn is_match(&self, _alloc: Global, text: &str) -> Result<bool, EngineFailure>
         ensures answer { IsAnswer (engine_outcome self.now (chars text.now)) result }
         ensures never_fails { IsOk result }
@@ -55,7 +53,7 @@ impl RegexEngine for EcmaMatcher {
                 return Ok(found);
             }
         }
-        Ok(is_found(&self.tree, text))
+        Ok(is_found(&self.program, text))
     }
 }
 
@@ -65,22 +63,23 @@ impl RegexEngine for EcmaMatcher {
 /// - behind an atom `*`, `+`, `?`, `{n}`, `{n,}` or `{n,m}`, and a `?` behind that, which changes no answer;
 /// - `.`; a character that is none of `^ $ \ . * + ? ( ) [ ] { } |`; `\` before one of those or `/`; `\f \n \r \t \v`;
 ///   `\d \D \s \S \w \W`;
-/// - `\0` where no decimal digit follows; `\c` and a letter; `\x` and two digits of base 16; `\u` and four, or two of these for
-///   a leading and a trailing surrogate; `\u{ }` with digits up to 10FFFF, of no surrogate;
-/// - `\p{ }` and `\P{ }` with a value of General_Category, alone or behind `General_Category=` or `gc=`, or of Script, behind
-///   `Script=` or `sc=`, each named as in Unicode's tables of aliases, letter case and `_` included;
+/// - `\0` where no decimal digit follows; `\c` and a letter; `\x` and two digits of base 16; `\u` and four, or two of
+///   these for a leading and a trailing surrogate; `\u{ }` with digits up to 10FFFF, of no surrogate;
+/// - `\p{ }` and `\P{ }` with a value of General_Category, alone or behind `General_Category=` or `gc=`, or of
+///   Script, behind `Script=` or `sc=`, each named as in Unicode's tables of aliases, letter case and `_` included;
 /// - classes with `[ ]` and `[^ ]`, of characters, ranges and those escapes, with `\-`, and `\b` for the backspace.
 ///
-/// Any other text is not taken, nor is a pattern with groups more than 250 deep, with more than 2,000 characters, with a count
-/// above 1,000, with a counted term of more than 2,000 steps (its copies, each with the steps of what is repeated), or one of
-/// more than 5,200 steps as a whole. The steps are those of a search for one character: one for each node of the tree, and
-/// once more for each quantifier around it, and of a class one for each eight ranges and for each property. They are counted
-/// before there is a tree.
+/// Any other text is not taken, nor is a pattern with groups more than 250 deep, with more than 2,000 characters,
+/// with a count above 1,000, with a counted term of more than 2,000 steps (its copies, each with the steps of what is
+/// repeated), or one of more than 2,600 steps as a whole. A step is an instruction of the pattern's program: one for
+/// each class, which may be repeated without end or be missing, and for each assertion, two around a loop, three
+/// around alternatives, and one between more of them; and of a class one more for each eight ranges and for each
+/// property. They are counted before there is a program.
 ///
-/// A match is a search for the pattern in the text (section 22.2.7.2), with no flag but `u`: characters are Unicode scalar
-/// values; `^` and `$` stand for the two ends of the text, `.` for each character but U+000A, U+000D, U+2028 and U+2029,
-/// `\d` and `\w` for ASCII digits and word characters, `\s` for white space and ends of lines (sections 12.2 and 12.3), and
-/// properties are those of Unicode 18.
+/// A match is a search for the pattern in the text (section 22.2.7.2), with no flag but `u`: characters are Unicode
+/// scalar values; `^` and `$` stand for the two ends of the text, `.` for each character but U+000A, U+000D, U+2028
+/// and U+2029, `\d` and `\w` for ASCII digits and word characters, `\s` for white space and ends of lines (sections
+/// 12.2 and 12.3), and properties are those of Unicode 18.
 pub struct EcmaPatterns;
 
 impl EngineBuilder for EcmaPatterns {
@@ -90,13 +89,13 @@ impl EngineBuilder for EcmaPatterns {
 
     ghost outcome = { λ _ source. pattern_outcome source };
 
-    /// The engine of a pattern, `BuildRefusal::Pattern` exactly where the text is not taken, and `BuildRefusal::Memory` where
-    /// a growth was refused.
+    /// The engine of a pattern, `BuildRefusal::Pattern` exactly where the text is not taken, and
+    /// `BuildRefusal::Memory` where a growth was refused.
     #[tactic(auto, using(crate::proofs::Exact::clean_of, crate::proofs::Exact::outcome_of_it, crate::proofs::Exact::some_of, crate::proofs::Exact::none_of))]
     fn build(&self, alloc: Global, pattern: &str) -> Result<EcmaMatcher, BuildRefusal> {
         match read(alloc, pattern) {
-            Ok(Some(tree)) => match table_of(alloc, &tree) {
-                Ok(table) => Ok(EcmaMatcher { tree, table }),
+            Ok(Some(program)) => match table_of(alloc, &program) {
+                Ok(table) => Ok(EcmaMatcher { program, table }),
                 Err(_) => Err(BuildRefusal::Memory),
             },
             Ok(None) => Err(BuildRefusal::Pattern),

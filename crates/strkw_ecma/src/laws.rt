@@ -1,6 +1,6 @@
 //! Laws of the definitions, as functions with empty bodies.
 
-ghost use Rattle.std.specs.Prelude.{ℕ, List};
+ghost use Rattle.std.specs.Prelude.{ℕ, ◌*◌, List};
 ghost use Rattle.strkw_ecma.specs.Laws.{AreComplements, IsExact, IsPattern};
 ghost use Rattle.strkw_ecma.specs.Syntax.{Disjunction};
 ghost use Rattle.strkw_ecma.specs.Size.{max_steps};
@@ -8,9 +8,9 @@ ghost use Rattle.strkw_ecma.specs.Counted.{IsSearchedWithin};
 ghost use Rattle.strkw_ecma.specs.Patterns.{pattern};
 ghost use Rattle.strkw_ecma.specs.Sets.{digits, non_digits, white_space, non_white_space, word_characters, non_word_characters};
 
-/// What `takes` and `outcome` of `EcmaPatterns` come to, said by the grammar and the meaning: for every text, it is taken
-/// exactly where some tree of the grammar is spelled so, it has one tree at most, its outcome on each text is a match or no
-/// match, and it is a match exactly where the pattern of the tree is found there.
+/// What `takes` and `outcome` of `EcmaPatterns` come to, said by the grammar and the meaning: for every text, it is
+/// taken exactly where some tree of the grammar is spelled so, it has one tree at most, its outcome on each text is a
+/// match or no match, and it is a match exactly where the pattern of the tree is found there.
 pub fn patterns_are_exact()
     ensures { (source : List ℕ) → IsExact source }
 {}
@@ -22,10 +22,10 @@ pub fn negative_sets_are_complements()
     ensures words { AreComplements word_characters non_word_characters }
 {}
 
-/// The search of each pattern that is taken, with its steps counted, comes to the answer of the definition, in at most 5,200
-/// steps for each character of the text and for its end. A step is a node of the pattern that is asked, and of a class
-/// one more for each eight ranges and for each property.
+/// The search by the program of each pattern that is taken, with its steps counted, comes to the answer of the
+/// definition, in at most 5,200 steps for each character of the text and for its end. A step is an instruction that
+/// is asked, backwards or forwards, and of a class one more for each eight ranges and for each property.
 pub fn searches_are_bounded()
     ensures { (source : List ℕ) (d : Disjunction) → IsPattern source d
-        → (text : List ℕ) → IsSearchedWithin max_steps (pattern d) text }
+        → (text : List ℕ) → IsSearchedWithin (2 * max_steps) (pattern d) text }
 {}

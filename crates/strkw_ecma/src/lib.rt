@@ -1,19 +1,22 @@
 //! Patterns of ECMA-262 in Unicode mode: an engine for a part of their syntax, whose answer is their meaning. A caller
-//! hands `EcmaPatterns` in where the keyword `pattern` needs more than literal patterns. Each search is one pass over the
-//! text.
+//! hands `EcmaPatterns` in where the keyword `pattern` needs more than literal patterns. Each search is one pass over
+//! the text.
 #![tactic(auto)]
 
 mod classes;
+mod code;
 mod codes;
 mod columns;
 mod counts;
 mod engine;
+mod finding;
 pub mod laws;
 mod lookahead;
 mod making;
 mod marks;
 mod names;
 mod outline;
+mod program;
 mod properties;
 mod reader;
 mod refusals;
@@ -22,11 +25,14 @@ mod same_sets;
 mod samples;
 mod sets;
 mod size;
+mod stack;
 mod states;
 mod table;
 mod tokens;
 mod tree;
 mod values;
+mod walk;
+mod writing;
 
 pub use engine::{EcmaMatcher, EcmaPatterns};
 pub use refusals::{PatternRefusal, why_refused};

@@ -1,11 +1,12 @@
-//! Patterns as they are read: a term that is repeated stands once, beside its quantifier. A tree has its copies.
+//! Patterns as they are read: a term that is repeated stands once, beside its quantifier. A program has its copies.
 
-ghost use Rattle.std.specs.Prelude.{◌≡◌, ◌≤◌, IfOk};
-ghost use Rattle.strkw_ecma.specs.Tree.{empty, cat, alt};
-ghost use Rattle.strkw_ecma.specs.Patterns.{quantified_pattern, repeated as spec_repeated};
-ghost use Rattle.strkw_ecma.specs.Shape.{pattern_of, outlined, quantifier_of};
+ghost use Rattle.std.specs.Prelude.{◌≡◌, false, IfOk, MatchOption};
+ghost use Rattle.strkw_ecma.specs.Tree.{class as spec_class, cat, alt};
+ghost use Rattle.strkw_ecma.specs.Patterns.{quantified_pattern};
+ghost use Rattle.strkw_ecma.specs.Program.{is_class, is_empty};
+ghost use Rattle.strkw_ecma.specs.Shape.{outlined, quantifier_of};
 
-use crate::tree::{CharSet, Tree};
+use crate::tree::CharSet;
 use std::alloc::{AllocError, Global};
 
 // How often a term is repeated.
@@ -56,90 +57,42 @@ impl Outline {
         Ok(Outline::Repeated(quantifier, Box::new(alloc, self)?))
     }
 
-    // The tree, with a copy of each term for each time that it is repeated. None is made but those that stay in the tree.
-    #[cycle(tree)]
-    pub(crate) fn tree(&self, alloc: Global) -> Result<Tree, AllocError>
-        ensures { IfOk result (λ t. pattern_of t ≡ outlined self.now) }
+    /// Its class, where it is one character of a class.
+    pub(crate) fn class(&self) -> Option<(bool, &[CharSet])>
+        ensures { MatchOption result (is_class (outlined self.now) ≡ false)
+            (λ class. outlined self.now ≡ spec_class false class.0 class.1.now) }
     {
         match self {
-            Outline::Empty => Ok(Tree::Empty),
-            Outline::Class { negated, sets } => Ok(Tree::Class {
-                negated: *negated,
-                sets: Vec::from_slice(alloc, sets)?,
-            }),
-            Outline::Start => Ok(Tree::Start),
-            Outline::End => Ok(Tree::End),
-            Outline::Boundary => Ok(Tree::Boundary),
-            Outline::NoBoundary => Ok(Tree::NoBoundary),
-            Outline::Then(first, second) => then(alloc, first.tree(alloc)?, second.tree(alloc)?),
-            Outline::Or(one, other) => or(alloc, one.tree(alloc)?, other.tree(alloc)?),
-            Outline::Repeated(quantifier, body) => body.copies(alloc, *quantifier),
+            Outline::Class { negated, sets } => Some((*negated, sets.as_slice())),
+            Outline::Empty
+            | Outline::Start
+            | Outline::End
+            | Outline::Boundary
+            | Outline::NoBoundary
+            | Outline::Then(..)
+            | Outline::Or(..)
+            | Outline::Repeated(..) => None,
         }
     }
 
-    // The tree of it, so often.
-    #[cycle(tree)]
-    fn copies(&self, alloc: Global, quantifier: Quantifier) -> Result<Tree, AllocError>
-        ensures { IfOk result (λ t. pattern_of t
-            ≡ quantified_pattern (quantifier_of quantifier) (outlined self.now)) }
+    /// Whether it is nothing.
+    #[tactic(auto, using(crate::proofs::Shapes::shapes))]
+    pub(crate) fn is_nothing(&self) -> bool
+        ensures { result ≡ is_empty (outlined self.now) }
     {
-        match quantifier {
-            Quantifier::ZeroOrMore => Ok(Tree::Star(Box::new(alloc, self.tree(alloc)?)?)),
-            Quantifier::OneOrMore => Ok(Tree::Plus(Box::new(alloc, self.tree(alloc)?)?)),
-            Quantifier::ZeroOrOne => or(alloc, Tree::Empty, self.tree(alloc)?),
-            Quantifier::Exactly(count) => self.each_time(alloc, count),
-            Quantifier::AtLeast(count) => {
-                let first = self.each_time(alloc, count)?;
-                let rest = Tree::Star(Box::new(alloc, self.tree(alloc)?)?);
-                then(alloc, first, rest)
-            }
-            Quantifier::FromTo(least, most) => {
-                let first = self.each_time(alloc, least)?;
-                let rest = self.at_most(alloc, most.saturating_sub(least))?;
-                then(alloc, first, rest)
-            }
+        match self {
+            Outline::Empty => true,
+            Outline::Repeated(quantifier, _) => match quantifier {
+                Quantifier::Exactly(count) => *count == 0,
+                _ => false,
+            },
+            Outline::Class { .. }
+            | Outline::Start
+            | Outline::End
+            | Outline::Boundary
+            | Outline::NoBoundary
+            | Outline::Then(..)
+            | Outline::Or(..) => false,
         }
     }
-
-    // So many copies, one behind the other.
-    #[cycle(tree)]
-    fn each_time(&self, alloc: Global, count: u32) -> Result<Tree, AllocError>
-        ensures { IfOk result (λ t. pattern_of t ≡ spec_repeated count (outlined self.now)) }
-    {
-        let mut tree = Tree::Empty;
-        let mut done = 0;
-        'copies: while done < count {
-            let copy = self.tree(alloc)?;
-            tree = then(alloc, copy, tree)?;
-            done += 1;
-        }
-        Ok(tree)
-    }
-
-    // The same, where each may be missing.
-    #[cycle(tree)]
-    fn at_most(&self, alloc: Global, count: u32) -> Result<Tree, AllocError>
-        ensures { IfOk result (λ t. pattern_of t ≡ spec_repeated count (alt empty (outlined self.now))) }
-    {
-        let mut tree = Tree::Empty;
-        let mut done = 0;
-        'options: while done < count {
-            let copy = or(alloc, Tree::Empty, self.tree(alloc)?)?;
-            tree = then(alloc, copy, tree)?;
-            done += 1;
-        }
-        Ok(tree)
-    }
-}
-
-fn then(alloc: Global, first: Tree, second: Tree) -> Result<Tree, AllocError>
-    ensures { IfOk result (λ t. pattern_of t ≡ cat (pattern_of first) (pattern_of second)) }
-{
-    Ok(Tree::Then(Box::new(alloc, first)?, Box::new(alloc, second)?))
-}
-
-fn or(alloc: Global, one: Tree, other: Tree) -> Result<Tree, AllocError>
-    ensures { IfOk result (λ t. pattern_of t ≡ alt (pattern_of one) (pattern_of other)) }
-{
-    Ok(Tree::Or(Box::new(alloc, one)?, Box::new(alloc, other)?))
 }

@@ -21,7 +21,9 @@ pub enum Property {
 }
 
 impl Property {
-    /// Whether the character has it.
+    /// Whether the character has it. Inlined, its look at Unicode's tables would be begun for each set of characters,
+    /// ranges too.
+    #[inline(never)]
     pub(crate) fn is_of(self, c: char) -> bool
         ensures { result ≡ has_property self c }
     {

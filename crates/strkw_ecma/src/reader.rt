@@ -3,7 +3,8 @@
 ghost use Rattle.std.specs.Prelude.{◌≡◌, false, IfOk, is_some, option_map, nat_lt, length, ◌==◌};
 ghost use Rattle.std.specs.Str.{chars, byte};
 ghost use Rattle.strkw_ecma.specs.Patterns.{pattern, one_char as spec_one_char};
-ghost use Rattle.strkw_ecma.specs.Shape.{outlined, pattern_of, quantifier_of};
+ghost use Rattle.strkw_ecma.specs.Shape.{outlined, quantifier_of};
+ghost use Rattle.strkw_ecma.specs.Machine.{pattern_of};
 ghost use Rattle.strkw_ecma.specs.Syntax.{token as spec_token};
 ghost use Rattle.strkw_ecma.specs.Names.{extension as spec_extension};
 ghost use Rattle.strkw_ecma.specs.Escapes.{escape as spec_escape};
@@ -23,11 +24,11 @@ use crate::counts::Count;
 use crate::lookahead::is_apart;
 use crate::names::are_distinct;
 use crate::outline::{Outline, Quantifier};
+use crate::program::Program;
 use crate::properties::PropertyPart;
 use crate::sets::{control_char, dot, one_char, set};
 use crate::size::if_small;
 use crate::tokens::{Escape, Extension, Token};
-use crate::tree::Tree;
 pub(crate) use refusing::refusal_of;
 use std::alloc::{AllocError, Global};
 
@@ -36,7 +37,8 @@ pub(crate) const MAX_NESTING: usize = 250;
 
 pub(crate) const MAX_LENGTH: u64 = 2000;
 
-// The last term, where more may follow it: an atom, where a quantifier may, or one with its quantifier, where a `?` may.
+// The last term, where more may follow it: an atom, where a quantifier may, or one with its quantifier, where a `?`
+// may.
 #[derive(Drop)]
 enum Last {
     None,
@@ -58,9 +60,9 @@ struct Outer {
     names: Vec<Vec<char>>,
 }
 
-// What has just been read: a whole atom or term; a backslash; `(`; `(?`; a part of a count, of an escape by a number, of a
-// property; `[`; a part of a class, and there a backslash, and a part of such an escape or property; a part of a name, and
-// there a backslash and a part of an escape.
+// What has just been read: a whole atom or term; a backslash; `(`; `(?`; a part of a count, of an escape by a number,
+// of a property; `[`; a part of a class, and there a backslash, and a part of such an escape or property; a part of a
+// name, and there a backslash and a part of an escape.
 #[derive(Drop)]
 enum Mode {
     Between,
@@ -108,7 +110,8 @@ fn ended(alloc: Global, current: Outline, last: Last) -> Result<Outline, AllocEr
 }
 
 fn joined(alloc: Global, earlier: Option<Outline>, current: Outline) -> Result<Outline, AllocError>
-    ensures { IfOk result (λ t. outlined t ≡ spec_joined (option_map outlined earlier) (outlined current)) }
+    ensures { IfOk result (λ t. outlined t
+        ≡ spec_joined (option_map outlined earlier) (outlined current)) }
 {
     match earlier {
         None => Ok(current),
@@ -230,7 +233,8 @@ impl Reader {
 
     // Behind a quantifier it makes that one lazy, which changes no answer.
     fn questioned(self, alloc: Global) -> Result<Option<Reader>, AllocError>
-        ensures { IfOk result (λ r. option_map parts_of r ≡ after_question (parts_of self) (last_of self.last)) }
+        ensures { IfOk result (λ r. option_map parts_of r
+            ≡ after_question (parts_of self) (last_of self.last)) }
     {
         let Reader {
             outer,
@@ -291,7 +295,8 @@ impl Reader {
 
     fn closed(self, alloc: Global) -> Result<Option<Reader>, AllocError>
         ensures { IfOk result (λ r. option_map parts_of r
-            ≡ after_closing (parts_of self).outer (level_ended (side_of self.level) (last_of self.last))) }
+            ≡ after_closing (parts_of self).outer (level_ended (side_of self.level)
+            (last_of self.last))) }
     {
         let Reader {
             outer,
@@ -315,7 +320,8 @@ impl Reader {
     }
 
     fn escaped(self, alloc: Global, c: char) -> Result<Option<Reader>, AllocError>
-        ensures { IfOk result (λ r. option_map parts_of r ≡ after_escape (parts_of self) c (spec_escape c)) }
+        ensures { IfOk result (λ r. option_map parts_of r
+            ≡ after_escape (parts_of self) c (spec_escape c)) }
     {
         match Escape::of(c) {
             Escape::Boundary => Ok(Some(self.with_term(alloc, Outline::Boundary)?)),
@@ -360,7 +366,8 @@ impl Reader {
     }
 
     fn plain(self, alloc: Global, c: char) -> Result<Option<Reader>, AllocError>
-        ensures { IfOk result (λ r. option_map parts_of r ≡ after_token (parts_of self) c (spec_token c)) }
+        ensures { IfOk result (λ r. option_map parts_of r
+            ≡ after_token (parts_of self) c (spec_token c)) }
     {
         let atom = match Token::of(c) {
             Token::Bar => return Ok(Some(self.with_alternative(alloc)?)),
@@ -383,7 +390,8 @@ impl Reader {
 
     // Behind `(`.
     fn in_group(self, alloc: Global, c: char) -> Result<Option<Reader>, AllocError>
-        ensures { IfOk result (λ r. option_map parts_of r ≡ after_group (parts_of self) c (c == byte "?")) }
+        ensures { IfOk result (λ r. option_map parts_of r
+            ≡ after_group (parts_of self) c (c == byte "?")) }
     {
         if c == '?' {
             return Ok(Some(self.with_mode(Mode::Extending)));
@@ -396,7 +404,8 @@ impl Reader {
 
     // Behind `(?`.
     fn extended(self, alloc: Global, c: char) -> Result<Option<Reader>, AllocError>
-        ensures { IfOk result (λ r. option_map parts_of r ≡ after_extension (parts_of self) (spec_extension c)) }
+        ensures { IfOk result (λ r. option_map parts_of r
+            ≡ after_extension (parts_of self) (spec_extension c)) }
     {
         match Extension::of(c) {
             Extension::Uncaptured => self.opened(alloc),
@@ -443,7 +452,8 @@ impl Reader {
 
     // Whether the pattern may end: no group is open, nothing is under way, and no name is there twice.
     fn may_end(&self) -> bool
-        ensures { let s = parts_of self.now in result ≡ is_some (at_close s.outer s.level s.last (is_between s.mode)) }
+        ensures { let s = parts_of self.now in result
+            ≡ is_some (at_close s.outer s.level s.last (is_between s.mode)) }
     {
         self.outer.groups.is_empty() && self.mode.is_between() && are_distinct(&self.outer.names)
     }
@@ -451,7 +461,8 @@ impl Reader {
     // The tree, where the pattern may end.
     fn end(self, alloc: Global) -> Result<Option<Outline>, AllocError>
         ensures { let s = parts_of self in
-            IfOk result (λ t. option_map outlined t ≡ at_close s.outer s.level s.last (is_between s.mode)) }
+            IfOk result (λ t. option_map outlined t
+            ≡ at_close s.outer s.level s.last (is_between s.mode)) }
     {
         if !self.may_end() {
             return Ok(None);
@@ -463,10 +474,12 @@ impl Reader {
     }
 }
 
-// The outline of a pattern, and `None` where the text is none. No term is copied, so it is known here what is too large.
+// The outline of a pattern, and `None` where the text is none. No term is copied, so it is known here what is too
+// large.
 #[tactic(auto, using(crate::proofs::Parts::read_whole, crate::proofs::Parts::not_apart))]
 pub(crate) fn outline_of(alloc: Global, source: &str) -> Result<Option<Outline>, AllocError>
-    ensures { IfOk result (λ t. option_map outlined t ≡ option_map pattern (read_pattern (chars source.now))) }
+    ensures { IfOk result (λ t. option_map outlined t
+        ≡ option_map pattern (read_pattern (chars source.now))) }
 {
     if !is_apart(source) {
         return Ok(None);
@@ -474,18 +487,20 @@ pub(crate) fn outline_of(alloc: Global, source: &str) -> Result<Option<Outline>,
     Ok(if_small(read_short(alloc, source)?))
 }
 
-// The tree of a pattern.
-pub(crate) fn read(alloc: Global, source: &str) -> Result<Option<Tree>, AllocError>
-    ensures { IfOk result (λ t. option_map pattern_of t ≡ option_map pattern (read_pattern (chars source.now))) }
+// The program of a pattern.
+pub(crate) fn read(alloc: Global, source: &str) -> Result<Option<Program>, AllocError>
+    ensures { IfOk result (λ t. option_map pattern_of t
+        ≡ option_map pattern (read_pattern (chars source.now))) }
 {
     match outline_of(alloc, source)? {
-        Some(outline) => Ok(Some(outline.tree(alloc)?)),
+        Some(outline) => Ok(Some(Program::of(alloc, outline)?)),
         None => Ok(None),
     }
 }
 
 fn read_short(alloc: Global, source: &str) -> Result<Option<Outline>, AllocError>
-    ensures { IfOk result (λ t. option_map outlined t ≡ option_map pattern (spec_read_short (chars source.now))) }
+    ensures { IfOk result (λ t. option_map outlined t
+        ≡ option_map pattern (spec_read_short (chars source.now))) }
 {
     let mut reader = Reader::new(alloc);
     let mut count = 0;

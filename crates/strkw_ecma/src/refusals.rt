@@ -30,9 +30,9 @@ pub enum PatternRefusal {
     TooDeep,
     /// A count is above 1,000.
     CountTooGreat,
-    /// A counted term takes more than 2,000 steps for one character.
+    /// A counted term takes more than 2,000 steps.
     TermTooLarge,
-    /// The pattern as a whole takes more than 5,200 steps for one character.
+    /// The pattern as a whole takes more than 2,600 steps.
     TooLarge,
     /// Something else: it is no pattern of ECMA-262 in Unicode mode, or of a part of it that is not taken here.
     NotTaken,
@@ -75,9 +75,9 @@ fn is_short(pattern: &str) -> bool
     char_count(pattern) as u64 <= MAX_LENGTH
 }
 
-/// Why `EcmaPatterns` does not take a pattern, and `None` exactly where it takes it. Where more than one reason could be
-/// told, it is the length, and else what stands first in the pattern. `IsReason` of `specs/Refusals.antt` says what each
-/// reason means over the text. The only error is out of memory. A pattern that is not taken is read twice.
+/// Why `EcmaPatterns` does not take a pattern, and `None` exactly where it takes it. Where more than one reason could
+/// be told, it is the length, and else what stands first in the pattern. `IsReason` of `specs/Refusals.antt` says
+/// what each reason means over the text. The only error is out of memory. A pattern that is not taken is read twice.
 pub fn why_refused(alloc: Global, pattern: &str) -> Result<Option<PatternRefusal>, AllocError>
     ensures taken { IfOk result (λ why. is_none why ≡ takes_pattern (chars pattern.now)) }
     ensures too_long { IfOk result (λ why.

@@ -4,8 +4,8 @@ ghost use Rattle.std.specs.Prelude.{◌<◌};
 
 use crate::table::{FOUND, NEXT_ROW};
 
-/// How many rows one behind another, each of which leads on to the next, are worth telling the processor of. In fewer it
-/// would gain less than it loses where it guesses wrong.
+/// How many rows one behind another, each of which leads on to the next, are worth telling the processor of. In fewer
+/// it would gain less than it loses where it guesses wrong.
 const LEAST_RUN: usize = 4;
 
 // Whether the row of a state leads to the row behind it, and elsewhere to rows before it alone.

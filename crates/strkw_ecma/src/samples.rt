@@ -1,17 +1,22 @@
-//! The columns that a table is made with: for each a character that stands for all of it. That a character has a column is not
-//! proved: a text with one that has none is searched by marks.
+//! The columns that a table is made with: for each a character that stands for all of it. That a character has a
+//! column is not proved: a text with one that has none is searched by marks.
 
 ghost use Rattle.std.specs.Prelude.{◌≤◌, length};
 
 use crate::columns::{MOST_CLASSES, MOST_COLUMNS, answers, place_of, tells_sets};
+use crate::program::Program;
 use crate::properties::Property;
 use crate::sets::WORD_CHARACTERS;
-use crate::tree::{CharSet, Tree};
+use crate::tree::CharSet;
 use std::alloc::{AllocError, Global};
 use ucd_category::GeneralCategory;
 use ucd_script::Script;
 
-/// How many sets the classes of a table may have together. Each is asked about each character that may stand for a column.
+// A run of Unicode's tables is where it begins, times this, and the number of its value.
+const PLACES_OF_VALUES: u32 = 2048;
+
+/// How many sets the classes of a table may have together. Each is asked about each character that may stand for a
+/// column.
 const MOST_SETS: usize = 512;
 
 /// The classes of a pattern, and for each of the answers that they give about a character one such character.
@@ -48,22 +53,15 @@ fn add_class(
 }
 
 // The classes of a pattern, and where it asks for word characters, that of these; up to one more than may be.
-#[cycle(classes)]
-fn add_classes(
-    alloc: Global,
-    classes: &mut Vec<Vec<CharSet>>,
-    tree: &Tree,
-) -> Result<(), AllocError> {
-    match tree {
-        Tree::Empty | Tree::Start | Tree::End => Ok(()),
-        Tree::Boundary | Tree::NoBoundary => add_class(alloc, classes, &WORD_CHARACTERS),
-        Tree::Class { sets, .. } => add_class(alloc, classes, sets),
-        Tree::Then(one, other) | Tree::Or(one, other) => {
-            add_classes(alloc, classes, one)?;
-            add_classes(alloc, classes, other)
-        }
-        Tree::Star(body) | Tree::Plus(body) => add_classes(alloc, classes, body),
+fn classes_of(alloc: Global, program: &Program) -> Result<Vec<Vec<CharSet>>, AllocError> {
+    let mut classes = Vec::new(alloc);
+    for class in &program.code.classes {
+        add_class(alloc, &mut classes, &class.sets)?;
     }
+    if program.has_boundary {
+        add_class(alloc, &mut classes, &WORD_CHARACTERS)?;
+    }
+    Ok(classes)
 }
 
 fn set_count(classes: &[Vec<CharSet>]) -> usize {
@@ -77,7 +75,7 @@ fn set_count(classes: &[Vec<CharSet>]) -> usize {
 // Where the values of a property change.
 fn add_runs(borders: &mut Vec<char>, runs: &[u32]) -> Result<(), AllocError> {
     for run in runs {
-        if let Some(c) = char::from_u32(*run / 2048) {
+        if let Some(c) = char::from_u32(*run / PLACES_OF_VALUES) {
             borders.push(c)?;
         }
     }
@@ -113,9 +111,8 @@ fn borders_of(alloc: Global, classes: &[Vec<CharSet>]) -> Result<Vec<char>, Allo
 }
 
 /// The classes of a pattern and a character for each of their answers, where they are few enough.
-pub(crate) fn sampled_of(alloc: Global, tree: &Tree) -> Result<Option<Sampled>, AllocError> {
-    let mut classes = Vec::new(alloc);
-    add_classes(alloc, &mut classes, tree)?;
+pub(crate) fn sampled_of(alloc: Global, program: &Program) -> Result<Option<Sampled>, AllocError> {
+    let classes = classes_of(alloc, program)?;
     if classes.len() > MOST_CLASSES || set_count(&classes) > MOST_SETS {
         return Ok(None);
     }

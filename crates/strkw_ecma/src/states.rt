@@ -2,21 +2,21 @@
 
 ghost use Rattle.std.specs.Prelude.{◌≡◌, ◌^◌, ◌==◌, ◌≤◌, ◌<◌};
 ghost use Rattle.std.specs.Prelude.{ℕ, suc, List, length, true, false, IsTrue, IfOk, None, Some, get_or, slice_get};
-ghost use Rattle.strkw_ecma.specs.Size.{max_steps};
 ghost use Rattle.strkw_ecma.specs.Marks.{classes as spec_classes};
 ghost use Rattle.strkw_ecma.specs.Meaning.{is_word as spec_is_word, is_edge as spec_is_edge};
-ghost use Rattle.strkw_ecma.specs.Shape.{pattern_of};
+ghost use Rattle.strkw_ecma.specs.Machine.{pattern_of};
 ghost use Rattle.strkw_ecma.specs.Columns.{has_boundary as spec_has_boundary, answers as spec_answers};
 ghost use Rattle.strkw_ecma.specs.Table.{row_after as spec_row_after, found, IsRowOf, IsBehind, IsEntry, IsRow, IsTable};
 
 use crate::columns::{MOST_CLASSES, MOST_COLUMNS, answers, tells};
-use crate::marks::{are_same_marks, are_unmarked, class_count, is_word, leaves_tree, step_tree};
+use crate::marks::{are_same_marks, are_unmarked, is_word};
+use crate::program::{Program, Room};
 use crate::table::{FOUND, NEXT_ROW, entry_at};
-use crate::tree::{CharSet, Tree};
+use crate::tree::CharSet;
 use std::alloc::{AllocError, Global};
 
-/// A state of the search between two characters: the marks, and a character that may stand for the last. States of the same
-/// marks have the same `digest`.
+/// A state of the search between two characters: the marks, and a character that may stand for the last. States of
+/// the same marks have the same `digest`.
 #[derive(Drop)]
 pub(crate) struct State {
     pub(crate) marks: Vec<bool>,
@@ -32,32 +32,17 @@ pub(crate) struct Draft {
     pub(crate) entries: Vec<u16>,
 }
 
-// Whether `\b` or `\B` stands in the pattern.
-#[cycle(has_boundary)]
-fn has_boundary(tree: &Tree) -> bool
-    ensures { result ≡ spec_has_boundary (pattern_of tree.now) }
-{
-    match tree {
-        Tree::Boundary | Tree::NoBoundary => true,
-        Tree::Empty | Tree::Start | Tree::End | Tree::Class { .. } => false,
-        Tree::Then(one, other) | Tree::Or(one, other) => {
-            has_boundary(one) || has_boundary(other)
-        }
-        Tree::Star(body) | Tree::Plus(body) => has_boundary(body),
-    }
-}
-
 impl State {
-    // Whether it is that of these marks behind a character. The pattern tells word characters from others only where it has
-    // `\b` or `\B`.
-    pub(crate) fn is_that_of(&self, tree: &Tree, marks: &[bool], last: char) -> bool
+    // Whether it is that of these marks behind a character. The pattern tells word characters from others only where
+    // it has `\b` or `\B`.
+    pub(crate) fn is_that_of(&self, program: &Program, marks: &[bool], last: char) -> bool
         ensures marks { IsTrue result → self.now.marks.items ≡ marks.now }
-        ensures word { IsTrue result → spec_has_boundary (pattern_of tree.now) ≡ true
+        ensures word { IsTrue result → spec_has_boundary (pattern_of program.now) ≡ true
             → spec_is_word self.now.last ≡ spec_is_word (Some last) }
         ensures edge { IsTrue result → spec_is_edge self.now.last ≡ false }
     {
         self.last.is_some()
-            && (is_word(self.last) == is_word(Some(last)) || !has_boundary(tree))
+            && (is_word(self.last) == is_word(Some(last)) || !program.has_boundary)
             && are_same_marks(&self.marks, marks)
     }
 
@@ -70,8 +55,8 @@ impl State {
     }
 }
 
-/// Makes some marks those of a state, as far as there are so many. Nothing is proved of it: who needs that they are the same
-/// compares them.
+/// Makes some marks those of a state, as far as there are so many. Nothing is proved of it: who needs that they are
+/// the same compares them.
 pub(crate) fn set_marks(marks: &mut [bool], state: &State)
     ensures { length marks.new ≡ length marks.old }
 {
@@ -94,9 +79,9 @@ fn row_after(end: usize, row: usize, entry: usize) -> usize
 
 impl Draft {
     // Whether the row is that of these marks behind a character.
-    fn is_behind(&self, tree: &Tree, row: usize, marks: &[bool], c: char) -> bool
+    fn is_behind(&self, program: &Program, row: usize, marks: &[bool], c: char) -> bool
         ensures { IsTrue result
-            → IsBehind (pattern_of tree.now) (length self.now.samples.items)
+            → IsBehind (pattern_of program.now) (length self.now.samples.items)
             self.now.states.items row marks.now c }
     {
         let stride = self.samples.len() + 1;
@@ -104,15 +89,16 @@ impl Draft {
             return false;
         }
         match self.states.get(row / stride) {
-            Some(state) => state.is_that_of(tree, marks, c),
+            Some(state) => state.is_that_of(program, marks, c),
             None => false,
         }
     }
 
-    // Whether an entry of a row says that the pattern is found, or else leads to the row of these marks behind a character.
+    // Whether an entry of a row says that the pattern is found, or else leads to the row of these marks behind a
+    // character.
     fn leads_to(
         &self,
-        tree: &Tree,
+        program: &Program,
         row: usize,
         entry: usize,
         is_found: bool,
@@ -123,63 +109,74 @@ impl Draft {
         requires row { row < 2 ^ 32 }
         ensures finds { IsTrue result → (entry == found) ≡ is_found }
         ensures state { IsTrue result → is_found ≡ false
-            → IsBehind (pattern_of tree.now) (length self.now.samples.items) self.now.states.items
+            → IsBehind (pattern_of program.now)
+            (length self.now.samples.items) self.now.states.items
             (spec_row_after (length self.now.samples.items) row entry) marks.now c }
     {
         if is_found {
             return entry == FOUND;
         }
         let next = row_after(self.samples.len(), row, entry);
-        entry != FOUND && self.is_behind(tree, next, marks, c)
+        entry != FOUND && self.is_behind(program, next, marks, c)
     }
 
     // Whether an entry of a row is right for a state and the next character. The marks at hand are stepped.
     fn is_entry(
         &self,
-        tree: &Tree,
+        program: &Program,
+        room: &mut Room,
         at_hand: &mut [bool],
         state: &State,
         row: usize,
         c: char,
         entry: usize,
     ) -> bool
-        requires fits { spec_classes (pattern_of tree.now) ≤ length at_hand.old }
+        requires fits { spec_classes (pattern_of program.now) ≤ length at_hand.old }
         requires few { length self.now.samples.items < 256 }
         requires row { row < 2 ^ 32 }
         ensures length { length at_hand.new ≡ length at_hand.old }
         ensures right { IsTrue result
-            → IsEntry (pattern_of tree.now) (length self.now.samples.items)
+            → IsEntry (pattern_of program.now) (length self.now.samples.items)
             self.now.states.items state.now row c entry }
     {
         set_marks(at_hand, state);
         if !are_same_marks(&state.marks, at_hand) {
             return false;
         }
-        let is_found = step_tree(tree, at_hand, 0, state.last, Some(c), true).leaves;
-        self.leads_to(tree, row, entry, is_found, at_hand, c)
+        let is_found = program.step(room, at_hand, state.last, Some(c));
+        self.leads_to(program, row, entry, is_found, at_hand, c)
     }
 
     // Whether a row is right for a state.
-    fn is_row(&self, tree: &Tree, at_hand: &mut [bool], state: &State, row: usize) -> bool
-        requires fits { spec_classes (pattern_of tree.now) ≤ length at_hand.old }
+    fn is_row(
+        &self,
+        program: &Program,
+        room: &mut Room,
+        at_hand: &mut [bool],
+        state: &State,
+        row: usize,
+    ) -> bool
+        requires fits { spec_classes (pattern_of program.now) ≤ length at_hand.old }
         requires few { length self.now.samples.items < 256 }
         requires row { row < 2 ^ 32 }
         ensures length { length at_hand.new ≡ length at_hand.old }
         ensures right { IsTrue result
-            → IsRow (pattern_of tree.now) self.now.samples.items self.now.entries.items
+            → IsRow (pattern_of program.now) self.now.samples.items self.now.entries.items
             self.now.states.items state.now row }
     {
-        if state.marks.len() != at_hand.len() {
+        set_marks(at_hand, state);
+        if !are_same_marks(&state.marks, at_hand) {
             return false;
         }
-        let ends = leaves_tree(tree, &state.marks, 0, state.last, None, true).leaves;
+        let ends = program.step(room, at_hand, state.last, None);
         let entries = self.entries.as_slice();
         if (entry_at(entries, row, self.samples.len()) == FOUND) != ends {
             return false;
         }
         for (k, sample) in self.samples.as_slice().iter().enumerate() {
             if !self.is_entry(
-                tree,
+                program,
+                room,
                 at_hand,
                 state,
                 row,
@@ -193,18 +190,18 @@ impl Draft {
     }
 
     // Whether each row is right for its state.
-    fn are_rows(&self, tree: &Tree, at_hand: &mut [bool]) -> bool
-        requires fits { spec_classes (pattern_of tree.now) ≤ length at_hand.old }
+    fn are_rows(&self, program: &Program, room: &mut Room, at_hand: &mut [bool]) -> bool
+        requires fits { spec_classes (pattern_of program.now) ≤ length at_hand.old }
         requires rows { length self.now.states.items ≤ 65535 }
         requires few { length self.now.samples.items < 256 }
         ensures { IsTrue result → (row : ℕ) (s : State)
             → IsRowOf (length self.now.samples.items) self.now.states.items row s
-            → IsRow (pattern_of tree.now) self.now.samples.items self.now.entries.items
+            → IsRow (pattern_of program.now) self.now.samples.items self.now.entries.items
             self.now.states.items s row }
     {
         let stride = self.samples.len() + 1;
         for (number, state) in self.states.as_slice().iter().enumerate() {
-            if !self.is_row(tree, at_hand, state, number * stride) {
+            if !self.is_row(program, room, at_hand, state, number * stride) {
                 return false;
             }
         }
@@ -247,20 +244,20 @@ impl Draft {
         alloc: Global,
         classes: &[Vec<CharSet>],
         keys: &[u64],
-        tree: &Tree,
+        program: &Program,
     ) -> Result<bool, AllocError>
-        requires { spec_classes (pattern_of tree.now) ≤ max_steps }
         ensures { IfOk result (λ right. IsTrue right
             → IsTable classes.now keys.now self.now.samples.items self.now.entries.items
-            self.now.states.items (pattern_of tree.now)) }
+            self.now.states.items (pattern_of program.now)) }
     {
         if classes.len() > MOST_CLASSES || keys.len() > MOST_COLUMNS || self.states.len() > 65535 {
             return Ok(false);
         }
-        if !tells(classes, tree) || !self.are_keys(classes, keys) || !self.begins() {
+        if !tells(classes, program) || !self.are_keys(classes, keys) || !self.begins() {
             return Ok(false);
         }
-        let mut at_hand = vec![in alloc; false; class_count(tree)]?;
-        Ok(self.are_rows(tree, &mut at_hand))
+        let mut room = Room::new();
+        let mut at_hand = vec![in alloc; false; program.marks]?;
+        Ok(self.are_rows(program, &mut room, &mut at_hand))
     }
 }

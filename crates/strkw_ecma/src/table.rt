@@ -10,8 +10,8 @@ use crate::columns::Columns;
 /// The entry that says that the pattern is found.
 pub(crate) const FOUND: usize = 0xFFFF;
 
-/// The entry that leads to the row behind its own. Another is the place of a row, and the processor looks up the next entry
-/// once it has this one; where it guesses that this one leads to the row behind, it need not wait.
+/// The entry that leads to the row behind its own. Another is the place of a row, and the processor looks up the next
+/// entry once it has this one; where it guesses that this one leads to the row behind, it need not wait.
 pub(crate) const NEXT_ROW: usize = 0xFFFE;
 
 /// The table of a pattern. `table_of` makes it.
@@ -35,7 +35,9 @@ pub(crate) fn entry_at(entries: &[u16], row: usize, column: usize) -> usize
 }
 
 impl Table {
-    /// Whether the pattern is found in the text; none where a character of it has no column.
+    /// Whether the pattern is found in the text; none where a character of it has no column. Inlined, its loop would lie
+    /// across a border of 32 bytes in some callers, where each turn takes twice as long.
+    #[inline(never)]
     pub(crate) fn is_found(&self, text: &str) -> Option<bool>
         ensures { result
             ≡ walk (column_of self.now.columns.classes.items self.now.columns.keys.items)
@@ -49,16 +51,20 @@ impl Table {
             let Some(column) = columns.get(usize::from(*byte)) else {
                 return self.is_found_from(row, &text[place..]);
             };
-            match entry_at(entries, row, usize::from(*column)) {
-                NEXT_ROW => row += end + 1,
-                FOUND => return Some(true),
-                place => row = place,
+            let entry = entry_at(entries, row, usize::from(*column));
+            if entry < NEXT_ROW {
+                row = entry;
+            } else if entry == NEXT_ROW {
+                row += end + 1;
+            } else {
+                return Some(true);
             }
         }
         Some(entry_at(entries, row, end) == FOUND)
     }
 
     // The same for what is left of a text, from a row on.
+    #[inline(never)]
     fn is_found_from(&self, row: usize, rest: &str) -> Option<bool>
         requires { row ≤ length self.now.entries.items + 2 ^ 16 }
         ensures { result

@@ -1,29 +1,27 @@
 use Rattle.std.proofs.Common.{◌≡◌, Option, Some, MatchOption, option_map, ap, sym, subst, ◌∙◌}
 use Rattle.std.specs.Str.{chars}
-use Rattle.strkw_ecma.specs.Shape.{pattern_of}
+use Rattle.strkw_ecma.specs.Machine.{pattern_of}
 use Rattle.strkw_ecma.specs.Patterns.{pattern}
 use Rattle.strkw_ecma.specs.Reading.{read_pattern}
 use Rattle.strkw_ecma.specs.Searches.{IsSearchedBy}
 use Rattle.strkw_ecma.specs.declared.table.Table.{Table}
-use Rattle.strkw_ecma.proofs.Exact.{clean_of, few_of}
+use Rattle.strkw_ecma.proofs.Exact.{clean_of}
 use Rattle.strkw_ecma.proofs.engine.EcmaPatternsEngineBuilder.build.Goals as goal
 
 pub invariant_of-result : goal.invariant_of-result
 invariant_of-result c =
-    let read : Some (pattern_of c.in-Ok-Some.tree) ≡ option_map pattern (read_pattern (chars c.args.pattern.now)) =
+    let read : Some (pattern_of c.in-Ok-Some.program) ≡ option_map pattern (read_pattern (chars c.args.pattern.now)) =
     ap (option_map pattern_of) (sym c.in-Ok-Some.field-0-is) ∙ c.in-Ok-Some.ensures in
-    let Right : Option Table → Type 0 = λ o. MatchOption o Unit (λ t. IsSearchedBy t (pattern_of c.in-Ok-Some.tree)) in
+    let Right : Option Table → Type 0 = λ o. MatchOption o Unit (λ t. IsSearchedBy t (pattern_of c.in-Ok-Some.program)) in
     record {
-      few = few_of (pattern_of c.in-Ok-Some.tree) (chars c.args.pattern.now) read;
-      clean = clean_of (pattern_of c.in-Ok-Some.tree) (read_pattern (chars c.args.pattern.now)) read;
+      clean = clean_of (pattern_of c.in-Ok-Some.program) (read_pattern (chars c.args.pattern.now)) read;
       exact = λ t is. subst Right is c.in-Ok.ensures;
     }
 
 pub table_of-requires : goal.table_of-requires
 table_of-requires c =
-    let read : Some (pattern_of c.in-Ok-Some.tree) ≡ option_map pattern (read_pattern (chars c.args.pattern.now)) =
+    let read : Some (pattern_of c.in-Ok-Some.program) ≡ option_map pattern (read_pattern (chars c.args.pattern.now)) =
     ap (option_map pattern_of) (sym c.in-Ok-Some.field-0-is) ∙ c.in-Ok-Some.ensures in
     record {
-      clean = clean_of (pattern_of c.in-Ok-Some.tree) (read_pattern (chars c.args.pattern.now)) read;
-      few = few_of (pattern_of c.in-Ok-Some.tree) (chars c.args.pattern.now) read;
+      clean = clean_of (pattern_of c.in-Ok-Some.program) (read_pattern (chars c.args.pattern.now)) read;
     }

@@ -1,5 +1,5 @@
 use Rattle.std.proofs.Common.{◌≡◌, ℕ, length, subst}
-use Rattle.strkw_ecma.specs.Shape.{pattern_of}
+use Rattle.strkw_ecma.specs.Machine.{pattern_of}
 use Rattle.strkw_ecma.specs.Table.{row_after, IsBehind}
 use Rattle.strkw_ecma.proofs.states.Draft.leads_to.Goals as goal
 
@@ -7,4 +7,4 @@ pub returns-then-entry-ne-FOUND-clause-state : goal.returns-then-entry-ne-FOUND-
 returns-then-entry-ne-FOUND-clause-state c h none =
     let draft = c.args.self.now in
     let next : c.row_after-next.result ≡ row_after (length draft.samples.items) c.args.row c.args.entry = cc in
-    subst (λ (r : ℕ). IsBehind (pattern_of c.args.tree.now) (length draft.samples.items) draft.states.items r c.args.marks.now c.args.c) next (c.is_behind.ensures h)
+    subst (λ (r : ℕ). IsBehind (pattern_of c.args.program.now) (length draft.samples.items) draft.states.items r c.args.marks.now c.args.c) next (c.is_behind.ensures h)

@@ -1,0 +1,39 @@
+-- What is repeated, and the programs of what is repeated and of alternatives.
+use Rattle.std.proofs.Common.{◌≡◌, ℕ, zero, suc, ◌-◌, true, false, List, [], ◌∷◌, ◌++◌, drop, Result, IfOk, refl, ap, ◌∙◌}
+use Rattle.std.proofs.lemmas.Result.{IfOk-weaker}
+use Rattle.std.specs.Vec.{vec_len}
+use Rattle.strkw_ecma.specs.Tree.{Pattern, empty, alt}
+use Rattle.strkw_ecma.specs.Patterns.{repeated}
+use Rattle.strkw_ecma.specs.Program.{Instruction, fork, other, join, is_empty, program, alternatives, copied}
+use Rattle.strkw_ecma.specs.Machine.{written, Writes}
+use Rattle.strkw_ecma.specs.declared.code.Code.{Code}
+use Rattle.strkw_ecma.proofs.Programs.{by_option}
+use Rattle.strkw_ecma.proofs.Written.{repeats_written}
+
+-- it stands among alternatives as it stands alone
+pub repeated_beside : (n : ℕ) (p : Pattern) → alternatives (repeated n p) ≡ program (repeated n p)
+repeated_beside zero p = refl
+repeated_beside (suc n) p = refl
+
+pub program_repeated : (n : ℕ) (p : Pattern) → program (repeated n p) ≡ copied n (program p)
+program_repeated zero p = refl
+program_repeated (suc n) p = ap (λ (is : List Instruction). program p ++ is) (program_repeated n p)
+
+-- what a call says that copies what was written first
+pub repeats_program : {A E : Type 0} (r : Result A E) (p : Pattern) (old mid new : Code) (from count : ℕ)
+    → from ≡ vec_len old.instructions → (count ≡ 0 → ⊥)
+    → Writes old mid (program p) → IfOk r (λ _. Writes mid new (copied (count - 1) (drop from (written mid))))
+    → IfOk r (λ _. Writes old new (program (repeated count p)))
+repeats_program r p old mid new from count begins some one more =
+    rw program_repeated
+    (IfOk-weaker r _ _ (λ _. repeats_written old mid new _ from count (begins ∙ old.instructions.ok.0) some one) more)
+
+-- alternatives of which the first is not nothing
+pub program_choice : (p q : Pattern) → is_empty p ≡ false
+    → program (alt p q) ≡ fork ∷ (alternatives p ++ (other ∷ (program q ++ (join ∷ []))))
+program_choice p q h =
+    by_option (λ (is : List Instruction). is ≡ fork ∷ (alternatives p ++ (other ∷ (program q ++ (join ∷ [])))))
+    p q _ _ (λ m n rs e f. absurd (not_both e)) refl
+  where
+    not_both : p ≡ empty → ⊥
+    not_both e = let nothing : is_empty p ≡ true = ap is_empty e in cc

@@ -1,0 +1,224 @@
+-- What the instructions of a program have of the pattern that they are written for.
+use Rattle.std.proofs.Common.{◌≡◌, ℕ, zero, suc, ◌+◌, ◌≤◌, ◌<◌, nat_lt, Bool, true, false, ◌||◌, List, [], ◌∷◌, ◌++◌, Vec, Global, length, Option, slice_get, refl, ap, subst, ◌∙◌, true≢false, arith}
+use Rattle.std.specs.List.{All, AllByRecursion}
+use Rattle.std.proofs.lemmas.Bool.{ltb-true}
+use Rattle.std.proofs.lemmas.Bool.Decides.{nat_tests}
+use Rattle.std.proofs.lemmas.List.Elements.{recursion_from_All}
+use Rattle.strkw_ecma.specs.declared.tree.CharSet.{CharSet}
+use Rattle.strkw_ecma.specs.declared.code.Class.{Class}
+use Rattle.strkw_ecma.specs.declared.code.Turn.{Turn as CodeTurn}
+use Rattle.strkw_ecma.specs.declared.code.Turn.TheVariants as turn
+use Rattle.strkw_ecma.specs.declared.code.Instruction.{Instruction as CodeInstruction}
+use Rattle.strkw_ecma.specs.declared.code.Instruction.TheVariants.{Read, Turn}
+use Rattle.strkw_ecma.specs.Tree.{Look, Pattern, empty, class, look, cat, alt, star, plus}
+use Rattle.strkw_ecma.specs.Marks.{classes}
+use Rattle.strkw_ecma.specs.Columns.{TellsSets, has_boundary, Tells}
+use Rattle.strkw_ecma.specs.Sets.{word_characters}
+use Rattle.strkw_ecma.specs.Program.{Instruction, read, assert, fork, other, join, star_begin, star_end, plus_begin, plus_end, program, alternatives, has_loop, read_count, asks_word, asks_boundary}
+use Rattle.strkw_ecma.specs.Size.{instruction_steps, steps_of, steps}
+use Rattle.strkw_ecma.specs.Walk.{asked, below}
+use Rattle.strkw_ecma.specs.Shape.{turned, reading, instructions, are_within}
+use Rattle.strkw_ecma.proofs.Steps.{and_left, and_right, or_left, or_right}
+use Rattle.strkw_ecma.proofs.Programs.{by_class, by_option}
+
+-- each instruction takes a step at least
+one_at_least : (i : Instruction) → 1 ≤ instruction_steps i
+one_at_least (read again optional n rs) = omega arith
+one_at_least _ = omega arith
+
+few_of : (is : List Instruction) → length is ≤ steps_of is
+few_of [] = omega arith
+few_of (i ∷ is) = omega (arith, one_at_least i, few_of is)
+
+pub few_instructions : (p : Pattern) → length (program p) ≤ steps p
+few_instructions p = few_of (program p)
+
+-- What is said of a pattern and of instructions, where it goes over from the parts to the whole.
+record GoesOver (R : Pattern → List Instruction → Type 0) : Type 0 where
+  of_empty : R empty []
+  of_class : (m n : Bool) (rs : List CharSet) → R (class m n rs) (read false false n rs ∷ [])
+  of_look : (l : Look) → R (look l) (assert l ∷ [])
+  of_cat : (p q : Pattern) (xs ys : List Instruction) → R p xs → R q ys → R (cat p q) (xs ++ ys)
+  of_option : (m n : Bool) (rs : List CharSet) → R (alt empty (class m n rs)) (read false true n rs ∷ [])
+  of_alt : (p q : Pattern) (xs ys : List Instruction) → R p xs → R q ys → R (alt p q) (fork ∷ (xs ++ (other ∷ (ys ++ (join ∷ [])))))
+  of_beside : (p q : Pattern) (xs ys : List Instruction) → R p xs → R q ys → R (alt p q) (xs ++ (other ∷ ys))
+  of_class_star : (m n : Bool) (rs : List CharSet) → R (star (class m n rs)) (read true true n rs ∷ [])
+  of_star : (p : Pattern) (xs : List Instruction) → R p xs → R (star p) (star_begin ∷ (xs ++ (star_end ∷ [])))
+  of_class_plus : (m n : Bool) (rs : List CharSet) → R (plus (class m n rs)) (read true false n rs ∷ [])
+  of_plus : (p : Pattern) (xs : List Instruction) → R p xs → R (plus p) (plus_begin ∷ (xs ++ (plus_end ∷ [])))
+
+-- It holds then of each pattern and its program.
+module _ (R : Pattern → List Instruction → Type 0) (parts : GoesOver R) where
+  star_by_parts : (p : Pattern) → R p (program p) → R (star p) (program (star p))
+  star_by_parts p body = by_class (R (star p)) p _ _ (λ m n rs e. rw e (parts.of_class_star m n rs)) (parts.of_star p (program p) body)
+
+  plus_by_parts : (p : Pattern) → R p (program p) → R (plus p) (program (plus p))
+  plus_by_parts p body = by_class (R (plus p)) p _ _ (λ m n rs e. rw e (parts.of_class_plus m n rs)) (parts.of_plus p (program p) body)
+
+  alt_by_parts : (p q : Pattern) → R p (alternatives p) → R q (program q) → R (alt p q) (program (alt p q))
+  alt_by_parts p q first second =
+      by_option (R (alt p q)) p q _ _ (λ m n rs e f. rw (e, f) (parts.of_option m n rs)) (parts.of_alt p q (alternatives p) (program q) first second)
+
+  both_by_parts : (p : Pattern) → R p (program p) × R p (alternatives p)
+  both_by_parts empty = (parts.of_empty, parts.of_empty)
+  both_by_parts (class m n rs) = (parts.of_class m n rs, parts.of_class m n rs)
+  both_by_parts (look l) = (parts.of_look l, parts.of_look l)
+  both_by_parts (cat p q) =
+      let both = parts.of_cat p q (program p) (program q) (both_by_parts p).0 (both_by_parts q).0 in
+      (both, both)
+  both_by_parts (alt p q) = (
+    alt_by_parts p q (both_by_parts p).1 (both_by_parts q).0,
+    parts.of_beside p q (alternatives p) (program q) (both_by_parts p).1 (both_by_parts q).0,
+  )
+  both_by_parts (star p) = (star_by_parts p (both_by_parts p).0, star_by_parts p (both_by_parts p).0)
+  both_by_parts (plus p) = (plus_by_parts p (both_by_parts p).0, plus_by_parts p (both_by_parts p).0)
+
+more_reads : (xs ys : List Instruction) → read_count (xs ++ ys) ≡ read_count xs + read_count ys
+more_reads [] ys = omega arith
+more_reads (read again optional n rs ∷ xs) ys = omega (arith, more_reads xs ys)
+more_reads (_ ∷ xs) ys = more_reads xs ys
+
+pub reads_are_classes : (p : Pattern) → read_count (program p) ≡ classes p
+reads_are_classes p =
+    (both_by_parts
+    (λ q is. read_count is ≡ classes q)
+    (record {
+      of_empty = refl;
+      of_class = λ m n rs. refl;
+      of_look = λ l. refl;
+      of_cat = λ q r xs ys e f. omega (arith, more_reads xs ys, e, f);
+      of_option = λ m n rs. refl;
+      of_alt = λ q r xs ys e f. omega (arith, more_reads xs (other ∷ (ys ++ (join ∷ []))), more_reads ys (join ∷ []), e, f);
+      of_beside = λ q r xs ys e f. omega (arith, more_reads xs (other ∷ ys), e, f);
+      of_class_star = λ m n rs. refl;
+      of_star = λ q xs e. omega (arith, more_reads xs (star_end ∷ []), e);
+      of_class_plus = λ m n rs. refl;
+      of_plus = λ q xs e. omega (arith, more_reads xs (plus_end ∷ []), e);
+    })
+    p).0
+
+or_nothing : (x : Bool) → (x || false) ≡ x
+or_nothing true = refl
+or_nothing false = refl
+
+more_asked : (xs ys : List Instruction) → asks_boundary (xs ++ ys) ≡ (asks_boundary xs || asks_boundary ys)
+more_asked [] ys = refl
+more_asked (assert l ∷ xs) ys =
+    ap (λ (x : Bool). asks_word l || x) (more_asked xs ys) ∙ regroup (asks_word l) (asks_boundary xs) (asks_boundary ys)
+  where
+    regroup : (x y z : Bool) → (x || (y || z)) ≡ ((x || y) || z)
+    regroup x y z = grind (arith, nat_tests)
+more_asked (_ ∷ xs) ys = more_asked xs ys
+
+both_ask : (xs ys : List Instruction) (x y : Bool) → asks_boundary xs ≡ x → asks_boundary ys ≡ y → asks_boundary (xs ++ ys) ≡ (x || y)
+both_ask xs ys x y e f = more_asked xs ys ∙ rw (e, f) refl
+
+first_asks : (xs ys : List Instruction) (x : Bool) → asks_boundary xs ≡ x → asks_boundary ys ≡ false → asks_boundary (xs ++ ys) ≡ x
+first_asks xs ys x e f = both_ask xs ys x false e f ∙ or_nothing x
+
+pub boundary_is_asked : (p : Pattern) → asks_boundary (program p) ≡ has_boundary p
+boundary_is_asked p =
+    (both_by_parts
+    (λ q is. asks_boundary is ≡ has_boundary q)
+    (record {
+      of_empty = refl;
+      of_class = λ m n rs. refl;
+      of_look = λ l. or_nothing (asks_word l);
+      of_cat = λ q r xs ys e f. both_ask xs ys _ _ e f;
+      of_option = λ m n rs. refl;
+      of_alt = λ q r xs ys e f. both_ask xs (other ∷ (ys ++ (join ∷ []))) _ _ e (first_asks ys (join ∷ []) _ f refl);
+      of_beside = λ q r xs ys e f. both_ask xs (other ∷ ys) _ _ e f;
+      of_class_star = λ m n rs. refl;
+      of_star = λ q xs e. first_asks xs (star_end ∷ []) _ e refl;
+      of_class_plus = λ m n rs. refl;
+      of_plus = λ q xs e. first_asks xs (plus_end ∷ []) _ e refl;
+    })
+    p).0
+
+-- with no loop nothing is kept of one
+pub no_loops : (b a : Option ℕ) (is : List Instruction) (ms : List Bool) → has_loop is ≡ false → (asked b a is ms).again ≡ []
+no_loops b a [] ms h = refl
+no_loops b a (star_begin ∷ is) ms h = absurd (true≢false h)
+no_loops b a (plus_begin ∷ is) ms h = absurd (true≢false h)
+no_loops b a (read again optional n rs ∷ is) ms h = no_loops b a is (below ms) h
+no_loops b a (_ ∷ is) ms h = no_loops b a is ms h
+
+-- the answers of the classes tell whether a character is read
+abbrev pub IsTold : List (Vec CharSet Global) → Instruction → Type 0
+IsTold known (read again optional n rs) = TellsSets known rs
+IsTold known (assert l) = Unit {0}
+IsTold known fork = Unit {0}
+IsTold known other = Unit {0}
+IsTold known join = Unit {0}
+IsTold known star_begin = Unit {0}
+IsTold known star_end = Unit {0}
+IsTold known plus_begin = Unit {0}
+IsTold known plus_end = Unit {0}
+
+abbrev pub AllTold : List (Vec CharSet Global) → List Instruction → Type 0
+AllTold known is = AllByRecursion (IsTold known) is
+
+all_parts : {A : Type 0} (P : A → Type 0) (xs ys : List A) → AllByRecursion P (xs ++ ys) → AllByRecursion P xs × AllByRecursion P ys
+all_parts P [] ys h = (tt, h)
+all_parts P (x ∷ xs) ys h = ((h.0, (all_parts P xs ys h.1).0), (all_parts P xs ys h.1).1)
+
+module _ (known : List (Vec CharSet Global)) where
+  -- what is told of the instructions tells the pattern, if word characters are told where it asks about them
+  abbrev AreTold : Pattern → List Instruction → Type 0
+  AreTold p is = AllTold known is → (has_boundary p ≡ true → TellsSets known word_characters) → Tells known p
+
+  told_parts : (p q : Pattern) (xs ys : List Instruction) → AreTold p xs → AreTold q ys → AllTold known xs → AllTold known ys
+      → ((has_boundary p || has_boundary q) ≡ true → TellsSets known word_characters) → Tells known p × Tells known q
+  told_parts p q xs ys e f x y word =
+      (e x (λ h. word (or_left _ _ h)), f y (λ h. word (or_right (has_boundary p) _ h)))
+
+  all_told_by_parts : GoesOver AreTold
+  all_told_by_parts = record {
+    of_empty = λ told word. tt;
+    of_class = λ m n rs told word. told.0;
+    of_look = λ l told word. word;
+    of_cat = λ p q xs ys e f told. told_parts p q xs ys e f (all_parts (IsTold known) xs ys told).0 (all_parts (IsTold known) xs ys told).1;
+    of_option = λ m n rs told word. (tt, told.0);
+    of_alt = λ p q xs ys e f told.
+        let parts = all_parts (IsTold known) xs (other ∷ (ys ++ (join ∷ []))) told.1 in
+        told_parts p q xs ys e f parts.0 (all_parts (IsTold known) ys (join ∷ []) parts.1.1).0;
+    of_beside = λ p q xs ys e f told.
+        let parts = all_parts (IsTold known) xs (other ∷ ys) told in
+        told_parts p q xs ys e f parts.0 parts.1.1;
+    of_class_star = λ m n rs told word. told.0;
+    of_star = λ p xs e told. e (all_parts (IsTold known) xs (star_end ∷ []) told.1).0;
+    of_class_plus = λ m n rs told word. told.0;
+    of_plus = λ p xs e told. e (all_parts (IsTold known) xs (plus_end ∷ []) told.1).0;
+  }
+
+  pub told : (p : Pattern) → AllTold known (program p) → (has_boundary p ≡ true → TellsSets known word_characters) → Tells known p
+  told p = (both_by_parts AreTold all_told_by_parts p).0
+
+  class_told : (again optional : Bool) (cs : List Class) (k : ℕ) → k < length cs → AllByRecursion (λ c. TellsSets known c.sets.items) cs
+      → IsTold known (reading again optional (slice_get cs k))
+  class_told again optional [] k h all = absurd (omega (arith, h))
+  class_told again optional (c ∷ cs) zero h all = all.0
+  class_told again optional (c ∷ cs) (suc k) h all = class_told again optional cs k (omega (arith, h)) all.1
+
+  turn_told : (t : CodeTurn) → IsTold known (turned t)
+  turn_told turn.Start = tt
+  turn_told _ = tt
+
+  instructions_told : (cs : List Class) (is : List CodeInstruction) → are_within (length cs) is ≡ true → AllByRecursion (λ c. TellsSets known c.sets.items) cs
+      → AllTold known (instructions cs is)
+  instructions_told cs [] h all = tt
+  instructions_told cs (Read k again optional ∷ is) h all = (
+    class_told again optional cs k (ltb-true k (length cs) (and_left (nat_lt k (length cs)) _ h)) all,
+    instructions_told cs is (and_right (nat_lt k (length cs)) _ h) all,
+  )
+  instructions_told cs (Turn t ∷ is) h all = (turn_told t, instructions_told cs is h all)
+
+  -- where the sets of each class are told, the instructions are
+  pub classes_told : (cs : List Class) (is : List CodeInstruction) → are_within (length cs) is ≡ true → All (λ c. TellsSets known c.sets.items) cs
+      → AllTold known (instructions cs is)
+  classes_told cs is h all = instructions_told cs is h (recursion_from_All _ cs all)
+
+  -- and the pattern that they are written for
+  pub pattern_told : (p : Pattern) (cs : List Class) (is : List CodeInstruction) → instructions cs is ≡ program p → are_within (length cs) is ≡ true
+      → All (λ c. TellsSets known c.sets.items) cs → (has_boundary p ≡ true → TellsSets known word_characters) → Tells known p
+  pattern_told p cs is same h all = told p (subst (AllTold known) same (classes_told cs is h all))

@@ -1,0 +1,426 @@
+-- A search that follows the program of a pattern comes to what the definition says of the pattern.
+use Rattle.std.proofs.Common.{◌≡◌, ℕ, Bool, true, false, ◌&&◌, ◌||◌, List, [], ◌∷◌, ◌++◌, Option, refl, sym, ap, ◌∙◌, arith}
+use Rattle.std.proofs.lemmas.Bool.Decides.{nat_tests}
+use Rattle.std.proofs.lemmas.List.{append_assoc, append-nil}
+use Rattle.strkw_ecma.specs.declared.tree.CharSet.{CharSet}
+use Rattle.strkw_ecma.specs.Tree.{Look, Pattern, empty, class, look, cat, alt, star, plus}
+use Rattle.strkw_ecma.specs.Meaning.{holds}
+use Rattle.strkw_ecma.specs.Marks.{reads, leaves, step, marks_of}
+use Rattle.strkw_ecma.specs.Program.{Instruction, read, fork, other, join, star_begin, star_end, plus_begin, plus_end, if_class, if_option, program, alternatives}
+use Rattle.strkw_ecma.proofs.Steps.{plus_leaves}
+use Rattle.strkw_ecma.specs.Walk.{Asked, Walked, top, below, back_over, asked, followed, walked}
+
+-- a proof for a class and one for all patterns, of what is chosen by the first
+pub by_class : {A : Type 0} (P : A → Type 0) (p : Pattern) (f : Bool → List CharSet → A) (x : A)
+    → ((m n : Bool) (rs : List CharSet) → p ≡ class m n rs → P (f n rs)) → P x → P (if_class p f x)
+by_class P (class m n rs) f x g h = g m n rs refl
+by_class P empty f x g h = h
+by_class P (look l) f x g h = h
+by_class P (cat p q) f x g h = h
+by_class P (alt p q) f x g h = h
+by_class P (star p) f x g h = h
+by_class P (plus p) f x g h = h
+
+pub by_option : {A : Type 0} (P : A → Type 0) (p q : Pattern) (f : Bool → List CharSet → A) (x : A)
+    → ((m n : Bool) (rs : List CharSet) → p ≡ empty → q ≡ class m n rs → P (f n rs)) → P x → P (if_option p q f x)
+by_option P empty q f x g h = by_class P q f x (λ m n rs e. g m n rs refl e) h
+by_option P (class m n rs) q f x g h = h
+by_option P (look l) q f x g h = h
+by_option P (cat p r) q f x g h = h
+by_option P (alt p r) q f x g h = h
+by_option P (star p) q f x g h = h
+by_option P (plus p) q f x g h = h
+
+module _ (b a : Option ℕ) where
+  -- whether a way through the pattern reads nothing
+  abbrev pub passes : Pattern → Bool
+  passes empty = true
+  passes (class m n rs) = false
+  passes (look l) = holds l b a
+  passes (cat p q) = passes q && passes p
+  passes (alt p q) = passes q || passes p
+  passes (star p) = true
+  passes (plus p) = passes p
+
+  -- what leaves the body of each loop that is not entered, in the order in which they begin
+  abbrev pub agains : Pattern → List Bool
+  agains empty = []
+  agains (class m n rs) = []
+  agains (look l) = []
+  agains (cat p q) = agains p ++ agains q
+  agains (alt p q) = agains p ++ agains q
+  agains (star p) = if_class p (λ n rs. []) (leaves b a p false ∷ agains p)
+  agains (plus p) = if_class p (λ n rs. []) (leaves b a p false ∷ agains p)
+
+pub both_by_class : {A B : Type 0} (P : A → B → Type 0) (p : Pattern) (f : Bool → List CharSet → A) (x : A) (g : Bool → List CharSet → B) (y : B)
+    → ((m n : Bool) (rs : List CharSet) → p ≡ class m n rs → P (f n rs) (g n rs)) → P x y → P (if_class p f x) (if_class p g y)
+both_by_class P (class m n rs) f x g y h k = h m n rs refl
+both_by_class P empty f x g y h k = k
+both_by_class P (look l) f x g y h k = k
+both_by_class P (cat p q) f x g y h k = k
+both_by_class P (alt p q) f x g y h k = k
+both_by_class P (star p) f x g y h k = k
+both_by_class P (plus p) f x g y h k = k
+
+same_asked : (s t : Asked) → s.ends ≡ t.ends → s.goes_on ≡ t.goes_on → s.around ≡ t.around → s.again ≡ t.again → s ≡ t
+same_asked s t e g r n = λ i. record { ends = e i; goes_on = g i; around = r i; again = n i }
+
+module _ (b a : Option ℕ) where
+  -- A way leaves the pattern that goes on from a mark in it, or that enters it and reads nothing.
+  pub leaves_split : (p : Pattern) (x : Bool) → leaves b a p x ≡ (leaves b a p false || (x && passes b a p))
+  leaves_split empty x = grind (arith, nat_tests)
+  leaves_split (class m n rs) x = grind (arith, nat_tests)
+  leaves_split (look l) x = refl
+  leaves_split (cat p q) x =
+      let outer = leaves_split q (leaves b a p x) in
+      let inner = leaves_split q (leaves b a p false) in
+      let first = leaves_split p x in
+      rw (outer, inner, first)
+      (regroup (leaves b a p false) (leaves b a q false) (passes b a p) (passes b a q) x)
+    where
+      regroup : (l m p q x : Bool) → (m || ((l || (x && p)) && q)) ≡ ((m || (l && q)) || (x && (q && p)))
+      regroup l m p q x = grind (arith, nat_tests)
+  leaves_split (alt p q) x =
+      rw (leaves_split p x, leaves_split q x)
+      (regroup (leaves b a p false) (leaves b a q false) (passes b a p) (passes b a q) x)
+    where
+      regroup : (l m p q x : Bool) → ((l || (x && p)) || (m || (x && q))) ≡ ((l || m) || (x && (q || p)))
+      regroup l m p q x = grind (arith, nat_tests)
+  leaves_split (star p) x = regroup (leaves b a p false) x
+    where
+      regroup : (l x : Bool) → (x || l) ≡ ((false || l) || (x && true))
+      regroup l x = grind (arith, nat_tests)
+  leaves_split (plus p) x =
+      let outer = leaves_split p (x || leaves b a p false) in
+      let inner = leaves_split p (false || leaves b a p false) in
+      outer ∙ regroup (leaves b a p false) (passes b a p) x ∙ ap (λ (y : Bool). y || (x && passes b a p)) (sym inner)
+    where
+      regroup : (l p x : Bool) → (l || ((x || l) && p)) ≡ ((l || ((false || l) && p)) || (x && p))
+      regroup l p x = grind (arith, nat_tests)
+
+  -- what is known before a pattern by what is known behind it
+  abbrev pub before : Pattern → Asked → Asked
+  before p s =
+      record {
+        ends = s.ends && passes b a p;
+        goes_on = s.goes_on || (s.ends && leaves b a p false);
+        around = s.around;
+        again = agains b a p ++ s.again;
+      }
+
+  -- what is known before one alternative of several, where e is known behind the last, and acc of those behind it
+  pub record IsBeside (p : Pattern) (e acc : Bool) (around : List Bool) (s t : Asked) : Type 0 where
+    pub ends : (top t.around || t.ends) ≡ (acc || (e && passes b a p))
+    pub around_is : below t.around ≡ e ∷ around
+    pub goes_on : t.goes_on ≡ (s.goes_on || (e && leaves b a p false))
+    pub again : t.again ≡ agains b a p ++ s.again
+
+  alone : (p : Pattern) (e acc : Bool) (around : List Bool) (s t : Asked) → s.ends ≡ e → s.around ≡ acc ∷ e ∷ around → t ≡ before p s
+      → IsBeside p e acc around s t
+  alone p e acc around s t ends is same = rw (same, ends, is) (record { ends = refl; around_is = refl; goes_on = refl; again = refl })
+
+  side_by_side : (p q : Pattern) (e acc : Bool) (around : List Bool) (s u t : Asked)
+      → u ≡ record { ends = e; goes_on = s.goes_on || (e && leaves b a q false); around = (acc || (e && passes b a q)) ∷ e ∷ around; again = agains b a q ++ s.again }
+      → IsBeside p e (acc || (e && passes b a q)) around u t → IsBeside (alt p q) e acc around s t
+  side_by_side p q e acc around s u t is beside =
+      record {
+        ends = beside.ends ∙ regroup acc e (passes b a p) (passes b a q);
+        around_is = beside.around_is;
+        goes_on = beside.goes_on ∙ rw is (rejoin s.goes_on e (leaves b a p false) (leaves b a q false));
+        again = beside.again ∙ rw is (sym (append_assoc (agains b a p) (agains b a q) s.again));
+      }
+    where
+      regroup : (x e p q : Bool) → ((x || (e && q)) || (e && p)) ≡ (x || (e && (q || p)))
+      regroup x e p q = grind (arith, nat_tests)
+
+      rejoin : (g e l m : Bool) → ((g || (e && m)) || (e && l)) ≡ (g || (e && (l || m)))
+      rejoin g e l m = grind (arith, nat_tests)
+
+  asked_star : (p : Pattern) (is : List Instruction) (ms : List Bool)
+      → asked b a (program p ++ (star_end ∷ is)) (marks_of p ++ ms) ≡ before p (asked b a (star_end ∷ is) ms)
+      → asked b a ((star_begin ∷ (program p ++ (star_end ∷ []))) ++ is) (marks_of p ++ ms)
+      ≡ record {
+        ends = (asked b a is ms).ends && true;
+        goes_on = (asked b a is ms).goes_on || ((asked b a is ms).ends && leaves b a (star p) false);
+        around = (asked b a is ms).around;
+        again = leaves b a p false ∷ (agains b a p ++ (asked b a is ms).again);
+      }
+  asked_star p is ms known =
+      let s = asked b a is ms in
+      ap (λ (js : List Instruction). asked b a (star_begin ∷ js) (marks_of p ++ ms)) (append_assoc (program p) (star_end ∷ []) is)
+      ∙ ap (back_over b a star_begin (top (marks_of p ++ ms))) known
+      ∙ same_asked _ _ (ends s.ends) refl refl refl
+    where
+      ends : (e : Bool) → e ≡ (e && true)
+      ends e = grind (arith, nat_tests)
+
+  asked_plus : (p : Pattern) (is : List Instruction) (ms : List Bool)
+      → asked b a (program p ++ (plus_end ∷ is)) (marks_of p ++ ms) ≡ before p (asked b a (plus_end ∷ is) ms)
+      → asked b a ((plus_begin ∷ (program p ++ (plus_end ∷ []))) ++ is) (marks_of p ++ ms)
+      ≡ record {
+        ends = (asked b a is ms).ends && passes b a p;
+        goes_on = (asked b a is ms).goes_on || ((asked b a is ms).ends && leaves b a (plus p) false);
+        around = (asked b a is ms).around;
+        again = leaves b a p false ∷ (agains b a p ++ (asked b a is ms).again);
+      }
+  asked_plus p is ms known =
+      let s = asked b a is ms in
+      ap (λ (js : List Instruction). asked b a (plus_begin ∷ js) (marks_of p ++ ms)) (append_assoc (program p) (plus_end ∷ []) is)
+      ∙ ap (back_over b a plus_begin (top (marks_of p ++ ms))) known
+      ∙ same_asked _ _ refl (ap (λ (y : Bool). s.goes_on || (s.ends && y)) (plus_leaves b a p false)) refl refl
+
+  -- of a pattern that stands alone, and of one that stands among alternatives
+  abbrev pub IsAsked : Pattern → Type 0
+  IsAsked p = (is : List Instruction) (ms : List Bool) → asked b a (program p ++ is) (marks_of p ++ ms) ≡ before p (asked b a is ms)
+
+  abbrev pub IsAskedBeside : Pattern → Type 0
+  IsAskedBeside p = (is : List Instruction) (ms : List Bool) (e acc : Bool) (around : List Bool)
+      → (asked b a is ms).ends ≡ e → (asked b a is ms).around ≡ acc ∷ e ∷ around
+      → IsBeside p e acc around (asked b a is ms) (asked b a (alternatives p ++ is) (marks_of p ++ ms))
+
+  nothing_asked : IsAsked empty
+  nothing_asked is ms = let s = asked b a is ms in same_asked _ _ (ends s.ends) (goes_on s.goes_on s.ends) refl refl
+    where
+      ends : (e : Bool) → e ≡ (e && true)
+      ends e = grind (arith, nat_tests)
+
+      goes_on : (g e : Bool) → g ≡ (g || (e && false))
+      goes_on g e = grind (arith, nat_tests)
+
+  look_asked : (l : Look) → IsAsked (look l)
+  look_asked l is ms = let s = asked b a is ms in same_asked _ _ refl (goes_on s.goes_on s.ends) refl refl
+    where
+      goes_on : (g e : Bool) → g ≡ (g || (e && false))
+      goes_on g e = grind (arith, nat_tests)
+
+  cat_asked : (p q : Pattern) → IsAsked p → IsAsked q → IsAsked (cat p q)
+  cat_asked p q first second is ms =
+      let s = asked b a is ms in
+      ap (λ (js : List Instruction). asked b a js ((marks_of p ++ marks_of q) ++ ms)) (append_assoc (program p) (program q) is)
+      ∙ ap (asked b a (program p ++ (program q ++ is))) (append_assoc (marks_of p) (marks_of q) ms)
+      ∙ first (program q ++ is) (marks_of q ++ ms) ∙ ap (before p) (second is ms)
+      ∙ same_asked _ _ (ends s.ends (passes b a p) (passes b a q))
+      (goes_on s.goes_on s.ends (passes b a q) (leaves b a p false) (leaves b a q false)
+      ∙ ap (λ (y : Bool). s.goes_on || (s.ends && y)) (sym (leaves_split q (leaves b a p false)))) refl
+      (sym (append_assoc (agains b a p) (agains b a q) s.again))
+    where
+      ends : (e p q : Bool) → ((e && q) && p) ≡ (e && (q && p))
+      ends e p q = grind (arith, nat_tests)
+
+      goes_on : (g e q l m : Bool) → ((g || (e && m)) || ((e && q) && l)) ≡ (g || (e && (m || (l && q))))
+      goes_on g e q l m = grind (arith, nat_tests)
+
+  asked_choice : (p q : Pattern) → IsAskedBeside p → IsAsked q → (is : List Instruction) (ms : List Bool)
+      → asked b a ((fork ∷ (alternatives p ++ (other ∷ (program q ++ (join ∷ []))))) ++ is) ((marks_of p ++ marks_of q) ++ ms)
+      ≡ before (alt p q) (asked b a is ms)
+  asked_choice p q first second is ms =
+      let s = asked b a is ms in
+      let known = second (join ∷ is) ms in
+      let beside = first (other ∷ (program q ++ (join ∷ is))) (marks_of q ++ ms) s.ends (false || (s.ends && passes b a q)) s.around
+      (ap (λ (t : Asked). top (below t.around)) known) (ap (λ (t : Asked). (top t.around || t.ends) ∷ top (below t.around) ∷ below (below t.around)) known) in
+      rw (append_assoc (alternatives p) (other ∷ (program q ++ (join ∷ []))) is, append_assoc (program q) (join ∷ []) is, append_assoc (marks_of p) (marks_of q) ms)
+      (same_asked _ _ (beside.ends ∙ ends s.ends (passes b a p) (passes b a q))
+      (beside.goes_on ∙ ap (λ (t : Asked). t.goes_on || (s.ends && leaves b a p false)) known
+      ∙ goes_on s.goes_on s.ends (leaves b a p false) (leaves b a q false))
+      (ap below beside.around_is)
+      (beside.again ∙ ap (λ (t : Asked). agains b a p ++ t.again) known ∙ sym (append_assoc (agains b a p) (agains b a q) s.again)))
+    where
+      ends : (e p q : Bool) → ((false || (e && q)) || (e && p)) ≡ (e && (q || p))
+      ends e p q = grind (arith, nat_tests)
+
+      goes_on : (g e l m : Bool) → ((g || (e && m)) || (e && l)) ≡ (g || (e && (l || m)))
+      goes_on g e l m = grind (arith, nat_tests)
+
+  alt_asked : (p q : Pattern) → IsAskedBeside p → IsAsked q → IsAsked (alt p q)
+  alt_asked p q first second is ms =
+      by_option (λ (js : List Instruction). asked b a (js ++ is) ((marks_of p ++ marks_of q) ++ ms) ≡ before (alt p q) (asked b a is ms))
+      p q _ _ (λ m n rs e f. rw (e, f) refl) (asked_choice p q first second is ms)
+
+  alt_asked_beside : (p q : Pattern) → IsAskedBeside p → IsAsked q → IsAskedBeside (alt p q)
+  alt_asked_beside p q first second is ms e acc around ends is_around =
+      let s = asked b a is ms in
+      let known = second is ms in
+      side_by_side p q e acc around s (asked b a (other ∷ (program q ++ is)) (marks_of q ++ ms)) _
+      (ap (back_over b a other (top (marks_of q ++ ms))) known ∙ rw (is_around, ends) refl)
+      (rw (append_assoc (alternatives p) (other ∷ program q) is, append_assoc (marks_of p) (marks_of q) ms)
+      (first (other ∷ (program q ++ is)) (marks_of q ++ ms) e (acc || (e && passes b a q)) around
+      (ap (λ (t : Asked). top (below t.around)) known ∙ rw is_around refl) (ap (λ (t : Asked). (top t.around || t.ends) ∷ top (below t.around) ∷ below (below t.around)) known ∙ rw (is_around, ends) refl)))
+
+  star_asked : (p : Pattern) → IsAsked p → IsAsked (star p)
+  star_asked p body is ms =
+      both_by_class
+      (λ (js : List Instruction) (bs : List Bool). asked b a (js ++ is) (marks_of p ++ ms)
+      ≡ record {
+        ends = (asked b a is ms).ends && true;
+        goes_on = (asked b a is ms).goes_on || ((asked b a is ms).ends && leaves b a (star p) false);
+        around = (asked b a is ms).around;
+        again = bs ++ (asked b a is ms).again;
+      })
+      p _ _ _ _ (λ m n rs e. rw e refl) (asked_star p is ms (body (star_end ∷ is) ms))
+
+  plus_asked : (p : Pattern) → IsAsked p → IsAsked (plus p)
+  plus_asked p body is ms =
+      both_by_class
+      (λ (js : List Instruction) (bs : List Bool). asked b a (js ++ is) (marks_of p ++ ms)
+      ≡ record {
+        ends = (asked b a is ms).ends && passes b a p;
+        goes_on = (asked b a is ms).goes_on || ((asked b a is ms).ends && leaves b a (plus p) false);
+        around = (asked b a is ms).around;
+        again = bs ++ (asked b a is ms).again;
+      })
+      p _ _ _ _ (λ m n rs e. rw e refl) (asked_plus p is ms (body (plus_end ∷ is) ms))
+
+  alone_beside : (p : Pattern) → alternatives p ≡ program p → IsAsked p → IsAsked p × IsAskedBeside p
+  alone_beside p same known = (
+    known,
+    λ is ms e acc around ends is_around.
+        alone p e acc around _ _ ends is_around (ap (λ (js : List Instruction). asked b a (js ++ is) (marks_of p ++ ms)) same ∙ known is ms),
+  )
+
+  asked_both : (p : Pattern) → IsAsked p × IsAskedBeside p
+  asked_both empty = alone_beside empty refl nothing_asked
+  asked_both (class m n rs) = alone_beside (class m n rs) refl (λ is ms. refl)
+  asked_both (look l) = alone_beside (look l) refl (look_asked l)
+  asked_both (cat p q) = alone_beside (cat p q) refl (cat_asked p q (asked_both p).0 (asked_both q).0)
+  asked_both (alt p q) =
+      (alt_asked p q (asked_both p).1 (asked_both q).0, alt_asked_beside p q (asked_both p).1 (asked_both q).0)
+  asked_both (star p) = alone_beside (star p) refl (star_asked p (asked_both p).0)
+  asked_both (plus p) = alone_beside (plus p) refl (plus_asked p (asked_both p).0)
+
+  -- what leaves each loop of a program
+  pub asked_again : (p : Pattern) (ms : List Bool) → (asked b a (program p) (marks_of p ++ ms)).again ≡ agains b a p
+  asked_again p ms =
+      ap (λ (js : List Instruction). (asked b a js (marks_of p ++ ms)).again) (sym (append-nil (program p)))
+      ∙ ap (λ (s : Asked). s.again) ((asked_both p).0 [] ms) ∙ append-nil (agains b a p)
+
+  abbrev pub follow : List Instruction → Bool → List Bool → List Bool → List Bool → Walked
+  follow is x around again ms = followed b a is (record { enters = x; around = around; again = again }) ms
+
+  abbrev one_mark : Bool → Walked → Walked
+  one_mark m w = record { leaves = w.leaves; marks = m ∷ w.marks }
+
+  -- what follows, behind the marks of a pattern
+  abbrev pub with_marks : List Bool → Walked → Walked
+  with_marks ns w = record { leaves = w.leaves; marks = ns ++ w.marks }
+
+  abbrev pub IsFollowed : Pattern → Type 0
+  IsFollowed p = (is : List Instruction) (x : Bool) (around again ms : List Bool)
+      → follow (program p ++ is) x around (agains b a p ++ again) (marks_of p ++ ms)
+      ≡ with_marks (marks_of (step b a p x)) (follow is (leaves b a p x) around again ms)
+
+  -- among alternatives what leaves is the last of them, y, or stands beside, in acc'
+  pub record FollowedBeside (p : Pattern) (is : List Instruction) (x acc : Bool) (around again ms : List Bool) : Type 0 where
+    pub leaving : Bool
+    pub beside : Bool
+    pub either : (beside || leaving) ≡ (acc || leaves b a p x)
+    pub rest : follow (alternatives p ++ is) x (acc ∷ x ∷ around) (agains b a p ++ again) (marks_of p ++ ms)
+        ≡ with_marks (marks_of (step b a p x)) (follow is leaving (beside ∷ x ∷ around) again ms)
+
+  abbrev pub IsFollowedBeside : Pattern → Type 0
+  IsFollowedBeside p = (is : List Instruction) (x acc : Bool) (around again ms : List Bool) → FollowedBeside p is x acc around again ms
+
+  or_nothing : (x : Bool) → (x || false) ≡ x
+  or_nothing true = refl
+  or_nothing false = refl
+
+  class_followed : (m n : Bool) (rs : List CharSet) → IsFollowed (class m n rs)
+  class_followed m n rs is x around again ms =
+      ap (λ (y : Bool). one_mark (y && reads a n rs) (follow is m around again ms)) (or_nothing x)
+
+  option_followed : (m n : Bool) (rs : List CharSet) (is : List Instruction) (x : Bool) (around again ms : List Bool)
+      → follow (read false true n rs ∷ is) x around again (m ∷ ms)
+      ≡ with_marks (marks_of (step b a (alt empty (class m n rs)) x)) (follow is (leaves b a (alt empty (class m n rs)) x) around again ms)
+  option_followed m n rs is x around again ms =
+      ap (λ (y : Bool). one_mark (y && reads a n rs) (follow is (x || m) around again ms)) (or_nothing x)
+
+  -- two parts, one behind the other
+  then_followed : (ns os : List Bool) (u v w : Walked) → u ≡ with_marks ns v → v ≡ with_marks os w → u ≡ with_marks (ns ++ os) w
+  then_followed ns os u v w e f =
+      e ∙ ap (with_marks ns) f ∙ ap (λ (ms : List Bool). record { leaves = w.leaves; marks = ms }) (sym (append_assoc ns os w.marks))
+
+  cat_followed : (p q : Pattern) → IsFollowed p → IsFollowed q → IsFollowed (cat p q)
+  cat_followed p q first second is x around again ms =
+      rw (append_assoc (program p) (program q) is, append_assoc (agains b a p) (agains b a q) again, append_assoc (marks_of p) (marks_of q) ms)
+      (then_followed (marks_of (step b a p x)) (marks_of (step b a q (leaves b a p x))) _ _ _
+      (first (program q ++ is) x around (agains b a q ++ again) (marks_of q ++ ms)) (second is (leaves b a p x) around again ms))
+
+  choice_followed : (p q : Pattern) → IsFollowedBeside p → IsFollowed q → (is : List Instruction) (x : Bool) (around again ms : List Bool)
+      → follow ((fork ∷ (alternatives p ++ (other ∷ (program q ++ (join ∷ []))))) ++ is) x around ((agains b a p ++ agains b a q) ++ again) ((marks_of p ++ marks_of q) ++ ms)
+      ≡ with_marks (marks_of (step b a (alt p q) x)) (follow is (leaves b a (alt p q) x) around again ms)
+  choice_followed p q first second is x around again ms =
+      let one = first (other ∷ (program q ++ (join ∷ is))) x false around (agains b a q ++ again) (marks_of q ++ ms) in
+      rw (append_assoc (alternatives p) (other ∷ (program q ++ (join ∷ []))) is, append_assoc (program q) (join ∷ []) is, append_assoc (agains b a p) (agains b a q) again, append_assoc (marks_of p) (marks_of q) ms)
+      (then_followed (marks_of (step b a p x)) (marks_of (step b a q x)) _ _ _ one.rest
+      (second (join ∷ is) x ((one.beside || one.leaving) ∷ x ∷ around) again ms
+      ∙ ap (λ (y : Bool). with_marks (marks_of (step b a q x)) (follow is (y || leaves b a q x) around again ms)) one.either))
+
+  alt_followed : (p q : Pattern) → IsFollowedBeside p → IsFollowed q → IsFollowed (alt p q)
+  alt_followed p q first second is x around again ms =
+      by_option
+      (λ (js : List Instruction). follow (js ++ is) x around ((agains b a p ++ agains b a q) ++ again) ((marks_of p ++ marks_of q) ++ ms)
+      ≡ with_marks (marks_of (step b a (alt p q) x)) (follow is (leaves b a (alt p q) x) around again ms))
+      p q _ _ (λ m n rs e f. rw (e, f) (option_followed m n rs is x around again ms)) (choice_followed p q first second is x around again ms)
+
+  alt_followed_beside : (p q : Pattern) → IsFollowedBeside p → IsFollowed q → IsFollowedBeside (alt p q)
+  alt_followed_beside p q first second is x acc around again ms =
+      let one = first (other ∷ (program q ++ is)) x acc around (agains b a q ++ again) (marks_of q ++ ms) in
+      record {
+        leaving = leaves b a q x;
+        beside = one.beside || one.leaving;
+        either = ap (λ (y : Bool). y || leaves b a q x) one.either ∙ regroup acc (leaves b a p x) (leaves b a q x);
+        rest =
+            rw (append_assoc (alternatives p) (other ∷ program q) is, append_assoc (agains b a p) (agains b a q) again, append_assoc (marks_of p) (marks_of q) ms)
+            (then_followed (marks_of (step b a p x)) (marks_of (step b a q x)) _ _ _ one.rest
+            (second is x ((one.beside || one.leaving) ∷ x ∷ around) again ms));
+      }
+    where
+      regroup : (x y z : Bool) → ((x || y) || z) ≡ (x || (y || z))
+      regroup x y z = grind (arith, nat_tests)
+
+  star_followed : (p : Pattern) → IsFollowed p → IsFollowed (star p)
+  star_followed p body is x around again ms =
+      both_by_class
+      (λ (js : List Instruction) (bs : List Bool). follow (js ++ is) x around (bs ++ again) (marks_of p ++ ms)
+      ≡ with_marks (marks_of (step b a (star p) x)) (follow is (leaves b a (star p) x) around again ms))
+      p _ _ _ _ (λ m n rs e. rw e refl)
+      (rw (append_assoc (program p) (star_end ∷ []) is)
+      (body (star_end ∷ is) (x || leaves b a p false) ((x || leaves b a p false) ∷ around) again ms))
+
+  plus_followed : (p : Pattern) → IsFollowed p → IsFollowed (plus p)
+  plus_followed p body is x around again ms =
+      both_by_class
+      (λ (js : List Instruction) (bs : List Bool). follow (js ++ is) x around (bs ++ again) (marks_of p ++ ms)
+      ≡ with_marks (marks_of (step b a (plus p) x)) (follow is (leaves b a (plus p) x) around again ms))
+      p _ _ _ _ (λ m n rs e. rw e refl)
+      (rw (append_assoc (program p) (plus_end ∷ []) is) (body (plus_end ∷ is) (x || leaves b a p false) around again ms))
+
+  alone_followed : (p : Pattern) → alternatives p ≡ program p → IsFollowed p → IsFollowed p × IsFollowedBeside p
+  alone_followed p same known = (
+    known,
+    λ is x acc around again ms. record {
+      leaving = leaves b a p x;
+      beside = acc;
+      either = refl;
+      rest =
+          ap (λ (js : List Instruction). follow (js ++ is) x (acc ∷ x ∷ around) (agains b a p ++ again) (marks_of p ++ ms)) same
+          ∙ known is x (acc ∷ x ∷ around) again ms;
+    },
+  )
+
+  followed_both : (p : Pattern) → IsFollowed p × IsFollowedBeside p
+  followed_both empty = alone_followed empty refl (λ is x around again ms. refl)
+  followed_both (class m n rs) = alone_followed (class m n rs) refl (class_followed m n rs)
+  followed_both (look l) = alone_followed (look l) refl (λ is x around again ms. refl)
+  followed_both (cat p q) = alone_followed (cat p q) refl (cat_followed p q (followed_both p).0 (followed_both q).0)
+  followed_both (alt p q) =
+      (alt_followed p q (followed_both p).1 (followed_both q).0, alt_followed_beside p q (followed_both p).1 (followed_both q).0)
+  followed_both (star p) = alone_followed (star p) refl (star_followed p (followed_both p).0)
+  followed_both (plus p) = alone_followed (plus p) refl (plus_followed p (followed_both p).0)
+
+  -- a walk over the program is a step of the pattern
+  pub walked_is : (p : Pattern) (ms : List Bool) → walked b a (program p) (marks_of p ++ ms)
+      ≡ record { leaves = leaves b a p true; marks = marks_of (step b a p true) ++ ms }
+  walked_is p ms =
+      ap (λ (ns : List Bool). follow (program p) true [] ns (marks_of p ++ ms)) (asked_again p ms ∙ sym (append-nil (agains b a p)))
+      ∙ ap (λ (js : List Instruction). follow js true [] (agains b a p ++ []) (marks_of p ++ ms)) (sym (append-nil (program p)))
+      ∙ (followed_both p).0 [] true [] [] ms

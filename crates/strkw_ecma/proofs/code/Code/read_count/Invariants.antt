@@ -1,0 +1,11 @@
+use Rattle.std.proofs.Common.{◌≡◌, ◌≤◌, ◌+◌, drop}
+use Rattle.strkw_ecma.specs.Program.{read_count}
+use Rattle.strkw_ecma.specs.Shape.{instructions}
+use Rattle.strkw_ecma.specs.Machine.{written}
+use Rattle.strkw_ecma.proofs.code.Code.read_count.Given as goal
+
+abbrev pub invariant-loop-instruction : goal.invariant-loop-instruction
+invariant-loop-instruction l = record {
+  counted : l.count + read_count (instructions l.self.classes.items (drop l.instruction-index l.self.instructions.items)) ≡ read_count (written l.self);
+  few : l.count ≤ l.instruction-index;
+}

@@ -1,0 +1,49 @@
+use Rattle.std.proofs.Common.{◌≡◌, sym, ap, ◌∙◌, arith}
+use Rattle.std.proofs.lemmas.Result.{IfOk-weaker}
+use Rattle.strkw_ecma.specs.Program.{is_empty, program, alternatives}
+use Rattle.strkw_ecma.specs.Shape.{outlined}
+use Rattle.strkw_ecma.proofs.Written.{both_written}
+use Rattle.strkw_ecma.proofs.Shapes.{shapes, outlined-Then, outlined-Or}
+use Rattle.strkw_ecma.proofs.Copies.{repeated_beside, repeats_program, program_choice}
+use Rattle.strkw_ecma.proofs.outline.Outline.+write.Goals as goal
+
+pub write-returns-in_ok-write-in-Then : goal.write-returns-in_ok-write-in-Then
+write-returns-in_ok-write-in-Then t c =
+    rw (c.in-Then.is, outlined-Then, ← c.deref-in-Then.ensures, ← c.deref-in-Then-2.ensures)
+    (IfOk-weaker c.write-in-Then.result _ _ (λ x. both_written _ _ _ _ _ c.in_ok-write-in-Then.ensures)
+    c.write-in-Then.ensures)
+
+pub write-returns-in_ok-write-in-Or : goal.write-returns-in_ok-write-in-Or
+write-returns-in_ok-write-in-Or t c =
+    let something = ap (λ o. is_empty (outlined o)) (sym c.deref-in-Or.ensures) ∙ sym c.is_nothing.ensures
+    ∙ c.if-is_nothing.false in
+    rw (c.in-Or.is, outlined-Or, program_choice _ _ something)
+    (rw (← c.deref-else-is_nothing.ensures, ← c.deref-else-is_nothing-2.ensures)
+    (IfOk-weaker c.turn-else-is_nothing-3.result _ _
+    (λ x h. both_written _ _ _ _ _ c.in_ok-turn-in-Or.ensures
+    (both_written _ _ _ _ _ c.in_ok-write_beside-in-Or.ensures
+    (both_written _ _ _ _ _ c.in_ok-turn-in-Or-2.ensures (both_written _ _ _ _ _ c.in_ok-write-in-Or.ensures h))))
+    c.turn-else-is_nothing-3.ensures))
+
+pub write_beside-returns-in_ok-turn-in-Or : goal.write_beside-returns-in_ok-turn-in-Or
+write_beside-returns-in_ok-turn-in-Or t c =
+    rw (c.in-Or.is, outlined-Or, ← c.deref.ensures, ← c.deref-in-Or.ensures)
+    (IfOk-weaker c.write.result _ _
+    (λ x h. both_written _ _ _ _ _ c.in_ok-write_beside-in-Or.ensures
+    (both_written _ _ _ _ _ c.in_ok-turn-in-Or.ensures h))
+    c.write.ensures)
+
+pub write_beside-returns-in-ZeroOrMore : goal.write_beside-returns-in-ZeroOrMore
+write_beside-returns-in-ZeroOrMore t c =
+    let same : alternatives (outlined c.args.self.now) ≡ program (outlined c.args.self.now) =
+    grind (arith, shapes, repeated_beside) in
+    rw same c.write-in-ZeroOrMore.ensures
+
+pub write_copies-returns : goal.write_copies-returns
+write_copies-returns t c =
+    repeats_program c.copy.result _ _ _ _ _ _ c.len-from.ensures c.if-count-eq0.false c.in_ok-write.ensures c.copy.ensures
+
+pub write_options-returns : goal.write_options-returns
+write_options-returns t c =
+    repeats_program c.copy.result _ _ _ _ _ _ c.len-from.ensures c.if-count-eq0.false c.in_ok-write_option.ensures
+    c.copy.ensures

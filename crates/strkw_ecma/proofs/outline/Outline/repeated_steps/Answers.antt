@@ -1,0 +1,32 @@
+use Rattle.std.proofs.Common.{◌≡◌, ◌∙◌, ◌-◌, sym}
+use Rattle.strkw_ecma.specs.Tree.{empty, alt, star}
+use Rattle.strkw_ecma.specs.Patterns.{repeated}
+use Rattle.strkw_ecma.specs.Sizes.{capped}
+use Rattle.strkw_ecma.specs.Size.{steps}
+use Rattle.strkw_ecma.specs.Shape.{outlined}
+use Rattle.strkw_ecma.proofs.Sizes.{both_steps, copies_steps}
+use Rattle.strkw_ecma.proofs.outline.Outline.repeated_steps.Goals as goal
+
+pub returns-in-Exactly : goal.returns-in-Exactly
+returns-in-Exactly c =
+    rw (c.in-Exactly.is)
+    (c.times.ensures ∙ copies_steps c.in-Exactly.count (outlined c.args.self.now) c.args.own c.requires)
+
+pub returns-in-AtLeast : goal.returns-in-AtLeast
+returns-in-AtLeast c =
+    let p = outlined c.args.self.now in
+    rw (c.in-AtLeast.is)
+    (c.together.ensures
+    ∙ both_steps (repeated c.in-AtLeast.count p) (star p) _ _
+    (c.times-in-AtLeast.ensures ∙ copies_steps c.in-AtLeast.count p c.args.own c.requires) c.loop_steps-in-AtLeast.ensures.star)
+
+pub returns-in-FromTo : goal.returns-in-FromTo
+returns-in-FromTo c =
+    let p = outlined c.args.self.now in
+    let rest : c.times-rest.result ≡ capped (steps (repeated (c.in-FromTo.most - c.in-FromTo.least) (alt empty p))) =
+    rw (sym c.saturating_sub.ensures)
+    (c.times-rest.ensures ∙ copies_steps c.saturating_sub.result (alt empty p) _ c.option_steps-in-FromTo.ensures) in
+    rw (c.in-FromTo.is)
+    (c.together-in-FromTo.ensures
+    ∙ both_steps (repeated c.in-FromTo.least p) (repeated (c.in-FromTo.most - c.in-FromTo.least) (alt empty p)) _ _
+    (c.times-in-FromTo.ensures ∙ copies_steps c.in-FromTo.least p c.args.own c.requires) rest)

@@ -1,0 +1,171 @@
+use Rattle.std.proofs.Common.{◌≡◌, ◌≤◌, ◌<◌, ◌+◌, ℕ, suc, true, false, Bool, ◌&&◌, ◌||◌, List, [], ◌∷◌, length, drop, drop-cons, take, set, take-suc-set, drop-set-lt, take-append-drop, get_or, slice_get, Option, refl, sym, ap, ◌∙◌, arith}
+use Rattle.std.proofs.lemmas.List.{append_assoc}
+use Rattle.strkw_ecma.specs.declared.code.Instruction.{Instruction as CodeInstruction}
+use Rattle.strkw_ecma.specs.declared.code.Instruction.TheVariants.{Read, Turn}
+use Rattle.strkw_ecma.specs.declared.tree.CharSet.{CharSet}
+use Rattle.strkw_ecma.specs.declared.code.Turn.{Turn as CodeTurn}
+use Rattle.strkw_ecma.specs.declared.program.Program.{Program}
+use Rattle.strkw_ecma.specs.declared.walk.Walk.{Walk as CodeWalk}
+use Rattle.strkw_ecma.specs.Program.{Instruction, read, read_count}
+use Rattle.strkw_ecma.specs.Shape.{turned, reading}
+use Rattle.strkw_ecma.specs.Walk.{Walked, Following, over, followed}
+use Rattle.strkw_ecma.specs.Marks.{classes}
+use Rattle.strkw_ecma.specs.Machine.{pattern_of, program_of, class_reads, following_of}
+use Rattle.strkw_ecma.proofs.Programs.{with_marks}
+use Rattle.strkw_ecma.proofs.Machines.{there, one_mark_more, from_class, from_turn, from_end, none_read, marks_are_reads, few_marks, within_at, followed_reading, followed_turned}
+use Rattle.strkw_ecma.proofs.program.Program.follow.Goals.{in-Read, in-Turn}
+use Rattle.strkw_ecma.proofs.program.Program.follow.Goals as goal
+
+pub loop-instruction-init : goal.loop-instruction-init
+loop-instruction-init c =
+    let p = c.args.self.now in
+    record {
+      counted = omega (arith, marks_are_reads p);
+      followed = ap (λ (s : Following). followed c.args.last c.args.next (program_of p) s c.args.marks.now) (sym (c.begin_forth.ensures.following true));
+      around = omega (arith, c.begin_forth.ensures.around);
+    }
+
+pub bounds-reads-class : goal.bounds-reads-class
+bounds-reads-class c =
+    let p = c.args.self.now in
+    let end = ap length c.deref-instruction-items.ensures.value in
+    let one : c.in-Read.class < length p.code.classes.items =
+    within_at (length p.code.classes.items) p.code.instructions.items c.loop-instruction.instruction-index c.in-Read.class c.in-Read.again c.in-Read.optional _
+    (omega (arith, end, c.loop-instruction-test.true)) (there _ _ _ _ c.deref-instruction-items.ensures.value c.in-Read.is) p.within in
+    omega (arith, one, c.requires.enough)
+
+-- a mark is left for the class
+module _ (p : Program) (k : ℕ) (items : List CodeInstruction) (same : items ≡ p.code.instructions.items) (within : k < length items)
+    (class : ℕ) (again optional : Bool) (here : get_or items k (Read 0 false false) ≡ Read class again optional)
+    (at : ℕ) (counted : at + read_count (drop k (program_of p)) ≡ p.marks) where
+  pub one_more_mark : at + 1 + read_count (drop (suc k) (program_of p)) ≡ p.marks
+  one_more_mark = one_mark_more p k (omega (arith, ap length same, within)) class again optional (there _ _ _ _ same here) at counted
+
+  pub has_mark : (n : ℕ) → classes (pattern_of p) ≤ n → at < n
+  has_mark n h = omega (arith, one_more_mark, p.counted, h)
+
+pub bounds-marks-at : goal.bounds-marks-at
+bounds-marks-at c =
+    has_mark c.args.self.now c.loop-instruction.instruction-index _ c.deref-instruction-items.ensures.value c.loop-instruction-test.true
+    c.in-Read.class c.in-Read.again c.in-Read.optional c.in-Read.is c.loop-instruction.at c.loop-instruction.invariant.counted
+    (length c.loop-instruction.marks) (omega (arith, c.loop-instruction.auto.marks, c.requires.fits))
+
+pub bounds-marks-at-in-Read : goal.bounds-marks-at-in-Read
+bounds-marks-at-in-Read c =
+    has_mark c.args.self.now c.loop-instruction.instruction-index _ c.deref-instruction-items.ensures.value c.loop-instruction-test.true
+    c.in-Read.class c.in-Read.again c.in-Read.optional c.in-Read.is c.loop-instruction.at c.loop-instruction.invariant.counted
+    (length c.loop-instruction.marks) (omega (arith, c.loop-instruction.auto.marks, c.requires.fits))
+
+pub overflow_add-at : goal.overflow_add-at
+overflow_add-at c =
+    let few : c.loop-instruction.at < 2600 =
+    has_mark c.args.self.now c.loop-instruction.instruction-index _ c.deref-instruction-items.ensures.value c.loop-instruction-test.true
+    c.in-Read.class c.in-Read.again c.in-Read.optional c.in-Read.is c.loop-instruction.at c.loop-instruction.invariant.counted
+    2600 (few_marks c.args.self.now) in
+    omega (arith, few)
+
+pub over-enters-requires : goal.over-enters-requires
+over-enters-requires c =
+    let end = ap length c.deref-instruction-items.ensures.value in
+    record { around = omega (arith, end, c.args.self.now.few, c.loop-instruction.invariant.around, c.loop-instruction-test.true) }
+
+-- one instruction more is followed
+module _ (p : Program) (k at : ℕ) (within : k < length p.code.instructions.items) (last next : Option ℕ) (enters : Bool) (old : CodeWalk) (all : Walked) (marks : List Bool)
+    (h : all ≡ with_marks last next (take at marks) (followed last next (drop k (program_of p)) (following_of enters old) (drop at marks))) where
+  next_place : k + 1 ≡ suc k
+  next_place = omega arith
+
+  next_mark : at + 1 ≡ suc at
+  next_mark = omega arith
+
+  pub turn_followed : (t : CodeTurn) (comes : Bool) (new : CodeWalk) → get_or p.code.instructions.items k (Read 0 false false) ≡ Turn t
+      → ((m : Bool) → following_of comes new ≡ over last next (turned t) m (following_of enters old))
+      → all ≡ with_marks last next (take at marks) (followed last next (drop (k + 1) (program_of p)) (following_of comes new) (drop at marks))
+  turn_followed t comes new here behind =
+      rw next_place
+      (h
+      ∙ ap (λ (is : List Instruction). with_marks last next (take at marks) (followed last next is (following_of enters old) (drop at marks))) (from_turn p k within t here)
+      ∙ ap (with_marks last next (take at marks)) (followed_turned last next t (drop (suc k) (program_of p)) (drop at marks) _ _ behind))
+
+  pub class_followed : (class : ℕ) (again optional reads_it behind comes : Bool) (new : CodeWalk) → get_or p.code.instructions.items k (Read 0 false false) ≡ Read class again optional
+      → ((n : Bool) (rs : List CharSet) → following_of comes new ≡ over last next (read again optional n rs) (get_or marks at false) (following_of enters old))
+      → reads_it ≡ class_reads next (slice_get p.code.classes.items class)
+      → behind ≡ ((enters || (again && get_or marks at false)) && reads_it) → at < length marks
+      → all ≡ with_marks last next (take (at + 1) (set marks at behind))
+      (followed last next (drop (k + 1) (program_of p)) (following_of comes new) (drop (at + 1) (set marks at behind)))
+  class_followed class again optional reads_it behind comes new here forwards reads_is behind_is marked =
+      let rest = drop (suc k) (program_of p) in
+      let first = reading again optional (slice_get p.code.classes.items class) in
+      let walk = followed last next rest (following_of comes new) (drop (suc at) marks) in
+      rw (next_place, next_mark)
+      (h
+      ∙ ap (λ (is : List Instruction). with_marks last next (take at marks) (followed last next is (following_of enters old) (drop at marks))) (from_class p k within class again optional here)
+      ∙ ap (λ (ms : List Bool). with_marks last next (take at marks) (followed last next (first ∷ rest) (following_of enters old) ms)) (drop-cons marks at false marked)
+      ∙ ap (with_marks last next (take at marks))
+      (followed_reading last next (slice_get p.code.classes.items class) again optional (get_or marks at false) reads_it behind rest (drop (suc at) marks) _ _ forwards reads_is behind_is)
+      ∙ ap (λ (ms : List Bool). record { leaves = walk.leaves; marks = ms }) (sym (append_assoc (take at marks) (behind ∷ []) walk.marks))
+      ∙ ap (λ (ms : List Bool). with_marks last next ms walk) (sym (take-suc-set marks at behind marked))
+      ∙ ap (λ (ms : List Bool). with_marks last next (take (suc at) (set marks at behind)) (followed last next rest (following_of comes new) ms))
+      (sym (drop-set-lt (suc at) marks at behind (omega arith))))
+
+pub loop-instruction-preserved : goal.loop-instruction-preserved
+loop-instruction-preserved c =
+    let p = c.args.self.now in
+    let k = c.loop-instruction.instruction-index in
+    let at = c.loop-instruction.at in
+    let items = c.deref-instruction-items.ensures.value in
+    let within : k < length p.code.instructions.items = omega (arith, ap length items, c.loop-instruction-test.true) in
+    let next : k + 1 ≡ suc k = omega arith in
+    elim c.match-instruction.branch [
+      | in-Read w ↦
+          let here = there _ _ k _ items w.in-Read.is in
+          let more = one_more_mark p k _ items c.loop-instruction-test.true w.in-Read.class w.in-Read.again w.in-Read.optional w.in-Read.is at c.loop-instruction.invariant.counted in
+          let marked : at < length c.loop-instruction.marks =
+          has_mark p k _ items c.loop-instruction-test.true w.in-Read.class w.in-Read.again w.in-Read.optional w.in-Read.is at c.loop-instruction.invariant.counted
+          (length c.loop-instruction.marks) (omega (arith, c.loop-instruction.auto.marks, c.requires.fits)) in
+          let there_is : w.in-Read.class < length p.code.classes.items =
+          within_at (length p.code.classes.items) p.code.instructions.items k w.in-Read.class w.in-Read.again w.in-Read.optional _ within here p.within in
+          rw (w.walk-is, w.enters-is, w.marks-is, w.at-is)
+          (record {
+            counted = ap (λ (n : ℕ). at + 1 + read_count (drop n (program_of p))) next ∙ more;
+            followed =
+                class_followed p k at within c.args.last c.args.next c.loop-instruction.enters c.loop-instruction.walk _ c.loop-instruction.marks c.loop-instruction.invariant.followed
+                w.in-Read.class w.in-Read.again w.in-Read.optional (get_or c.args.reads.now w.in-Read.class false) _ _ c.loop-instruction.walk here
+                (λ n rs. refl)
+                (c.requires.reads w.in-Read.class there_is) refl marked;
+            around = omega (arith, c.loop-instruction.invariant.around);
+          })
+      | in-Turn w ↦
+          let here = there _ _ k _ items w.in-Turn.is in
+          rw (w.walk-is, w.enters-is, w.marks-is, w.at-is)
+          (record {
+            counted =
+                ap (λ (n : ℕ). at + read_count (drop n (program_of p))) next
+                ∙ omega (arith, c.loop-instruction.invariant.counted, ap read_count (from_turn p k within w.in-Turn.turn here), none_read w.in-Turn.turn (drop (suc k) (program_of p)));
+            followed =
+                turn_followed p k at within c.args.last c.args.next c.loop-instruction.enters c.loop-instruction.walk _ c.loop-instruction.marks c.loop-instruction.invariant.followed
+                w.in-Turn.turn w.over-enters.result w.over-enters.new.self here w.over-enters.ensures.following;
+            around = omega (arith, c.loop-instruction.invariant.around, w.over-enters.ensures.around);
+          })
+    ]
+
+module _ (p : Program) (k at : ℕ) (last next : Option ℕ) (enters : Bool) (w : CodeWalk) (all : Walked) (marks : List Bool) (end : length p.code.instructions.items ≤ k)
+    (h : all ≡ with_marks last next (take at marks) (followed last next (drop k (program_of p)) (following_of enters w) (drop at marks))) where
+  pub all_followed : all ≡ record { leaves = enters; marks = marks }
+  all_followed =
+      h ∙ ap (λ (is : List Instruction). with_marks last next (take at marks) (followed last next is (following_of enters w) (drop at marks))) (from_end p.code.classes.items p.code.instructions.items k end)
+      ∙ ap (λ (ms : List Bool). record { leaves = enters; marks = ms }) (take-append-drop at marks)
+
+pub returns-clause-left : goal.returns-clause-left
+returns-clause-left c =
+    let end = ap length c.deref-instruction-items.ensures.value in
+    sym (ap (λ (v : Walked). v.leaves)
+    (all_followed c.args.self.now c.loop-instruction.instruction-index c.loop-instruction.at c.args.last c.args.next c.loop-instruction.enters c.loop-instruction.walk _ c.loop-instruction.marks
+    (omega (arith, end, c.loop-instruction-test.false)) c.loop-instruction.invariant.followed))
+
+pub returns-clause-marks : goal.returns-clause-marks
+returns-clause-marks c =
+    let end = ap length c.deref-instruction-items.ensures.value in
+    sym (ap (λ (v : Walked). v.marks)
+    (all_followed c.args.self.now c.loop-instruction.instruction-index c.loop-instruction.at c.args.last c.args.next c.loop-instruction.enters c.loop-instruction.walk _ c.loop-instruction.marks
+    (omega (arith, end, c.loop-instruction-test.false)) c.loop-instruction.invariant.followed))

@@ -1,0 +1,48 @@
+use Rattle.std.proofs.Common.{◌≡◌, ◌≤◌, true, ℕ, Bool, List, length, Option, sym, ap, ◌∙◌}
+use Rattle.strkw_ecma.specs.Marks.{leaves, step, marked, classes}
+use Rattle.strkw_ecma.specs.Program.{Instruction, program, has_loop}
+use Rattle.strkw_ecma.specs.Walk.{Walked, asked, begun, followed, walked}
+use Rattle.strkw_ecma.specs.Machine.{pattern_of, program_of, answers_of}
+use Rattle.strkw_ecma.specs.declared.program.Program.{Program}
+use Rattle.strkw_ecma.proofs.Few.{no_loops}
+use Rattle.strkw_ecma.proofs.Marked.{walk_steps}
+use Rattle.strkw_ecma.proofs.program.Program.step.Goals.{then-self, else-self}
+use Rattle.strkw_ecma.proofs.program.Program.step.Goals as goal
+
+module _ (p : Program) (last next : Option ℕ) (marks again : List Bool) (known : again ≡ (asked last next (program_of p) marks).again)
+    (fits : classes (pattern_of p) ≤ length marks) where
+  walk_is : followed last next (program_of p) (begun again) marks ≡ walked last next (program (pattern_of p)) marks
+  walk_is =
+      ap (λ (bs : List Bool). followed last next (program_of p) (begun bs) marks) known
+      ∙ ap (λ (is : List Instruction). walked last next is marks) p.right
+
+  pub left_is : (answer : Bool) → answer ≡ (followed last next (program_of p) (begun again) marks).leaves
+      → answer ≡ leaves last next (marked marks (pattern_of p)) true
+  left_is answer is = is ∙ ap (λ (w : Walked). w.leaves) walk_is ∙ (walk_steps last next (pattern_of p) marks fits).leaves_is
+
+  pub marks_are : (behind : List Bool) → behind ≡ (followed last next (program_of p) (begun again) marks).marks
+      → marked behind (pattern_of p) ≡ step last next (marked marks (pattern_of p)) true
+  marks_are behind is =
+      ap (λ (ms : List Bool). marked ms (pattern_of p)) (is ∙ ap (λ (w : Walked). w.marks) walk_is)
+      ∙ (walk_steps last next (pattern_of p) marks fits).marks_are
+
+-- what is known of the loops, where there are some and where there are none
+loops_known : (c : goal.After-slice_known-2-1)
+    → answers_of c.if-self.room.1.0.again ≡ (asked c.args.last c.args.next (program_of c.args.self.now) c.args.marks.now).again
+loops_known c =
+    elim c.if-self.branch [
+      | then-self w ↦ rw w.room-is w.ask.ensures
+      | else-self w ↦
+          let p = c.args.self.now in
+          rw w.room-is
+          (w.clear.ensures.empty
+          ∙ sym (no_loops c.args.last c.args.next (program_of p) c.args.marks.now (ap has_loop p.right ∙ sym p.loops ∙ w.if-self.false)))
+    ]
+
+pub returns-clause-left : goal.returns-clause-left
+returns-clause-left c =
+    left_is c.args.self.now c.args.last c.args.next c.args.marks.now _ (loops_known c) c.requires.fits c.follow.result c.follow.ensures.left
+
+pub returns-clause-marks : goal.returns-clause-marks
+returns-clause-marks c =
+    marks_are c.args.self.now c.args.last c.args.next c.args.marks.now _ (loops_known c) c.requires.fits c.follow.new.marks c.follow.ensures.marks

@@ -1,0 +1,119 @@
+-- The program of a pattern: instructions one behind another, with no tree in them.
+use Rattle.std.specs.Prelude.{ℕ, zero, suc, ◌+◌, Bool, true, false, ◌||◌, List, [], ◌∷◌, ◌++◌}
+use Rattle.strkw_ecma.specs.declared.tree.CharSet.{CharSet}
+use Rattle.strkw_ecma.specs.Tree.{Look, start, end, boundary, no_boundary, Pattern, empty, class, look, cat, alt, star, plus}
+
+pub data Instruction : Type 0 where
+  -- One character of a class, which is negated or not. Where the first holds, once or more; where the second holds, or none.
+  read : Bool → Bool → Bool → List CharSet → Instruction
+  assert : Look → Instruction
+  -- before the first of some alternatives, between two of them, and behind the last
+  fork other join : Instruction
+  -- before and behind what stands any number of times, or once or more
+  star_begin star_end plus_begin plus_end : Instruction
+
+-- of a class the first, of any other pattern the second
+abbrev pub if_class : {A : Type 0} → Pattern → (Bool → List CharSet → A) → A → A
+if_class (class m n rs) f x = f n rs
+if_class empty f x = x
+if_class (look l) f x = x
+if_class (cat p q) f x = x
+if_class (alt p q) f x = x
+if_class (star p) f x = x
+if_class (plus p) f x = x
+
+-- of two alternatives: where nothing or a class may stand, the first
+abbrev pub if_option : {A : Type 0} → Pattern → Pattern → (Bool → List CharSet → A) → A → A
+if_option empty q f x = if_class q f x
+if_option (class m n rs) q f x = x
+if_option (look l) q f x = x
+if_option (cat p r) q f x = x
+if_option (alt p r) q f x = x
+if_option (star p) q f x = x
+if_option (plus p) q f x = x
+
+abbrev pub is_class : Pattern → Bool
+is_class p = if_class p (λ n rs. true) false
+
+abbrev pub is_empty : Pattern → Bool
+is_empty empty = true
+is_empty (class m n rs) = false
+is_empty (look l) = false
+is_empty (cat p q) = false
+is_empty (alt p q) = false
+is_empty (star p) = false
+is_empty (plus p) = false
+
+-- A class that is repeated, or that may be missing, is one instruction.
+abbrev mutual
+  pub program : Pattern → List Instruction
+  program empty = []
+  program (class m n rs) = read false false n rs ∷ []
+  program (look l) = assert l ∷ []
+  program (cat p q) = program p ++ program q
+  program (alt p q) =
+      if_option p q (λ n rs. read false true n rs ∷ []) (fork ∷ (alternatives p ++ (other ∷ (program q ++ (join ∷ [])))))
+  program (star p) = if_class p (λ n rs. read true true n rs ∷ []) (star_begin ∷ (program p ++ (star_end ∷ [])))
+  program (plus p) = if_class p (λ n rs. read true false n rs ∷ []) (plus_begin ∷ (program p ++ (plus_end ∷ [])))
+
+  -- the alternatives of more than two stand side by side
+  pub alternatives : Pattern → List Instruction
+  alternatives (alt p q) = alternatives p ++ (other ∷ program q)
+  alternatives empty = []
+  alternatives (class m n rs) = read false false n rs ∷ []
+  alternatives (look l) = assert l ∷ []
+  alternatives (cat p q) = program p ++ program q
+  alternatives (star p) = if_class p (λ n rs. read true true n rs ∷ []) (star_begin ∷ (program p ++ (star_end ∷ [])))
+  alternatives (plus p) = if_class p (λ n rs. read true false n rs ∷ []) (plus_begin ∷ (program p ++ (plus_end ∷ [])))
+
+-- so many times
+abbrev pub copied : {A : Type 0} → ℕ → List A → List A
+copied zero xs = []
+copied (suc n) xs = xs ++ copied n xs
+
+abbrev pub is_loop : Instruction → Bool
+is_loop (read again optional n rs) = false
+is_loop (assert l) = false
+is_loop fork = false
+is_loop other = false
+is_loop join = false
+is_loop star_begin = true
+is_loop star_end = false
+is_loop plus_begin = true
+is_loop plus_end = false
+
+abbrev pub has_loop : List Instruction → Bool
+has_loop [] = false
+has_loop (i ∷ is) = is_loop i || has_loop is
+
+-- how many classes are read
+abbrev pub read_count : List Instruction → ℕ
+read_count [] = 0
+read_count (read again optional n rs ∷ is) = read_count is + 1
+read_count (assert l ∷ is) = read_count is
+read_count (fork ∷ is) = read_count is
+read_count (other ∷ is) = read_count is
+read_count (join ∷ is) = read_count is
+read_count (star_begin ∷ is) = read_count is
+read_count (star_end ∷ is) = read_count is
+read_count (plus_begin ∷ is) = read_count is
+read_count (plus_end ∷ is) = read_count is
+
+abbrev pub asks_word : Look → Bool
+asks_word start = false
+asks_word end = false
+asks_word boundary = true
+asks_word no_boundary = true
+
+-- `\b` or `\B` stands among them
+abbrev pub asks_boundary : List Instruction → Bool
+asks_boundary [] = false
+asks_boundary (read again optional n rs ∷ is) = asks_boundary is
+asks_boundary (assert l ∷ is) = asks_word l || asks_boundary is
+asks_boundary (fork ∷ is) = asks_boundary is
+asks_boundary (other ∷ is) = asks_boundary is
+asks_boundary (join ∷ is) = asks_boundary is
+asks_boundary (star_begin ∷ is) = asks_boundary is
+asks_boundary (star_end ∷ is) = asks_boundary is
+asks_boundary (plus_begin ∷ is) = asks_boundary is
+asks_boundary (plus_end ∷ is) = asks_boundary is

@@ -1,0 +1,169 @@
+//! Instructions one behind another, as they are written for a pattern.
+
+ghost use Rattle.std.specs.Prelude.{◌≡◌, ◌≤◌, ◌+◌, ◌-◌, ◌++◌, [], ◌∷◌, length, take, drop, IfOk};
+ghost use Rattle.strkw_ecma.specs.Program.{read, copied, read_count as spec_read_count, has_loop, asks_boundary};
+ghost use Rattle.strkw_ecma.specs.Shape.{turned};
+
+use crate::tree::CharSet;
+use std::alloc::{AllocError, Global};
+
+/// One character of the sets or, where `negated` holds, one outside them.
+#[derive(Drop)]
+pub(crate) struct Class {
+    pub(crate) negated: bool,
+    pub(crate) sets: Vec<CharSet>,
+}
+
+/// An instruction that reads no character.
+#[derive(Clone, Copy)]
+pub(crate) enum Turn {
+    Start,
+    End,
+    Boundary,
+    NoBoundary,
+    /// Before the first of some alternatives, between two of them, and behind the last.
+    Fork,
+    Other,
+    Join,
+    /// Before and behind what stands any number of times.
+    StarBegin,
+    StarEnd,
+    /// Before and behind what stands once or more.
+    PlusBegin,
+    PlusEnd,
+}
+
+#[derive(Clone, Copy)]
+pub(crate) enum Instruction {
+    /// One character of the class of this number; where `again` holds, once or more, and where `optional` holds, or
+    /// none.
+    Read {
+        class: usize,
+        again: bool,
+        optional: bool,
+    },
+    Turn(Turn),
+}
+
+#[derive(Drop)]
+pub(crate) struct Code {
+    pub(crate) classes: Vec<Class>,
+    pub(crate) instructions: Vec<Instruction>,
+}
+
+impl Code {
+    ghost use Rattle.strkw_ecma.specs.Machine.{written, IsWithin, Writes};
+
+    pub(crate) fn new(alloc: Global) -> Code
+        ensures nothing { written result ≡ [] }
+        ensures within { IsWithin result }
+        ensures classes { length result.classes.items ≡ 0 }
+    {
+        Code {
+            classes: Vec::new(alloc),
+            instructions: Vec::new(alloc),
+        }
+    }
+
+    pub(crate) fn turn(&mut self, turn: Turn) -> Result<(), AllocError>
+        ensures { IfOk result (λ _. Writes self.old self.new (turned turn ∷ [])) }
+    {
+        self.instructions.push(Instruction::Turn(turn))?;
+        Ok(())
+    }
+
+    /// Reads a character of a class, which is added to the classes.
+    pub(crate) fn read(
+        &mut self,
+        alloc: Global,
+        negated: bool,
+        sets: &[CharSet],
+        again: bool,
+        optional: bool,
+    ) -> Result<(), AllocError>
+        ensures { IfOk result (λ _. Writes self.old self.new
+            (read again optional negated sets.now ∷ [])) }
+    {
+        let class = self.classes.len();
+        self.classes.push(Class {
+            negated,
+            sets: Vec::from_slice(alloc, sets)?,
+        })?;
+        self.instructions.push(Instruction::Read {
+            class,
+            again,
+            optional,
+        })?;
+        Ok(())
+    }
+
+    // Writes what stands from one place up to another once more.
+    fn copy_once(&mut self, from: usize, end: usize) -> Result<(), AllocError>
+        requires order { from ≤ end }
+        requires within { end ≤ length self.old.instructions.items }
+        ensures instructions { IfOk result (λ _. self.new.instructions.items
+            ≡ self.old.instructions.items ++ drop from (take end self.old.instructions.items)) }
+        ensures classes { IfOk result (λ _. self.new.classes ≡ self.old.classes) }
+    {
+        for place in from..end {
+            let instruction = self.instructions[place];
+            self.instructions.push(instruction)?;
+        }
+        Ok(())
+    }
+
+    /// Writes what stands from a place on once more, so often.
+    pub(crate) fn copy(&mut self, from: usize, times: u32) -> Result<(), AllocError>
+        requires { from ≤ length self.old.instructions.items }
+        ensures { IfOk result (λ _. Writes self.old self.new
+            (copied times (drop from (written self.old)))) }
+    {
+        let end = self.instructions.len();
+        for _ in 0..times {
+            self.copy_once(from, end)?;
+        }
+        Ok(())
+    }
+
+    /// How many classes are read.
+    pub(crate) fn read_count(&self) -> usize
+        ensures { result ≡ spec_read_count (written self.now) }
+    {
+        let mut count = 0;
+        for instruction in &self.instructions {
+            if matches!(instruction, Instruction::Read { .. }) {
+                count += 1;
+            }
+        }
+        count
+    }
+
+    pub(crate) fn has_loops(&self) -> bool
+        ensures { result ≡ has_loop (written self.now) }
+    {
+        for instruction in &self.instructions {
+            if matches!(
+                instruction,
+                Instruction::Turn(Turn::StarBegin | Turn::PlusBegin)
+            ) {
+                return true;
+            }
+        }
+        false
+    }
+
+    /// Whether `\b` or `\B` stands in it.
+    pub(crate) fn has_boundary(&self) -> bool
+        ensures { result ≡ asks_boundary (written self.now) }
+    {
+        for instruction in &self.instructions {
+            if matches!(
+                instruction,
+                Instruction::Turn(Turn::Boundary | Turn::NoBoundary)
+            ) {
+                return true;
+            }
+        }
+        false
+    }
+}

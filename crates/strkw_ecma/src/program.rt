@@ -1,0 +1,182 @@
+//! The program of a pattern, and a step of a search over it.
+
+ghost use Rattle.std.specs.Prelude.{◌≡◌, ◌≤◌, true, false, [], length, IfOk};
+ghost use Rattle.strkw_ecma.specs.Columns.{has_boundary as spec_has_boundary};
+ghost use Rattle.strkw_ecma.specs.Marks.{leaves, step, marked, classes as spec_classes};
+ghost use Rattle.strkw_ecma.specs.Program.{program, has_loop};
+ghost use Rattle.strkw_ecma.specs.Shape.{outlined, instructions, are_within};
+ghost use Rattle.strkw_ecma.specs.Size.{steps, max_steps};
+ghost use Rattle.strkw_ecma.specs.Walk.{asked, followed, begun};
+
+use crate::code::{Class, Code, Instruction};
+use crate::marks::reads_class;
+use crate::outline::Outline;
+use crate::size::class_steps;
+use crate::walk::Walk;
+use std::alloc::{AllocError, Global};
+
+/// The most instructions of a pattern that is taken, each of which is a step.
+pub(crate) const MOST_INSTRUCTIONS: usize = 2600;
+
+/// A pattern as it was read, and its program. The marks of a search stand beside it, one for each class that is read.
+#[derive(Drop)]
+pub(crate) struct Program {
+    pub(crate) outline: Outline,
+    pub(crate) code: Code,
+    pub(crate) marks: usize,
+    has_loops: bool,
+    pub(crate) has_boundary: bool,
+    ghost within: { are_within (length code.classes.items) code.instructions.items ≡ true },
+    ghost right: { instructions code.classes.items code.instructions.items
+        ≡ program (outlined outline) },
+    ghost counted: { marks ≡ spec_classes (outlined outline) },
+    ghost loops: { has_loops ≡ has_loop (program (outlined outline)) },
+    ghost boundary: { has_boundary ≡ spec_has_boundary (outlined outline) },
+    ghost few: { length code.instructions.items ≤ max_steps },
+    ghost few_classes: { length code.classes.items ≤ max_steps },
+}
+
+/// What a search has at hand beside the marks. It takes no memory.
+#[derive(Drop)]
+pub(crate) struct Room {
+    walk: Walk,
+    // Whether each class has the next character.
+    reads: [bool; MOST_INSTRUCTIONS],
+    ghost room: { length reads ≡ max_steps },
+}
+
+impl Room {
+    ghost use Rattle.strkw_ecma.specs.Machine.{AreReads};
+
+    pub(crate) fn new() -> Room {
+        Room {
+            walk: Walk::new(),
+            reads: [false; MOST_INSTRUCTIONS],
+        }
+    }
+
+    // Asks each class about the next character.
+    fn look(&mut self, classes: &[Class], next: Option<char>)
+        requires { length classes.now ≤ max_steps }
+        ensures { AreReads next classes.now self.new.reads }
+    {
+        for (number, class) in classes.iter().enumerate() {
+            self.reads[number] = reads_class(next, class.negated, &class.sets);
+        }
+    }
+}
+
+impl Program {
+    ghost use Rattle.strkw_ecma.specs.Machine.{pattern_of, program_of, answers_of, AreReads};
+
+    /// The program of what was read.
+    pub(crate) fn of(alloc: Global, outline: Outline) -> Result<Program, AllocError>
+        requires { steps (outlined outline) ≤ max_steps }
+        ensures { IfOk result (λ p. pattern_of p ≡ outlined outline) }
+    {
+        let mut code = Code::new(alloc);
+        outline.write(alloc, &mut code)?;
+        Ok(Program {
+            marks: code.read_count(),
+            has_loops: code.has_loops(),
+            has_boundary: code.has_boundary(),
+            outline,
+            code,
+        })
+    }
+
+    /// How many steps a walk is: those of its instructions, and of its classes, each of which is asked once.
+    pub(crate) fn work(&self) -> usize {
+        let mut work = self.code.instructions.len();
+        for class in &self.code.classes {
+            work = work.saturating_add(class_steps(&class.sets) as usize);
+        }
+        work
+    }
+
+    // Backwards over the instructions, for what is known of the loops.
+    fn ask(&self, walk: &mut Walk, marks: &[bool], last: Option<char>, next: Option<char>)
+        requires { spec_classes (pattern_of self.now) ≤ length marks.now }
+        ensures { answers_of walk.new.again
+            ≡ (asked last next (program_of self.now) marks.now).again }
+    {
+        let mut ahead = walk.begin_back();
+        let instructions = self.code.instructions.as_slice();
+        let mut at = self.marks;
+        let mut place = instructions.len();
+        'back: while place > 0 {
+            place -= 1;
+            match instructions[place] {
+                Instruction::Read { optional, .. } => {
+                    at -= 1;
+                    ahead = ahead.back_over_class(optional, marks[at]);
+                }
+                Instruction::Turn(turn) => ahead = walk.back_over(turn, ahead, last, next),
+            }
+        }
+    }
+
+    // Forwards over the instructions, with what is known of the loops. Whether a way ends behind them.
+    fn follow(
+        &self,
+        walk: &mut Walk,
+        reads: &[bool],
+        marks: &mut [bool],
+        last: Option<char>,
+        next: Option<char>,
+    ) -> bool
+        requires fits { spec_classes (pattern_of self.now) ≤ length marks.old }
+        requires reads { AreReads next self.now.code.classes.items reads.now }
+        requires enough { length self.now.code.classes.items ≤ length reads.now }
+        ensures left { result
+            ≡ (followed last next (program_of self.now)
+            (begun (answers_of walk.old.again)) marks.old).leaves }
+        ensures marks { marks.new
+            ≡ (followed last next (program_of self.now)
+            (begun (answers_of walk.old.again)) marks.old).marks }
+    {
+        walk.begin_forth();
+        let mut enters = true;
+        let mut at = 0;
+        for instruction in &self.code.instructions {
+            match *instruction {
+                Instruction::Read {
+                    class,
+                    again,
+                    optional,
+                } => {
+                    let mark = marks[at];
+                    marks[at] = (enters | (again & mark)) & reads[class];
+                    enters = (optional & enters) | mark;
+                    at += 1;
+                }
+                Instruction::Turn(turn) => enters = walk.over(turn, enters, last, next),
+            }
+        }
+        enters
+    }
+
+    /// A step of the search, between two characters: whether a way through the pattern ends there that went on from a
+    /// mark or began there. The marks become those behind the next character.
+    pub(crate) fn step(
+        &self,
+        room: &mut Room,
+        marks: &mut [bool],
+        last: Option<char>,
+        next: Option<char>,
+    ) -> bool
+        requires fits { spec_classes (pattern_of self.now) ≤ length marks.old }
+        ensures left { result ≡ leaves last next (marked marks.old (pattern_of self.now)) true }
+        ensures marks { marked marks.new (pattern_of self.now)
+            ≡ step last next (marked marks.old (pattern_of self.now)) true }
+        ensures length { length marks.new ≡ length marks.old }
+    {
+        room.look(&self.code.classes, next);
+        if self.has_loops {
+            self.ask(&mut room.walk, marks, last, next);
+        } else {
+            room.walk.again.clear();
+        }
+        self.follow(&mut room.walk, &room.reads, marks, last, next)
+    }
+}
