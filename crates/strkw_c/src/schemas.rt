@@ -6,8 +6,8 @@ ghost use Rattle.serde_json.specs.View.{members_view};
 ghost use Rattle.strkw_report.specs.declared.refusal.CompileError.{CompileError};
 ghost use Rattle.strkw_pattern.specs.Matcher.{literal_outcome};
 ghost use Rattle.strkw_keywords.specs.Meanings.{no_lists};
-ghost use Rattle.strkw_keywords.specs.Errors.{IsInUse};
-ghost use Rattle.strkw_cli.specs.Compiled.{IsCompiledFrom, keywords_assertions};
+ghost use Rattle.strkw_keywords.specs.Demands.{IsInUse};
+ghost use Rattle.strkw_cli.specs.Compiled.{IsCompiledFrom, keywords_demands};
 ghost use Rattle.strkw_c.specs.declared.schemas.Failure.TheVariants.{Memory};
 ghost use Rattle.strkw_c.specs.Settings.{settings_for};
 ghost use Rattle.strkw_c.specs.Verdicts.{IsSchema, Fails, FailsObject};
@@ -47,7 +47,7 @@ pub(crate) fn compile(
 ) -> Result<StringKeywords<LiteralMatcher>, Failure>
     ensures compiled { IfOk result (λ k. (object : Members) × IsSchema schema.now (Some object)
         × IsCompiledFrom literal_outcome (settings_for draft options) object k) }
-    ensures in_use { IfOk result (λ k. IsInUse (keywords_assertions literal_outcome k) no_lists) }
+    ensures in_use { IfOk result (λ k. IsInUse (keywords_demands literal_outcome k) no_lists) }
     ensures failed { IfErr result
         (λ failure. Fails failure (settings_for draft options) schema.now) }
 {
@@ -68,7 +68,7 @@ fn compile_object(
 ) -> Result<StringKeywords<LiteralMatcher>, Failure>
     ensures compiled { IfOk result (λ k. IsCompiledFrom literal_outcome
         (settings_for draft options) (members_view object.now.entries) k) }
-    ensures in_use { IfOk result (λ k. IsInUse (keywords_assertions literal_outcome k) no_lists) }
+    ensures in_use { IfOk result (λ k. IsInUse (keywords_demands literal_outcome k) no_lists) }
     ensures failed { IfErr result (λ failure. FailsObject failure
         (settings_for draft options) (members_view object.now.entries)) }
 {

@@ -4,10 +4,10 @@ ghost use Rattle.std.specs.Prelude.{◌≡◌, ◌≢◌, ◌↔◌, ◌<◌, �
 ghost use Rattle.serde_json.specs.Data.{Members};
 ghost use Rattle.strkw_report.specs.Refusals.{Refusal};
 ghost use Rattle.strkw_keywords.specs.Meanings.{no_lists};
-ghost use Rattle.strkw_keywords.specs.Errors.{IsInUse};
+ghost use Rattle.strkw_keywords.specs.Demands.{IsInUse};
 ghost use Rattle.strkw_keywords.specs.Object.{Settings, FirstRefusal};
 ghost use Rattle.strkw_cli.specs.Request.{draft_numbered};
-ghost use Rattle.strkw_cli.specs.Compiled.{keywords_assertions};
+ghost use Rattle.strkw_cli.specs.Compiled.{keywords_demands};
 ghost use Rattle.strkw_c.specs.Settings.{options_of, settings_for, settings_of};
 ghost use Rattle.strkw_c.specs.Texts.{AreTexts, HaveRoom};
 ghost use Rattle.strkw_c.specs.Verdicts.{IsSchema, HasFirstRefusal, Fails, IsValid, Passes, IsVerdict, AreVerdicts};
@@ -115,7 +115,7 @@ fn verdicts_on<E: RegexEngine>(
     texts: &[u8],
     ends: &[usize],
 ) -> Result<Vec<u8>, AllocError>
-    requires in_use { IsInUse (keywords_assertions E.outcome keywords.now) no_lists }
+    requires in_use { IsInUse (keywords_demands E.outcome keywords.now) no_lists }
     requires texts { (list : List (List ℕ)) × AreTexts texts.now ends.now list }
     ensures count { IfOk result (λ made. length made.items ≡ length ends.now) }
     ensures verdicts { IfOk result (λ made. (list : List (List ℕ))
@@ -137,7 +137,7 @@ fn verdict_on<E: RegexEngine>(
     keywords: &StringKeywords<E>,
     text: &[u8],
 ) -> Result<u8, AllocError>
-    requires { IsInUse (keywords_assertions E.outcome keywords.now) no_lists }
+    requires { IsInUse (keywords_demands E.outcome keywords.now) no_lists }
     ensures { IfOk result (λ verdict. IsVerdict (Passes E.outcome keywords.now) text.now verdict) }
 {
     let Ok(text) = str::from_utf8(text) else {

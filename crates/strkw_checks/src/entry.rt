@@ -4,9 +4,10 @@ use serde_json::{Map, Value};
 use std::alloc::Global;
 use strkw_doubles::{ScriptedBuilder, ScriptedEngine};
 use strkw_keywords::{
-    Context, Keyword, Validator, content, format, max_length, member, min_length, pattern,
+    ContentRule, Context, Keyword, Validator, content, format, max_length, member, min_length,
+    pattern,
 };
-use strkw_report::{CompileError, Draft};
+use strkw_report::CompileError;
 
 /// What is compiled of the entry at a keyword. `None` where there is no such entry, or the keyword is left out, or the
 /// draft does not look at it, or it adds nothing.
@@ -25,27 +26,21 @@ pub fn compiled<'a>(
         Keyword::MinLength => min_length::compile(alloc, ctx, schema, value),
         Keyword::MaxLength => max_length::compile(alloc, ctx, schema, value),
         Keyword::Pattern => pattern::compile(alloc, ctx, schema, value),
-        Keyword::ContentMediaType => match ctx.draft {
-            Draft::Draft4 => None,
-            Draft::Draft6 | Draft::Draft7 => {
-                content::compile_media_type(alloc, ctx, schema, value)
-            }
-            Draft::Draft201909 | Draft::Draft202012 => {
-                content::compile_media_type_annotation(alloc, ctx, schema, value)
-            }
+        Keyword::ContentMediaType => match ContentRule::of(ctx.draft) {
+            ContentRule::Ignored => None,
+            ContentRule::Checked => content::compile_media_type(alloc, ctx, schema, value),
+            ContentRule::Noted => content::compile_media_type_annotation(alloc, ctx, schema, value),
         },
-        Keyword::ContentEncoding => match ctx.draft {
-            Draft::Draft4 => None,
-            Draft::Draft6 | Draft::Draft7 => {
-                content::compile_content_encoding(alloc, ctx, schema, value)
-            }
-            Draft::Draft201909 | Draft::Draft202012 => {
+        Keyword::ContentEncoding => match ContentRule::of(ctx.draft) {
+            ContentRule::Ignored => None,
+            ContentRule::Checked => content::compile_content_encoding(alloc, ctx, schema, value),
+            ContentRule::Noted => {
                 content::compile_content_encoding_annotation(alloc, ctx, schema, value)
             }
         },
-        Keyword::ContentSchema => match ctx.draft {
-            Draft::Draft4 | Draft::Draft6 | Draft::Draft7 => None,
-            Draft::Draft201909 | Draft::Draft202012 => {
+        Keyword::ContentSchema => match ContentRule::of(ctx.draft) {
+            ContentRule::Ignored | ContentRule::Checked => None,
+            ContentRule::Noted => {
                 content::compile_content_schema_annotation(alloc, ctx, schema, value)
             }
         },

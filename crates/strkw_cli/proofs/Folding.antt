@@ -7,23 +7,27 @@ use Rattle.strkw_report.specs.declared.error.Site.{Site}
 use Rattle.strkw_pattern.specs.declared.engine.Outcome.{Outcome}
 use Rattle.strkw_keywords.specs.Meanings.{Lists}
 use Rattle.strkw_formats.specs.Formats.{Window, bounds}
-use Rattle.strkw_keywords.specs.Errors.{Assertion, NodeReports}
+use Rattle.strkw_keywords.specs.Errors.{NodeReports}
 use Rattle.strkw_keywords.specs.Object.{Settings, Errors}
 use Rattle.strkw_keywords.specs.Lengths.{IsEmpty, interval, OutsideIsAnError}
 use Rattle.strkw_keywords.specs.Folding.{FoldsToFalse, RefusesTexts, AcceptAlike, FoldedRefuseTexts}
 use Rattle.strkw_keywords.specs.declared.validator.Validator.{Validator}
-use Rattle.strkw_keywords.specs.Validators.{assertions_of, assertions_in}
+use Rattle.strkw_keywords.specs.Validators.{demands_of, demands_in, assertions_in}
 use Rattle.strkw_keywords.proofs.Intervals.{interval_append, ends_in_common, empty_by_numbers}
 use Rattle.strkw_keywords.proofs.Entries.{entries_exist}
-use Rattle.strkw_cli.proofs.Many.{in_more}
+use Rattle.strkw_cli.proofs.Many.{demands_more, demands_are_asserted}
 
 -- ---- what folds is refused
 
 -- a node that is a text has an error, where no length is left
-pub refused_node : OutsideIsAnError → (assertions : List Assertion) (lists : Lists) (site : Site) (instance : Option (List ℕ)) (text : List ℕ)
-    → IsEmpty (interval assertions) → instance ≡ Some text → NodeReports assertions lists site instance [] → ⊥
-refused_node outside assertions lists site instance text empty e reports =
-    outside assertions lists site text (empty (length (chars text))) (subst (λ n. NodeReports assertions lists site n []) e reports)
+pub refused_node : {E : Type 0} → OutsideIsAnError → (outcome : E → List ℕ → Outcome) (vs : List (Validator E)) (lists : Lists) (site : Site)
+    (instance : Option (List ℕ)) (text : List ℕ)
+    → IsEmpty (interval (demands_in outcome vs)) → instance ≡ Some text
+    → NodeReports (assertions_in outcome vs) lists site instance [] → ⊥
+refused_node outside outcome vs lists site instance text empty e reports =
+    let none = subst (λ ds. IsEmpty (interval ds)) (sym (demands_are_asserted outcome vs)) empty in
+    outside (assertions_in outcome vs) lists site text (none (length (chars text)))
+    (subst (λ n. NodeReports (assertions_in outcome vs) lists site n []) e reports)
 
 -- a node that is no text is accepted by every schema object
 other_nodes : (s : Settings) (ms : Members) (lists : Lists) (site : Site) → Errors s ms lists site None []
@@ -48,13 +52,13 @@ pub record AreEnds (least greatest : ℕ) (w : Window) : Type 0 where
 
 module _ {E : Type 0} (outcome : E → List ℕ → Outcome) where
   pub ends_more : (vs : List (Validator E)) (i : ℕ) (v : Validator E) (least greatest low high : ℕ) → i < length vs → v ≡ get_or vs i v
-      → AreEnds least greatest (interval (assertions_in outcome (take i vs))) → (low, high) ≡ bounds (interval (assertions_of outcome v)) → low ≤ top → high ≤ top
-      → AreEnds (max least low) (min greatest high) (interval (assertions_in outcome (take (i + 1) vs)))
+      → AreEnds least greatest (interval (demands_in outcome (take i vs))) → (low, high) ≡ bounds (interval (demands_of outcome v)) → low ≤ top → high ≤ top
+      → AreEnds (max least low) (min greatest high) (interval (demands_in outcome (take (i + 1) vs)))
   ends_more vs i v least greatest low high h e before one l g =
-      let whole = ap interval (in_more outcome vs i v h e) ∙ interval_append (assertions_in outcome (take i vs)) (assertions_of outcome v) in
-      let v_low : low ≡ (interval (assertions_of outcome v)).least = ap (λ (p : ℕ × ℕ). p.0) one in
-      let v_high : high ≡ unwrap_or (interval (assertions_of outcome v)).greatest top = ap (λ (p : ℕ × ℕ). p.1) one in
-      let fit = ends_in_common (interval (assertions_in outcome (take i vs))).greatest (interval (assertions_of outcome v)).greatest top (subst (λ x. x ≤ top) before.high before.high_fits) (subst (λ x. x ≤ top) v_high g) in
+      let whole = ap interval (demands_more outcome vs i v h e) ∙ interval_append (demands_in outcome (take i vs)) (demands_of outcome v) in
+      let v_low : low ≡ (interval (demands_of outcome v)).least = ap (λ (p : ℕ × ℕ). p.0) one in
+      let v_high : high ≡ unwrap_or (interval (demands_of outcome v)).greatest top = ap (λ (p : ℕ × ℕ). p.1) one in
+      let fit = ends_in_common (interval (demands_in outcome (take i vs))).greatest (interval (demands_of outcome v)).greatest top (subst (λ x. x ≤ top) before.high before.high_fits) (subst (λ x. x ≤ top) v_high g) in
       record {
         low = ap₂ max before.low v_low ∙ ap (λ w. w.least) (sym whole);
         high = ap₂ min before.high v_high ∙ sym fit ∙ ap (λ w. unwrap_or w.greatest top) (sym whole);

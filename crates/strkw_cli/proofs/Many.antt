@@ -1,18 +1,20 @@
 -- What several validators assert and note.
-use Rattle.std.proofs.Common.{◌≡◌, ◌<◌, ℕ, zero, suc, ◌+◌, List, [], ◌∷◌, ◌++◌, Bool, true, false, Option, Some, None, Err, refl, sym, ap, ◌∙◌, subst, length, get_or, take, arith, append_assoc, ◌&&◌}
+use Rattle.std.proofs.Common.{◌≡◌, ◌<◌, ℕ, zero, suc, ◌+◌, List, [], ◌∷◌, ◌++◌, Bool, true, false, Option, Some, None, Err, refl, sym, ap, ap₂, ◌∙◌, subst, length, get_or, take, arith, append_assoc, ◌&&◌}
 use Rattle.std.proofs.lemmas.Bool.{true_from_ne_false}
 use Rattle.std.proofs.lemmas.List.{append-nil, take_more}
 use Rattle.strkw_report.specs.Kinds.{Report}
 use Rattle.strkw_report.specs.declared.error.Site.{Site}
 use Rattle.strkw_pattern.specs.declared.engine.Outcome.{Outcome}
 use Rattle.strkw_keywords.specs.Meanings.{Lists}
-use Rattle.strkw_keywords.specs.Errors.{Assertion, NodeReports, IsInUse, all_quiet, Appends}
+use Rattle.strkw_keywords.specs.Demands.{Demand, IsInUse, all_quiet}
+use Rattle.strkw_keywords.specs.Errors.{Assertion, NodeReports, demands_asserted, Appends}
 use Rattle.strkw_keywords.specs.Verdicts.{IsVerdict}
 use Rattle.strkw_keywords.specs.declared.validate.Fault.{Fault}
+use Rattle.strkw_keywords.proofs.Asserted.{demands_of_placed, demands_of_joined}
 use Rattle.strkw_keywords.proofs.First.{fault_within}
 use Rattle.strkw_keywords.proofs.InTurn.{in_turn, nothing_split, quiet-append}
 use Rattle.strkw_keywords.specs.declared.validator.Validator.{Validator}
-use Rattle.strkw_keywords.specs.Validators.{assertions_of, assertions_in, remarks_in, listed_remark, remark_made}
+use Rattle.strkw_keywords.specs.Validators.{place_of, demands_of, demands_in, assertions_of, assertions_in, remarks_in, listed_remark, remark_made}
 
 -- the errors by one list of assertions, and then by another
 pub report_append : (front back : List Assertion) (lists : Lists) (site : Site) (at : Option (List ℕ)) (es fs : List Report) → NodeReports front lists site at es → NodeReports back lists site at fs → NodeReports (front ++ back) lists site at (es ++ fs)
@@ -27,11 +29,11 @@ pub nothing_yet : (lists : Lists) (site : Site) (at : Option (List ℕ)) (old : 
 nothing_yet lists site None old = record { added = []; grown = sym (append-nil old); reported = refl }
 nothing_yet lists site (Some text) old = record { added = []; grown = sym (append-nil old); reported = refl }
 
-pub use_split : (lists : Lists) (front back : List Assertion) → IsInUse (front ++ back) lists → IsInUse front lists × IsInUse back lists
+pub use_split : (lists : Lists) (front back : List Demand) → IsInUse (front ++ back) lists → IsInUse front lists × IsInUse back lists
 use_split lists [] back u = (tt, u)
 use_split lists (x ∷ front) back u = let below = use_split lists front back u.1 in ((u.0, below.0), below.1)
 
-pub use_append : (lists : Lists) (front back : List Assertion) → IsInUse front lists → IsInUse back lists → IsInUse (front ++ back) lists
+pub use_append : (lists : Lists) (front back : List Demand) → IsInUse front lists → IsInUse back lists → IsInUse (front ++ back) lists
 use_append lists [] back u w = w
 use_append lists (x ∷ front) back u w = (u.0, use_append lists front back u.1 w)
 
@@ -44,14 +46,31 @@ module _ {E : Type 0} (outcome : E → List ℕ → Outcome) where
   noted-append [] ws = refl
   noted-append (v ∷ vs) ws = ap (λ l. listed_remark (remark_made v) ++ l) (noted-append vs ws) ∙ sym (append_assoc (listed_remark (remark_made v)) (remarks_in vs) (remarks_in ws))
 
+  pub demands-append : (vs ws : List (Validator E)) → demands_in outcome (vs ++ ws) ≡ demands_in outcome vs ++ demands_in outcome ws
+  demands-append [] ws = refl
+  demands-append (v ∷ vs) ws =
+      ap (λ l. demands_of outcome v ++ l) (demands-append vs ws)
+      ∙ sym (append_assoc (demands_of outcome v) (demands_in outcome vs) (demands_in outcome ws))
+
+  -- what validators assert is what they demand
+  pub demands_are_asserted : (vs : List (Validator E)) → demands_asserted (assertions_in outcome vs) ≡ demands_in outcome vs
+  demands_are_asserted [] = refl
+  demands_are_asserted (v ∷ vs) =
+      demands_of_joined (assertions_of outcome v) (assertions_in outcome vs)
+      ∙ ap₂ (λ ds es. ds ++ es) (demands_of_placed (place_of v) (demands_of outcome v)) (demands_are_asserted vs)
+
   -- the validators up to one more
   pub in_more : (vs : List (Validator E)) (i : ℕ) (v : Validator E) → i < length vs → v ≡ get_or vs i v → assertions_in outcome (take (i + 1) vs) ≡ assertions_in outcome (take i vs) ++ assertions_of outcome v
   in_more vs i v h e = rw (take_more vs i v h, ← e, in-append (take i vs) (v ∷ []), append-nil (assertions_of outcome v))
 
-  pub in_use_at : (lists : Lists) (vs : List (Validator E)) (i : ℕ) (v : Validator E) → i < length vs → v ≡ get_or vs i v → IsInUse (assertions_in outcome vs) lists → IsInUse (assertions_of outcome v) lists
+  pub demands_more : (vs : List (Validator E)) (i : ℕ) (v : Validator E) → i < length vs → v ≡ get_or vs i v
+      → demands_in outcome (take (i + 1) vs) ≡ demands_in outcome (take i vs) ++ demands_of outcome v
+  demands_more vs i v h e = rw (take_more vs i v h, ← e, demands-append (take i vs) (v ∷ []), append-nil (demands_of outcome v))
+
+  pub in_use_at : (lists : Lists) (vs : List (Validator E)) (i : ℕ) (v : Validator E) → i < length vs → v ≡ get_or vs i v → IsInUse (demands_in outcome vs) lists → IsInUse (demands_of outcome v) lists
   in_use_at lists [] i v h e u = absurd (omega (arith, h))
-  in_use_at lists (w ∷ vs) zero v h e u = rw e (use_split lists (assertions_of outcome w) (assertions_in outcome vs) u).0
-  in_use_at lists (w ∷ vs) (suc i) v h e u = in_use_at lists vs i v (omega (arith, h)) e (use_split lists (assertions_of outcome w) (assertions_in outcome vs) u).1
+  in_use_at lists (w ∷ vs) zero v h e u = rw e (use_split lists (demands_of outcome w) (demands_in outcome vs) u).0
+  in_use_at lists (w ∷ vs) (suc i) v h e u = in_use_at lists vs i v (omega (arith, h)) e (use_split lists (demands_of outcome w) (demands_in outcome vs) u).1
 
   pub nothing_at : (lists : Lists) (site : Site) (there : Option (List ℕ)) (vs : List (Validator E)) (i : ℕ) (v : Validator E) → i < length vs → v ≡ get_or vs i v → NodeReports (assertions_in outcome vs) lists site there [] → NodeReports (assertions_of outcome v) lists site there []
   nothing_at lists site there [] i v h e u = absurd (omega (arith, h))
@@ -97,13 +116,13 @@ and_false true = refl
 and_false false = refl
 
 module _ {E : Type 0} (outcome : E → List ℕ → Outcome) where
-  pub loud_at : (vs : List (Validator E)) (i : ℕ) (v : Validator E) → i < length vs → v ≡ get_or vs i v → all_quiet (assertions_of outcome v) ≡ false → all_quiet (assertions_in outcome vs) ≡ false
+  pub loud_at : (vs : List (Validator E)) (i : ℕ) (v : Validator E) → i < length vs → v ≡ get_or vs i v → all_quiet (demands_of outcome v) ≡ false → all_quiet (demands_in outcome vs) ≡ false
   loud_at [] i v h e q = absurd (omega (arith, h))
-  loud_at (w ∷ vs) zero v h e q = rw (quiet-append (assertions_of outcome w) (assertions_in outcome vs), ← e, q) refl
-  loud_at (w ∷ vs) (suc i) v h e q = rw (quiet-append (assertions_of outcome w) (assertions_in outcome vs), loud_at vs i v (omega (arith, h)) e q, and_false (all_quiet (assertions_of outcome w))) refl
+  loud_at (w ∷ vs) zero v h e q = rw (quiet-append (demands_of outcome w) (demands_in outcome vs), ← e, q) refl
+  loud_at (w ∷ vs) (suc i) v h e q = rw (quiet-append (demands_of outcome w) (demands_in outcome vs), loud_at vs i v (omega (arith, h)) e q, and_false (all_quiet (demands_of outcome w))) refl
 
-  pub quiet_at : (vs : List (Validator E)) (i : ℕ) (v : Validator E) → i < length vs → v ≡ get_or vs i v → all_quiet (assertions_in outcome vs) ≡ true → all_quiet (assertions_of outcome v) ≡ true
-  quiet_at vs i v h e q = true_from_ne_false (all_quiet (assertions_of outcome v)) (λ loud. let f = loud_at vs i v h e loud in cc)
+  pub quiet_at : (vs : List (Validator E)) (i : ℕ) (v : Validator E) → i < length vs → v ≡ get_or vs i v → all_quiet (demands_in outcome vs) ≡ true → all_quiet (demands_of outcome v) ≡ true
+  quiet_at vs i v h e q = true_from_ne_false (all_quiet (demands_of outcome v)) (λ loud. let f = loud_at vs i v h e loud in cc)
 
-  pub quiet_more : (vs : List (Validator E)) (i : ℕ) (v : Validator E) → i < length vs → v ≡ get_or vs i v → all_quiet (assertions_in outcome (take i vs)) ≡ true → all_quiet (assertions_of outcome v) ≡ true → all_quiet (assertions_in outcome (take (i + 1) vs)) ≡ true
-  quiet_more vs i v h e before one = rw (in_more outcome vs i v h e, quiet-append (assertions_in outcome (take i vs)) (assertions_of outcome v), before, one) refl
+  pub quiet_more : (vs : List (Validator E)) (i : ℕ) (v : Validator E) → i < length vs → v ≡ get_or vs i v → all_quiet (demands_in outcome (take i vs)) ≡ true → all_quiet (demands_of outcome v) ≡ true → all_quiet (demands_in outcome (take (i + 1) vs)) ≡ true
+  quiet_more vs i v h e before one = rw (demands_more outcome vs i v h e, quiet-append (demands_in outcome (take i vs)) (demands_of outcome v), before, one) refl

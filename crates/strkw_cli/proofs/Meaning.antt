@@ -6,16 +6,19 @@ use Rattle.strkw_report.specs.Refusals.{Refusal}
 use Rattle.strkw_report.specs.declared.error.Site.{Site}
 use Rattle.strkw_pattern.specs.declared.engine.Outcome.{Outcome}
 use Rattle.strkw_keywords.specs.Meanings.{Lists}
-use Rattle.strkw_keywords.specs.Errors.{NodeReports, IsInUse}
+use Rattle.strkw_keywords.specs.Demands.{IsInUse}
+use Rattle.strkw_keywords.specs.Errors.{NodeReports, demands_asserted}
 use Rattle.strkw_keywords.specs.Remarks.{Remark}
-use Rattle.strkw_keywords.specs.Object.{Settings, Errors, asserted, remarked, FirstRefusal, remarks_on, Notes}
+use Rattle.strkw_keywords.specs.Object.{Settings, Errors, demanded, asserted, remarked, FirstRefusal, remarks_on, Notes}
 use Rattle.strkw_keywords.specs.Laws.{CompiledIsInUse}
 use Rattle.strkw_cli.specs.declared.strings.StringKeywords.{StringKeywords}
 use Rattle.strkw_formats.specs.FormatLaws.{IsInside}
 use Rattle.strkw_keywords.specs.Lengths.{IsEmpty, interval}
 use Rattle.strkw_keywords.specs.Folding.{IsInInterval, FoldsToFalse, IntervalIsLeft}
-use Rattle.strkw_cli.specs.Compiled.{keywords_assertions, keywords_interval, keywords_remarks, IsCompiledFrom}
+use Rattle.strkw_cli.specs.Compiled.{keywords_assertions, keywords_demands, keywords_interval, keywords_remarks, IsCompiledFrom}
+use Rattle.strkw_keywords.proofs.Asserted.{demands_of_placed}
 use Rattle.strkw_keywords.proofs.Entries.{AreEntries-unique, FirstRefusal-unique}
+use Rattle.strkw_cli.proofs.Many.{demands_are_asserted}
 
 -- ---- the compiled object
 
@@ -32,8 +35,14 @@ module _ {E : Type 0} (outcome : E → List ℕ → Outcome) (s : Settings) (ms 
     (λ h. h.2 ∙ ap (λ l. remarks_on node (remarked s.place l)) (AreEntries-unique s ms h.0 c.entries h.1 c.are_entries) ∙ ap (remarks_on node) (sym c.notes)),
   )
 
+  compiled_demands : (c : IsCompiledFrom outcome s ms k) → keywords_demands outcome k ≡ demanded c.entries
+  compiled_demands c =
+      sym (demands_are_asserted outcome k.validators.items) ∙ ap demands_asserted c.asserts
+      ∙ demands_of_placed s.place (demanded c.entries)
+
   pub compiled_interval : IntervalIsLeft → (n : ℕ) → IsCompiledFrom outcome s ms k → IsInside (keywords_interval outcome k) n ↔ IsInInterval s ms n
-  compiled_interval law n c = subst (λ l. IsInside (interval l) n ↔ IsInInterval s ms n) (sym c.asserts) (law s ms c.entries n c.are_entries)
+  compiled_interval law n c =
+      subst (λ l. IsInside (interval l) n ↔ IsInInterval s ms n) (sym (compiled_demands c)) (law s ms c.entries n c.are_entries)
 
   pub compiled_folds : IntervalIsLeft → IsCompiledFrom outcome s ms k → IsEmpty (keywords_interval outcome k) ↔ FoldsToFalse s ms
   compiled_folds law c = (
@@ -41,8 +50,8 @@ module _ {E : Type 0} (outcome : E → List ℕ → Outcome) (s : Settings) (ms 
     (λ h n i. h n ((compiled_interval law n c).0 i)),
   )
 
-  pub compiled_in_use : CompiledIsInUse → IsCompiledFrom outcome s ms k → IsInUse (keywords_assertions outcome k) s.lists
-  compiled_in_use law c = subst (λ l. IsInUse l s.lists) (sym c.asserts) (law s ms c.entries c.are_entries)
+  pub compiled_in_use : CompiledIsInUse → IsCompiledFrom outcome s ms k → IsInUse (keywords_demands outcome k) s.lists
+  compiled_in_use law c = subst (λ l. IsInUse l s.lists) (sym (compiled_demands c)) (law s ms c.entries c.are_entries)
 
   pub compiled_first : (first : Option Refusal) → IsCompiledFrom outcome s ms k → FirstRefusal s ms first → first ≡ None
   compiled_first first c h = FirstRefusal-unique s ms first None h (c.entries, c.are_entries, c.good)

@@ -7,8 +7,9 @@ use Rattle.strkw_keywords.specs.declared.validator.Validator.{Validator}
 use Rattle.strkw_keywords.specs.Places.{Place}
 use Rattle.strkw_keywords.specs.Errors.{placed}
 use Rattle.strkw_keywords.specs.Validators.{assertions_of, assertions_in, remarks_in, listed_remark, remark_made}
-use Rattle.strkw_keywords.specs.Object.{Entry, nothing, malformed, gives, Keyed, refusal, refusal_or, asserted, demands_by, remarked, remark_by}
+use Rattle.strkw_keywords.specs.Object.{Entry, nothing, malformed, gives, Keyed, refusal, refusal_or, demanded, asserted, demands_by, remarked, remark_by}
 use Rattle.strkw_keywords.specs.Compiled.{AddsNothing, StandsFor}
+use Rattle.strkw_keywords.proofs.Asserted.{placed-append}
 use Rattle.strkw_cli.proofs.Many.{in-append, noted-append}
 
 -- ---- entries, one list behind another
@@ -34,10 +35,13 @@ pub refusal-found : (place : Place) (es fs : List Keyed) (r : Refusal) → refus
 refusal-found place [] fs r h = absurd (cc)
 refusal-found place (e ∷ es) fs r h = stays place e.entry (refusal place es) (refusal place (es ++ fs)) r h (refusal-found place es fs r)
 
+demanded-append : (es fs : List Keyed) → demanded (es ++ fs) ≡ demanded es ++ demanded fs
+demanded-append [] fs = refl
+demanded-append (e ∷ es) fs =
+    ap (λ l. demands_by e.entry ++ l) (demanded-append es fs) ∙ sym (append_assoc (demands_by e.entry) (demanded es) (demanded fs))
+
 asserted-append : (place : Place) (es fs : List Keyed) → asserted place (es ++ fs) ≡ asserted place es ++ asserted place fs
-asserted-append place [] fs = refl
-asserted-append place (e ∷ es) fs =
-    ap (λ l. placed place (demands_by e.entry) ++ l) (asserted-append place es fs) ∙ sym (append_assoc (placed place (demands_by e.entry)) (asserted place es) (asserted place fs))
+asserted-append place es fs = ap (placed place) (demanded-append es fs) ∙ placed-append place (demanded es) (demanded fs)
 
 remarked-append : (place : Place) (es fs : List Keyed) → remarked place (es ++ fs) ≡ remarked place es ++ remarked place fs
 remarked-append place [] fs = refl

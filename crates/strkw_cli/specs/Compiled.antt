@@ -2,9 +2,10 @@
 use Rattle.std.specs.Prelude.{◌≡◌, ℕ, List, None}
 use Rattle.serde_json.specs.Data.{Members}
 use Rattle.strkw_pattern.specs.declared.engine.Outcome.{Outcome}
+use Rattle.strkw_keywords.specs.Demands.{Demand}
 use Rattle.strkw_keywords.specs.Errors.{Assertion}
 use Rattle.strkw_keywords.specs.Remarks.{Remark}
-use Rattle.strkw_keywords.specs.Validators.{assertions_in, remarks_in}
+use Rattle.strkw_keywords.specs.Validators.{demands_in, assertions_in, remarks_in}
 use Rattle.strkw_keywords.specs.Object.{Settings, Keyed, AreEntries, refusal, asserted, remarked}
 use Rattle.strkw_formats.specs.Formats.{Window}
 use Rattle.strkw_keywords.specs.Lengths.{interval}
@@ -14,9 +15,13 @@ use Rattle.strkw_cli.specs.declared.strings.StringKeywords.{StringKeywords}
 abbrev pub keywords_assertions : {E : Type 0} → (E → List ℕ → Outcome) → StringKeywords E → List Assertion
 keywords_assertions outcome k = assertions_in outcome k.validators.items
 
+-- what it demands of a text, wherever it stands
+abbrev pub keywords_demands : {E : Type 0} → (E → List ℕ → Outcome) → StringKeywords E → List Demand
+keywords_demands outcome k = demands_in outcome k.validators.items
+
 -- the lengths that it leaves to a text
 abbrev pub keywords_interval : {E : Type 0} → (E → List ℕ → Outcome) → StringKeywords E → Window
-keywords_interval outcome k = interval (keywords_assertions outcome k)
+keywords_interval outcome k = interval (keywords_demands outcome k)
 
 -- and what it notes of texts
 abbrev pub keywords_remarks : {E : Type 0} → StringKeywords E → List Remark

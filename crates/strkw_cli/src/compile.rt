@@ -5,11 +5,11 @@ ghost use Rattle.serde_json.specs.Data.{Members};
 ghost use Rattle.serde_json.specs.View.{members_view};
 ghost use Rattle.strkw_report.specs.Refusals.{prints_float, reason_of, refusal_of};
 ghost use Rattle.strkw_keywords.specs.Compiled.{IsCompiledAt, out_of_memory};
-ghost use Rattle.strkw_keywords.specs.Errors.{IsInUse};
+ghost use Rattle.strkw_keywords.specs.Demands.{IsInUse};
 ghost use Rattle.strkw_keywords.specs.Handed.{lists_of, settings_of};
 ghost use Rattle.strkw_keywords.specs.Object.{FirstRefusal};
 ghost use Rattle.strkw_keywords.specs.Without.{KeepsOthers};
-ghost use Rattle.strkw_cli.specs.Compiled.{IsCompiledFrom, keywords_assertions};
+ghost use Rattle.strkw_cli.specs.Compiled.{IsCompiledFrom, keywords_demands};
 
 use crate::strings::StringKeywords;
 use serde_json::{Map, Value};
@@ -39,7 +39,7 @@ pub fn compile_strings<B: EngineBuilder>(
 ) -> Result<StringKeywords<B::Engine>, CompileError>
     ensures compiled { IfOk result (λ k. IsCompiledFrom B.Engine.outcome
         (settings_of B.takes B.outcome admits accepted encoded decoding ctx.now) (members_view object.now.entries) k) }
-    ensures in_use { IfOk result (λ k. IsInUse (keywords_assertions B.Engine.outcome k) (lists_of admits accepted encoded decoding ctx.now.checks)) }
+    ensures in_use { IfOk result (λ k. IsInUse (keywords_demands B.Engine.outcome k) (lists_of admits accepted encoded decoding ctx.now.checks)) }
     ensures refused { IfErr result (λ e. (refusal_of e ≡ out_of_memory) ⊎ FirstRefusal
         (settings_of B.takes B.outcome admits accepted encoded decoding ctx.now) (members_view object.now.entries) (Some (refusal_of e))) }
     // So each refusal has its text.
@@ -59,7 +59,7 @@ pub fn compile_owned<B: EngineBuilder>(
 ) -> Result<StringKeywords<B::Engine>, CompileError>
     ensures compiled { IfOk result (λ k. IsCompiledFrom B.Engine.outcome
         (settings_of B.takes B.outcome admits accepted encoded decoding ctx.now) (members_view object.entries) k) }
-    ensures in_use { IfOk result (λ k. IsInUse (keywords_assertions B.Engine.outcome k) (lists_of admits accepted encoded decoding ctx.now.checks)) }
+    ensures in_use { IfOk result (λ k. IsInUse (keywords_demands B.Engine.outcome k) (lists_of admits accepted encoded decoding ctx.now.checks)) }
     ensures refused { IfErr result (λ e. (refusal_of e ≡ out_of_memory) ⊎ FirstRefusal
         (settings_of B.takes B.outcome admits accepted encoded decoding ctx.now) (members_view object.entries) (Some (refusal_of e))) }
     // So each refusal has its text.

@@ -6,14 +6,15 @@ ghost use Rattle.strkw_report.specs.Kinds.{Report};
 ghost use Rattle.strkw_report.specs.Refusals.{Refusal, prints_float};
 ghost use Rattle.strkw_report.specs.declared.error.Site.{Site};
 ghost use Rattle.strkw_formats.specs.FormatLaws.{IsInside};
-ghost use Rattle.strkw_keywords.specs.Errors.{IsInUse, NodeReports};
+ghost use Rattle.strkw_keywords.specs.Demands.{IsInUse};
+ghost use Rattle.strkw_keywords.specs.Errors.{NodeReports};
 ghost use Rattle.strkw_keywords.specs.Folding.{AcceptAlike, FoldsToFalse, IsInInterval, RefusesTexts};
 ghost use Rattle.strkw_keywords.specs.Lengths.{IsEmpty};
 ghost use Rattle.strkw_keywords.specs.Meanings.{Lists};
 ghost use Rattle.strkw_keywords.specs.Object.{Errors, FirstRefusal, Notes, Settings, remarks_on};
 ghost use Rattle.strkw_keywords.specs.Remarks.{Remark};
 ghost use Rattle.strkw_cli.specs.Answer.{IsAnswer, IsOutput};
-ghost use Rattle.strkw_cli.specs.Compiled.{IsCompiledFrom, keywords_assertions, keywords_interval, keywords_remarks};
+ghost use Rattle.strkw_cli.specs.Compiled.{IsCompiledFrom, keywords_assertions, keywords_demands, keywords_interval, keywords_remarks};
 ghost use Rattle.strkw_cli.specs.Printed.{ArePrintable};
 ghost use Rattle.strkw_cli.specs.declared.strings.StringKeywords.{StringKeywords};
 
@@ -72,7 +73,7 @@ pub fn compiled_notes_are_those_of_the_object<E: RegexEngine>()
 
 /// A compiled object may be used with the lists that it was compiled with.
 pub fn lists_of_compile_are_in_use<E: RegexEngine>()
-    ensures { (s : Settings) (ms : Members) (k : StringKeywords E) → IsCompiledFrom E.outcome s ms k → IsInUse (keywords_assertions E.outcome k) s.lists }
+    ensures { (s : Settings) (ms : Members) (k : StringKeywords E) → IsCompiledFrom E.outcome s ms k → IsInUse (keywords_demands E.outcome k) s.lists }
 {
     compiled_is_in_use();
 }

@@ -3,14 +3,15 @@
 ghost use Rattle.std.specs.Prelude.{◌++◌, ◌↔◌, ◌≡◌, IfOk, IsOk, IsTrue, List, OnErr, OnOk, Some, [], map, true};
 ghost use Rattle.strkw_report.specs.Kinds.{Report};
 ghost use Rattle.strkw_report.specs.declared.error.Site.{Site};
-ghost use Rattle.strkw_keywords.specs.Errors.{Appends, IsInUse, NodeReports, all_quiet};
+ghost use Rattle.strkw_keywords.specs.Demands.{IsInUse, all_quiet};
+ghost use Rattle.strkw_keywords.specs.Errors.{Appends, NodeReports};
 ghost use Rattle.strkw_keywords.specs.Handed.{lists_of};
 ghost use Rattle.strkw_keywords.specs.Lengths.{IsEmpty};
 ghost use Rattle.strkw_keywords.specs.Object.{remarks_on};
 ghost use Rattle.strkw_keywords.specs.Remarks.{remark_of};
 ghost use Rattle.strkw_keywords.specs.Validators.{listed_remark, remark_made};
 ghost use Rattle.strkw_keywords.specs.Verdicts.{IsVerdict};
-ghost use Rattle.strkw_cli.specs.Compiled.{keywords_assertions, keywords_interval, keywords_remarks};
+ghost use Rattle.strkw_cli.specs.Compiled.{keywords_assertions, keywords_demands, keywords_interval, keywords_remarks};
 
 use std::alloc::{AllocError, Global};
 use strkw_coding::laws::encodes_once;
@@ -39,7 +40,7 @@ impl<E: RegexEngine> StringKeywords<E> {
     /// that was chosen at compile is, by its name, the first row of that name, at the position that it had. So it is
     /// with the lists of compile; and with empty lists, where no row was chosen.
     pub fn uses(&self, checks: &Checks) -> bool
-        ensures { IsTrue result ↔ IsInUse (keywords_assertions E.outcome self.now) (lists_of admits accepted encoded decoding checks.now) }
+        ensures { IsTrue result ↔ IsInUse (keywords_demands E.outcome self.now) (lists_of admits accepted encoded decoding checks.now) }
     {
         for validator in &self.validators {
             if !validator.uses(checks) {
@@ -52,7 +53,7 @@ impl<E: RegexEngine> StringKeywords<E> {
     /// Whether `is_valid` takes no memory, and so always answers: where there is no content check, no registered
     /// check and no pattern that an engine matches.
     pub fn takes_no_memory(&self) -> bool
-        ensures { result ≡ all_quiet (keywords_assertions E.outcome self.now) }
+        ensures { result ≡ all_quiet (keywords_demands E.outcome self.now) }
     {
         for validator in &self.validators {
             if !validator.takes_no_memory() {
@@ -89,10 +90,10 @@ impl<E: RegexEngine> StringKeywords<E> {
         node: &N,
         checks: &Checks,
     ) -> Result<bool, AllocError>
-        requires { IsInUse (keywords_assertions E.outcome self.now) (lists_of admits accepted encoded decoding checks.now) }
+        requires { IsInUse (keywords_demands E.outcome self.now) (lists_of admits accepted encoded decoding checks.now) }
         ensures exact { IfOk result (λ b. (site : Site) → (IsTrue b
             ↔ NodeReports (keywords_assertions E.outcome self.now) (lists_of admits accepted encoded decoding checks.now) site (N.text node.now) [])) }
-        ensures answers { all_quiet (keywords_assertions E.outcome self.now) ≡ true → IsOk result }
+        ensures answers { all_quiet (keywords_demands E.outcome self.now) ≡ true → IsOk result }
     {
         encodes_once();
         let Some(text) = node.as_text() else {
@@ -117,7 +118,7 @@ impl<E: RegexEngine> StringKeywords<E> {
         checks: &Checks,
         errors: &mut Vec<ValidationError>,
     ) -> Result<(), AllocError>
-        requires { IsInUse (keywords_assertions E.outcome self.now) (lists_of admits accepted encoded decoding checks.now) }
+        requires { IsInUse (keywords_demands E.outcome self.now) (lists_of admits accepted encoded decoding checks.now) }
         ensures appended { OnOk result (Appends
             (NodeReports (keywords_assertions E.outcome self.now) (lists_of admits accepted encoded decoding checks.now) site.now (N.text node.now))
             errors.old.items errors.new.items) }
@@ -145,7 +146,7 @@ impl<E: RegexEngine> StringKeywords<E> {
         site: &Site,
         checks: &Checks,
     ) -> Result<(), Fault>
-        requires { IsInUse (keywords_assertions E.outcome self.now) (lists_of admits accepted encoded decoding checks.now) }
+        requires { IsInUse (keywords_demands E.outcome self.now) (lists_of admits accepted encoded decoding checks.now) }
         ensures { IsVerdict (keywords_assertions E.outcome self.now) (lists_of admits accepted encoded decoding checks.now) site.now
             (N.text node.now) result }
     {
@@ -170,7 +171,7 @@ impl<E: RegexEngine> StringKeywords<E> {
         site: &Site,
         checks: &Checks,
     ) -> Result<ObjectEvaluation, AllocError>
-        requires { IsInUse (keywords_assertions E.outcome self.now) (lists_of admits accepted encoded decoding checks.now) }
+        requires { IsInUse (keywords_demands E.outcome self.now) (lists_of admits accepted encoded decoding checks.now) }
         ensures errors { IfOk result (λ r. NodeReports (keywords_assertions E.outcome self.now)
             (lists_of admits accepted encoded decoding checks.now) site.now (N.text node.now) r.errors.items) }
         ensures notes { IfOk result (λ r. map remark_of r.notes.items ≡ remarks_on (N.text node.now) (keywords_remarks self.now)) }
@@ -194,7 +195,7 @@ impl<E: RegexEngine> StringKeywords<E> {
         checks: &Checks,
         errors: &mut Vec<ValidationError>,
     ) -> Result<(), AllocError>
-        requires in_use { IsInUse (keywords_assertions E.outcome self.now) (lists_of admits accepted encoded decoding checks.now) }
+        requires in_use { IsInUse (keywords_demands E.outcome self.now) (lists_of admits accepted encoded decoding checks.now) }
         requires is_text { N.text node.now ≡ Some text.now }
         ensures appended { OnOk result (Appends
             (NodeReports (keywords_assertions E.outcome self.now) (lists_of admits accepted encoded decoding checks.now) site.now (N.text node.now))

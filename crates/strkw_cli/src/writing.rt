@@ -8,16 +8,17 @@ ghost use Rattle.serde_json.specs.Written.{compact_text, has_float};
 ghost use Rattle.strkw_report.specs.Failures.{kind_failed};
 ghost use Rattle.strkw_report.specs.Kinds.{Report, message};
 ghost use Rattle.strkw_report.specs.Paths.{below};
-ghost use Rattle.strkw_keywords.specs.Errors.{IsInUse, NodeReports, reported};
+ghost use Rattle.strkw_keywords.specs.Demands.{IsInUse};
+ghost use Rattle.strkw_keywords.specs.Errors.{NodeReports, reported};
 ghost use Rattle.strkw_keywords.specs.Findings.{finding_of};
 ghost use Rattle.strkw_keywords.specs.Handed.{lists_of};
 ghost use Rattle.strkw_keywords.specs.Keywords.{keyword_name};
 ghost use Rattle.strkw_keywords.specs.Object.{remarks_on};
 ghost use Rattle.strkw_keywords.specs.Parts.{noted_remark};
 ghost use Rattle.strkw_keywords.specs.Places.{standing};
-ghost use Rattle.strkw_keywords.specs.Validators.{assertions_of, listed_remark, remark_made};
+ghost use Rattle.strkw_keywords.specs.Validators.{assertions_of, demands_of, listed_remark, remark_made};
 ghost use Rattle.strkw_cli.specs.Answer.{root_site};
-ghost use Rattle.strkw_cli.specs.Compiled.{keywords_assertions, keywords_remarks};
+ghost use Rattle.strkw_cli.specs.Compiled.{keywords_assertions, keywords_demands, keywords_remarks};
 ghost use Rattle.strkw_cli.specs.Printed.{ArePrintable, error_line, note_lines, printed, verdict_lines};
 ghost use Rattle.strkw_cli.specs.Written.{AppendsLines};
 
@@ -137,7 +138,7 @@ fn push_errors_of<E: RegexEngine>(
     checks: &Checks,
     out: &mut Vec<u8>,
 ) -> Result<(), AllocError>
-    requires { IsInUse (assertions_of E.outcome validator.now) (lists_of admits accepted encoded decoding checks.now) }
+    requires { IsInUse (demands_of E.outcome validator.now) (lists_of admits accepted encoded decoding checks.now) }
     ensures ok { OnOk result (AppendsLines (NodeReports (assertions_of E.outcome validator.now)
         (lists_of admits accepted encoded decoding checks.now) root_site (Some text.now)) out.old.items out.new.items) }
     ensures err { OnErr result ((more : List ℕ) × (out.new.items ≡ out.old.items ++ more)) }
@@ -177,7 +178,7 @@ impl<E: RegexEngine> StringKeywords<E> {
         checks: &Checks,
         out: &mut Vec<u8>,
     ) -> Result<(), AllocError>
-        requires { IsInUse (keywords_assertions E.outcome self.now) (lists_of admits accepted encoded decoding checks.now) }
+        requires { IsInUse (keywords_demands E.outcome self.now) (lists_of admits accepted encoded decoding checks.now) }
         ensures ok { OnOk result (AppendsLines (NodeReports (keywords_assertions E.outcome self.now)
             (lists_of admits accepted encoded decoding checks.now) root_site (Some text.now)) out.old.items out.new.items) }
         ensures err { OnErr result ((more : List ℕ) × (out.new.items ≡ out.old.items ++ more)) }
@@ -208,7 +209,7 @@ impl<E: RegexEngine> StringKeywords<E> {
         checks: &Checks,
         out: &mut Vec<u8>,
     ) -> Result<(), AllocError>
-        requires { IsInUse (keywords_assertions E.outcome self.now) (lists_of admits accepted encoded decoding checks.now) }
+        requires { IsInUse (keywords_demands E.outcome self.now) (lists_of admits accepted encoded decoding checks.now) }
         ensures ok { OnOk result ((errors : List Report) × (out.new.items ≡ out.old.items ++ verdict_lines errors)
             × NodeReports (keywords_assertions E.outcome self.now) (lists_of admits accepted encoded decoding checks.now) root_site
             (Some text.now) errors) }
@@ -231,7 +232,7 @@ impl<E: RegexEngine> StringKeywords<E> {
         checks: &Checks,
         out: &mut Vec<u8>,
     ) -> Result<(), AllocError>
-        requires in_use { IsInUse (keywords_assertions E.outcome self.now) (lists_of admits accepted encoded decoding checks.now) }
+        requires in_use { IsInUse (keywords_demands E.outcome self.now) (lists_of admits accepted encoded decoding checks.now) }
         requires printable { ArePrintable (keywords_remarks self.now) }
         ensures ok { OnOk result ((errors : List Report)
             × (out.new.items ≡ out.old.items

@@ -9,7 +9,8 @@ use Rattle.strkw_keywords.specs.declared.keyword.Keyword.TheVariants.{ContentMed
 use Rattle.strkw_keywords.specs.declared.compile.Refused.{Refused}
 use Rattle.strkw_keywords.specs.declared.validator.Validator.{Validator}
 use Rattle.strkw_keywords.specs.Places.{Place}
-use Rattle.strkw_keywords.specs.Object.{Settings, Entry, nothing, Keyed, ContentRule, content_rule, media_type_entry, encoding_entry, schema_entry, min_entry, max_entry, entry_of, value_at, is_given, is_fused, least_entry, greatest_entry, keywords, IsEntryOf, IsEntryAt, AreEntriesOf, share, shares}
+use Rattle.strkw_keywords.specs.declared.content_rule.ContentRule.{ContentRule}
+use Rattle.strkw_keywords.specs.Object.{Settings, Entry, nothing, Keyed, content_rule, media_type_entry, encoding_entry, schema_entry, min_entry, max_entry, entry_of, value_at, is_given, is_fused, least_entry, greatest_entry, keywords, IsEntryOf, IsEntryAt, AreEntriesOf, share, shares}
 use Rattle.strkw_keywords.specs.Compiled.{AddsNothing, IsBuilt, IsBuiltAt, IsPatternBuilt, IsCompiledAt, alone, min_share, max_share}
 
 -- ---- an entry that a value determines

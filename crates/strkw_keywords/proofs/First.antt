@@ -5,14 +5,15 @@ use Rattle.strkw_report.specs.Kinds.{Report}
 use Rattle.strkw_report.specs.declared.error.Site.{Site}
 use Rattle.strkw_keywords.specs.Meanings.{Lists}
 use Rattle.strkw_keywords.specs.Places.{Place, standing}
-use Rattle.strkw_keywords.specs.Demands.{Demand, Finding, HasFinding, Finds, listed}
-use Rattle.strkw_keywords.specs.Errors.{Assertion, placed, reported, AllReport, NodeReports, all_quiet}
+use Rattle.strkw_keywords.specs.Demands.{Demand, Finding, HasFinding, Finds, listed, all_quiet}
+use Rattle.strkw_keywords.specs.Errors.{Assertion, placed, reported, AllReport, NodeReports}
 use Rattle.strkw_keywords.specs.Findings.{first_of}
 use Rattle.strkw_keywords.specs.Verdicts.{FailsFirst, NodeFailsFirst, IsVerdict}
 use Rattle.strkw_keywords.specs.declared.validate.Fault.{Fault}
 use Rattle.strkw_keywords.specs.declared.validate.Fault.TheVariants.{Invalid, Memory}
 use Rattle.strkw_coding.specs.Laws.{EncodesOnce}
 use Rattle.strkw_keywords.specs.FirstLaws.{FirstErrorIsHead}
+use Rattle.strkw_keywords.proofs.Asserted.{demands_of_placed}
 use Rattle.strkw_keywords.proofs.Reports.{found_reports, none_found, HasFinding-unique}
 use Rattle.strkw_keywords.proofs.InTurn.{in_turn, text_of_both, text_determined, nothing_split, quiet_within}
 
@@ -71,8 +72,12 @@ fails_by_first place ds lists site there text fs f r same h e tells =
 
 -- ---- out of memory
 
-pub memory_verdict : (assertions : List Assertion) (lists : Lists) (site : Site) (there : Option (List ℕ)) (fault : Fault) → fault ≡ Memory → (all_quiet assertions ≡ true → NodeReports assertions lists site there [] → ⊥) → IsVerdict assertions lists site there (Err fault)
-memory_verdict assertions lists site there fault is h = subst (λ f. IsVerdict assertions lists site there (Err f)) (sym is) h
+pub memory_verdict : (place : Place) (ds : List Demand) (lists : Lists) (site : Site) (there : Option (List ℕ)) (fault : Fault)
+    → fault ≡ Memory → (all_quiet ds ≡ true → NodeReports (placed place ds) lists site there [] → ⊥)
+    → IsVerdict (placed place ds) lists site there (Err fault)
+memory_verdict place ds lists site there fault is h =
+    subst (λ f. IsVerdict (placed place ds) lists site there (Err f)) (sym is)
+    (λ calm. h (subst (λ l. all_quiet l ≡ true) (demands_of_placed place ds) calm))
 
 -- a text of which something is found has an error
 pub found_is_error : EncodesOnce → (place : Place) (ds : List Demand) (lists : Lists) (site : Site) (there : Option (List ℕ)) (text : List ℕ) (fs : List Finding) (f : Finding) → Some text ≡ there → Finds ds lists text fs → first_of fs ≡ Some f → NodeReports (placed place ds) lists site there [] → ⊥

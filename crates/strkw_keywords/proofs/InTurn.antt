@@ -10,9 +10,10 @@ use Rattle.strkw_keywords.specs.declared.keyword.Keyword.TheVariants.{Pattern}
 use Rattle.strkw_keywords.specs.Keywords.{keyword_name}
 use Rattle.strkw_keywords.specs.Meanings.{Lists}
 use Rattle.strkw_keywords.specs.Places.{Place, standing}
-use Rattle.strkw_keywords.specs.Demands.{at_least, at_most, matches, Finding, found_by_outcome, is_quiet}
-use Rattle.strkw_keywords.specs.Errors.{Assertion, placed, reported, AllReport, NodeReports, all_quiet}
+use Rattle.strkw_keywords.specs.Demands.{at_least, at_most, matches, Finding, found_by_outcome, is_quiet, all_quiet, Demand}
+use Rattle.strkw_keywords.specs.Errors.{Assertion, placed, reported, AllReport, NodeReports, demands_asserted}
 use Rattle.strkw_keywords.specs.Laws.{ReportInTurn, AssertionsReportInTurn, FusedLengthsReportBoth, EngineFailuresAreErrors, ReportsAreDetermined}
+use Rattle.strkw_keywords.proofs.Asserted.{demands_of_joined}
 use Rattle.strkw_keywords.proofs.Reports.{HasFinding-unique}
 
 -- ---- joined
@@ -106,16 +107,24 @@ and_assoc : (a b c : Bool) → (a && (b && c)) ≡ ((a && b) && c)
 and_assoc true b c = refl
 and_assoc false b c = refl
 
-pub quiet-append : (front back : List Assertion) → all_quiet (front ++ back) ≡ (all_quiet front && all_quiet back)
+pub quiet-append : (front back : List Demand) → all_quiet (front ++ back) ≡ (all_quiet front && all_quiet back)
 quiet-append [] back = refl
-quiet-append (a ∷ front) back = ap (λ b. is_quiet a.demand && b) (quiet-append front back) ∙ and_assoc (is_quiet a.demand) (all_quiet front) (all_quiet back)
+quiet-append (d ∷ front) back = ap (λ b. is_quiet d && b) (quiet-append front back) ∙ and_assoc (is_quiet d) (all_quiet front) (all_quiet back)
+
+asserted-quiet-append : (front back : List Assertion)
+    → all_quiet (demands_asserted (front ++ back)) ≡ (all_quiet (demands_asserted front) && all_quiet (demands_asserted back))
+asserted-quiet-append front back =
+    ap all_quiet (demands_of_joined front back) ∙ quiet-append (demands_asserted front) (demands_asserted back)
 
 and_true : (a b : Bool) → (a && b) ≡ true → (a ≡ true) × (b ≡ true)
 and_true true b e = (refl, e)
 and_true false b e = absurd (cc)
 
 -- what is within quiet assertions is quiet
-pub quiet_within : (front mid back : List Assertion) → all_quiet (front ++ (mid ++ back)) ≡ true → all_quiet mid ≡ true
+pub quiet_within : (front mid back : List Assertion)
+    → all_quiet (demands_asserted (front ++ (mid ++ back))) ≡ true → all_quiet (demands_asserted mid) ≡ true
 quiet_within front mid back e =
-    let behind = (and_true (all_quiet front) (all_quiet (mid ++ back)) (sym (quiet-append front (mid ++ back)) ∙ e)).1 in
-    (and_true (all_quiet mid) (all_quiet back) (sym (quiet-append mid back) ∙ behind)).0
+    let front_is = all_quiet (demands_asserted front) in
+    let mid_is = all_quiet (demands_asserted mid) in
+    let behind = (and_true front_is (all_quiet (demands_asserted (mid ++ back))) (sym (asserted-quiet-append front (mid ++ back)) ∙ e)).1 in
+    (and_true mid_is (all_quiet (demands_asserted back)) (sym (asserted-quiet-append mid back) ∙ behind)).0

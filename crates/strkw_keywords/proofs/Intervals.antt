@@ -10,11 +10,11 @@ use Rattle.std.proofs.lemmas.Str.Ascii.{IsAscii-nil, IsAscii-cons}
 use Rattle.strkw_report.specs.declared.error.Site.{Site}
 use Rattle.strkw_formats.specs.declared.builtin.BuiltinFormat.{BuiltinFormat}
 use Rattle.strkw_keywords.specs.Meanings.{Lists, builtin, row}
-use Rattle.strkw_keywords.specs.Places.{standing}
+use Rattle.strkw_keywords.specs.Places.{Place, standing}
 use Rattle.strkw_formats.specs.Formats.{IsOfBuiltin, Window, window_of, bounds}
 use Rattle.strkw_formats.specs.FormatLaws.{IsInside}
 use Rattle.strkw_keywords.specs.Demands.{Demand, is_media_type, is_encoded, encodes_media_type, is_format, at_least, at_most, compares, matches, HasFinding}
-use Rattle.strkw_keywords.specs.Errors.{Assertion, AllReport}
+use Rattle.strkw_keywords.specs.Errors.{Assertion, placed, demands_asserted, AllReport}
 use Rattle.strkw_keywords.specs.Lengths.{any_length, IsEmpty, lesser_end, common, window_left, interval, IsLimit, AreLimits, IsTextOfLength, CommonIsInBoth, EmptyByItsEnds, OutsideIsAnError}
 use Rattle.strkw_keywords.proofs.Reports.{none_reported}
 
@@ -119,10 +119,10 @@ any_common w = window_path (common any_length w) w (zero-max w.least) refl
 common-assoc : (u v w : Window) → common u (common v w) ≡ common (common u v) w
 common-assoc u v w = window_path (common u (common v w)) (common (common u v) w) (max_assoc u.least v.least w.least) (lesser-assoc u.greatest v.greatest w.greatest)
 
--- the interval of assertions and of others behind them
-pub interval_append : (front back : List Assertion) → interval (front ++ back) ≡ common (interval front) (interval back)
+-- the interval of demands and of others behind them
+pub interval_append : (front back : List Demand) → interval (front ++ back) ≡ common (interval front) (interval back)
 interval_append [] back = sym (any_common (interval back))
-interval_append (a ∷ front) back = ap (common (window_left a.demand)) (interval_append front back) ∙ common-assoc (window_left a.demand) (interval front) (interval back)
+interval_append (d ∷ front) back = ap (common (window_left d)) (interval_append front back) ∙ common-assoc (window_left d) (interval front) (interval back)
 
 -- ---- both ends as numbers, of which none is above an open end
 
@@ -177,13 +177,13 @@ inside_one law (at_most n) lists text (inr h) = let e = h.1 in absurd (cc)
 inside_one law (compares p outcome) lists text h = inside_any (length (chars text))
 inside_one law (matches p outcome) lists text h = inside_any (length (chars text))
 
-inside_all : TextsAreInside → (assertions : List Assertion) (lists : Lists) (site : Site) (text : List ℕ) → AllReport assertions lists site text [] → IsInside (interval assertions) (length (chars text))
+inside_all : TextsAreInside → (assertions : List Assertion) (lists : Lists) (site : Site) (text : List ℕ) → AllReport assertions lists site text [] → IsInside (interval (demands_asserted assertions)) (length (chars text))
 inside_all law [] lists site text h = inside_any (length (chars text))
 inside_all law (a ∷ others) lists site text h =
     let parts = none_reported (standing a.place site) text h.0 h.1 h.3 in
     let first = inside_one law a.demand lists text (subst (λ found. HasFinding a.demand lists text found) parts.0 h.2) in
     let rest = inside_all law others lists site text (subst (λ rs. AllReport others lists site text rs) parts.1 h.4) in
-    (inside_common (window_left a.demand) (interval others) (length (chars text))).1 (first, rest)
+    (inside_common (window_left a.demand) (interval (demands_asserted others)) (length (chars text))).1 (first, rest)
 
 pub outside_is_an_error : TextsAreInside → OutsideIsAnError
 outside_is_an_error law assertions lists site text outside h = outside (inside_all law assertions lists site text h)
@@ -200,12 +200,12 @@ meets_limit (at_most n) lists text l i = inl (i.short_enough, refl)
 meets_limit (compares p outcome) lists text l i = absurd l
 meets_limit (matches p outcome) lists text l i = absurd l
 
-pub inside_is_no_error : (assertions : List Assertion) (lists : Lists) (site : Site) (text : List ℕ) → AreLimits assertions
-    → IsInside (interval assertions) (length (chars text)) → AllReport assertions lists site text []
-inside_is_no_error [] lists site text l i = refl
-inside_is_no_error (a ∷ others) lists site text l i =
-    let both = (inside_common (window_left a.demand) (interval others) (length (chars text))).0 i in
-    (None, [], meets_limit a.demand lists text l.0 both.0, refl, inside_is_no_error others lists site text l.1 both.1)
+pub inside_is_no_error : (place : Place) (ds : List Demand) (lists : Lists) (site : Site) (text : List ℕ) → AreLimits ds
+    → IsInside (interval ds) (length (chars text)) → AllReport (placed place ds) lists site text []
+inside_is_no_error place [] lists site text l i = refl
+inside_is_no_error place (d ∷ others) lists site text l i =
+    let both = (inside_common (window_left d) (interval others) (length (chars text))).0 i in
+    (None, [], meets_limit d lists text l.0 both.0, refl, inside_is_no_error place others lists site text l.1 both.1)
 
 -- ---- there is a text of every length
 

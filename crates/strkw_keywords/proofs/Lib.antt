@@ -1,10 +1,12 @@
 pub mod Rows
+pub mod Asserted
 pub mod Reports
 pub mod Refusals
 pub mod Engines
 pub mod Codecs
 pub mod InTurn
 pub mod Determined
+pub mod Shapes
 pub mod InUse
 pub mod FirstRow
 pub mod FormatEntry

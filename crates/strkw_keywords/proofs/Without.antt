@@ -19,7 +19,9 @@ use Rattle.strkw_keywords.specs.declared.keyword.Keyword.TheVariants.{ContentMed
 use Rattle.strkw_keywords.specs.declared.validator.Validator.{Validator}
 use Rattle.strkw_keywords.specs.Keywords.{keyword_name}
 use Rattle.strkw_keywords.specs.Meanings.{Choice}
-use Rattle.strkw_keywords.specs.Object.{Settings, Entry, nothing, Keyed, ContentRule, ignored, checked, noted, content_rule, of_text, known_media_type, media_type_beside, media_type_check, media_type_entry, encoding_beside, encoding_entry, schema_entry, schema_beside, is_overridden, value_at, is_fused, share, IsEntryOf, IsEntryAt, AreEntriesOf}
+use Rattle.strkw_keywords.specs.declared.content_rule.ContentRule.{ContentRule}
+use Rattle.strkw_keywords.specs.declared.content_rule.ContentRule.TheVariants.{Ignored, Checked, Noted}
+use Rattle.strkw_keywords.specs.Object.{Settings, Entry, nothing, Keyed, content_rule, of_text, known_media_type, media_type_beside, media_type_check, media_type_entry, encoding_beside, encoding_entry, schema_entry, schema_beside, is_overridden, value_at, is_fused, share, IsEntryOf, IsEntryAt, AreEntriesOf}
 use Rattle.strkw_keywords.specs.Compiled.{alone, IsCompiled, IsCompiledAt}
 use Rattle.strkw_keywords.specs.Without.{KeepsOthers, IsWithoutSchema}
 use Rattle.strkw_keywords.proofs.EntriesOf.{absent}
@@ -65,9 +67,9 @@ module _ {E : Type 0} (outcome : E → List ℕ → Outcome) (s : Settings) (ms 
   -- ---- the schema, by what is beside it
 
   same_schema : (rule : ContentRule) (d : Data) → schema_entry rule others d ≡ schema_entry rule ms d
-  same_schema ignored d = refl
-  same_schema checked d = refl
-  same_schema noted d = ap (λ m. schema_beside m d) (keeps.kept (keyword_name ContentMediaType) refl)
+  same_schema Ignored d = refl
+  same_schema Checked d = refl
+  same_schema Noted d = ap (λ m. schema_beside m d) (keeps.kept (keyword_name ContentMediaType) refl)
 
   pub schema_compiled : (v : Value) (r : Option (Result (Validator E) CompileError)) → get_member (keyword_name ContentSchema) ms ≡ Some (view v) → is_overridden s.options ContentSchema ≡ false
       → IsCompiled outcome s.place (alone ContentSchema (schema_entry (content_rule s.draft) others (view v))) r → IsCompiledAt outcome s ms ContentSchema r
@@ -87,14 +89,14 @@ module _ {E : Type 0} (outcome : E → List ℕ → Outcome) (s : Settings) (ms 
   same_check (Some m) = ap (media_type_beside s m) (keeps.kept (keyword_name ContentEncoding) refl)
 
   same_media_type : (rule : ContentRule) (d : Data) → media_type_entry rule s others d ≡ media_type_entry rule s ms d
-  same_media_type ignored d = refl
-  same_media_type checked d = ap (λ entry. of_text entry ContentMediaType d) (fun_ext (λ name. same_check (known_media_type s.lists s.options name)))
-  same_media_type noted d = refl
+  same_media_type Ignored d = refl
+  same_media_type Checked d = ap (λ entry. of_text entry ContentMediaType d) (fun_ext (λ name. same_check (known_media_type s.lists s.options name)))
+  same_media_type Noted d = refl
 
   same_encoding : (rule : ContentRule) (d : Data) → encoding_entry rule s others d ≡ encoding_entry rule s ms d
-  same_encoding ignored d = refl
-  same_encoding checked d = ap (λ m. encoding_beside s m d) (keeps.kept (keyword_name ContentMediaType) refl)
-  same_encoding noted d = refl
+  same_encoding Ignored d = refl
+  same_encoding Checked d = ap (λ m. encoding_beside s m d) (keeps.kept (keyword_name ContentMediaType) refl)
+  same_encoding Noted d = refl
 
   same_entry : (k : Keyword) (d : Data) (e : Entry) → IsEntryOf s others k d e → IsEntryOf s ms k d e
   same_entry ContentMediaType d e h = h ∙ same_media_type (content_rule s.draft) d

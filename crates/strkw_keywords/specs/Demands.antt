@@ -1,5 +1,6 @@
 -- What keywords demand of a text, and what a text is found to fail at.
-use Rattle.std.specs.Prelude.{◌≡◌, ◌≤◌, ◌⊎◌, ℕ, List, [], ◌∷◌, ◌++◌, Bool, true, false, length, Option, Some, None, IsTrue, MatchOption, slice_get}
+use Rattle.std.specs.Prelude.{◌≡◌, ◌≤◌, ◌⊎◌, ℕ, List, [], ◌∷◌, ◌++◌, Bool, true, false, ◌&&◌, length, Option, Some, None, IsTrue, MatchOption, slice_get}
+use Rattle.std.specs.List.{AllByRecursion}
 use Rattle.std.specs.Str.{chars, IsUtf8}
 use Rattle.strkw_report.specs.Kinds.{Kind, min_length, max_length, pattern, backtrack_limit_exceeded, regex_engine_failure, format, content_encoding, content_media_type, from_utf8}
 use Rattle.strkw_coding.specs.declared.codec.Codec.{Codec}
@@ -122,6 +123,10 @@ KeepsRows lists (at_most n) = Unit {0}
 KeepsRows lists (compares p outcome) = Unit {0}
 KeepsRows lists (matches p outcome) = Unit {0}
 
+-- the rows that demands rest on are the first of their names
+abbrev pub IsInUse : List Demand → Lists → Type 0
+IsInUse demands lists = AllByRecursion (KeepsRows lists) demands
+
 -- ---- memory
 
 abbrev pub is_builtin : {A : Type 0} → Choice A → Bool
@@ -138,3 +143,8 @@ is_quiet (at_least n) = true
 is_quiet (at_most n) = true
 is_quiet (compares p outcome) = true
 is_quiet (matches p outcome) = false
+
+-- whether a text is tested without memory by all of them
+abbrev pub all_quiet : List Demand → Bool
+all_quiet [] = true
+all_quiet (d ∷ others) = is_quiet d && all_quiet others

@@ -1,12 +1,11 @@
 -- The errors that a node has of what keywords demand.
-use Rattle.std.specs.Prelude.{◌≡◌, ℕ, List, [], ◌∷◌, ◌++◌, map, Bool, true, ◌&&◌, Option, Some, None, MatchOption}
-use Rattle.std.specs.List.{AllByRecursion}
+use Rattle.std.specs.Prelude.{◌≡◌, ℕ, List, [], ◌∷◌, ◌++◌, map, Option, Some, None, MatchOption}
 use Rattle.strkw_report.specs.Kinds.{Standing, Report, report_at}
 use Rattle.strkw_report.specs.declared.error.Site.{Site}
 use Rattle.strkw_keywords.specs.Keywords.{keyword_name}
 use Rattle.strkw_keywords.specs.Meanings.{Lists}
 use Rattle.strkw_keywords.specs.Places.{Place, standing}
-use Rattle.strkw_keywords.specs.Demands.{Demand, Finding, HasFinding, KeepsRows, is_quiet}
+use Rattle.strkw_keywords.specs.Demands.{Demand, Finding, HasFinding}
 
 -- a demand, and where the schema object stands that makes it
 pub record Assertion : Type 0 where
@@ -15,6 +14,10 @@ pub record Assertion : Type 0 where
 
 abbrev pub placed : Place → List Demand → List Assertion
 placed place ds = map (λ d. record { place = place; demand = d }) ds
+
+-- what is demanded, wherever
+abbrev pub demands_asserted : List Assertion → List Demand
+demands_asserted assertions = map (λ a. a.demand) assertions
 
 -- the error of a finding on a text
 abbrev pub reported : Standing → List ℕ → Option Finding → List Report
@@ -30,15 +33,6 @@ AllReport (a ∷ others) lists site text rs = (found : Option Finding) × (rest 
 -- the same of a node, which has none where it is no text
 abbrev pub NodeReports : List Assertion → Lists → Site → Option (List ℕ) → List Report → Type 0
 NodeReports assertions lists site node rs = MatchOption node (rs ≡ []) (λ text. AllReport assertions lists site text rs)
-
--- the rows that assertions rest on are the first of their names
-abbrev pub IsInUse : List Assertion → Lists → Type 0
-IsInUse assertions lists = AllByRecursion (λ a. KeepsRows lists a.demand) assertions
-
--- whether a text is tested without memory
-abbrev pub all_quiet : List Assertion → Bool
-all_quiet [] = true
-all_quiet (a ∷ others) = is_quiet a.demand && all_quiet others
 
 -- new is old, and behind it a list that has P
 pub record Appends (P : List Report → Type 0) (old new : List Report) : Type 0 where

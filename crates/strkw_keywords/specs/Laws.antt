@@ -10,10 +10,10 @@ use Rattle.strkw_keywords.specs.declared.keyword.Keyword.TheVariants.{Pattern}
 use Rattle.strkw_keywords.specs.Keywords.{keyword_name}
 use Rattle.strkw_keywords.specs.Meanings.{Lists, first_named}
 use Rattle.strkw_keywords.specs.Places.{Place, standing}
-use Rattle.strkw_keywords.specs.Demands.{at_least, at_most, matches}
-use Rattle.strkw_keywords.specs.Errors.{Assertion, placed, NodeReports, IsInUse}
+use Rattle.strkw_keywords.specs.Demands.{at_least, at_most, matches, IsInUse}
+use Rattle.strkw_keywords.specs.Errors.{Assertion, placed, NodeReports}
 use Rattle.strkw_keywords.specs.Remarks.{Remark, annotation_of}
-use Rattle.strkw_keywords.specs.Object.{Settings, Keyed, AreEntries, asserted, Errors}
+use Rattle.strkw_keywords.specs.Object.{Settings, Keyed, AreEntries, demanded, Errors}
 
 -- these are the errors that the first assertions report, and then those that the others report
 pub record ReportInTurn (first others : List Assertion) (lists : Lists) (site : Site) (node : Option (List ℕ)) (rs : List Report) : Type 0 where
@@ -73,7 +73,7 @@ ErrorsAreThere = (s : Settings) (ms : Members) (lists : Lists) (site : Site) (no
 
 -- what is compiled under some lists is in use with them
 abbrev pub CompiledIsInUse : Type 0
-CompiledIsInUse = (s : Settings) (ms : Members) (es : List Keyed) → AreEntries s ms es → IsInUse (asserted s.place es) s.lists
+CompiledIsInUse = (s : Settings) (ms : Members) (es : List Keyed) → AreEntries s ms es → IsInUse (demanded es) s.lists
 
 -- the row that counts is the first of its name, and there is none exactly where no row has the name
 pub record FirstRowCounts : Type 0 where

@@ -8,7 +8,7 @@ use Rattle.strkw_keywords.specs.Meanings.{Lists, Choice, builtin, row}
 use Rattle.strkw_formats.specs.Formats.{Window, window_of}
 use Rattle.strkw_formats.specs.FormatLaws.{IsInside}
 use Rattle.strkw_keywords.specs.Demands.{Demand, is_media_type, is_encoded, encodes_media_type, is_format, at_least, at_most, compares, matches}
-use Rattle.strkw_keywords.specs.Errors.{Assertion, AllReport}
+use Rattle.strkw_keywords.specs.Errors.{Assertion, AllReport, demands_asserted}
 
 -- ---- windows
 
@@ -48,10 +48,10 @@ window_left (at_most n) = record { least = 0; greatest = Some n }
 window_left (compares p outcome) = any_length
 window_left (matches p outcome) = any_length
 
--- the interval of several assertions: the lengths that all of them leave
-abbrev pub interval : List Assertion → Window
+-- the interval of several demands: the lengths that all of them leave
+abbrev pub interval : List Demand → Window
 interval [] = any_length
-interval (a ∷ others) = common (window_left a.demand) (interval others)
+interval (d ∷ others) = common (window_left d) (interval others)
 
 -- only the length of a text can fail the demand
 abbrev pub IsLimit : Demand → Type 0
@@ -64,8 +64,8 @@ IsLimit (at_most n) = Unit {0}
 IsLimit (compares p outcome) = ⊥
 IsLimit (matches p outcome) = ⊥
 
-abbrev pub AreLimits : List Assertion → Type 0
-AreLimits assertions = AllByRecursion (λ a. IsLimit a.demand) assertions
+abbrev pub AreLimits : List Demand → Type 0
+AreLimits demands = AllByRecursion IsLimit demands
 
 -- a text, in UTF-8, of so many characters
 pub record IsTextOfLength (n : ℕ) (text : List ℕ) : Type 0 where
@@ -85,4 +85,4 @@ EmptyByItsEnds = (w : Window) → IsEmpty w ↔ ((greatest : ℕ) × (w.greatest
 -- a text of a length outside the interval has an error
 abbrev pub OutsideIsAnError : Type 0
 OutsideIsAnError = (assertions : List Assertion) (lists : Lists) (site : Site) (text : List ℕ)
-    → (IsInside (interval assertions) (length (chars text)) → ⊥) → AllReport assertions lists site text [] → ⊥
+    → (IsInside (interval (demands_asserted assertions)) (length (chars text)) → ⊥) → AllReport assertions lists site text [] → ⊥

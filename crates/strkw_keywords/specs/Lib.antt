@@ -13,7 +13,6 @@ pub mod Decodings
 pub mod LiteralKinds
 pub mod Validators
 pub mod Object
-pub mod Rules
 pub mod Settings
 pub mod Handed
 pub mod Compiled

@@ -22,6 +22,8 @@ use Rattle.strkw_pattern.specs.Matcher.{IsSearch}
 use Rattle.strkw_keywords.specs.declared.keyword.Keyword.{Keyword}
 use Rattle.strkw_keywords.specs.declared.keyword.Keyword.TheVariants.{ContentMediaType, ContentEncoding, ContentSchema, Format, MinLength, MaxLength, Pattern}
 use Rattle.strkw_formats.specs.declared.builtin.BuiltinFormat.{BuiltinFormat}
+use Rattle.strkw_keywords.specs.declared.content_rule.ContentRule.{ContentRule}
+use Rattle.strkw_keywords.specs.declared.content_rule.ContentRule.TheVariants.{Ignored, Checked, Noted}
 use Rattle.strkw_keywords.specs.declared.options.Options.{Options}
 use Rattle.strkw_keywords.specs.Keywords.{keyword_name, keyword_place}
 use Rattle.strkw_formats.specs.Formats.{builtin_named}
@@ -127,18 +129,14 @@ known_format s name = chosen (first_named name (row_names s.lists.formats)) name
 
 -- ---- content
 
--- what a draft does with content
-pub data ContentRule : Type 0 where
-  ignored : ContentRule
-  checked : ContentRule
-  noted : ContentRule
-
+-- What a draft does with content: draft 4 has no content keywords; draft 7 lets a validator check them (8.2); from 2019-09
+-- on they are annotations (8.2). Draft 6 has none either; it checks them as the Rust crate does.
 abbrev pub content_rule : Draft → ContentRule
-content_rule Draft4 = ignored
-content_rule Draft6 = checked
-content_rule Draft7 = checked
-content_rule Draft201909 = noted
-content_rule Draft202012 = noted
+content_rule Draft4 = Ignored
+content_rule Draft6 = Checked
+content_rule Draft7 = Checked
+content_rule Draft201909 = Noted
+content_rule Draft202012 = Noted
 
 -- a text of a media type, encoded by a codec that is known
 abbrev pub encoded_check : Choice BuiltinMediaType → Option (Choice Codec) → Entry
@@ -174,19 +172,19 @@ schema_beside None d = nothing
 schema_beside (Some m) d = if has_float d then malformed ContentSchema fractional_number else gives [] (Some d)
 
 abbrev pub media_type_entry : ContentRule → Settings → Members → Data → Entry
-media_type_entry ignored s ms d = nothing
-media_type_entry checked s ms d = of_text (λ name. media_type_check s ms (known_media_type s.lists s.options name)) ContentMediaType d
-media_type_entry noted s ms d = noted_text d (as_str d)
+media_type_entry Ignored s ms d = nothing
+media_type_entry Checked s ms d = of_text (λ name. media_type_check s ms (known_media_type s.lists s.options name)) ContentMediaType d
+media_type_entry Noted s ms d = noted_text d (as_str d)
 
 abbrev pub encoding_entry : ContentRule → Settings → Members → Data → Entry
-encoding_entry ignored s ms d = nothing
-encoding_entry checked s ms d = encoding_beside s (get_member (keyword_name ContentMediaType) ms) d
-encoding_entry noted s ms d = noted_text d (as_str d)
+encoding_entry Ignored s ms d = nothing
+encoding_entry Checked s ms d = encoding_beside s (get_member (keyword_name ContentMediaType) ms) d
+encoding_entry Noted s ms d = noted_text d (as_str d)
 
 abbrev pub schema_entry : ContentRule → Members → Data → Entry
-schema_entry ignored ms d = nothing
-schema_entry checked ms d = nothing
-schema_entry noted ms d = schema_beside (get_member (keyword_name ContentMediaType) ms) d
+schema_entry Ignored ms d = nothing
+schema_entry Checked ms d = nothing
+schema_entry Noted ms d = schema_beside (get_member (keyword_name ContentMediaType) ms) d
 
 -- ---- format
 
@@ -299,10 +297,14 @@ demands_by nothing = []
 demands_by (malformed keyword why) = []
 demands_by (gives ds remark) = ds
 
--- what entries assert, in their order
+-- what entries demand, in their order
+abbrev pub demanded : List Keyed → List Demand
+demanded [] = []
+demanded (e ∷ others) = demands_by e.entry ++ demanded others
+
+-- what they assert: their demands, at the place of the object
 abbrev pub asserted : Place → List Keyed → List Assertion
-asserted place [] = []
-asserted place (e ∷ others) = placed place (demands_by e.entry) ++ asserted place others
+asserted place es = placed place (demanded es)
 
 abbrev pub remark_by : Place → Keyword → Entry → List Remark
 remark_by place keyword nothing = []

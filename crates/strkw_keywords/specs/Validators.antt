@@ -4,7 +4,7 @@ use Rattle.serde_json.specs.Data.{string}
 use Rattle.serde_json.specs.View.{view}
 use Rattle.strkw_pattern.specs.declared.engine.Outcome.{Outcome}
 use Rattle.strkw_pattern.specs.Matcher.{literal_outcome}
-use Rattle.strkw_keywords.specs.declared.keyword.Keyword.TheVariants.{ContentMediaType, ContentEncoding, ContentSchema, Format}
+use Rattle.strkw_keywords.specs.declared.keyword.Keyword.TheVariants.{Format}
 use Rattle.strkw_formats.specs.Formats.{format_name}
 use Rattle.strkw_keywords.specs.Meanings.{builtin, row}
 use Rattle.strkw_keywords.specs.Choices.{choice_of}
@@ -15,66 +15,73 @@ use Rattle.strkw_keywords.specs.Remarks.{Remark, remark_at}
 use Rattle.strkw_keywords.specs.declared.validator.Validator.{Validator}
 use Rattle.strkw_keywords.specs.declared.validator.Validator.TheVariants as any
 
+-- what a validator says: the place of its schema object, what it demands of a text by the meaning of engines, and
+-- what it notes of one
+pub record Said (E : Type 0) : Type 0 where
+  pub place : Place
+  pub demands : (E → List ℕ → Outcome) → List Demand
+  pub remark : Option Remark
+
+-- it says the same by whatever engine
+abbrev pub says : {E : Type 0} → Place → List Demand → Option Remark → Said E
+says place demands remark = record { place = place; demands = λ outcome. demands; remark = remark }
+
+-- and it notes nothing
+abbrev pub asks : {E : Type 0} → Place → List Demand → Said E
+asks place demands = says place demands None
+
+abbrev pub said_by : {E : Type 0} → Validator E → Said E
+said_by (any.ContentMediaType v) = asks v.origin (is_media_type (choice_of v.test.media_type) ∷ [])
+said_by (any.ContentEncoding v) = asks v.origin (is_encoded (choice_of v.test.codec) ∷ [])
+said_by (any.ContentMediaTypeAndEncoding v) =
+    asks v.origin (encodes_media_type (choice_of v.test.codec) (choice_of v.test.media_type) ∷ [])
+said_by (any.ContentMediaTypeAnnotation v) =
+    says v.origin [] (Some (remark_at v.origin.schema v.test.keyword (view v.test.value)))
+said_by (any.ContentEncodingAnnotation v) =
+    says v.origin [] (Some (remark_at v.origin.schema v.test.keyword (view v.test.value)))
+said_by (any.ContentSchemaAnnotation v) =
+    says v.origin [] (Some (remark_at v.origin.schema v.test.keyword (view v.test.value)))
+said_by (any.Format v) =
+    says v.origin (is_format (builtin v.test.format) ∷ [])
+    (Some (remark_at v.origin.schema Format (string (format_name v.test.format))))
+said_by (any.CustomFormat v) =
+    says v.origin (is_format (row v.test.position (string_bytes v.test.name)) ∷ [])
+    (Some (remark_at v.origin.schema Format (string (string_bytes v.test.name))))
+said_by (any.AnnotationOnlyFormat v) =
+    says v.origin [] (Some (remark_at v.origin.schema v.test.keyword (view v.test.value)))
+said_by (any.MinLength v) = asks v.origin (at_least v.test.limit ∷ [])
+said_by (any.MaxLength v) = asks v.origin (at_most v.test.limit ∷ [])
+said_by (any.LengthRange v) = asks v.origin (at_least v.test.min ∷ at_most v.test.max ∷ [])
+said_by (any.PrefixPattern v) =
+    asks v.origin (compares (string_bytes v.test.pattern) (literal_outcome v.test.matcher) ∷ [])
+said_by (any.ExactPattern v) =
+    asks v.origin (compares (string_bytes v.test.pattern) (literal_outcome v.test.matcher) ∷ [])
+said_by (any.AlternationPattern v) =
+    asks v.origin (compares (string_bytes v.test.pattern) (literal_outcome v.test.matcher) ∷ [])
+said_by (any.NoWhitespacePattern v) =
+    asks v.origin (compares (string_bytes v.test.pattern) (literal_outcome v.test.matcher) ∷ [])
+said_by (any.Pattern v) = record {
+  place = v.origin;
+  demands = λ outcome. matches (string_bytes v.test.pattern) (outcome v.test.engine) ∷ [];
+  remark = None;
+}
+
 abbrev pub place_of : {E : Type 0} → Validator E → Place
-place_of (any.ContentMediaType v) = v.origin
-place_of (any.ContentEncoding v) = v.origin
-place_of (any.ContentMediaTypeAndEncoding v) = v.origin
-place_of (any.ContentMediaTypeAnnotation v) = v.origin
-place_of (any.ContentEncodingAnnotation v) = v.origin
-place_of (any.ContentSchemaAnnotation v) = v.origin
-place_of (any.Format v) = v.origin
-place_of (any.CustomFormat v) = v.origin
-place_of (any.AnnotationOnlyFormat v) = v.origin
-place_of (any.MinLength v) = v.origin
-place_of (any.MaxLength v) = v.origin
-place_of (any.LengthRange v) = v.origin
-place_of (any.PrefixPattern v) = v.origin
-place_of (any.ExactPattern v) = v.origin
-place_of (any.AlternationPattern v) = v.origin
-place_of (any.NoWhitespacePattern v) = v.origin
-place_of (any.Pattern v) = v.origin
+place_of v = (said_by v).place
 
 abbrev pub demands_of : {E : Type 0} → (E → List ℕ → Outcome) → Validator E → List Demand
-demands_of outcome (any.ContentMediaType v) = is_media_type (choice_of v.media_type) ∷ []
-demands_of outcome (any.ContentEncoding v) = is_encoded (choice_of v.codec) ∷ []
-demands_of outcome (any.ContentMediaTypeAndEncoding v) = encodes_media_type (choice_of v.codec) (choice_of v.media_type) ∷ []
-demands_of outcome (any.ContentMediaTypeAnnotation v) = []
-demands_of outcome (any.ContentEncodingAnnotation v) = []
-demands_of outcome (any.ContentSchemaAnnotation v) = []
-demands_of outcome (any.Format v) = is_format (builtin v.format) ∷ []
-demands_of outcome (any.CustomFormat v) = is_format (row v.position (string_bytes v.name)) ∷ []
-demands_of outcome (any.AnnotationOnlyFormat v) = []
-demands_of outcome (any.MinLength v) = at_least v.limit ∷ []
-demands_of outcome (any.MaxLength v) = at_most v.limit ∷ []
-demands_of outcome (any.LengthRange v) = at_least v.min ∷ at_most v.max ∷ []
-demands_of outcome (any.PrefixPattern v) = compares (string_bytes v.literal.pattern) (literal_outcome v.literal.matcher) ∷ []
-demands_of outcome (any.ExactPattern v) = compares (string_bytes v.literal.pattern) (literal_outcome v.literal.matcher) ∷ []
-demands_of outcome (any.AlternationPattern v) = compares (string_bytes v.literal.pattern) (literal_outcome v.literal.matcher) ∷ []
-demands_of outcome (any.NoWhitespacePattern v) = compares (string_bytes v.literal.pattern) (literal_outcome v.literal.matcher) ∷ []
-demands_of outcome (any.Pattern v) = matches (string_bytes v.pattern) (outcome v.engine) ∷ []
+demands_of outcome v = (said_by v).demands outcome
 
--- what a validator notes of a text
 abbrev pub remark_made : {E : Type 0} → Validator E → Option Remark
-remark_made (any.ContentMediaType v) = None
-remark_made (any.ContentEncoding v) = None
-remark_made (any.ContentMediaTypeAndEncoding v) = None
-remark_made (any.ContentMediaTypeAnnotation v) = Some (remark_at v.origin.schema ContentMediaType (string (string_bytes v.media_type)))
-remark_made (any.ContentEncodingAnnotation v) = Some (remark_at v.origin.schema ContentEncoding (string (string_bytes v.encoding)))
-remark_made (any.ContentSchemaAnnotation v) = Some (remark_at v.origin.schema ContentSchema (view v.schema))
-remark_made (any.Format v) = Some (remark_at v.origin.schema Format (string (format_name v.format)))
-remark_made (any.CustomFormat v) = Some (remark_at v.origin.schema Format (string (string_bytes v.name)))
-remark_made (any.AnnotationOnlyFormat v) = Some (remark_at v.origin.schema Format (string (string_bytes v.name)))
-remark_made (any.MinLength v) = None
-remark_made (any.MaxLength v) = None
-remark_made (any.LengthRange v) = None
-remark_made (any.PrefixPattern v) = None
-remark_made (any.ExactPattern v) = None
-remark_made (any.AlternationPattern v) = None
-remark_made (any.NoWhitespacePattern v) = None
-remark_made (any.Pattern v) = None
+remark_made v = (said_by v).remark
 
 abbrev pub assertions_of : {E : Type 0} → (E → List ℕ → Outcome) → Validator E → List Assertion
 assertions_of outcome v = placed (place_of v) (demands_of outcome v)
+
+-- what several validators demand, in their order
+abbrev pub demands_in : {E : Type 0} → (E → List ℕ → Outcome) → List (Validator E) → List Demand
+demands_in outcome [] = []
+demands_in outcome (v ∷ vs) = demands_of outcome v ++ demands_in outcome vs
 
 -- what several validators assert, in their order
 abbrev pub assertions_in : {E : Type 0} → (E → List ℕ → Outcome) → List (Validator E) → List Assertion

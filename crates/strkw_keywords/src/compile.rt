@@ -7,9 +7,8 @@ ghost use Rattle.strkw_report.specs.Paths.{below};
 ghost use Rattle.strkw_report.specs.Refusals.{refusal_of};
 ghost use Rattle.strkw_keywords.specs.Compiled.{IsBuilt, IsBuiltAt, IsCompiled, IsCompiledAt, out_of_memory, refused_at};
 ghost use Rattle.strkw_keywords.specs.Keywords.{keyword_name};
-ghost use Rattle.strkw_keywords.specs.Object.{Keyed, content_rule, no_string, value_at};
+ghost use Rattle.strkw_keywords.specs.Object.{Keyed, no_string, value_at};
 ghost use Rattle.strkw_keywords.specs.Places.{Place};
-ghost use Rattle.strkw_keywords.specs.Rules.{rule_of};
 ghost use Rattle.strkw_keywords.specs.Settings.{place_in, settings_of};
 
 use crate::checks::{ContentCodec, Format, MediaTypeCheck};
@@ -17,6 +16,7 @@ use crate::content::{
     build_encoding, build_encoding_annotation, build_media_type, build_media_type_annotation,
     build_schema_annotation,
 };
+use crate::content_rule::ContentRule;
 use crate::format::build_format;
 use crate::keyword::Keyword;
 use crate::lengths::{build_max, build_min};
@@ -79,17 +79,17 @@ fn build<B: EngineBuilder>(
         (members_view object.now.entries) keyword result }
 {
     match keyword {
-        Keyword::ContentMediaType => match content_rule(ctx.draft) {
+        Keyword::ContentMediaType => match ContentRule::of(ctx.draft) {
             ContentRule::Ignored => Ok(None),
             ContentRule::Checked => build_media_type(alloc, ctx, object, value),
-            ContentRule::Noted => build_media_type_annotation(alloc, ctx, value),
+            ContentRule::Noted => build_media_type_annotation(ctx, value),
         },
-        Keyword::ContentEncoding => match content_rule(ctx.draft) {
+        Keyword::ContentEncoding => match ContentRule::of(ctx.draft) {
             ContentRule::Ignored => Ok(None),
             ContentRule::Checked => build_encoding(alloc, ctx, object, value),
-            ContentRule::Noted => build_encoding_annotation(alloc, ctx, value),
+            ContentRule::Noted => build_encoding_annotation(ctx, value),
         },
-        Keyword::ContentSchema => match content_rule(ctx.draft) {
+        Keyword::ContentSchema => match ContentRule::of(ctx.draft) {
             ContentRule::Ignored => Ok(None),
             ContentRule::Checked => Ok(None),
             ContentRule::Noted => build_schema_annotation(ctx, object, value),
@@ -98,25 +98,6 @@ fn build<B: EngineBuilder>(
         Keyword::MinLength => build_min(ctx, object, value),
         Keyword::MaxLength => build_max(ctx, object, value),
         Keyword::Pattern => build_pattern(alloc, ctx, value),
-    }
-}
-
-// What a draft does with content.
-#[derive(Clone, Copy)]
-pub(crate) enum ContentRule {
-    Ignored,
-    Checked,
-    Noted,
-}
-
-// The table of drafts and content.
-pub(crate) fn content_rule(draft: Draft) -> ContentRule
-    ensures { rule_of result ≡ content_rule draft }
-{
-    match draft {
-        Draft::Draft4 => ContentRule::Ignored,
-        Draft::Draft6 | Draft::Draft7 => ContentRule::Checked,
-        Draft::Draft201909 | Draft::Draft202012 => ContentRule::Noted,
     }
 }
 

@@ -12,7 +12,8 @@ mod checks;
 use crate::checks::{Asked, Checks, Choice, ContentCodec, Format, MediaTypeCheck, ask_row};
 pub use annotations::{
     ContentEncodingAnnotationValidator, ContentMediaTypeAnnotationValidator,
-    ContentSchemaAnnotationValidator, compile_content_schema_annotation, take_content_schema,
+    ContentSchemaAnnotationValidator, Untested, compile_content_schema_annotation,
+    take_content_schema,
 };
 pub(crate) use annotations::{
     build_encoding_annotation, build_media_type_annotation, build_schema_annotation,
@@ -20,8 +21,9 @@ pub(crate) use annotations::{
 // `.._annotation` are the same calls, by names that tell what they make from draft 2019-09 on.
 pub use checks::{
     ContentEncodingValidator, ContentMediaTypeAndEncodingValidator, ContentMediaTypeValidator,
-    compile_content_encoding, compile_content_encoding as compile_content_encoding_annotation,
-    compile_media_type, compile_media_type as compile_media_type_annotation,
+    Encoded, EncodedMediaType, OfMediaType, compile_content_encoding,
+    compile_content_encoding as compile_content_encoding_annotation, compile_media_type,
+    compile_media_type as compile_media_type_annotation,
 };
 pub(crate) use checks::{build_encoding, build_media_type};
 use std::alloc::Global;

@@ -15,11 +15,13 @@ ghost use Rattle.strkw_keywords.specs.declared.keyword.Keyword.TheVariants as ke
 
 use crate::checks::{Checks, ContentCodec, Format, MediaTypeCheck, ask_row};
 use crate::compile::{Refused, compile_value, no_string, origin_of};
+use crate::content::Untested;
 use crate::findings::{Findings, Found};
+use crate::keyed::Keyed;
 use crate::keyword::Keyword;
 use crate::options::{Context, Options};
 use crate::parts::{Noted, Origin, Parts, RowRef};
-use crate::validate::{Uses, Validate};
+use crate::test::Test;
 use crate::validator::Validator;
 use serde_json::{Map, Value};
 use std::alloc::Global;
@@ -28,13 +30,15 @@ use strkw_pattern::EngineBuilder;
 use strkw_report::{CompileError, CompileErrorKind, Draft, Failure, Node};
 
 /// Demands that a text is of a built-in format, and notes the name of the format (2020-12, section 7.3).
+pub type FormatValidator = Keyed<OfBuiltin>;
+
+/// The test of a text for a built-in format. It never answers that it is out of memory.
 #[derive(Drop)]
-pub struct FormatValidator {
-    pub(crate) origin: Origin,
+pub struct OfBuiltin {
     pub(crate) format: BuiltinFormat,
 }
 
-impl FormatValidator {
+impl OfBuiltin {
     fn finding(&self, text: &str) -> Option<Failure<'static>>
         ensures { HasFinding (is_format (builtin self.now.format)) no_lists text.now (option_map finding_of result) }
     {
@@ -46,44 +50,40 @@ impl FormatValidator {
     }
 }
 
-impl Uses for FormatValidator {
-    ghost place = { λ v. v.origin };
+impl Test for OfBuiltin {
+    ghost demands = { λ t. is_format (builtin t.format) ∷ [] };
 
-    ghost demands = { λ v. is_format (builtin v.format) ∷ [] };
+    ghost remark = { λ t location.
+        Some (remark_at location keyword.Format (string (format_name t.format))) };
 
-    ghost remark = { λ v. Some (remark_at v.origin.schema keyword.Format (string (format_name v.format))) };
-
-    fn parts(&self) -> Parts<'_> {
-        Parts::noting(
-            &self.origin,
-            Noted::Text(Keyword::Format, self.format.as_str()),
-        )
+    fn parts<'a>(&'a self, origin: &'a Origin) -> Parts<'a> {
+        Parts::noting(origin, Noted::Text(Keyword::Format, self.format.as_str()))
     }
-}
 
-impl<N: Node> Validate<N> for FormatValidator {
-    fn findings(&self, _alloc: Global, _node: &N, text: &str, _checks: &Checks) -> Found<'_> {
+    fn findings<N: Node>(&self, _: Global, _: &N, text: &str, _checks: &Checks) -> Found<'_> {
         Ok(Findings::one(self.finding(text)))
     }
 }
 
 /// Demands that a row of the caller admits a text, and notes the name of the row. The row is asked that stands at the
 /// kept position in the list that is given at validation.
+pub type CustomFormatValidator = Keyed<OfRow>;
+
+/// The test of a text by the row at a position, and the name that the row had at compile. Its only error is out of
+/// memory.
 #[derive(Drop)]
-pub struct CustomFormatValidator {
-    pub(crate) origin: Origin,
+pub struct OfRow {
     pub(crate) position: usize,
     pub(crate) name: String,
 }
 
-impl Uses for CustomFormatValidator {
-    ghost place = { λ v. v.origin };
+impl Test for OfRow {
+    ghost demands = { λ t. is_format (row t.position (string_bytes t.name)) ∷ [] };
 
-    ghost demands = { λ v. is_format (row v.position (string_bytes v.name)) ∷ [] };
+    ghost remark = { λ t location.
+        Some (remark_at location keyword.Format (string (string_bytes t.name))) };
 
-    ghost remark = { λ v. Some (remark_at v.origin.schema keyword.Format (string (string_bytes v.name))) };
-
-    fn parts(&self) -> Parts<'_> {
+    fn parts<'a>(&'a self, origin: &'a Origin) -> Parts<'a> {
         Parts {
             noted: Some(Noted::Text(Keyword::Format, self.name.as_str())),
             format: Some(RowRef {
@@ -91,13 +91,11 @@ impl Uses for CustomFormatValidator {
                 name: self.name.as_str(),
             }),
             is_quiet: false,
-            ..Parts::plain(&self.origin)
+            ..Parts::plain(origin)
         }
     }
-}
 
-impl<N: Node> Validate<N> for CustomFormatValidator {
-    fn findings(&self, alloc: Global, _node: &N, text: &str, checks: &Checks) -> Found<'_> {
+    fn findings<N: Node>(&self, alloc: Global, _: &N, text: &str, checks: &Checks) -> Found<'_> {
         let is_admitted = ask_row(alloc, checks.formats, self.position, text)?;
         let failure = Failure::Format(self.name.as_str());
         Ok(Findings::one((!is_admitted).then_some(failure)))
@@ -105,30 +103,7 @@ impl<N: Node> Validate<N> for CustomFormatValidator {
 }
 
 /// Notes the name of a format, and makes no errors (2020-12, section 7.2.1).
-#[derive(Drop)]
-pub struct AnnotationOnlyFormatValidator {
-    pub(crate) origin: Origin,
-    pub(crate) name: String,
-}
-
-impl Uses for AnnotationOnlyFormatValidator {
-    ghost place = { λ v. v.origin };
-
-    ghost remark = { λ v. Some (remark_at v.origin.schema keyword.Format (string (string_bytes v.name))) };
-
-    fn parts(&self) -> Parts<'_> {
-        Parts::noting(
-            &self.origin,
-            Noted::Text(Keyword::Format, self.name.as_str()),
-        )
-    }
-}
-
-impl<N: Node> Validate<N> for AnnotationOnlyFormatValidator {
-    fn findings(&self, _alloc: Global, _node: &N, _text: &str, _checks: &Checks) -> Found<'_> {
-        Ok(Findings::one(None))
-    }
-}
+pub type AnnotationOnlyFormatValidator = Keyed<Untested>;
 
 pub(crate) fn build_format<B: EngineBuilder>(
     alloc: Global,
@@ -142,22 +117,27 @@ pub(crate) fn build_format<B: EngineBuilder>(
         return Err(no_string(value, Keyword::Format));
     };
     if !checks_formats(&ctx.options, ctx.draft) {
-        return Ok(Some(Validator::AnnotationOnlyFormat(AnnotationOnlyFormatValidator {
+        return Ok(Some(Validator::AnnotationOnlyFormat(Keyed {
             origin: origin_of(ctx)?,
-            name: String::from_str(alloc, name)?,
+            test: Untested {
+                keyword: Keyword::Format,
+                value: value.clone()?,
+            },
         })));
     }
     if let Some(position) = ctx.checks.format_named(name) {
-        return Ok(Some(Validator::CustomFormat(CustomFormatValidator {
+        return Ok(Some(Validator::CustomFormat(Keyed {
             origin: origin_of(ctx)?,
-            position,
-            name: String::from_str(alloc, name)?,
+            test: OfRow {
+                position,
+                name: String::from_str(alloc, name)?,
+            },
         })));
     }
     match builtin_format(ctx.draft, name) {
-        Some(format) => Ok(Some(Validator::Format(FormatValidator {
+        Some(format) => Ok(Some(Validator::Format(Keyed {
             origin: origin_of(ctx)?,
-            format,
+            test: OfBuiltin { format },
         }))),
         None => {
             if ignores_unknown(&ctx.options) {

@@ -13,10 +13,11 @@ ghost use Rattle.strkw_keywords.specs.Settings.{place_in, settings_of};
 use crate::checks::{Checks, ContentCodec, Format, MediaTypeCheck};
 use crate::compile::{Refused, compile_value, origin_of, value_at};
 use crate::findings::{Findings, Found};
+use crate::keyed::Keyed;
 use crate::keyword::Keyword;
 use crate::options::{Context, Options};
 use crate::parts::{Origin, Parts};
-use crate::validate::{Uses, Validate};
+use crate::test::Test;
 use crate::validator::Validator;
 use serde_json::{Map, Value};
 use std::alloc::Global;
@@ -24,24 +25,31 @@ use strkw_pattern::EngineBuilder;
 use strkw_report::{CompileError, CompileErrorKind, Failure, Node};
 
 /// Demands that a text has so many characters or more (2020-12, section 6.3.2).
-#[derive(Drop)]
-pub struct MinLengthValidator {
-    pub(crate) origin: Origin,
-    pub(crate) limit: u64,
-}
+pub type MinLengthValidator = Keyed<AtLeast>;
 
 /// Demands that a text has so many characters or fewer (2020-12, section 6.3.1).
-#[derive(Drop)]
-pub struct MaxLengthValidator {
-    pub(crate) origin: Origin,
-    pub(crate) limit: u64,
-}
+pub type MaxLengthValidator = Keyed<AtMost>;
 
 /// Demands that the number of characters of a text is from a least to a greatest one, both inclusive, and counts them
 /// once. The error of `minLength` comes first.
+pub type LengthRangeValidator = Keyed<Between>;
+
+/// The test of `minLength`: a text has so many characters or more. It never answers that it is out of memory.
 #[derive(Drop)]
-pub struct LengthRangeValidator {
-    pub(crate) origin: Origin,
+pub struct AtLeast {
+    pub(crate) limit: u64,
+}
+
+/// The test of `maxLength`: a text has so many characters or fewer. It never answers that it is out of memory.
+#[derive(Drop)]
+pub struct AtMost {
+    pub(crate) limit: u64,
+}
+
+/// The test of both: the number of characters is from a least to a greatest one, both inclusive. It never answers that
+/// it is out of memory.
+#[derive(Drop)]
+pub struct Between {
     pub(crate) min: u64,
     pub(crate) max: u64,
 }
@@ -63,50 +71,38 @@ fn too_long(limit: u64, characters: Option<u64>) -> Option<Failure<'static>>
 
 // ---- what each demands, and finds
 
-impl Uses for MinLengthValidator {
-    ghost place = { λ v. v.origin };
+impl Test for AtLeast {
+    ghost demands = { λ t. at_least t.limit ∷ [] };
 
-    ghost demands = { λ v. at_least v.limit ∷ [] };
-
-    fn parts(&self) -> Parts<'_> {
-        Parts::plain(&self.origin)
+    fn parts<'a>(&'a self, origin: &'a Origin) -> Parts<'a> {
+        Parts::plain(origin)
     }
-}
 
-impl<N: Node> Validate<N> for MinLengthValidator {
-    fn findings(&self, _alloc: Global, node: &N, _text: &str, _checks: &Checks) -> Found<'_> {
+    fn findings<N: Node>(&self, _: Global, node: &N, _: &str, _: &Checks) -> Found<'_> {
         Ok(Findings::one(too_short(self.limit, node.text_length())))
     }
 }
 
-impl Uses for MaxLengthValidator {
-    ghost place = { λ v. v.origin };
+impl Test for AtMost {
+    ghost demands = { λ t. at_most t.limit ∷ [] };
 
-    ghost demands = { λ v. at_most v.limit ∷ [] };
-
-    fn parts(&self) -> Parts<'_> {
-        Parts::plain(&self.origin)
+    fn parts<'a>(&'a self, origin: &'a Origin) -> Parts<'a> {
+        Parts::plain(origin)
     }
-}
 
-impl<N: Node> Validate<N> for MaxLengthValidator {
-    fn findings(&self, _alloc: Global, node: &N, _text: &str, _checks: &Checks) -> Found<'_> {
+    fn findings<N: Node>(&self, _: Global, node: &N, _: &str, _: &Checks) -> Found<'_> {
         Ok(Findings::one(too_long(self.limit, node.text_length())))
     }
 }
 
-impl Uses for LengthRangeValidator {
-    ghost place = { λ v. v.origin };
+impl Test for Between {
+    ghost demands = { λ t. at_least t.min ∷ at_most t.max ∷ [] };
 
-    ghost demands = { λ v. at_least v.min ∷ at_most v.max ∷ [] };
-
-    fn parts(&self) -> Parts<'_> {
-        Parts::plain(&self.origin)
+    fn parts<'a>(&'a self, origin: &'a Origin) -> Parts<'a> {
+        Parts::plain(origin)
     }
-}
 
-impl<N: Node> Validate<N> for LengthRangeValidator {
-    fn findings(&self, _alloc: Global, node: &N, _text: &str, _checks: &Checks) -> Found<'_> {
+    fn findings<N: Node>(&self, _: Global, node: &N, _: &str, _: &Checks) -> Found<'_> {
         let length = node.text_length();
         Ok(Findings {
             first: too_short(self.min, length),
@@ -160,12 +156,14 @@ pub(crate) fn build_min<B: EngineBuilder>(
     let limit = limit_of(value).ok_or(refused_limit(Keyword::MinLength))?;
     let origin = origin_of(ctx)?;
     match greatest_in(&ctx.options, parent) {
-        Some(max) => Ok(Some(Validator::LengthRange(LengthRangeValidator {
+        Some(max) => Ok(Some(Validator::LengthRange(Keyed {
             origin,
-            min: limit,
-            max,
+            test: Between { min: limit, max },
         }))),
-        None => Ok(Some(Validator::MinLength(MinLengthValidator { origin, limit }))),
+        None => Ok(Some(Validator::MinLength(Keyed {
+            origin,
+            test: AtLeast { limit },
+        }))),
     }
 }
 
@@ -181,9 +179,9 @@ pub(crate) fn build_max<B: EngineBuilder>(
     if least_in(&ctx.options, parent).is_some() {
         return Ok(None);
     }
-    Ok(Some(Validator::MaxLength(MaxLengthValidator {
+    Ok(Some(Validator::MaxLength(Keyed {
         origin: origin_of(ctx)?,
-        limit,
+        test: AtMost { limit },
     })))
 }
 

@@ -6,14 +6,17 @@
 mod checks;
 mod compile;
 pub mod content;
+mod content_rule;
 mod findings;
 pub mod format;
+mod keyed;
 mod keyword;
 pub mod laws;
 mod lengths;
 mod options;
 mod parts;
 pub mod pattern;
+mod test;
 mod validate;
 mod validator;
 
@@ -34,18 +37,27 @@ pub use compile::{compile_entry, member};
 pub use content::{
     ContentEncodingAnnotationValidator, ContentEncodingValidator,
     ContentMediaTypeAndEncodingValidator, ContentMediaTypeAnnotationValidator,
-    ContentMediaTypeValidator, ContentSchemaAnnotationValidator, take_content_schema,
+    ContentMediaTypeValidator, ContentSchemaAnnotationValidator, Encoded, EncodedMediaType,
+    OfMediaType, Untested, take_content_schema,
 };
+pub use content_rule::ContentRule;
 pub use findings::{Findings, Found};
-pub use format::{AnnotationOnlyFormatValidator, CustomFormatValidator, FormatValidator};
+pub use format::{
+    AnnotationOnlyFormatValidator, CustomFormatValidator, FormatValidator, OfBuiltin, OfRow,
+};
+pub use keyed::Keyed;
 pub use keyword::Keyword;
-pub use lengths::{LengthRangeValidator, MaxLengthValidator, MinLengthValidator};
+pub use lengths::{
+    AtLeast, AtMost, Between, LengthRangeValidator, MaxLengthValidator, MinLengthValidator,
+};
 pub use options::{Context, Options};
 pub use parts::{Note, Noted, Origin, Parts, RowRef};
 pub use pattern::{
-    AlternationPatternValidator, ExactPatternValidator, NoWhitespacePatternValidator,
+    AlternationPatternValidator, ExactPatternValidator, Kind, Literal, Matching,
+    NoWhitespacePatternValidator, OfAlternation, OfExact, OfNoWhitespace, OfPrefix,
     PatternValidator, PrefixPatternValidator,
 };
 pub use strkw_formats::{BuiltinFormat, builtin_format};
+pub use test::Test;
 pub use validate::{Fault, Uses, Validate};
 pub use validator::Validator;

@@ -12,29 +12,101 @@ mod build;
 
 use crate::checks::Checks;
 use crate::findings::{Findings, Found};
+use crate::keyed::Keyed;
 use crate::parts::{Origin, Parts};
-use crate::validate::{Uses, Validate};
+use crate::test::Test;
 pub(crate) use build::build_pattern;
 pub use build::compile;
 use std::alloc::{AllocError, Global};
+use std::marker::PhantomData;
 use strkw_pattern::{EngineFailure, LiteralMatcher, RegexEngine};
 use strkw_report::{Failure, Node};
 
-// A literal pattern, and what matches it.
-#[derive(Drop)]
-pub(crate) struct Literal {
-    pub(crate) pattern: String,
-    pub(crate) matcher: LiteralMatcher,
+/// Demands that a text begins with a literal: patterns as `^items`.
+pub type PrefixPatternValidator = Keyed<Literal<OfPrefix>>;
+
+/// Demands that a text is a literal: patterns as `^items$`.
+pub type ExactPatternValidator = Keyed<Literal<OfExact>>;
+
+/// Demands that a text is one of some literals: patterns as `^(items|items)$`.
+pub type AlternationPatternValidator = Keyed<Literal<OfAlternation>>;
+
+/// Demands that a text has no white space of ECMA-262: the pattern `^\S*$`.
+pub type NoWhitespacePatternValidator = Keyed<Literal<OfNoWhitespace>>;
+
+/// How a literal is compared with texts: one of the four kinds below. It is told by its type alone.
+pub trait Kind {
+    ghost use Rattle.strkw_keywords.specs.LiteralKinds.{LiteralKind};
+
+    ghost kind: { LiteralKind };
 }
 
-impl Literal {
-    fn finding(&self, alloc: Global, text: &str) -> Option<Failure<'_>>
-        ensures { HasFinding (compares (string_bytes self.now.pattern) (literal_outcome self.now.matcher)) no_lists text.now
-            (option_map finding_of result) }
-    {
-        let is_found = is_matched(alloc, &self.matcher, text);
-        (!is_found).then_some(Failure::Pattern(self.pattern.as_str()))
+/// The kind of a literal with which texts begin.
+#[derive(Drop)]
+pub struct OfPrefix;
+
+impl Kind for OfPrefix {
+    ghost kind = { prefix };
+}
+
+/// The kind of a literal that is the text.
+#[derive(Drop)]
+pub struct OfExact;
+
+impl Kind for OfExact {
+    ghost kind = { exact };
+}
+
+/// The kind of some literals of which one is the text.
+#[derive(Drop)]
+pub struct OfAlternation;
+
+impl Kind for OfAlternation {
+    ghost kind = { alternation };
+}
+
+/// The kind of the pattern that refuses white space.
+#[derive(Drop)]
+pub struct OfNoWhitespace;
+
+impl Kind for OfNoWhitespace {
+    ghost kind = { no_whitespace };
+}
+
+/// The test of a text by a literal pattern, whose matcher is of the kind `K`. It never answers that it is out of
+/// memory.
+#[derive(Drop)]
+pub struct Literal<K: Kind> {
+    pub(crate) pattern: String,
+    pub(crate) matcher: LiteralMatcher,
+    pub(crate) of: PhantomData<K>,
+    ghost is_kind: { kind_of matcher ≡ K.kind },
+}
+
+impl<K: Kind> Test for Literal<K> {
+    ghost demands = { λ t. compares (string_bytes t.pattern) (literal_outcome t.matcher) ∷ [] };
+
+    fn parts<'a>(&'a self, origin: &'a Origin) -> Parts<'a> {
+        Parts::plain(origin)
     }
+
+    fn findings<N: Node>(&self, alloc: Global, _: &N, text: &str, _: &Checks) -> Found<'_> {
+        Ok(Findings::one(literal_finding(alloc, self.pattern.as_str(), &self.matcher, text)))
+    }
+}
+
+// The finding on a text that a literal pattern does not match.
+fn literal_finding<'a>(
+    alloc: Global,
+    pattern: &'a str,
+    matcher: &LiteralMatcher,
+    text: &str,
+) -> Option<Failure<'a>>
+    ensures { HasFinding (compares pattern.now (literal_outcome matcher.now)) no_lists text.now
+        (option_map finding_of result) }
+{
+    let is_found = is_matched(alloc, matcher, text);
+    (!is_found).then_some(Failure::Pattern(pattern))
 }
 
 fn is_matched(alloc: Global, matcher: &LiteralMatcher, text: &str) -> bool
@@ -46,122 +118,24 @@ fn is_matched(alloc: Global, matcher: &LiteralMatcher, text: &str) -> bool
     }
 }
 
-/// Demands that a text begins with a literal: patterns as `^items`.
-#[derive(Drop)]
-pub struct PrefixPatternValidator {
-    pub(crate) origin: Origin,
-    pub(crate) literal: Literal,
-    ghost kind: { kind_of literal.matcher ≡ prefix },
-}
-
-impl Uses for PrefixPatternValidator {
-    ghost place = { λ v. v.origin };
-
-    ghost demands = { λ v. compares (string_bytes v.literal.pattern) (literal_outcome v.literal.matcher) ∷ [] };
-
-    fn parts(&self) -> Parts<'_> {
-        Parts::plain(&self.origin)
-    }
-}
-
-impl<N: Node> Validate<N> for PrefixPatternValidator {
-    fn findings(&self, alloc: Global, _node: &N, text: &str, _checks: &Checks) -> Found<'_> {
-        Ok(Findings::one(self.literal.finding(alloc, text)))
-    }
-}
-
-/// Demands that a text is a literal: patterns as `^items$`.
-#[derive(Drop)]
-pub struct ExactPatternValidator {
-    pub(crate) origin: Origin,
-    pub(crate) literal: Literal,
-    ghost kind: { kind_of literal.matcher ≡ exact },
-}
-
-impl Uses for ExactPatternValidator {
-    ghost place = { λ v. v.origin };
-
-    ghost demands = { λ v. compares (string_bytes v.literal.pattern) (literal_outcome v.literal.matcher) ∷ [] };
-
-    fn parts(&self) -> Parts<'_> {
-        Parts::plain(&self.origin)
-    }
-}
-
-impl<N: Node> Validate<N> for ExactPatternValidator {
-    fn findings(&self, alloc: Global, _node: &N, text: &str, _checks: &Checks) -> Found<'_> {
-        Ok(Findings::one(self.literal.finding(alloc, text)))
-    }
-}
-
-/// Demands that a text is one of some literals: patterns as `^(items|items)$`.
-#[derive(Drop)]
-pub struct AlternationPatternValidator {
-    pub(crate) origin: Origin,
-    pub(crate) literal: Literal,
-    ghost kind: { kind_of literal.matcher ≡ alternation },
-}
-
-impl Uses for AlternationPatternValidator {
-    ghost place = { λ v. v.origin };
-
-    ghost demands = { λ v. compares (string_bytes v.literal.pattern) (literal_outcome v.literal.matcher) ∷ [] };
-
-    fn parts(&self) -> Parts<'_> {
-        Parts::plain(&self.origin)
-    }
-}
-
-impl<N: Node> Validate<N> for AlternationPatternValidator {
-    fn findings(&self, alloc: Global, _node: &N, text: &str, _checks: &Checks) -> Found<'_> {
-        Ok(Findings::one(self.literal.finding(alloc, text)))
-    }
-}
-
-/// Demands that a text has no white space of ECMA-262: the pattern `^\S*$`.
-#[derive(Drop)]
-pub struct NoWhitespacePatternValidator {
-    pub(crate) origin: Origin,
-    pub(crate) literal: Literal,
-    ghost kind: { kind_of literal.matcher ≡ no_whitespace },
-}
-
-impl Uses for NoWhitespacePatternValidator {
-    ghost place = { λ v. v.origin };
-
-    ghost demands = { λ v. compares (string_bytes v.literal.pattern) (literal_outcome v.literal.matcher) ∷ [] };
-
-    fn parts(&self) -> Parts<'_> {
-        Parts::plain(&self.origin)
-    }
-}
-
-impl<N: Node> Validate<N> for NoWhitespacePatternValidator {
-    fn findings(&self, alloc: Global, _node: &N, text: &str, _checks: &Checks) -> Found<'_> {
-        Ok(Findings::one(self.literal.finding(alloc, text)))
-    }
-}
-
 /// Demands that an engine finds its pattern in a text. An engine that fails, or gives up, makes an error of its own kind.
+pub type PatternValidator<E> = Keyed<Matching<E>>;
+
+/// The test of a text by a pattern and its engine. Its only error is out of memory.
 #[derive(Drop)]
-pub struct PatternValidator<E> {
-    pub(crate) origin: Origin,
+pub struct Matching<E> {
     pub(crate) pattern: String,
     pub(crate) engine: E,
 }
 
-impl<E: RegexEngine> Uses for PatternValidator<E> {
-    ghost place = { λ v. v.origin };
+impl<E: RegexEngine> Test for Matching<E> {
+    ghost demands = { λ t. matches (string_bytes t.pattern) (E.outcome t.engine) ∷ [] };
 
-    ghost demands = { λ v. matches (string_bytes v.pattern) (E.outcome v.engine) ∷ [] };
-
-    fn parts(&self) -> Parts<'_> {
-        Parts::of_content(&self.origin, None, None)
+    fn parts<'a>(&'a self, origin: &'a Origin) -> Parts<'a> {
+        Parts::of_content(origin, None, None)
     }
-}
 
-impl<E: RegexEngine, N: Node> Validate<N> for PatternValidator<E> {
-    fn findings(&self, alloc: Global, _node: &N, text: &str, _checks: &Checks) -> Found<'_> {
+    fn findings<N: Node>(&self, alloc: Global, _: &N, text: &str, _: &Checks) -> Found<'_> {
         let pattern = self.pattern.as_str();
         let failure = match self.engine.is_match(alloc, text) {
             Ok(true) => None,

@@ -3,8 +3,8 @@
 ghost use Rattle.std.specs.Prelude.{◌↔◌, ◌≡◌, IfOk, IsOk, IsTrue, List, None, OnErr, OnOk, Option, Some, [], option_map, true};
 ghost use Rattle.serde_json.specs.View.{view};
 ghost use Rattle.strkw_report.specs.declared.error.Site.{Site};
-ghost use Rattle.strkw_keywords.specs.Demands.{Demand, Finds};
-ghost use Rattle.strkw_keywords.specs.Errors.{Appends, IsInUse, NodeReports, all_quiet, placed};
+ghost use Rattle.strkw_keywords.specs.Demands.{Demand, Finds, IsInUse, all_quiet};
+ghost use Rattle.strkw_keywords.specs.Errors.{Appends, NodeReports, placed};
 ghost use Rattle.strkw_keywords.specs.Findings.{findings_of};
 ghost use Rattle.strkw_keywords.specs.Lists.{lists_of};
 ghost use Rattle.strkw_keywords.specs.Meanings.{Lists};
@@ -68,8 +68,8 @@ pub trait Uses {
     fn parts(&self) -> Parts<'_>
         ensures origin { result.origin.now ≡ place self.now }
         ensures noted { noted_remark (place self.now).schema result.noted ≡ remark self.now }
-        ensures quiet { result.is_quiet ≡ all_quiet (placed (place self.now) (demands self.now)) }
-        ensures rows { (lists : Lists) → RowsAreFirst result lists ↔ IsInUse (placed (place self.now) (demands self.now)) lists };
+        ensures quiet { result.is_quiet ≡ all_quiet (demands self.now) }
+        ensures rows { (lists : Lists) → RowsAreFirst result lists ↔ IsInUse (demands self.now) lists };
 
     /// Where its schema object stands.
     final fn origin(&self) -> &Origin
@@ -93,7 +93,7 @@ pub trait Uses {
     /// Whether its test of a text takes no memory, so that `is_valid` always answers: in all validators but the three
     /// content checks, `CustomFormatValidator` and `PatternValidator`.
     final fn takes_no_memory(&self) -> bool
-        ensures { result ≡ all_quiet (placed (place self.now) (demands self.now)) }
+        ensures { result ≡ all_quiet (demands self.now) }
     {
         self.parts().is_quiet
     }
@@ -102,7 +102,7 @@ pub trait Uses {
     /// kept name, and no earlier row has that name. So it is with the lists that it was compiled with; and with empty
     /// lists, where it keeps no position.
     final fn uses(&self, checks: &Checks) -> bool
-        ensures { IsTrue result ↔ IsInUse (placed (place self.now) (demands self.now)) (lists_of admits accepted encoded decoding checks.now) }
+        ensures { IsTrue result ↔ IsInUse (demands self.now) (lists_of admits accepted encoded decoding checks.now) }
     {
         self.parts().rows_are_first(checks)
     }
@@ -114,19 +114,19 @@ pub trait Validate<N: Node>: Uses {
     /// What a node that is this text fails at, in the order of the errors. The only error is out of memory, and none
     /// where `takes_no_memory` is true.
     fn findings(&self, alloc: Global, node: &N, text: &str, checks: &Checks) -> Found<'_>
-        requires in_use { IsInUse (placed (Self.place self.now) (Self.demands self.now)) (lists_of admits accepted encoded decoding checks.now) }
+        requires in_use { IsInUse (Self.demands self.now) (lists_of admits accepted encoded decoding checks.now) }
         requires is_text { N.text node.now ≡ Some text.now }
         ensures found { IfOk result (λ fs. Finds (Self.demands self.now) (lists_of admits accepted encoded decoding checks.now)
             text.now (findings_of fs)) }
-        ensures answers { all_quiet (placed (Self.place self.now) (Self.demands self.now)) ≡ true → IsOk result };
+        ensures answers { all_quiet (Self.demands self.now) ≡ true → IsOk result };
 
     /// Whether the node has no errors. The only error is out of memory, and none where `takes_no_memory` is true.
     final fn is_valid(&self, alloc: Global, node: &N, checks: &Checks) -> Result<bool, AllocError>
-        requires { IsInUse (placed (Self.place self.now) (Self.demands self.now)) (lists_of admits accepted encoded decoding checks.now) }
+        requires { IsInUse (Self.demands self.now) (lists_of admits accepted encoded decoding checks.now) }
         ensures exact { IfOk result (λ b. (site : Site) → (IsTrue b
             ↔ NodeReports (placed (Self.place self.now) (Self.demands self.now)) (lists_of admits accepted encoded decoding checks.now) site
             (N.text node.now) [])) }
-        ensures answers { all_quiet (placed (Self.place self.now) (Self.demands self.now)) ≡ true → IsOk result }
+        ensures answers { all_quiet (Self.demands self.now) ≡ true → IsOk result }
     {
         encodes_once();
         let Some(text) = node.as_text() else {
@@ -145,7 +145,7 @@ pub trait Validate<N: Node>: Uses {
         checks: &Checks,
         errors: &mut Vec<ValidationError>,
     ) -> Result<(), AllocError>
-        requires { IsInUse (placed (Self.place self.now) (Self.demands self.now)) (lists_of admits accepted encoded decoding checks.now) }
+        requires { IsInUse (Self.demands self.now) (lists_of admits accepted encoded decoding checks.now) }
         ensures appended { OnOk result (Appends
             (NodeReports (placed (Self.place self.now) (Self.demands self.now)) (lists_of admits accepted encoded decoding checks.now)
             site.now (N.text node.now))
@@ -168,7 +168,7 @@ pub trait Validate<N: Node>: Uses {
         checks: &Checks,
         errors: &mut Vec<ValidationError>,
     ) -> Result<(), AllocError>
-        requires in_use { IsInUse (placed (Self.place self.now) (Self.demands self.now)) (lists_of admits accepted encoded decoding checks.now) }
+        requires in_use { IsInUse (Self.demands self.now) (lists_of admits accepted encoded decoding checks.now) }
         requires is_text { N.text node.now ≡ Some text.now }
         ensures appended { OnOk result (Appends
             (NodeReports (placed (Self.place self.now) (Self.demands self.now)) (lists_of admits accepted encoded decoding checks.now)
@@ -191,7 +191,7 @@ pub trait Validate<N: Node>: Uses {
         site: &Site,
         checks: &Checks,
     ) -> Result<(), Fault>
-        requires { IsInUse (placed (Self.place self.now) (Self.demands self.now)) (lists_of admits accepted encoded decoding checks.now) }
+        requires { IsInUse (Self.demands self.now) (lists_of admits accepted encoded decoding checks.now) }
         ensures { IsVerdict (placed (Self.place self.now) (Self.demands self.now)) (lists_of admits accepted encoded decoding checks.now)
             site.now (N.text node.now) result }
     {
@@ -212,7 +212,7 @@ pub trait Validate<N: Node>: Uses {
         site: &Site,
         checks: &Checks,
     ) -> Result<(), Fault>
-        requires in_use { IsInUse (placed (Self.place self.now) (Self.demands self.now)) (lists_of admits accepted encoded decoding checks.now) }
+        requires in_use { IsInUse (Self.demands self.now) (lists_of admits accepted encoded decoding checks.now) }
         requires is_text { N.text node.now ≡ Some text.now }
         ensures { IsVerdict (placed (Self.place self.now) (Self.demands self.now)) (lists_of admits accepted encoded decoding checks.now)
             site.now (N.text node.now) result }
@@ -237,7 +237,7 @@ pub trait Validate<N: Node>: Uses {
         site: &Site,
         checks: &Checks,
     ) -> Result<EvaluationResult, AllocError>
-        requires { IsInUse (placed (Self.place self.now) (Self.demands self.now)) (lists_of admits accepted encoded decoding checks.now) }
+        requires { IsInUse (Self.demands self.now) (lists_of admits accepted encoded decoding checks.now) }
         ensures errors { IfOk result (λ r. NodeReports (placed (Self.place self.now) (Self.demands self.now))
             (lists_of admits accepted encoded decoding checks.now) site.now (N.text node.now) r.errors.items) }
         ensures annotation { IfOk result (λ r. option_map view r.annotation ≡ annotation_of (Self.remark self.now) (N.text node.now)) }

@@ -3,7 +3,7 @@
 ghost use Rattle.std.specs.Prelude.{◌≡◌};
 ghost use Rattle.strkw_formats.specs.Formats.{bounds};
 ghost use Rattle.strkw_keywords.specs.Lengths.{interval};
-ghost use Rattle.strkw_keywords.specs.Validators.{assertions_of, demands_of, place_of, remark_made};
+ghost use Rattle.strkw_keywords.specs.Validators.{demands_of, place_of, remark_made};
 
 use crate::checks::Checks;
 use crate::content::{
@@ -69,13 +69,13 @@ impl<E: RegexEngine> Validator<E> {
     /// `(0, u64::MAX)`. The first is above the second where no length is left.
     #[tactic(auto, using(crate::proofs::Intervals::common_any, crate::proofs::Intervals::bounds_unwrapped))]
     pub fn interval(&self) -> (u64, u64)
-        ensures { result ≡ bounds (interval (assertions_of E.outcome self.now)) }
+        ensures { result ≡ bounds (interval (demands_of E.outcome self.now)) }
     {
         match self {
-            Validator::Format(v) => v.format.length_window().unwrap_or((0, u64::MAX)),
-            Validator::MinLength(v) => (v.limit, u64::MAX),
-            Validator::MaxLength(v) => (0, v.limit),
-            Validator::LengthRange(v) => (v.min, v.max),
+            Validator::Format(v) => v.test.format.length_window().unwrap_or((0, u64::MAX)),
+            Validator::MinLength(v) => (v.test.limit, u64::MAX),
+            Validator::MaxLength(v) => (0, v.test.limit),
+            Validator::LengthRange(v) => (v.test.min, v.test.max),
             // A check of the caller says nothing of lengths, whatever its name.
             _ => (0, u64::MAX),
         }

@@ -1,11 +1,11 @@
 //! The schema objects of a plan, compiled.
 
-ghost use Rattle.std.specs.Prelude.{◌≡◌, ◌⊎◌, Some, IfOk, IfErr};
+ghost use Rattle.std.specs.Prelude.{Some, IfOk, IfErr};
 ghost use Rattle.serde_json.specs.Find.{as_object};
 ghost use Rattle.serde_json.specs.View.{view};
-ghost use Rattle.strkw_keywords.specs.Errors.{IsInUse};
+ghost use Rattle.strkw_keywords.specs.Demands.{IsInUse};
 ghost use Rattle.strkw_keywords.specs.Handed.{lists_of};
-ghost use Rattle.strkw_cli.specs.Compiled.{keywords_assertions};
+ghost use Rattle.strkw_cli.specs.Compiled.{keywords_demands};
 ghost use Rattle.strkw_plan.specs.Compiled.{IsCompiledFor, Refuses};
 ghost use Rattle.strkw_plan.specs.Rules.{rules_settings};
 
@@ -34,7 +34,7 @@ pub fn compile_schema<B: EngineBuilder>(
         rules_settings B.takes B.outcome admits accepted encoded decoding rules.now draft in
         IfOk result (λ k. IsCompiledFor B.Engine.outcome s (as_object (view schema.now)) (Some k)) }
     ensures in_use { let lists = lists_of admits accepted encoded decoding rules.now.checks in
-        IfOk result (λ k. IsInUse (keywords_assertions B.Engine.outcome k) lists) }
+        IfOk result (λ k. IsInUse (keywords_demands B.Engine.outcome k) lists) }
     ensures refused { let s =
         rules_settings B.takes B.outcome admits accepted encoded decoding rules.now draft in
         IfErr result (λ fault. Refuses s kind name.now (view schema.now) fault) }

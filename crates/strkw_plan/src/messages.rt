@@ -2,10 +2,11 @@
 
 ghost use Rattle.std.specs.Prelude.{◌≡◌, ◌++◌, IfOk, OnOk, string_bytes};
 ghost use Rattle.std.specs.List.{flat_map};
-ghost use Rattle.strkw_keywords.specs.Errors.{IsInUse, NodeReports};
+ghost use Rattle.strkw_keywords.specs.Demands.{IsInUse};
+ghost use Rattle.strkw_keywords.specs.Errors.{NodeReports};
 ghost use Rattle.strkw_keywords.specs.Handed.{lists_of};
 ghost use Rattle.strkw_cli.specs.Answer.{root_site};
-ghost use Rattle.strkw_cli.specs.Compiled.{keywords_assertions};
+ghost use Rattle.strkw_cli.specs.Compiled.{keywords_assertions, keywords_demands};
 ghost use Rattle.strkw_plan.specs.Messages.{message};
 
 use crate::shown::push_shown;
@@ -23,7 +24,7 @@ pub fn errors_of<E: RegexEngine, N: Node>(
     checks: &Checks<'_>,
     node: &N,
 ) -> Result<Vec<ValidationError>, AllocError>
-    requires { IsInUse (keywords_assertions E.outcome keywords.now)
+    requires { IsInUse (keywords_demands E.outcome keywords.now)
         (lists_of admits accepted encoded decoding checks.now) }
     ensures { IfOk result (λ errors. NodeReports (keywords_assertions E.outcome keywords.now)
         (lists_of admits accepted encoded decoding checks.now) root_site (N.text node.now) errors.items) }

@@ -5,10 +5,11 @@ use Rattle.serde_json.specs.Data.{Members}
 use Rattle.csv.specs.Records.{field_at}
 use Rattle.strkw_report.specs.Kinds.{Report}
 use Rattle.strkw_pattern.specs.declared.engine.Outcome.{Outcome}
-use Rattle.strkw_keywords.specs.Errors.{IsInUse, NodeReports}
+use Rattle.strkw_keywords.specs.Demands.{IsInUse}
+use Rattle.strkw_keywords.specs.Errors.{NodeReports}
 use Rattle.strkw_keywords.specs.Object.{Settings}
 use Rattle.strkw_cli.specs.declared.strings.StringKeywords.{StringKeywords}
-use Rattle.strkw_cli.specs.Compiled.{IsCompiledFrom, keywords_assertions}
+use Rattle.strkw_cli.specs.Compiled.{IsCompiledFrom, keywords_demands}
 use Rattle.strkw_cli.specs.Answer.{root_site}
 use Rattle.strkw_table.specs.declared.schema_column.SchemaColumn.{SchemaColumn}
 use Rattle.strkw_table.specs.Rows.{OfField, OfFirst, OfRecords}
@@ -112,9 +113,9 @@ module _ {E : Type 0} (outcome : E → List ℕ → Outcome) (s : Settings) (sch
   compiled_errors (Some schema) (Some k) field reports p q =
       (p.entries, p.are_entries, subst (λ assertions. NodeReports assertions s.lists root_site (Some field) reports) p.asserts q)
 
-  compiled_usable : ((schema : Members) (k : StringKeywords E) → IsCompiledFrom outcome s schema k → IsInUse (keywords_assertions outcome k) s.lists)
+  compiled_usable : ((schema : Members) (k : StringKeywords E) → IsCompiledFrom outcome s schema k → IsInUse (keywords_demands outcome k) s.lists)
       → (schema : Option Members) (keywords : Option (StringKeywords E)) → IsCompiledFor outcome s schema keywords
-      → IfSome keywords (λ k. IsInUse (keywords_assertions outcome k) s.lists)
+      → IfSome keywords (λ k. IsInUse (keywords_demands outcome k) s.lists)
   compiled_usable law None None p = tt
   compiled_usable law None (Some k) p = absurd p
   compiled_usable law (Some schema) None p = absurd p
@@ -132,7 +133,7 @@ module _ {E : Type 0} (outcome : E → List ℕ → Outcome) (s : Settings) (sch
       )
 
   -- each of the columns may be asked, since it was compiled where no check is registered
-  pub columns_usable : ((schema : Members) (k : StringKeywords E) → IsCompiledFrom outcome s schema k → IsInUse (keywords_assertions outcome k) s.lists)
+  pub columns_usable : ((schema : Members) (k : StringKeywords E) → IsCompiledFrom outcome s schema k → IsInUse (keywords_demands outcome k) s.lists)
       → (names : List (List ℕ)) (columns : List (SchemaColumn E)) → AreColumns find names columns
       → (place : ℕ) (column : SchemaColumn E) → slice_get columns place ≡ Some column → IsUsable outcome s.lists column
   unfolding AreColumns

@@ -3,9 +3,10 @@ use Rattle.std.specs.Prelude.{◌≡◌, ℕ, List, [], ◌∷◌, Option, Some,
 use Rattle.strkw_report.specs.Kinds.{Report}
 use Rattle.strkw_pattern.specs.declared.engine.Outcome.{Outcome}
 use Rattle.strkw_keywords.specs.Meanings.{Lists}
-use Rattle.strkw_keywords.specs.Errors.{IsInUse, NodeReports}
+use Rattle.strkw_keywords.specs.Demands.{IsInUse}
+use Rattle.strkw_keywords.specs.Errors.{NodeReports}
 use Rattle.strkw_cli.specs.declared.strings.StringKeywords.{StringKeywords}
-use Rattle.strkw_cli.specs.Compiled.{keywords_assertions}
+use Rattle.strkw_cli.specs.Compiled.{keywords_assertions, keywords_demands}
 use Rattle.strkw_cli.specs.Answer.{root_site}
 use Rattle.strkw_plan.specs.Messages.{message}
 use Rattle.strkw_table.specs.declared.schema_column.SchemaColumn.{SchemaColumn}
@@ -32,7 +33,7 @@ ColumnMessages outcome lists column line field messages = (reports : List Report
 -- a column may be asked with these lists: they are in use in what was compiled for it
 abbrev pub IsUsable : {E : Type 0} → (E → List ℕ → Outcome) → Lists → SchemaColumn E → Type 0
 IsUsable outcome lists column =
-    IfSome (keywords_of column) (λ k. IsInUse (keywords_assertions outcome k) lists)
+    IfSome (keywords_of column) (λ k. IsInUse (keywords_demands outcome k) lists)
 
 -- and so may each of several
 abbrev pub AreUsable : {E : Type 0} → (E → List ℕ → Outcome) → Lists → List (SchemaColumn E)

@@ -1,27 +1,26 @@
-//! The content keywords where they only annotate, in drafts 2019-09 and 2020-12: their validators, and their entries.
+//! What only annotates: its test, which the unchecked `format` has too, and the validators and the entries of the
+//! content keywords in drafts 2019-09 and 2020-12.
 
-ghost use Rattle.std.specs.Prelude.{◌≡◌, IfErr, IfOk, Some, [], string_bytes};
+ghost use Rattle.std.specs.Prelude.{◌≡◌, IfErr, IfOk, Some, []};
 ghost use Rattle.std.specs.Bool.{MatchBool};
-ghost use Rattle.serde_json.specs.Data.{string};
 ghost use Rattle.serde_json.specs.Find.{as_str};
 ghost use Rattle.serde_json.specs.View.{members_view, view};
 ghost use Rattle.strkw_report.specs.Refusals.{fractional_number};
 ghost use Rattle.strkw_keywords.specs.Compiled.{IsBuilt, IsCompiledAt, alone};
-ghost use Rattle.strkw_keywords.specs.Object.{content_rule, gives, malformed, noted, noted_text, nothing, schema_entry, value_at};
+ghost use Rattle.strkw_keywords.specs.Object.{content_rule, gives, malformed, noted_text, nothing, schema_entry, value_at};
 ghost use Rattle.strkw_keywords.specs.Remarks.{remark_at};
 ghost use Rattle.strkw_keywords.specs.Settings.{place_in, settings_of};
 ghost use Rattle.strkw_keywords.specs.Without.{IsWithoutSchema};
-ghost use Rattle.strkw_keywords.specs.declared.keyword.Keyword.TheVariants as keyword;
 
 use crate::checks::{Checks, ContentCodec, Format, MediaTypeCheck};
-use crate::compile::{
-    ContentRule, Refused, compile_value, content_rule, located, member, origin_of,
-};
+use crate::compile::{Refused, compile_value, located, member, origin_of};
+use crate::content_rule::ContentRule;
 use crate::findings::{Findings, Found};
+use crate::keyed::Keyed;
 use crate::keyword::Keyword;
 use crate::options::Context;
 use crate::parts::{Noted, Origin, Parts};
-use crate::validate::{Uses, Validate};
+use crate::test::Test;
 use crate::validator::Validator;
 use serde_json::{Map, Value};
 use std::alloc::Global;
@@ -29,114 +28,68 @@ use strkw_pattern::EngineBuilder;
 use strkw_report::{CompileError, CompileErrorKind, Node, holds_fraction};
 
 /// Notes the media type of a text, and makes no errors (2020-12, section 8.4).
-#[derive(Drop)]
-pub struct ContentMediaTypeAnnotationValidator {
-    pub(crate) origin: Origin,
-    pub(crate) media_type: String,
-}
-
-impl Uses for ContentMediaTypeAnnotationValidator {
-    ghost place = { λ v. v.origin };
-
-    ghost remark = { λ v. Some (remark_at v.origin.schema keyword.ContentMediaType (string (string_bytes v.media_type))) };
-
-    fn parts(&self) -> Parts<'_> {
-        Parts::noting(
-            &self.origin,
-            Noted::Text(Keyword::ContentMediaType, self.media_type.as_str()),
-        )
-    }
-}
-
-impl<N: Node> Validate<N> for ContentMediaTypeAnnotationValidator {
-    fn findings(&self, _alloc: Global, _node: &N, _text: &str, _checks: &Checks) -> Found<'_> {
-        Ok(Findings::one(None))
-    }
-}
+pub type ContentMediaTypeAnnotationValidator = Keyed<Untested>;
 
 /// Notes the encoding of a text, and makes no errors (2020-12, section 8.3).
-#[derive(Drop)]
-pub struct ContentEncodingAnnotationValidator {
-    pub(crate) origin: Origin,
-    pub(crate) encoding: String,
-}
-
-impl Uses for ContentEncodingAnnotationValidator {
-    ghost place = { λ v. v.origin };
-
-    ghost remark = { λ v. Some (remark_at v.origin.schema keyword.ContentEncoding (string (string_bytes v.encoding))) };
-
-    fn parts(&self) -> Parts<'_> {
-        Parts::noting(
-            &self.origin,
-            Noted::Text(Keyword::ContentEncoding, self.encoding.as_str()),
-        )
-    }
-}
-
-impl<N: Node> Validate<N> for ContentEncodingAnnotationValidator {
-    fn findings(&self, _alloc: Global, _node: &N, _text: &str, _checks: &Checks) -> Found<'_> {
-        Ok(Findings::one(None))
-    }
-}
+pub type ContentEncodingAnnotationValidator = Keyed<Untested>;
 
 /// Notes the schema of what a text encodes, and makes no errors (2020-12, section 8.5).
+pub type ContentSchemaAnnotationValidator = Keyed<Untested>;
+
+/// No test: a keyword that notes its value, and finds nothing in any text. It never answers that it is out of memory.
 #[derive(Drop)]
-pub struct ContentSchemaAnnotationValidator {
-    pub(crate) origin: Origin,
-    pub(crate) schema: Value,
+pub struct Untested {
+    pub(crate) keyword: Keyword,
+    pub(crate) value: Value,
 }
 
-impl Uses for ContentSchemaAnnotationValidator {
-    ghost place = { λ v. v.origin };
+impl Test for Untested {
+    ghost remark = { λ t location. Some (remark_at location t.keyword (view t.value)) };
 
-    ghost remark = { λ v. Some (remark_at v.origin.schema keyword.ContentSchema (view v.schema)) };
-
-    fn parts(&self) -> Parts<'_> {
-        Parts::noting(
-            &self.origin,
-            Noted::Value(Keyword::ContentSchema, &self.schema),
-        )
+    fn parts<'a>(&'a self, origin: &'a Origin) -> Parts<'a> {
+        Parts::noting(origin, Noted::Value(self.keyword, &self.value))
     }
-}
 
-impl<N: Node> Validate<N> for ContentSchemaAnnotationValidator {
-    fn findings(&self, _alloc: Global, _node: &N, _text: &str, _checks: &Checks) -> Found<'_> {
+    fn findings<N: Node>(&self, _: Global, _: &N, _: &str, _: &Checks) -> Found<'_> {
         Ok(Findings::one(None))
     }
 }
 
 pub(crate) fn build_media_type_annotation<B: EngineBuilder>(
-    alloc: Global,
     ctx: &Context<'_, B>,
     value: &Value,
 ) -> Result<Option<Validator<B::Engine>>, Refused>
     ensures { IsBuilt B.Engine.outcome (place_in ctx.now)
         (alone Keyword.ContentMediaType (noted_text (view value.now) (as_str (view value.now)))) result }
 {
-    let Some(text) = value.as_str() else {
+    if value.as_str().is_none() {
         return Ok(None);
-    };
-    Ok(Some(Validator::ContentMediaTypeAnnotation(ContentMediaTypeAnnotationValidator {
+    }
+    Ok(Some(Validator::ContentMediaTypeAnnotation(Keyed {
         origin: origin_of(ctx)?,
-        media_type: String::from_str(alloc, text)?,
+        test: Untested {
+            keyword: Keyword::ContentMediaType,
+            value: value.clone()?,
+        },
     })))
 }
 
 pub(crate) fn build_encoding_annotation<B: EngineBuilder>(
-    alloc: Global,
     ctx: &Context<'_, B>,
     value: &Value,
 ) -> Result<Option<Validator<B::Engine>>, Refused>
     ensures { IsBuilt B.Engine.outcome (place_in ctx.now)
         (alone Keyword.ContentEncoding (noted_text (view value.now) (as_str (view value.now)))) result }
 {
-    let Some(text) = value.as_str() else {
+    if value.as_str().is_none() {
         return Ok(None);
-    };
-    Ok(Some(Validator::ContentEncodingAnnotation(ContentEncodingAnnotationValidator {
+    }
+    Ok(Some(Validator::ContentEncodingAnnotation(Keyed {
         origin: origin_of(ctx)?,
-        encoding: String::from_str(alloc, text)?,
+        test: Untested {
+            keyword: Keyword::ContentEncoding,
+            value: value.clone()?,
+        },
     })))
 }
 
@@ -146,14 +99,17 @@ pub(crate) fn build_schema_annotation<B: EngineBuilder>(
     value: &Value,
 ) -> Result<Option<Validator<B::Engine>>, Refused>
     ensures { IsBuilt B.Engine.outcome (place_in ctx.now) (alone Keyword.ContentSchema
-        (schema_entry noted (members_view parent.now.entries) (view value.now))) result }
+        (schema_entry ContentRule.Noted (members_view parent.now.entries) (view value.now))) result }
 {
     if !notes_schema(parent, value)? {
         return Ok(None);
     }
-    Ok(Some(Validator::ContentSchemaAnnotation(ContentSchemaAnnotationValidator {
+    Ok(Some(Validator::ContentSchemaAnnotation(Keyed {
         origin: origin_of(ctx)?,
-        schema: value.clone()?,
+        test: Untested {
+            keyword: Keyword::ContentSchema,
+            value: value.clone()?,
+        },
     })))
 }
 
@@ -166,21 +122,26 @@ fn build_owned_schema<B: EngineBuilder>(
     ensures { IsBuilt B.Engine.outcome (place_in ctx.now) (alone Keyword.ContentSchema
         (schema_entry (content_rule ctx.now.draft) (members_view others.now.entries) (view schema))) result }
 {
-    if !matches!(content_rule(ctx.draft), ContentRule::Noted) || !notes_schema(others, &schema)? {
+    if !matches!(ContentRule::of(ctx.draft), ContentRule::Noted)
+        || !notes_schema(others, &schema)?
+    {
         return Ok(None);
     }
-    Ok(Some(Validator::ContentSchemaAnnotation(ContentSchemaAnnotationValidator {
+    Ok(Some(Validator::ContentSchemaAnnotation(Keyed {
         origin: origin_of(ctx)?,
-        schema,
+        test: Untested {
+            keyword: Keyword::ContentSchema,
+            value: schema,
+        },
     })))
 }
 
 // Whether a value is noted as a schema: where there is a media type beside it.
 fn notes_schema(parent: &Map<String, Value>, value: &Value) -> Result<bool, Refused>
     ensures noted { IfOk result (λ b. MatchBool b
-        (schema_entry noted (members_view parent.now.entries) (view value.now) ≡ gives [] (Some (view value.now)))
-        (schema_entry noted (members_view parent.now.entries) (view value.now) ≡ nothing)) }
-    ensures refused { IfErr result (λ r. (schema_entry noted (members_view parent.now.entries) (view value.now)
+        (schema_entry ContentRule.Noted (members_view parent.now.entries) (view value.now) ≡ gives [] (Some (view value.now)))
+        (schema_entry ContentRule.Noted (members_view parent.now.entries) (view value.now) ≡ nothing)) }
+    ensures refused { IfErr result (λ r. (schema_entry ContentRule.Noted (members_view parent.now.entries) (view value.now)
         ≡ malformed Keyword.ContentSchema fractional_number)
         × (r ≡ Refused.Malformed Keyword.ContentSchema CompileErrorKind.FractionalNumber)) }
 {

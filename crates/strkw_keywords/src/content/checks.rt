@@ -7,17 +7,19 @@ ghost use Rattle.strkw_keywords.specs.Compiled.{IsBuilt, IsCompiledAt, alone};
 ghost use Rattle.strkw_keywords.specs.Demands.{HasFinding, encodes_media_type, is_encoded, is_media_type};
 ghost use Rattle.strkw_keywords.specs.Findings.{finding_of};
 ghost use Rattle.strkw_keywords.specs.Lists.{lists_of};
-ghost use Rattle.strkw_keywords.specs.Object.{checked, codec_named, encoding_entry, known_codec, known_media_type, media_type_entry, value_at};
+ghost use Rattle.strkw_keywords.specs.Object.{codec_named, encoding_entry, known_codec, known_media_type, media_type_entry, value_at};
 ghost use Rattle.strkw_keywords.specs.Settings.{place_in, settings_of};
 
 use super::{accepts, chosen_codec, chosen_media_type, decode, is_encoding};
 use crate::checks::{Checks, Choice, ContentCodec, Format, MediaTypeCheck};
 use crate::compile::{Refused, compile_value, member, no_string, origin_of};
+use crate::content_rule::ContentRule;
 use crate::findings::{Findings, Found, FoundOne};
+use crate::keyed::Keyed;
 use crate::keyword::Keyword;
 use crate::options::Context;
 use crate::parts::{Origin, Parts};
-use crate::validate::{Uses, Validate};
+use crate::test::Test;
 use crate::validator::Validator;
 use serde_json::{Map, Value};
 use std::alloc::{AllocError, Global};
@@ -26,24 +28,22 @@ use strkw_pattern::EngineBuilder;
 use strkw_report::{CompileError, Failure, Node};
 
 /// Demands that a text is of a media type (draft 7, section 8.4).
+pub type ContentMediaTypeValidator = Keyed<OfMediaType>;
+
+/// The test of a text for a media type, a built-in one or a row of the caller. Its only error is out of memory.
 #[derive(Drop)]
-pub struct ContentMediaTypeValidator {
-    pub(crate) origin: Origin,
+pub struct OfMediaType {
     pub(crate) media_type: Choice<BuiltinMediaType>,
 }
 
-impl Uses for ContentMediaTypeValidator {
-    ghost place = { λ v. v.origin };
+impl Test for OfMediaType {
+    ghost demands = { λ t. is_media_type (choice_of t.media_type) ∷ [] };
 
-    ghost demands = { λ v. is_media_type (choice_of v.media_type) ∷ [] };
-
-    fn parts(&self) -> Parts<'_> {
-        Parts::of_content(&self.origin, self.media_type.row(), None)
+    fn parts<'a>(&'a self, origin: &'a Origin) -> Parts<'a> {
+        Parts::of_content(origin, self.media_type.row(), None)
     }
-}
 
-impl<N: Node> Validate<N> for ContentMediaTypeValidator {
-    fn findings(&self, alloc: Global, _node: &N, text: &str, checks: &Checks) -> Found<'_> {
+    fn findings<N: Node>(&self, alloc: Global, _: &N, text: &str, checks: &Checks) -> Found<'_> {
         let is_accepted = accepts(alloc, &self.media_type, checks, text)?;
         let failure = Failure::ContentMediaType(chosen_media_type(&self.media_type));
         Ok(Findings::one((!is_accepted).then_some(failure)))
@@ -51,13 +51,15 @@ impl<N: Node> Validate<N> for ContentMediaTypeValidator {
 }
 
 /// Demands that a text is an encoding (draft 7, section 8.3). What it encodes may be any bytes.
+pub type ContentEncodingValidator = Keyed<Encoded>;
+
+/// The test of a text for an encoding, by a built-in codec or by a row of the caller. Its only error is out of memory.
 #[derive(Drop)]
-pub struct ContentEncodingValidator {
-    pub(crate) origin: Origin,
+pub struct Encoded {
     pub(crate) codec: Choice<Codec>,
 }
 
-impl ContentEncodingValidator {
+impl Encoded {
     fn finding(&self, alloc: Global, text: &str, checks: &Checks) -> FoundOne<'_>
         ensures { IfOk result (λ o. HasFinding (is_encoded (choice_of self.now.codec)) (lists_of admits accepted encoded decoding checks.now)
             text.now (option_map finding_of o)) }
@@ -70,18 +72,14 @@ impl ContentEncodingValidator {
     }
 }
 
-impl Uses for ContentEncodingValidator {
-    ghost place = { λ v. v.origin };
+impl Test for Encoded {
+    ghost demands = { λ t. is_encoded (choice_of t.codec) ∷ [] };
 
-    ghost demands = { λ v. is_encoded (choice_of v.codec) ∷ [] };
-
-    fn parts(&self) -> Parts<'_> {
-        Parts::of_content(&self.origin, None, self.codec.row())
+    fn parts<'a>(&'a self, origin: &'a Origin) -> Parts<'a> {
+        Parts::of_content(origin, None, self.codec.row())
     }
-}
 
-impl<N: Node> Validate<N> for ContentEncodingValidator {
-    fn findings(&self, alloc: Global, _node: &N, text: &str, checks: &Checks) -> Found<'_> {
+    fn findings<N: Node>(&self, alloc: Global, _: &N, text: &str, checks: &Checks) -> Found<'_> {
         Ok(Findings::one(self.finding(alloc, text, checks)?))
     }
 }
@@ -89,14 +87,16 @@ impl<N: Node> Validate<N> for ContentEncodingValidator {
 /// Demands that a text encodes a text of a media type (draft 7, sections 8.3 and 8.4). It has one error at most: at
 /// `contentEncoding` where it is no encoding or encodes bytes that are not UTF-8, and at `contentMediaType` where what
 /// it encodes is not of the media type.
+pub type ContentMediaTypeAndEncodingValidator = Keyed<EncodedMediaType>;
+
+/// The test of what a text encodes for a media type: the codec, and the media type. Its only error is out of memory.
 #[derive(Drop)]
-pub struct ContentMediaTypeAndEncodingValidator {
-    pub(crate) origin: Origin,
+pub struct EncodedMediaType {
     pub(crate) codec: Choice<Codec>,
     pub(crate) media_type: Choice<BuiltinMediaType>,
 }
 
-impl ContentMediaTypeAndEncodingValidator {
+impl EncodedMediaType {
     fn finding(&self, alloc: Global, text: &str, checks: &Checks) -> FoundOne<'_>
         ensures { IfOk result (λ o. HasFinding (encodes_media_type (choice_of self.now.codec) (choice_of self.now.media_type))
             (lists_of admits accepted encoded decoding checks.now) text.now (option_map finding_of o)) }
@@ -116,18 +116,14 @@ impl ContentMediaTypeAndEncodingValidator {
     }
 }
 
-impl Uses for ContentMediaTypeAndEncodingValidator {
-    ghost place = { λ v. v.origin };
+impl Test for EncodedMediaType {
+    ghost demands = { λ t. encodes_media_type (choice_of t.codec) (choice_of t.media_type) ∷ [] };
 
-    ghost demands = { λ v. encodes_media_type (choice_of v.codec) (choice_of v.media_type) ∷ [] };
-
-    fn parts(&self) -> Parts<'_> {
-        Parts::of_content(&self.origin, self.media_type.row(), self.codec.row())
+    fn parts<'a>(&'a self, origin: &'a Origin) -> Parts<'a> {
+        Parts::of_content(origin, self.media_type.row(), self.codec.row())
     }
-}
 
-impl<N: Node> Validate<N> for ContentMediaTypeAndEncodingValidator {
-    fn findings(&self, alloc: Global, _node: &N, text: &str, checks: &Checks) -> Found<'_> {
+    fn findings<N: Node>(&self, alloc: Global, _: &N, text: &str, checks: &Checks) -> Found<'_> {
         Ok(Findings::one(self.finding(alloc, text, checks)?))
     }
 }
@@ -188,7 +184,7 @@ pub(crate) fn build_media_type<B: EngineBuilder>(
     value: &Value,
 ) -> Result<Option<Validator<B::Engine>>, Refused>
     ensures { IsBuilt B.Engine.outcome (place_in ctx.now) (alone Keyword.ContentMediaType
-        (media_type_entry checked (settings_of B.takes B.outcome admits accepted encoded decoding ctx.now) (members_view parent.now.entries)
+        (media_type_entry ContentRule.Checked (settings_of B.takes B.outcome admits accepted encoded decoding ctx.now) (members_view parent.now.entries)
         (view value.now))) result }
 {
     let Some(name) = value.as_str() else {
@@ -199,22 +195,19 @@ pub(crate) fn build_media_type<B: EngineBuilder>(
     };
     let origin = origin_of(ctx)?;
     let Some(encoding) = member(parent, Keyword::ContentEncoding.as_str()) else {
-        return Ok(Some(Validator::ContentMediaType(ContentMediaTypeValidator {
+        return Ok(Some(Validator::ContentMediaType(Keyed {
             origin,
-            media_type,
+            test: OfMediaType { media_type },
         })));
     };
     let Some(codec) = encoding.as_str() else {
         return Err(no_string(encoding, Keyword::ContentEncoding));
     };
     match codec_known(alloc, ctx, codec)? {
-        Some(codec) => Ok(Some(Validator::ContentMediaTypeAndEncoding(
-            ContentMediaTypeAndEncodingValidator {
-                origin,
-                codec,
-                media_type,
-            },
-        ))),
+        Some(codec) => Ok(Some(Validator::ContentMediaTypeAndEncoding(Keyed {
+            origin,
+            test: EncodedMediaType { codec, media_type },
+        }))),
         None => Ok(None),
     }
 }
@@ -226,7 +219,7 @@ pub(crate) fn build_encoding<B: EngineBuilder>(
     value: &Value,
 ) -> Result<Option<Validator<B::Engine>>, Refused>
     ensures { IsBuilt B.Engine.outcome (place_in ctx.now) (alone Keyword.ContentEncoding
-        (encoding_entry checked (settings_of B.takes B.outcome admits accepted encoded decoding ctx.now) (members_view parent.now.entries)
+        (encoding_entry ContentRule.Checked (settings_of B.takes B.outcome admits accepted encoded decoding ctx.now) (members_view parent.now.entries)
         (view value.now))) result }
 {
     if member(parent, Keyword::ContentMediaType.as_str()).is_some() {
@@ -236,9 +229,9 @@ pub(crate) fn build_encoding<B: EngineBuilder>(
         return Err(no_string(value, Keyword::ContentEncoding));
     };
     match codec_known(alloc, ctx, name)? {
-        Some(codec) => Ok(Some(Validator::ContentEncoding(ContentEncodingValidator {
+        Some(codec) => Ok(Some(Validator::ContentEncoding(Keyed {
             origin: origin_of(ctx)?,
-            codec,
+            test: Encoded { codec },
         }))),
         None => Ok(None),
     }

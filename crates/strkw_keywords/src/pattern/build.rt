@@ -11,16 +11,15 @@ ghost use Rattle.strkw_keywords.specs.Validators.{demands_of, place_of, remark_m
 
 use crate::checks::{ContentCodec, Format, MediaTypeCheck};
 use crate::compile::{Refused, compile_value, no_string, origin_of};
+use crate::keyed::Keyed;
 use crate::keyword::Keyword;
 use crate::options::Context;
 use crate::parts::Origin;
-use crate::pattern::{
-    AlternationPatternValidator, ExactPatternValidator, Literal, NoWhitespacePatternValidator,
-    PatternValidator, PrefixPatternValidator,
-};
+use crate::pattern::{Literal, Matching};
 use crate::validator::Validator;
 use serde_json::{Map, Value};
 use std::alloc::Global;
+use std::marker::PhantomData;
 use strkw_pattern::laws::matcher_answers_search;
 use strkw_pattern::{
     BuildRefusal, EngineBuilder, LiteralMatcher, PatternOptimization, RegexEngine, analyze_pattern,
@@ -45,10 +44,9 @@ pub(crate) fn build_pattern<B: EngineBuilder>(
         return Ok(Some(literal_validator(origin, pattern, literal)));
     }
     match ctx.builder.build(alloc, text) {
-        Ok(engine) => Ok(Some(Validator::Pattern(PatternValidator {
+        Ok(engine) => Ok(Some(Validator::Pattern(Keyed {
             origin,
-            pattern,
-            engine,
+            test: Matching { pattern, engine },
         }))),
         Err(BuildRefusal::Pattern) => Err(Refused::Malformed {
             keyword: Keyword::Pattern,
@@ -89,35 +87,39 @@ fn literal_validator<E: RegexEngine>(
     ensures remark { remark_made result ≡ None }
 {
     match literal {
-        PatternOptimization::Prefix(literal) => Validator::PrefixPattern(PrefixPatternValidator {
+        PatternOptimization::Prefix(literal) => Validator::PrefixPattern(Keyed {
             origin,
-            literal: Literal {
+            test: Literal {
                 pattern,
                 matcher: LiteralMatcher::Prefix { literal },
+                of: PhantomData,
             },
         }),
-        PatternOptimization::Exact(exact) => Validator::ExactPattern(ExactPatternValidator {
+        PatternOptimization::Exact(exact) => Validator::ExactPattern(Keyed {
             origin,
-            literal: Literal {
+            test: Literal {
                 pattern,
                 matcher: LiteralMatcher::Exact { exact },
+                of: PhantomData,
             },
         }),
         PatternOptimization::Alternation(alternatives) => {
-            Validator::AlternationPattern(AlternationPatternValidator {
+            Validator::AlternationPattern(Keyed {
                 origin,
-                literal: Literal {
+                test: Literal {
                     pattern,
                     matcher: LiteralMatcher::Alternation { alternatives },
+                    of: PhantomData,
                 },
             })
         }
         PatternOptimization::NoWhitespace => {
-            Validator::NoWhitespacePattern(NoWhitespacePatternValidator {
+            Validator::NoWhitespacePattern(Keyed {
                 origin,
-                literal: Literal {
+                test: Literal {
                     pattern,
                     matcher: LiteralMatcher::NoWhitespace,
+                    of: PhantomData,
                 },
             })
         }

@@ -25,3 +25,6 @@ returns g c =
       in_use = tt;
       refused = (c.in_ok-schema_place-in-Err.ensures, has_refusal s (view c.args.schema.now) object e is refused had);
     }
+
+pub returns-in-Ok-clause-in_use : goal.returns-in-Ok-clause-in_use
+returns-in-Ok-clause-in_use g c = rw c.context-ctx.ensures.checks at c.in-Ok.ensures.in_use

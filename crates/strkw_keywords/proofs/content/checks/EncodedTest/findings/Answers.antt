@@ -2,7 +2,7 @@ use Rattle.strkw_keywords.specs.Lists.{lists_of}
 use Rattle.strkw_keywords.specs.Choices.{choice_of}
 use Rattle.strkw_keywords.specs.Demands.{is_encoded}
 use Rattle.strkw_keywords.proofs.Reports.{finds_one}
-use Rattle.strkw_keywords.proofs.content.checks.ContentEncodingValidatorValidate.findings.Goals as goal
+use Rattle.strkw_keywords.proofs.content.checks.EncodedTest.findings.Goals as goal
 
 pub returns-clause-found : goal.returns-clause-found
 returns-clause-found g c =

@@ -1,7 +1,7 @@
 use Rattle.std.proofs.Common.{rules}
 use Rattle.strkw_keywords.specs.Choices.{choice_of}
 use Rattle.strkw_keywords.proofs.Reports.{decodes_well, decodes_badly}
-use Rattle.strkw_keywords.proofs.content.checks.ContentMediaTypeAndEncodingValidator.finding.Goals as goal
+use Rattle.strkw_keywords.proofs.content.checks.EncodedMediaType.finding.Goals as goal
 
 pub returns-then-branch : goal.returns-then-branch
 returns-then-branch g c =
