@@ -4,7 +4,7 @@ use crate::row::{found_at, items};
 use crate::tally::Tally;
 use serde_json::Value;
 use std::alloc::{AllocError, Global};
-use strkw_report::{Draft, Node, char_count, holds_fraction};
+use strkw_report::{Draft, Node, TextNode, char_count, holds_fraction};
 
 const DRAFTS: [Draft; 5] = [
     Draft::Draft4,
@@ -14,11 +14,16 @@ const DRAFTS: [Draft; 5] = [
     Draft::Draft202012,
 ];
 
+// Whether a node has this text, and so many characters, by itself and as the node of a text.
 fn is_node<N: Node>(node: &N, text: Option<&str>, length: Option<u64>) -> bool {
-    node.as_text() == text && node.text_length() == length
+    let is_text = match TextNode::of(node) {
+        Some(held) => Some(held.as_str()) == text && Some(held.length()) == length,
+        None => text.is_none() && length.is_none(),
+    };
+    is_text && node.as_text() == text && node.text_length() == length
 }
 
-/// The nodes of a row: a value, and where it is a text that text too.
+/// The nodes of a row: a value, its text or `None`, and where it is a text that text too.
 pub fn ask_nodes(alloc: Global, row: &Value, tally: &mut Tally) -> Result<(), AllocError> {
     for row in items(row, "rows") {
         let (text, length) = (found_at(row, 1), row.get(2).and_then(Value::as_u64));
@@ -32,7 +37,7 @@ pub fn ask_nodes(alloc: Global, row: &Value, tally: &mut Tally) -> Result<(), Al
         };
         tally.count(
             alloc,
-            of_value && of_text,
+            of_value && of_text && is_node(&text, text, length),
             text.unwrap_or(""),
             "another node",
         )?;

@@ -9,6 +9,8 @@ use Rattle.strkw_keywords.specs.declared.keyword.Keyword.TheVariants.{ContentMed
 use Rattle.strkw_keywords.specs.declared.validator.Validator.{Validator}
 use Rattle.strkw_keywords.specs.Object.{Settings, Keyed, AreEntries, AreEntriesOf, is_fused, refusal, keywords, share, shares, FirstRefusal}
 use Rattle.strkw_keywords.specs.Compiled.{out_of_memory, IsCompiledAt}
+use Rattle.strkw_keywords.specs.declared.values.Values.{Values}
+use Rattle.strkw_keywords.specs.Values.{AreValuesOf}
 use Rattle.strkw_keywords.specs.Without.{KeepsOthers}
 use Rattle.strkw_keywords.proofs.Entries.{entries_of_exist}
 use Rattle.strkw_keywords.proofs.EntriesOf.{entries_both, shares_all, shares_at, shares_more}
@@ -73,7 +75,13 @@ module _ {E : Type 0} (outcome : E → List ℕ → Outcome) (s : Settings) (ms 
     notes = stand.notes;
   }
 
--- ---- an object by its other members, and by what its entry at `contentSchema` is compiled to
+-- ---- an object by the values at the other keywords, and by what its entry at `contentSchema` is compiled to
+
+-- an object that has these values, but perhaps not that at `contentSchema`
+pub record HasOthers (values : Values) (ms : Members) : Type 0 where
+  pub others : Members
+  pub keeps : KeepsOthers ms others
+  pub are_values : AreValuesOf others values
 
 -- that entry is the third
 third : (i : ℕ) → i < length keywords → ContentSchema ≡ get_or keywords i ContentSchema → i ≡ 2
@@ -95,19 +103,20 @@ apart MinLength other = refl
 apart MaxLength other = refl
 apart Pattern other = refl
 
-module _ {E : Type 0} (outcome : E → List ℕ → Outcome) (s : Settings) (others : Members) (given : Option (Result (Validator E) CompileError)) where
+module _ {E : Type 0} (outcome : E → List ℕ → Outcome) (s : Settings) (values : Values)
+    (given : Option (Result (Validator E) CompileError)) where
   -- of each such object the entries in front of a place are compiled, and that at `contentSchema` waits until it is asked
   pub record Beside (i : ℕ) (waiting : Option (Result (Validator E) CompileError)) (vs : List (Validator E)) : Type 0 where
-    pub done : (ms : Members) → KeepsOthers ms others → IsCompiledAt outcome s ms ContentSchema given → Done outcome s ms (take i keywords) vs
+    pub done : (ms : Members) → HasOthers values ms → IsCompiledAt outcome s ms ContentSchema given → Done outcome s ms (take i keywords) vs
     pub waits : i < 3 → waiting ≡ given
 
   -- of each such object this is what the entry at a place is compiled to
   pub record Asked (i : ℕ) (k : Keyword) (waiting compiled : Option (Result (Validator E) CompileError)) : Type 0 where
-    pub asked : (ms : Members) → KeepsOthers ms others → IsCompiledAt outcome s ms ContentSchema given → IsCompiledAt outcome s ms k compiled
+    pub asked : (ms : Members) → HasOthers values ms → IsCompiledAt outcome s ms ContentSchema given → IsCompiledAt outcome s ms k compiled
     pub waits : i + 1 < 3 → waiting ≡ given
 
   pub none_beside : (vs : List (Validator E)) → vs ≡ [] → Beside 0 given vs
-  none_beside vs none = record { done = λ ms keeps schema. none_done outcome s ms vs none; waits = λ h. refl }
+  none_beside vs none = record { done = λ ms has schema. none_done outcome s ms vs none; waits = λ h. refl }
 
   -- the entry at `contentSchema` is asked at its place, and no longer waits
   pub asked_schema : (i : ℕ) (k : Keyword) (waiting compiled later : Option (Result (Validator E) CompileError)) (vs : List (Validator E)) → i < length keywords → k ≡ get_or keywords i k → k ≡ ContentSchema → compiled ≡ waiting
@@ -115,38 +124,41 @@ module _ {E : Type 0} (outcome : E → List ℕ → Outcome) (s : Settings) (oth
   asked_schema i k waiting compiled later vs h at is same b =
       let place : i ≡ 2 = third i h (rw is at at) in
       record {
-        asked = λ ms keeps schema. rw (is, same, b.waits (omega (arith, place))) schema;
+        asked = λ ms has schema. rw (is, same, b.waits (omega (arith, place))) schema;
         waits = λ before. absurd (omega (arith, place, before));
       }
 
-  -- any other keyword is compiled of the other members
-  pub asked_other : (i : ℕ) (k : Keyword) (waiting compiled : Option (Result (Validator E) CompileError)) (vs : List (Validator E)) → (k ≡ ContentSchema → ⊥) → IsCompiledAt outcome s others k compiled
+  -- any other keyword is compiled of the values
+  pub asked_other : (i : ℕ) (k : Keyword) (waiting compiled : Option (Result (Validator E) CompileError))
+      (vs : List (Validator E)) → (k ≡ ContentSchema → ⊥)
+      → ((others : Members) → AreValuesOf others values → IsCompiledAt outcome s others k compiled)
       → Beside i waiting vs → Asked i k waiting compiled
   asked_other i k waiting compiled vs other h b = record {
-    asked = λ ms keeps schema. other_compiled outcome s ms others keeps k compiled (apart k other) h;
+    asked = λ ms has schema. other_compiled outcome s ms has.others has.keeps k compiled (apart k other)
+        (h has.others has.are_values);
     waits = λ before. b.waits (omega (arith, before));
   }
 
   pub beside_still : (i : ℕ) (k : Keyword) (waiting later compiled : Option (Result (Validator E) CompileError)) (vs : List (Validator E)) → i < length keywords → k ≡ get_or keywords i k
       → Beside i waiting vs → Asked i k later compiled → compiled ≡ None → Beside (i + 1) later vs
   beside_still i k waiting later compiled vs h at b a is = record {
-    done = λ ms keeps schema. done_still outcome s ms keywords i k vs h at (b.done ms keeps schema) (rw is at a.asked ms keeps schema);
+    done = λ ms has schema. done_still outcome s ms keywords i k vs h at (b.done ms has schema) (rw is at a.asked ms has schema);
     waits = a.waits;
   }
 
   pub beside_more : (i : ℕ) (k : Keyword) (waiting later compiled : Option (Result (Validator E) CompileError)) (vs : List (Validator E)) (v : Validator E) → i < length keywords → k ≡ get_or keywords i k
       → Beside i waiting vs → Asked i k later compiled → compiled ≡ Some (Ok v) → Beside (i + 1) later (vs ++ v ∷ [])
   beside_more i k waiting later compiled vs v h at b a is = record {
-    done = λ ms keeps schema. done_more outcome s ms keywords i k vs v h at (b.done ms keeps schema) (rw is at a.asked ms keeps schema);
+    done = λ ms has schema. done_more outcome s ms keywords i k vs v h at (b.done ms has schema) (rw is at a.asked ms has schema);
     waits = a.waits;
   }
 
   pub beside_refused : (i : ℕ) (k : Keyword) (waiting later compiled : Option (Result (Validator E) CompileError)) (vs : List (Validator E)) (error : CompileError) → i < length keywords → k ≡ get_or keywords i k
-      → Beside i waiting vs → Asked i k later compiled → compiled ≡ Some (Err error) → (ms : Members) → KeepsOthers ms others → IsCompiledAt outcome s ms ContentSchema given → IsRefusal outcome s ms error
-  beside_refused i k waiting later compiled vs error h at b a is ms keeps schema =
-      done_refused outcome s ms i k vs error h at (b.done ms keeps schema) (rw is at a.asked ms keeps schema)
+      → Beside i waiting vs → Asked i k later compiled → compiled ≡ Some (Err error) → (ms : Members) → HasOthers values ms → IsCompiledAt outcome s ms ContentSchema given → IsRefusal outcome s ms error
+  beside_refused i k waiting later compiled vs error h at b a is ms has schema =
+      done_refused outcome s ms i k vs error h at (b.done ms has schema) (rw is at a.asked ms has schema)
 
   pub beside_compiled : (i : ℕ) (waiting : Option (Result (Validator E) CompileError)) (k : StringKeywords E) → take i keywords ≡ keywords
-      → Beside i waiting k.validators.items → (ms : Members) → KeepsOthers ms others → IsCompiledAt outcome s ms ContentSchema given → IsCompiledFrom outcome s ms k
-  beside_compiled i waiting k whole b ms keeps schema =
-      compiled_object outcome s ms k (subst (λ l. Done outcome s ms l k.validators.items) whole (b.done ms keeps schema))
+      → Beside i waiting k.validators.items → (ms : Members) → HasOthers values ms → IsCompiledAt outcome s ms ContentSchema given → IsCompiledFrom outcome s ms k
+  beside_compiled i waiting k whole b ms has schema =
+      compiled_object outcome s ms k (subst (λ l. Done outcome s ms l k.validators.items) whole (b.done ms has schema))

@@ -8,6 +8,7 @@ ghost use Rattle.strkw_keywords.specs.Compiled.{IsCompiledAt, out_of_memory};
 ghost use Rattle.strkw_keywords.specs.Demands.{IsInUse};
 ghost use Rattle.strkw_keywords.specs.Handed.{lists_of, settings_of};
 ghost use Rattle.strkw_keywords.specs.Object.{FirstRefusal};
+ghost use Rattle.strkw_keywords.specs.Values.{AreValuesOf};
 ghost use Rattle.strkw_keywords.specs.Without.{KeepsOthers};
 ghost use Rattle.strkw_cli.specs.Compiled.{IsCompiledFrom, keywords_demands};
 
@@ -15,7 +16,7 @@ use crate::strings::StringKeywords;
 use serde_json::{Map, Value};
 use std::alloc::Global;
 use strkw_keywords::laws::compiled_is_in_use;
-use strkw_keywords::{Context, Keyword, Validator, compile_entry, take_content_schema};
+use strkw_keywords::{Context, Keyword, Validator, Values, compile_among, take_content_schema};
 use strkw_pattern::EngineBuilder;
 use strkw_report::{CompileError, CompileErrorKind, Location};
 
@@ -46,8 +47,9 @@ pub fn compile_strings<B: EngineBuilder>(
     ensures printable { IfErr result (λ e. prints_float (reason_of e.kind) ≡ false) }
 {
     compiled_is_in_use();
-    let schema = compile_entry(alloc, ctx, object, Keyword::ContentSchema);
-    compile_beside(alloc, ctx, object, schema)
+    let values = Values::of(object);
+    let schema = compile_among(alloc, ctx, &values, Keyword::ContentSchema);
+    compile_beside(alloc, ctx, &values, schema)
 }
 
 /// What `compile_strings` answers for an object that is given up: its value at `contentSchema` is moved into the compiled
@@ -67,20 +69,22 @@ pub fn compile_owned<B: EngineBuilder>(
 {
     compiled_is_in_use();
     let schema = take_content_schema(alloc, ctx, &mut object);
-    compile_beside(alloc, ctx, &object, schema)
+    compile_beside(alloc, ctx, &Values::of(&object), schema)
 }
 
-// Compiles the keywords of an object by what its entry at `contentSchema` is compiled to, and by its other members.
+// Compiles the keywords of an object by what its entry at `contentSchema` is compiled to, and by the values at the others.
 fn compile_beside<B: EngineBuilder>(
     alloc: Global,
     ctx: &Context<'_, B>,
-    others: &Map<String, Value>,
+    values: &Values<'_>,
     mut schema: Option<Result<Validator<B::Engine>, CompileError>>,
 ) -> Result<StringKeywords<B::Engine>, CompileError>
-    ensures compiled { (ms : Members) → KeepsOthers ms (members_view others.now.entries)
+    ensures compiled { (ms others : Members) → KeepsOthers ms others
+        → AreValuesOf others values.now
         → IsCompiledAt B.Engine.outcome (settings_of B.takes B.outcome admits accepted encoded decoding ctx.now) ms Keyword.ContentSchema schema
         → IfOk result (λ k. IsCompiledFrom B.Engine.outcome (settings_of B.takes B.outcome admits accepted encoded decoding ctx.now) ms k) }
-    ensures refused { (ms : Members) → KeepsOthers ms (members_view others.now.entries)
+    ensures refused { (ms others : Members) → KeepsOthers ms others
+        → AreValuesOf others values.now
         → IsCompiledAt B.Engine.outcome (settings_of B.takes B.outcome admits accepted encoded decoding ctx.now) ms Keyword.ContentSchema schema
         → IfErr result (λ e. (refusal_of e ≡ out_of_memory) ⊎ FirstRefusal (settings_of B.takes B.outcome admits accepted encoded decoding ctx.now) ms (Some (refusal_of e))) }
 {
@@ -88,7 +92,7 @@ fn compile_beside<B: EngineBuilder>(
     for keyword in Keyword::VARIANTS {
         let compiled = match keyword {
             Keyword::ContentSchema => schema.take(),
-            _ => compile_entry(alloc, ctx, others, *keyword),
+            _ => compile_among(alloc, ctx, values, *keyword),
         };
         let Some(compiled) = compiled else {
             continue;

@@ -9,7 +9,7 @@ ghost use Rattle.strkw_keywords.specs.Handed.{lists_of};
 ghost use Rattle.strkw_keywords.specs.Lengths.{IsEmpty};
 ghost use Rattle.strkw_keywords.specs.Object.{remarks_on};
 ghost use Rattle.strkw_keywords.specs.Remarks.{remark_of};
-ghost use Rattle.strkw_keywords.specs.Validators.{listed_remark, remark_made};
+ghost use Rattle.strkw_keywords.specs.Validators.{assertions_in, demands_in, listed_remark, remark_made, remarks_in};
 ghost use Rattle.strkw_keywords.specs.Verdicts.{IsVerdict};
 ghost use Rattle.strkw_cli.specs.Compiled.{keywords_assertions, keywords_demands, keywords_interval, keywords_remarks};
 
@@ -17,7 +17,7 @@ use std::alloc::{AllocError, Global};
 use strkw_coding::laws::encodes_once;
 use strkw_keywords::{Checks, Fault, Note, Uses, Validate, Validator};
 use strkw_pattern::RegexEngine;
-use strkw_report::{Node, Site, ValidationError};
+use strkw_report::{Node, Site, TextNode, ValidationError};
 
 /// The string keywords of one schema object, compiled. Its four calls on an instance rest on one meaning: the errors that
 /// the instance has by the schema object. Each asks that `uses` is true of the lists that it is given.
@@ -36,6 +36,16 @@ pub struct ObjectEvaluation {
 }
 
 impl<E: RegexEngine> StringKeywords<E> {
+    /// The validators of its entries, in their order: what they demand and note together is what the object does.
+    pub fn validators(&self) -> &[Validator<E>]
+        ensures demands { demands_in E.outcome result.now ≡ keywords_demands E.outcome self.now }
+        ensures asserts { assertions_in E.outcome result.now
+            ≡ keywords_assertions E.outcome self.now }
+        ensures notes { remarks_in result.now ≡ keywords_remarks self.now }
+    {
+        &self.validators
+    }
+
     /// Whether these lists of checks may be handed in with an instance: each registered check, media type and codec
     /// that was chosen at compile is, by its name, the first row of that name, at the position that it had. So it is
     /// with the lists of compile; and with empty lists, where no row was chosen.
@@ -96,11 +106,11 @@ impl<E: RegexEngine> StringKeywords<E> {
         ensures answers { all_quiet (keywords_demands E.outcome self.now) ≡ true → IsOk result }
     {
         encodes_once();
-        let Some(text) = node.as_text() else {
+        let Some(text) = TextNode::of(node) else {
             return Ok(true);
         };
         for validator in &self.validators {
-            if !validator.findings(alloc, node, text, checks)?.is_empty() {
+            if !validator.findings(alloc, &text, checks)?.is_empty() {
                 return Ok(false);
             }
         }
@@ -124,11 +134,11 @@ impl<E: RegexEngine> StringKeywords<E> {
             errors.old.items errors.new.items) }
         ensures kept { OnErr result (errors.new.items ≡ errors.old.items) }
     {
-        let Some(text) = node.as_text() else {
+        let Some(text) = TextNode::of(node) else {
             return Ok(());
         };
         let held = errors.len();
-        let result = self.append_errors(alloc, node, text, site, checks, errors);
+        let result = self.append_errors(alloc, &text, site, checks, errors);
         if result.is_err() {
             errors.truncate(held);
         }
@@ -150,11 +160,11 @@ impl<E: RegexEngine> StringKeywords<E> {
         ensures { IsVerdict (keywords_assertions E.outcome self.now) (lists_of admits accepted encoded decoding checks.now) site.now
             (N.text node.now) result }
     {
-        let Some(text) = node.as_text() else {
+        let Some(text) = TextNode::of(node) else {
             return Ok(());
         };
         for validator in &self.validators {
-            match validator.validate_text(alloc, node, text, site, checks) {
+            match validator.validate_text(alloc, &text, site, checks) {
                 Ok(()) => {}
                 Err(fault) => return Err(fault),
             }
@@ -178,32 +188,30 @@ impl<E: RegexEngine> StringKeywords<E> {
     {
         let mut errors = Vec::new(alloc);
         let mut notes = Vec::new(alloc);
-        if let Some(text) = node.as_text() {
-            self.append_errors(alloc, node, text, site, checks, &mut errors)?;
+        if let Some(text) = TextNode::of(node) {
+            self.append_errors(alloc, &text, site, checks, &mut errors)?;
             notes = self.notes(alloc)?;
         }
         Ok(ObjectEvaluation { errors, notes })
     }
 
-    // Appends the errors of a node that is this text, or some of them where it is out of memory.
+    // Appends the errors of a text, or some of them where it is out of memory.
     fn append_errors<N: Node>(
         &self,
         alloc: Global,
-        node: &N,
-        text: &str,
+        text: &TextNode<'_, N>,
         site: &Site,
         checks: &Checks,
         errors: &mut Vec<ValidationError>,
     ) -> Result<(), AllocError>
-        requires in_use { IsInUse (keywords_demands E.outcome self.now) (lists_of admits accepted encoded decoding checks.now) }
-        requires is_text { N.text node.now ≡ Some text.now }
+        requires { IsInUse (keywords_demands E.outcome self.now) (lists_of admits accepted encoded decoding checks.now) }
         ensures appended { OnOk result (Appends
-            (NodeReports (keywords_assertions E.outcome self.now) (lists_of admits accepted encoded decoding checks.now) site.now (N.text node.now))
+            (NodeReports (keywords_assertions E.outcome self.now) (lists_of admits accepted encoded decoding checks.now) site.now (Some text.now))
             errors.old.items errors.new.items) }
         ensures err { OnErr result ((more : List Report) × (errors.new.items ≡ errors.old.items ++ more)) }
     {
         for validator in &self.validators {
-            validator.push_errors(alloc, node, text, site, checks, errors)?;
+            validator.push_errors(alloc, text, site, checks, errors)?;
         }
         Ok(())
     }

@@ -28,7 +28,7 @@ use serde_json::Value;
 use std::alloc::{AllocError, Global};
 use strkw_keywords::{Checks, Keyword, Noted, Origin, Uses, Validate, Validator};
 use strkw_pattern::RegexEngine;
-use strkw_report::{Failure, Location, push_json_string};
+use strkw_report::{Failure, Location, Node, TextNode, push_json_string};
 
 // ---- one error
 
@@ -131,10 +131,10 @@ fn push_value(alloc: Global, value: &Value, out: &mut Vec<u8>) -> Result<(), All
 // ---- one validator
 
 // Appends the lines of the errors that a text has by a validator.
-fn push_errors_of<E: RegexEngine>(
+fn push_errors_of<E: RegexEngine, N: Node>(
     alloc: Global,
     validator: &Validator<E>,
-    text: &str,
+    text: &TextNode<'_, N>,
     checks: &Checks,
     out: &mut Vec<u8>,
 ) -> Result<(), AllocError>
@@ -143,8 +143,9 @@ fn push_errors_of<E: RegexEngine>(
         (lists_of admits accepted encoded decoding checks.now) root_site (Some text.now)) out.old.items out.new.items) }
     ensures err { OnErr result ((more : List ℕ) × (out.new.items ≡ out.old.items ++ more)) }
 {
-    let found = validator.findings(alloc, &text, text, checks)?;
+    let found = validator.findings(alloc, text, checks)?;
     let origin = validator.origin();
+    let text = text.as_str();
     push_found_line(alloc, origin, text, &found.first, out)?;
     push_found_line(alloc, origin, text, &found.second, out)
 }
@@ -171,10 +172,10 @@ fn push_note_of<E: RegexEngine>(
 
 impl<E: RegexEngine> StringKeywords<E> {
     // Appends the lines of the errors of a text.
-    fn push_errors(
+    fn push_errors<N: Node>(
         &self,
         alloc: Global,
-        text: &str,
+        text: &TextNode<'_, N>,
         checks: &Checks,
         out: &mut Vec<u8>,
     ) -> Result<(), AllocError>
@@ -202,10 +203,10 @@ impl<E: RegexEngine> StringKeywords<E> {
     }
 
     // Appends the lines of the errors of a text, or that it has none.
-    fn push_verdict(
+    fn push_verdict<N: Node>(
         &self,
         alloc: Global,
-        text: &str,
+        text: &TextNode<'_, N>,
         checks: &Checks,
         out: &mut Vec<u8>,
     ) -> Result<(), AllocError>
@@ -241,10 +242,10 @@ impl<E: RegexEngine> StringKeywords<E> {
             (option_map (λ text. text.now) instance.entry) errors) }
         ensures err { OnErr result ((more : List ℕ) × (out.new.items ≡ out.old.items ++ more)) }
     {
-        match instance {
+        match TextNode::of(&instance) {
             None => out.extend_from_slice(b"valid\nend\n"),
             Some(text) => {
-                self.push_verdict(alloc, text, checks, out)?;
+                self.push_verdict(alloc, &text, checks, out)?;
                 self.push_notes(alloc, out)?;
                 out.extend_from_slice(b"end\n")
             }

@@ -55,12 +55,11 @@ pub enum BuiltinFormat {
     Uuid,
 }
 
-// What is told of a format beside its grammar: its name in a schema, the first draft that has it and the last, a text of it, and,
-// for the formats that tell them, the ends of its lengths, with a text of least length, and one of greatest where that end
-// is closed.
+// What is told of a format beside its name and its grammar: the first draft that has it and the last, a text of it, and
+// for the formats that tell them the ends of its lengths, with a text of least length, and one of greatest where that
+// end is closed.
 #[derive(Clone, Copy)]
 struct FormatRow {
-    name: &'static str,
     first: Draft,
     last: Draft,
     example: &'static str,
@@ -93,7 +92,23 @@ impl BuiltinFormat {
     pub fn as_str(self) -> &'static str
         ensures { result.now ≡ format_name self }
     {
-        self.row().name
+        match self {
+            Self::Date => "date",
+            Self::DateTime => "date-time",
+            Self::Duration => "duration",
+            Self::Hostname | Self::HostnameDraft4 => "hostname",
+            Self::Ipv4 => "ipv4",
+            Self::Ipv6 => "ipv6",
+            Self::Iri => "iri",
+            Self::IriReference => "iri-reference",
+            Self::JsonPointer => "json-pointer",
+            Self::RelativeJsonPointer => "relative-json-pointer",
+            Self::Time => "time",
+            Self::Uri => "uri",
+            Self::UriReference => "uri-reference",
+            Self::UriTemplate => "uri-template",
+            Self::Uuid => "uuid",
+        }
     }
 
     /// The least and the greatest number of characters of a text of the format, both inclusive.
@@ -156,7 +171,6 @@ impl BuiltinFormat {
 
     // The table: a row a format.
     fn row(self) -> FormatRow
-        ensures name { result.name.now ≡ format_name self }
         ensures first { result.first ≡ (format_row self).first }
         ensures last { result.last ≡ (format_row self).last }
         ensures example { result.example.now ≡ example_of self }
@@ -165,42 +179,36 @@ impl BuiltinFormat {
             result.window_texts ≡ window_texts_of self }
     {
         match self {
-            Self::Date => since(Draft::Draft4, "date", "2020-01-01").exactly(10),
-            Self::DateTime => since(Draft::Draft4, "date-time", "2020-01-01T00:00:00Z").open(20),
-            Self::Duration => since(Draft::Draft201909, "duration", "P1D").open(3),
-            Self::Hostname => since(Draft::Draft7, "hostname", "example.com").closed(
+            Self::Date => since(Draft::Draft4, "2020-01-01").exactly(10),
+            Self::DateTime => since(Draft::Draft4, "2020-01-01T00:00:00Z").open(20),
+            Self::Duration => since(Draft::Draft201909, "P1D").open(3),
+            Self::Hostname => since(Draft::Draft7, "example.com").closed(
                 (1, "a"),
                 (253, LONGEST_HOST_NAME),
             ),
             Self::HostnameDraft4 => FormatRow {
                 last: Draft::Draft6,
-                ..since(Draft::Draft4, "hostname", "example.com").closed(
-                    (1, "a"),
-                    (253, LONGEST_HOST_NAME),
-                )
+                ..since(Draft::Draft4, "example.com").closed((1, "a"), (253, LONGEST_HOST_NAME))
             },
-            Self::Ipv4 => since(Draft::Draft4, "ipv4", "127.0.0.1").closed(
+            Self::Ipv4 => since(Draft::Draft4, "127.0.0.1").closed(
                 (7, "0.0.0.0"),
                 (15, "255.255.255.255"),
             ),
-            Self::Ipv6 => since(Draft::Draft4, "ipv6", "::1").closed(
+            Self::Ipv6 => since(Draft::Draft4, "::1").closed(
                 (2, "::"),
                 (45, "0000:0000:0000:0000:0000:0000:255.255.255.255"),
             ),
-            Self::Iri => since(Draft::Draft7, "iri", "http://example.com"),
-            Self::IriReference => since(Draft::Draft7, "iri-reference", "http://example.com"),
-            Self::JsonPointer => since(Draft::Draft6, "json-pointer", "/a"),
-            Self::RelativeJsonPointer => since(Draft::Draft7, "relative-json-pointer", "0"),
-            Self::Time => since(Draft::Draft4, "time", "00:00:00Z").open(9),
-            Self::Uri => since(Draft::Draft4, "uri", "http://example.com"),
-            Self::UriReference => since(Draft::Draft6, "uri-reference", "http://example.com"),
-            Self::UriTemplate => since(Draft::Draft6, "uri-template", "http://example.com/{id}"),
-            Self::Uuid => since(
-                Draft::Draft201909,
-                "uuid",
-                "00000000-0000-4000-8000-000000000000",
-            )
-            .exactly(36),
+            Self::Iri => since(Draft::Draft7, "http://example.com"),
+            Self::IriReference => since(Draft::Draft7, "http://example.com"),
+            Self::JsonPointer => since(Draft::Draft6, "/a"),
+            Self::RelativeJsonPointer => since(Draft::Draft7, "0"),
+            Self::Time => since(Draft::Draft4, "00:00:00Z").open(9),
+            Self::Uri => since(Draft::Draft4, "http://example.com"),
+            Self::UriReference => since(Draft::Draft6, "http://example.com"),
+            Self::UriTemplate => since(Draft::Draft6, "http://example.com/{id}"),
+            Self::Uuid => since(Draft::Draft201909, "00000000-0000-4000-8000-000000000000").exactly(
+                36,
+            ),
         }
     }
 }
@@ -209,7 +217,6 @@ impl FormatRow {
     // The row with a window of lengths, whose ends are a length with a text of it.
     fn closed(self, least: (u64, &'static str), greatest: (u64, &'static str)) -> FormatRow
         ensures { result ≡ record {
-          name = self.name;
           first = self.first;
           last = self.last;
           example = self.example;
@@ -227,7 +234,6 @@ impl FormatRow {
     // The row of a format whose texts all have one length.
     fn exactly(self, length: u64) -> FormatRow
         ensures { result ≡ record {
-          name = self.name;
           first = self.first;
           last = self.last;
           example = self.example;
@@ -241,7 +247,6 @@ impl FormatRow {
     // The row with a window of lengths whose upper end is open, and whose least length the example has.
     fn open(self, least: u64) -> FormatRow
         ensures { result ≡ record {
-          name = self.name;
           first = self.first;
           last = self.last;
           example = self.example;
@@ -258,9 +263,8 @@ impl FormatRow {
 }
 
 // The row of a format that the drafts from one on have, and of which no lengths are told.
-fn since(first: Draft, name: &'static str, example: &'static str) -> FormatRow
+fn since(first: Draft, example: &'static str) -> FormatRow
     ensures { result ≡ record {
-      name = name.entry;
       first = first;
       last = Draft.Draft202012;
       example = example.entry;
@@ -269,7 +273,6 @@ fn since(first: Draft, name: &'static str, example: &'static str) -> FormatRow
     } }
 {
     FormatRow {
-        name,
         first,
         last: Draft::Draft202012,
         example,

@@ -8,7 +8,7 @@ use Rattle.strkw_keywords.specs.Places.{Place, standing}
 use Rattle.strkw_keywords.specs.Demands.{Demand, Finding, HasFinding, Finds, listed, all_quiet}
 use Rattle.strkw_keywords.specs.Errors.{Assertion, placed, reported, AllReport, NodeReports}
 use Rattle.strkw_keywords.specs.Findings.{first_of}
-use Rattle.strkw_keywords.specs.Verdicts.{FailsFirst, NodeFailsFirst, IsVerdict}
+use Rattle.strkw_keywords.specs.Verdicts.{FailsFirst, IsVerdict}
 use Rattle.strkw_keywords.specs.declared.validate.Fault.{Fault}
 use Rattle.strkw_keywords.specs.declared.validate.Fault.TheVariants.{Invalid, Memory}
 use Rattle.strkw_coding.specs.Laws.{EncodesOnce}
@@ -47,43 +47,35 @@ by_found place d ds lists site text (Some g) rest f r has e tells later = record
   tells = ap (reported (standing place site) text) e ∙ tells;
 }
 
-by_findings : (place : Place) (ds : List Demand) (lists : Lists) (site : Site) (text : List ℕ) (fs : List Finding) (f : Finding) (r : Report) → Finds ds lists text fs → first_of fs ≡ Some f → reported (standing place site) text (Some f) ≡ r ∷ [] → FailsFirst (placed place ds) lists site text r
-by_findings place [] lists site text fs f r h e tells = absurd (none-some f (ap first_of (sym h) ∙ e))
-by_findings place (d ∷ ds) lists site text fs f r (found, rest, has, joined, others) e tells =
-    by_found place d ds lists site text found rest f r has (ap first_of (sym joined) ∙ e) tells (λ e2. by_findings place ds lists site text rest f r others e2 tells)
+-- a text fails by the first of its findings
+pub fails_by_first : (place : Place) (ds : List Demand) (lists : Lists) (site : Site) (text : List ℕ) (fs : List Finding) (f : Finding) (r : Report) → Finds ds lists text fs → first_of fs ≡ Some f → reported (standing place site) text (Some f) ≡ r ∷ [] → FailsFirst (placed place ds) lists site text r
+fails_by_first place [] lists site text fs f r h e tells = absurd (none-some f (ap first_of (sym h) ∙ e))
+fails_by_first place (d ∷ ds) lists site text fs f r (found, rest, has, joined, others) e tells =
+    by_found place d ds lists site text found rest f r has (ap first_of (sym joined) ∙ e) tells (λ e2. fails_by_first place ds lists site text rest f r others e2 tells)
 
+-- without a first finding there is none
 none_first : (fs : List Finding) → first_of fs ≡ None → fs ≡ []
 none_first [] e = refl
 none_first (f ∷ fs) e = absurd (cc)
 
-no_findings : (place : Place) (ds : List Demand) (lists : Lists) (site : Site) (text : List ℕ) (fs : List Finding) → Finds ds lists text fs → first_of fs ≡ None → AllReport (placed place ds) lists site text []
-no_findings place ds lists site text fs h e =
+-- and the text has no errors
+pub valid_without_first : (place : Place) (ds : List Demand) (lists : Lists) (site : Site) (text : List ℕ) (fs : List Finding) → Finds ds lists text fs → first_of fs ≡ None → AllReport (placed place ds) lists site text []
+valid_without_first place ds lists site text fs h e =
     found_reports place ds lists site text [] (subst (Finds ds lists text) (none_first fs e) h)
-
--- ---- a node
-
-pub valid_without_first : (place : Place) (ds : List Demand) (lists : Lists) (site : Site) (there : Option (List ℕ)) (text : List ℕ) (fs : List Finding) → Some text ≡ there → Finds ds lists text fs → first_of fs ≡ None → NodeReports (placed place ds) lists site there []
-valid_without_first place ds lists site there text fs same h e =
-    subst (λ n. NodeReports (placed place ds) lists site n []) same (no_findings place ds lists site text fs h e)
-
-pub fails_by_first : (place : Place) (ds : List Demand) (lists : Lists) (site : Site) (there : Option (List ℕ)) (text : List ℕ) (fs : List Finding) (f : Finding) (r : Report) → Some text ≡ there → Finds ds lists text fs → first_of fs ≡ Some f → reported (standing place site) text (Some f) ≡ r ∷ [] → NodeFailsFirst (placed place ds) lists site there r
-fails_by_first place ds lists site there text fs f r same h e tells =
-    subst (λ n. NodeFailsFirst (placed place ds) lists site n r) same (by_findings place ds lists site text fs f r h e tells)
 
 -- ---- out of memory
 
-pub memory_verdict : (place : Place) (ds : List Demand) (lists : Lists) (site : Site) (there : Option (List ℕ)) (fault : Fault)
-    → fault ≡ Memory → (all_quiet ds ≡ true → NodeReports (placed place ds) lists site there [] → ⊥)
-    → IsVerdict (placed place ds) lists site there (Err fault)
-memory_verdict place ds lists site there fault is h =
-    subst (λ f. IsVerdict (placed place ds) lists site there (Err f)) (sym is)
+-- where a text may have errors, or its demands take memory, out of memory is a verdict
+pub memory_verdict : (place : Place) (ds : List Demand) (lists : Lists) (site : Site) (text : List ℕ) (fault : Fault)
+    → fault ≡ Memory → (all_quiet ds ≡ true → NodeReports (placed place ds) lists site (Some text) [] → ⊥)
+    → IsVerdict (placed place ds) lists site (Some text) (Err fault)
+memory_verdict place ds lists site text fault is h =
+    subst (λ f. IsVerdict (placed place ds) lists site (Some text) (Err f)) (sym is)
     (λ calm. h (subst (λ l. all_quiet l ≡ true) (demands_of_placed place ds) calm))
 
 -- a text of which something is found has an error
-pub found_is_error : EncodesOnce → (place : Place) (ds : List Demand) (lists : Lists) (site : Site) (there : Option (List ℕ)) (text : List ℕ) (fs : List Finding) (f : Finding) → Some text ≡ there → Finds ds lists text fs → first_of fs ≡ Some f → NodeReports (placed place ds) lists site there [] → ⊥
-found_is_error once place ds lists site there text fs f same h e none =
-    let nothing = none_found once place ds lists site text fs h (subst (λ n. NodeReports (placed place ds) lists site n []) (sym same) none) in
-    none-some f (sym (ap first_of nothing) ∙ e)
+pub found_is_error : EncodesOnce → (place : Place) (ds : List Demand) (lists : Lists) (site : Site) (text : List ℕ) (fs : List Finding) (f : Finding) → Finds ds lists text fs → first_of fs ≡ Some f → NodeReports (placed place ds) lists site (Some text) [] → ⊥
+found_is_error once place ds lists site text fs f h e none = none-some f (sym (ap first_of (none_found once place ds lists site text fs h none)) ∙ e)
 
 -- ---- several lists of assertions
 

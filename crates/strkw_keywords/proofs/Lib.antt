@@ -17,3 +17,4 @@ pub mod First
 pub mod Entries
 pub mod EntriesOf
 pub mod Without
+pub mod Held

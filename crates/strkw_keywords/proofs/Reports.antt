@@ -88,7 +88,7 @@ none_found once place (d ∷ others) lists site text fs h r =
     let rest = none_found once place others lists site text h.1 h.4 (subst (λ l. AllReport (placed place others) lists site text l) parts.1 r.4) in
     h.3 ∙ ap (λ o. listed o ++ h.1) same ∙ rest
 
--- a text is valid where nothing is found
+-- a node that is a text is valid where nothing is found
 pub valid_by_findings : EncodesOnce → (place : Place) (ds : List Demand) (lists : Lists) (there : Option (List ℕ)) (text : List ℕ) (fs : List Finding) (b : Bool) → Some text ≡ there → Finds ds lists text fs → (IsTrue b ↔ (fs ≡ [])) → (site : Site) → IsTrue b ↔ NodeReports (placed place ds) lists site there []
 valid_by_findings once place ds lists there text fs b e h t site = subst (λ n. IsTrue b ↔ NodeReports (placed place ds) lists site n []) e (
   (λ yes. subst (λ l. AllReport (placed place ds) lists site text (errors_of (standing place site) text l)) (t.0 yes) (found_reports place ds lists site text fs h)),
@@ -100,21 +100,17 @@ two_reported s text a None = errors_listed s text a []
 two_reported s text a (Some f) = errors_listed s text a (f ∷ [])
 
 -- what is collected of two findings
-collected_of_text : (place : Place) (ds : List Demand) (lists : Lists) (site : Site) (text : List ℕ) (a b : Option Finding) (old new : List Report) → new ≡ old ++ reported (standing place site) text a ++ reported (standing place site) text b → Finds ds lists text (listed a ++ listed b) → Appends (NodeReports (placed place ds) lists site (Some text)) old new
-collected_of_text place ds lists site text a b old new g h = record {
+pub collected_by_findings : (place : Place) (ds : List Demand) (lists : Lists) (site : Site) (text : List ℕ) (a b : Option Finding) (old new : List Report) → Finds ds lists text (listed a ++ listed b) → new ≡ old ++ reported (standing place site) text a ++ reported (standing place site) text b → Appends (NodeReports (placed place ds) lists site (Some text)) old new
+collected_by_findings place ds lists site text a b old new h g = record {
   added = reported (standing place site) text a ++ reported (standing place site) text b;
   grown = g ∙ append_assoc old (reported (standing place site) text a) (reported (standing place site) text b);
   reported = rw (← two_reported (standing place site) text a b) (found_reports place ds lists site text (listed a ++ listed b) h);
 }
 
-pub collected_by_findings : (place : Place) (ds : List Demand) (lists : Lists) (site : Site) (there : Option (List ℕ)) (text : List ℕ) (a b : Option Finding) (old new : List Report) → Some text ≡ there → Finds ds lists text (listed a ++ listed b) → new ≡ old ++ reported (standing place site) text a ++ reported (standing place site) text b → Appends (NodeReports (placed place ds) lists site there) old new
-collected_by_findings place ds lists site there text a b old new e h g =
-    subst (λ n. Appends (NodeReports (placed place ds) lists site n) old new) e (collected_of_text place ds lists site text a b old new g h)
-
 -- the same of a call that may be refused
-pub collected_ok : {E : Type 0} (r : Result (Unit {0}) E) (place : Place) (ds : List Demand) (lists : Lists) (site : Site) (there : Option (List ℕ)) (text : List ℕ) (a b : Option Finding) (old new : List Report) → Some text ≡ there → Finds ds lists text (listed a ++ listed b) → OnOk r (new ≡ old ++ reported (standing place site) text a ++ reported (standing place site) text b) → OnOk r (Appends (NodeReports (placed place ds) lists site there) old new)
-collected_ok (Ok x) place ds lists site there text a b old new e h g = collected_by_findings place ds lists site there text a b old new e h g
-collected_ok (Err x) place ds lists site there text a b old new e h g = tt
+pub collected_ok : {E : Type 0} (r : Result (Unit {0}) E) (place : Place) (ds : List Demand) (lists : Lists) (site : Site) (text : List ℕ) (a b : Option Finding) (old new : List Report) → Finds ds lists text (listed a ++ listed b) → OnOk r (new ≡ old ++ reported (standing place site) text a ++ reported (standing place site) text b) → OnOk r (Appends (NodeReports (placed place ds) lists site (Some text)) old new)
+collected_ok (Ok x) place ds lists site text a b old new h g = collected_by_findings place ds lists site text a b old new h g
+collected_ok (Err x) place ds lists site text a b old new h g = tt
 
 -- ---- one finding
 

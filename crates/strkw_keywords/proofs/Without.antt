@@ -63,17 +63,21 @@ module _ {E : Type 0} (outcome : E → List ℕ → Outcome) (s : Settings) (ms 
   pub none_compiled : get_member (keyword_name ContentSchema) ms ≡ None → IsCompiledAt outcome s ms ContentSchema None
   none_compiled e = absent outcome s ms ContentSchema (unless (is_overridden s.options ContentSchema) _ (sym e))
 
-module _ {E : Type 0} (outcome : E → List ℕ → Outcome) (s : Settings) (ms others : Members) (keeps : KeepsOthers ms others) where
+-- two objects have the same values at the keywords that are seen, and those are seen that other entries look at
+module _ {E : Type 0} (outcome : E → List ℕ → Outcome) (s : Settings) (ms others : Members) (Seen : Keyword → Type 0)
+    (same : (k : Keyword) → Seen k → get_member (keyword_name k) others ≡ get_member (keyword_name k) ms)
+    (media_type : Seen ContentMediaType) (encoding : Seen ContentEncoding) (least : Seen MinLength) (greatest : Seen MaxLength) where
   -- ---- the schema, by what is beside it
 
   same_schema : (rule : ContentRule) (d : Data) → schema_entry rule others d ≡ schema_entry rule ms d
   same_schema Ignored d = refl
   same_schema Checked d = refl
-  same_schema Noted d = ap (λ m. schema_beside m d) (keeps.kept (keyword_name ContentMediaType) refl)
+  same_schema Noted d = ap (λ m. schema_beside m d) (same ContentMediaType media_type)
 
-  pub schema_compiled : (v : Value) (r : Option (Result (Validator E) CompileError)) → get_member (keyword_name ContentSchema) ms ≡ Some (view v) → is_overridden s.options ContentSchema ≡ false
+  -- what is compiled of the schema beside the others is compiled of the object
+  seen_schema : (v : Value) (r : Option (Result (Validator E) CompileError)) → get_member (keyword_name ContentSchema) ms ≡ Some (view v) → is_overridden s.options ContentSchema ≡ false
       → IsCompiled outcome s.place (alone ContentSchema (schema_entry (content_rule s.draft) others (view v))) r → IsCompiledAt outcome s ms ContentSchema r
-  schema_compiled v r there looked_at h =
+  seen_schema v r there looked_at h =
       let e = schema_entry (content_rule s.draft) others (view v) in
       let value : value_at s.options ContentSchema ms ≡ Some (view v) = rw looked_at there in
       let at = subst (λ m. MatchOption m (e ≡ nothing) (λ d. IsEntryOf s ms ContentSchema d e)) (sym value) (same_schema (content_rule s.draft) (view v)) in
@@ -81,12 +85,12 @@ module _ {E : Type 0} (outcome : E → List ℕ → Outcome) (s : Settings) (ms 
 
   -- ---- the other keywords
 
-  same_value : (k : Keyword) → Apart k → value_at s.options k others ≡ value_at s.options k ms
-  same_value k apart = ap (λ v. if is_overridden s.options k then None else v) (keeps.kept (keyword_name k) apart)
+  same_value : (k : Keyword) → Seen k → value_at s.options k others ≡ value_at s.options k ms
+  same_value k seen = ap (λ v. if is_overridden s.options k then None else v) (same k seen)
 
   same_check : (m : Option (Choice BuiltinMediaType)) → media_type_check s others m ≡ media_type_check s ms m
   same_check None = refl
-  same_check (Some m) = ap (media_type_beside s m) (keeps.kept (keyword_name ContentEncoding) refl)
+  same_check (Some m) = ap (media_type_beside s m) (same ContentEncoding encoding)
 
   same_media_type : (rule : ContentRule) (d : Data) → media_type_entry rule s others d ≡ media_type_entry rule s ms d
   same_media_type Ignored d = refl
@@ -95,7 +99,7 @@ module _ {E : Type 0} (outcome : E → List ℕ → Outcome) (s : Settings) (ms 
 
   same_encoding : (rule : ContentRule) (d : Data) → encoding_entry rule s others d ≡ encoding_entry rule s ms d
   same_encoding Ignored d = refl
-  same_encoding Checked d = ap (λ m. encoding_beside s m d) (keeps.kept (keyword_name ContentMediaType) refl)
+  same_encoding Checked d = ap (λ m. encoding_beside s m d) (same ContentMediaType media_type)
   same_encoding Noted d = refl
 
   same_entry : (k : Keyword) (d : Data) (e : Entry) → IsEntryOf s others k d e → IsEntryOf s ms k d e
@@ -111,31 +115,46 @@ module _ {E : Type 0} (outcome : E → List ℕ → Outcome) (s : Settings) (ms 
   same_at k None e h = h
   same_at k (Some d) e h = same_entry k d e h
 
-  entry_at : (k : Keyword) (e : Entry) → Apart k → IsEntryAt s others k e → IsEntryAt s ms k e
-  entry_at k e apart h = subst (λ v. MatchOption v (e ≡ nothing) (λ d. IsEntryOf s ms k d e)) (same_value k apart) (same_at k (value_at s.options k others) e h)
+  entry_at : (k : Keyword) (e : Entry) → Seen k → IsEntryAt s others k e → IsEntryAt s ms k e
+  entry_at k e seen h = subst (λ v. MatchOption v (e ≡ nothing) (λ d. IsEntryOf s ms k d e)) (same_value k seen) (same_at k (value_at s.options k others) e h)
 
-  entries_at : (ks : List Keyword) (es : List Keyed) → AllByRecursion Apart ks → AreEntriesOf s others ks es → AreEntriesOf s ms ks es
-  entries_at [] es apart h = h
-  entries_at (k ∷ ks) es (apart, more) (e, rest, at, is, are) = (e, rest, entry_at k e apart at, is, entries_at ks rest more are)
+  entries_at : (ks : List Keyword) (es : List Keyed) → AllByRecursion Seen ks → AreEntriesOf s others ks es → AreEntriesOf s ms ks es
+  entries_at [] es seen h = h
+  entries_at (k ∷ ks) es (seen, more) (e, rest, at, is, are) = (e, rest, entry_at k e seen at, is, entries_at ks rest more are)
 
-  share_apart : (fused : Bool) (k : Keyword) → Apart k → AllByRecursion Apart (share fused k)
-  share_apart fused ContentMediaType apart = (apart, tt)
-  share_apart fused ContentEncoding apart = (apart, tt)
-  share_apart fused ContentSchema apart = (apart, tt)
-  share_apart fused Format apart = (apart, tt)
-  share_apart true MinLength apart = (apart, (refl, tt))
-  share_apart false MinLength apart = (apart, tt)
-  share_apart true MaxLength apart = tt
-  share_apart false MaxLength apart = (apart, tt)
-  share_apart fused Pattern apart = (apart, tt)
+  share_seen : (fused : Bool) (k : Keyword) → Seen k → AllByRecursion Seen (share fused k)
+  share_seen fused ContentMediaType seen = (seen, tt)
+  share_seen fused ContentEncoding seen = (seen, tt)
+  share_seen fused ContentSchema seen = (seen, tt)
+  share_seen fused Format seen = (seen, tt)
+  share_seen true MinLength seen = (seen, (greatest, tt))
+  share_seen false MinLength seen = (seen, tt)
+  share_seen true MaxLength seen = tt
+  share_seen false MaxLength seen = (seen, tt)
+  share_seen fused Pattern seen = (seen, tt)
 
   same_fused : is_fused s.options others ≡ is_fused s.options ms
-  same_fused = rw (same_value MinLength refl, same_value MaxLength refl) refl
+  same_fused = rw (same_value MinLength least, same_value MaxLength greatest) refl
 
-  pub other_compiled : (k : Keyword) (r : Option (Result (Validator E) CompileError)) → Apart k → IsCompiledAt outcome s others k r → IsCompiledAt outcome s ms k r
-  other_compiled k r apart h = record {
+  -- and so is what is compiled of a keyword that is seen
+  seen_compiled : (k : Keyword) (r : Option (Result (Validator E) CompileError)) → Seen k → IsCompiledAt outcome s others k r → IsCompiledAt outcome s ms k r
+  seen_compiled k r seen h = record {
     entries = h.entries;
     are_entries = subst (λ b. AreEntriesOf s ms (share b k) h.entries) same_fused
-        (entries_at _ h.entries (share_apart (is_fused s.options others) k apart) h.are_entries);
+        (entries_at _ h.entries (share_seen (is_fused s.options others) k seen) h.are_entries);
     answer = h.answer;
   }
+
+module _ {E : Type 0} (outcome : E → List ℕ → Outcome) (s : Settings) (ms others : Members) where
+  -- all values are the same
+  pub same_compiled : ((k : Keyword) → get_member (keyword_name k) others ≡ get_member (keyword_name k) ms) → (k : Keyword) (r : Option (Result (Validator E) CompileError)) → IsCompiledAt outcome s others k r → IsCompiledAt outcome s ms k r
+  same_compiled same k r h = seen_compiled outcome s ms others (λ w. Unit {0}) (λ w seen. same w) tt tt tt tt k r tt h
+
+module _ {E : Type 0} (outcome : E → List ℕ → Outcome) (s : Settings) (ms others : Members) (keeps : KeepsOthers ms others) where
+  -- all but that at `contentSchema`
+  pub schema_compiled : (v : Value) (r : Option (Result (Validator E) CompileError)) → get_member (keyword_name ContentSchema) ms ≡ Some (view v) → is_overridden s.options ContentSchema ≡ false
+      → IsCompiled outcome s.place (alone ContentSchema (schema_entry (content_rule s.draft) others (view v))) r → IsCompiledAt outcome s ms ContentSchema r
+  schema_compiled v r there looked_at h = seen_schema outcome s ms others Apart (λ k apart. keeps.kept (keyword_name k) apart) refl refl refl refl v r there looked_at h
+
+  pub other_compiled : (k : Keyword) (r : Option (Result (Validator E) CompileError)) → Apart k → IsCompiledAt outcome s others k r → IsCompiledAt outcome s ms k r
+  other_compiled k r apart h = seen_compiled outcome s ms others Apart (λ w seen. keeps.kept (keyword_name w) seen) refl refl refl refl k r apart h

@@ -13,6 +13,7 @@ pub mod Decodings
 pub mod LiteralKinds
 pub mod Validators
 pub mod Object
+pub mod Values
 pub mod Settings
 pub mod Handed
 pub mod Compiled

@@ -1,6 +1,7 @@
 //! One entry of a schema object: what is built of it, and why and where it is refused.
 
 ghost use Rattle.std.specs.Prelude.{◌≡◌, ◌⊎◌, IfOk, List, Some, option_map};
+ghost use Rattle.serde_json.specs.Data.{Members};
 ghost use Rattle.serde_json.specs.Find.{get_member};
 ghost use Rattle.serde_json.specs.View.{members_view, view};
 ghost use Rattle.strkw_report.specs.Paths.{below};
@@ -10,6 +11,7 @@ ghost use Rattle.strkw_keywords.specs.Keywords.{keyword_name};
 ghost use Rattle.strkw_keywords.specs.Object.{Keyed, no_string, value_at};
 ghost use Rattle.strkw_keywords.specs.Places.{Place};
 ghost use Rattle.strkw_keywords.specs.Settings.{place_in, settings_of};
+ghost use Rattle.strkw_keywords.specs.Values.{AreValuesOf};
 
 use crate::checks::{ContentCodec, Format, MediaTypeCheck};
 use crate::content::{
@@ -24,6 +26,7 @@ use crate::options::{Context, Options};
 use crate::parts::Origin;
 use crate::pattern::build_pattern;
 use crate::validator::Validator;
+use crate::values::{Object, Values};
 use serde_json::{Map, Value};
 use std::alloc::{AllocError, Global};
 use strkw_pattern::{EngineBuilder, RegexEngine};
@@ -47,17 +50,32 @@ pub fn compile_entry<B: EngineBuilder>(
     compile_value(alloc, ctx, object, value, keyword)
 }
 
-// The same, given the value.
-pub(crate) fn compile_value<B: EngineBuilder>(
+/// What `compile_entry` answers for an object with these values.
+pub fn compile_among<B: EngineBuilder>(
     alloc: Global,
     ctx: &Context<'_, B>,
-    object: &Map<String, Value>,
+    values: &Values<'_>,
+    keyword: Keyword,
+) -> Option<Result<Validator<B::Engine>, CompileError>>
+    ensures { (ms : Members) → AreValuesOf ms values.now
+        → IsCompiledAt B.Engine.outcome (settings_of B.takes B.outcome admits accepted encoded decoding ctx.now)
+        ms keyword result }
+{
+    let value = value_at(&ctx.options, values, keyword)?;
+    compile_value(alloc, ctx, values, value, keyword)
+}
+
+// The same, given the value.
+pub(crate) fn compile_value<B: EngineBuilder, O: Object>(
+    alloc: Global,
+    ctx: &Context<'_, B>,
+    object: &O,
     value: &Value,
     keyword: Keyword,
 ) -> Option<Result<Validator<B::Engine>, CompileError>>
-    requires { value_at ctx.now.options keyword (members_view object.now.entries) ≡ Some (view value.now) }
+    requires { value_at ctx.now.options keyword (O.members object.now) ≡ Some (view value.now) }
     ensures { IsCompiledAt B.Engine.outcome (settings_of B.takes B.outcome admits accepted encoded decoding ctx.now)
-        (members_view object.now.entries) keyword result }
+        (O.members object.now) keyword result }
 {
     located(
         alloc,
@@ -67,16 +85,16 @@ pub(crate) fn compile_value<B: EngineBuilder>(
 }
 
 // The same, before a refusal has its place.
-fn build<B: EngineBuilder>(
+fn build<B: EngineBuilder, O: Object>(
     alloc: Global,
     ctx: &Context<'_, B>,
-    object: &Map<String, Value>,
+    object: &O,
     value: &Value,
     keyword: Keyword,
 ) -> Result<Option<Validator<B::Engine>>, Refused>
-    requires { value_at ctx.now.options keyword (members_view object.now.entries) ≡ Some (view value.now) }
+    requires { value_at ctx.now.options keyword (O.members object.now) ≡ Some (view value.now) }
     ensures { IsBuiltAt B.Engine.outcome (settings_of B.takes B.outcome admits accepted encoded decoding ctx.now)
-        (members_view object.now.entries) keyword result }
+        (O.members object.now) keyword result }
 {
     match keyword {
         Keyword::ContentMediaType => match ContentRule::of(ctx.draft) {
@@ -131,17 +149,18 @@ pub fn member<'v>(map: &'v Map<String, Value>, name: &str) -> Option<&'v Value>
 }
 
 // The value at a keyword, unless the keyword is left out.
-pub(crate) fn value_at<'v>(
+pub(crate) fn value_at<'v, O: Object>(
     options: &Options,
-    object: &'v Map<String, Value>,
+    object: &'v O,
     keyword: Keyword,
 ) -> Option<&'v Value>
-    ensures { option_map (λ v. view v.now) result ≡ value_at options.now keyword (members_view object.now.entries) }
+    ensures { option_map (λ v. view v.now) result
+        ≡ value_at options.now keyword (O.members object.now) }
 {
     if options.is_overridden(keyword) {
         return None;
     }
-    member(object, keyword.as_str())
+    object.value(keyword)
 }
 
 // The refusal of a value that is no string.

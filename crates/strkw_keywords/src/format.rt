@@ -27,7 +27,7 @@ use serde_json::{Map, Value};
 use std::alloc::Global;
 use strkw_formats::{BuiltinFormat, builtin_format};
 use strkw_pattern::EngineBuilder;
-use strkw_report::{CompileError, CompileErrorKind, Draft, Failure, Node};
+use strkw_report::{CompileError, CompileErrorKind, Draft, Failure, Node, TextNode};
 
 /// Demands that a text is of a built-in format, and notes the name of the format (2020-12, section 7.3).
 pub type FormatValidator = Keyed<OfBuiltin>;
@@ -60,8 +60,8 @@ impl Test for OfBuiltin {
         Parts::noting(origin, Noted::Text(Keyword::Format, self.format.as_str()))
     }
 
-    fn findings<N: Node>(&self, _: Global, _: &N, text: &str, _checks: &Checks) -> Found<'_> {
-        Ok(Findings::one(self.finding(text)))
+    fn findings<N: Node>(&self, _: Global, text: &TextNode<'_, N>, _checks: &Checks) -> Found<'_> {
+        Ok(Findings::one(self.finding(text.as_str())))
     }
 }
 
@@ -95,8 +95,13 @@ impl Test for OfRow {
         }
     }
 
-    fn findings<N: Node>(&self, alloc: Global, _: &N, text: &str, checks: &Checks) -> Found<'_> {
-        let is_admitted = ask_row(alloc, checks.formats, self.position, text)?;
+    fn findings<N: Node>(
+        &self,
+        alloc: Global,
+        text: &TextNode<'_, N>,
+        checks: &Checks,
+    ) -> Found<'_> {
+        let is_admitted = ask_row(alloc, checks.formats, self.position, text.as_str())?;
         let failure = Failure::Format(self.name.as_str());
         Ok(Findings::one((!is_admitted).then_some(failure)))
     }

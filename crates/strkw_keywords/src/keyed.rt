@@ -6,7 +6,7 @@ use crate::parts::{Origin, Parts};
 use crate::test::Test;
 use crate::validate::{Uses, Validate};
 use std::alloc::Global;
-use strkw_report::Node;
+use strkw_report::{Node, TextNode};
 
 /// A validator: a test of texts, and where the schema object stands that asks it. It demands and notes what the test
 /// does. Each of the seventeen validators is one, and its calls are those of `Uses` and `Validate`.
@@ -29,7 +29,7 @@ impl<T: Test> Uses for Keyed<T> {
 }
 
 impl<T: Test, N: Node> Validate<N> for Keyed<T> {
-    fn findings(&self, alloc: Global, node: &N, text: &str, checks: &Checks) -> Found<'_> {
-        self.test.findings(alloc, node, text, checks)
+    fn findings(&self, alloc: Global, text: &TextNode<'_, N>, checks: &Checks) -> Found<'_> {
+        self.test.findings(alloc, text, checks)
     }
 }

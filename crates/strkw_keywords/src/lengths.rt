@@ -19,10 +19,11 @@ use crate::options::{Context, Options};
 use crate::parts::{Origin, Parts};
 use crate::test::Test;
 use crate::validator::Validator;
+use crate::values::Object;
 use serde_json::{Map, Value};
 use std::alloc::Global;
 use strkw_pattern::EngineBuilder;
-use strkw_report::{CompileError, CompileErrorKind, Failure, Node};
+use strkw_report::{CompileError, CompileErrorKind, Failure, Node, TextNode};
 
 /// Demands that a text has so many characters or more (2020-12, section 6.3.2).
 pub type MinLengthValidator = Keyed<AtLeast>;
@@ -54,19 +55,19 @@ pub struct Between {
     pub(crate) max: u64,
 }
 
-// The finding on a node with this number of characters.
-fn too_short(limit: u64, characters: Option<u64>) -> Option<Failure<'static>>
-    ensures { (text : List ℕ) → characters ≡ Some (length (chars text))
+// The finding on a text with this number of characters.
+fn too_short(limit: u64, characters: u64) -> Option<Failure<'static>>
+    ensures { (text : List ℕ) → characters ≡ length (chars text)
         → HasFinding (at_least limit) no_lists text (option_map finding_of result) }
 {
-    (characters? < limit).then_some(Failure::MinLength(limit))
+    (characters < limit).then_some(Failure::MinLength(limit))
 }
 
-fn too_long(limit: u64, characters: Option<u64>) -> Option<Failure<'static>>
-    ensures { (text : List ℕ) → characters ≡ Some (length (chars text))
+fn too_long(limit: u64, characters: u64) -> Option<Failure<'static>>
+    ensures { (text : List ℕ) → characters ≡ length (chars text)
         → HasFinding (at_most limit) no_lists text (option_map finding_of result) }
 {
-    (characters? > limit).then_some(Failure::MaxLength(limit))
+    (characters > limit).then_some(Failure::MaxLength(limit))
 }
 
 // ---- what each demands, and finds
@@ -78,8 +79,8 @@ impl Test for AtLeast {
         Parts::plain(origin)
     }
 
-    fn findings<N: Node>(&self, _: Global, node: &N, _: &str, _: &Checks) -> Found<'_> {
-        Ok(Findings::one(too_short(self.limit, node.text_length())))
+    fn findings<N: Node>(&self, _: Global, text: &TextNode<'_, N>, _: &Checks) -> Found<'_> {
+        Ok(Findings::one(too_short(self.limit, text.length())))
     }
 }
 
@@ -90,8 +91,8 @@ impl Test for AtMost {
         Parts::plain(origin)
     }
 
-    fn findings<N: Node>(&self, _: Global, node: &N, _: &str, _: &Checks) -> Found<'_> {
-        Ok(Findings::one(too_long(self.limit, node.text_length())))
+    fn findings<N: Node>(&self, _: Global, text: &TextNode<'_, N>, _: &Checks) -> Found<'_> {
+        Ok(Findings::one(too_long(self.limit, text.length())))
     }
 }
 
@@ -102,8 +103,8 @@ impl Test for Between {
         Parts::plain(origin)
     }
 
-    fn findings<N: Node>(&self, _: Global, node: &N, _: &str, _: &Checks) -> Found<'_> {
-        let length = node.text_length();
+    fn findings<N: Node>(&self, _: Global, text: &TextNode<'_, N>, _: &Checks) -> Found<'_> {
+        let length = text.length();
         Ok(Findings {
             first: too_short(self.min, length),
             second: too_long(self.max, length),
@@ -119,17 +120,19 @@ fn limit_of(value: &Value) -> Option<u64>
 }
 
 // The limit of `minLength`, where its entry is good.
-fn least_in(options: &Options, parent: &Map<String, Value>) -> Option<u64>
-    ensures { MatchOption result (is_given (least_entry options.now (members_view parent.now.entries)) ≡ false)
-        (λ n. (least_entry options.now (members_view parent.now.entries)) ≡ gives (at_least n ∷ []) None) }
+fn least_in<O: Object>(options: &Options, parent: &O) -> Option<u64>
+    ensures { MatchOption result
+        (is_given (least_entry options.now (O.members parent.now)) ≡ false)
+        (λ n. (least_entry options.now (O.members parent.now)) ≡ gives (at_least n ∷ []) None) }
 {
     limit_of(value_at(options, parent, Keyword::MinLength)?)
 }
 
 // The limit of `maxLength`, where its entry is good.
-fn greatest_in(options: &Options, parent: &Map<String, Value>) -> Option<u64>
-    ensures { MatchOption result (is_given (greatest_entry options.now (members_view parent.now.entries)) ≡ false)
-        (λ n. (greatest_entry options.now (members_view parent.now.entries)) ≡ gives (at_most n ∷ []) None) }
+fn greatest_in<O: Object>(options: &Options, parent: &O) -> Option<u64>
+    ensures { MatchOption result
+        (is_given (greatest_entry options.now (O.members parent.now)) ≡ false)
+        (λ n. (greatest_entry options.now (O.members parent.now)) ≡ gives (at_most n ∷ []) None) }
 {
     limit_of(value_at(options, parent, Keyword::MaxLength)?)
 }
@@ -145,13 +148,15 @@ fn refused_limit(keyword: Keyword) -> Refused
 }
 
 // The validator of `minLength` stands for `maxLength` too, where the limit of `maxLength` is there and good.
-pub(crate) fn build_min<B: EngineBuilder>(
+pub(crate) fn build_min<B: EngineBuilder, O: Object>(
     ctx: &Context<'_, B>,
-    parent: &Map<String, Value>,
+    parent: &O,
     value: &Value,
 ) -> Result<Option<Validator<B::Engine>>, Refused>
-    requires { value_at ctx.now.options Keyword.MinLength (members_view parent.now.entries) ≡ Some (view value.now) }
-    ensures { IsBuilt B.Engine.outcome (place_in ctx.now) (min_share ctx.now.options (members_view parent.now.entries)) result }
+    requires { value_at ctx.now.options Keyword.MinLength (O.members parent.now)
+        ≡ Some (view value.now) }
+    ensures { IsBuilt B.Engine.outcome (place_in ctx.now)
+        (min_share ctx.now.options (O.members parent.now)) result }
 {
     let limit = limit_of(value).ok_or(refused_limit(Keyword::MinLength))?;
     let origin = origin_of(ctx)?;
@@ -167,13 +172,15 @@ pub(crate) fn build_min<B: EngineBuilder>(
     }
 }
 
-pub(crate) fn build_max<B: EngineBuilder>(
+pub(crate) fn build_max<B: EngineBuilder, O: Object>(
     ctx: &Context<'_, B>,
-    parent: &Map<String, Value>,
+    parent: &O,
     value: &Value,
 ) -> Result<Option<Validator<B::Engine>>, Refused>
-    requires { value_at ctx.now.options Keyword.MaxLength (members_view parent.now.entries) ≡ Some (view value.now) }
-    ensures { IsBuilt B.Engine.outcome (place_in ctx.now) (max_share ctx.now.options (members_view parent.now.entries)) result }
+    requires { value_at ctx.now.options Keyword.MaxLength (O.members parent.now)
+        ≡ Some (view value.now) }
+    ensures { IsBuilt B.Engine.outcome (place_in ctx.now)
+        (max_share ctx.now.options (O.members parent.now)) result }
 {
     let limit = limit_of(value).ok_or(refused_limit(Keyword::MaxLength))?;
     if least_in(&ctx.options, parent).is_some() {

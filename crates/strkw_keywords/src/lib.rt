@@ -19,6 +19,7 @@ pub mod pattern;
 mod test;
 mod validate;
 mod validator;
+mod values;
 
 /// The entry `maxLength`.
 pub mod max_length {
@@ -33,7 +34,7 @@ pub mod min_length {
 pub use checks::{
     Checks, ContentCodec, Format, MediaTypeCheck, NamedCodec, NamedFormat, NamedMediaType,
 };
-pub use compile::{compile_entry, member};
+pub use compile::{compile_among, compile_entry, member};
 pub use content::{
     ContentEncodingAnnotationValidator, ContentEncodingValidator,
     ContentMediaTypeAndEncodingValidator, ContentMediaTypeAnnotationValidator,
@@ -61,3 +62,4 @@ pub use strkw_formats::{BuiltinFormat, builtin_format};
 pub use test::Test;
 pub use validate::{Fault, Uses, Validate};
 pub use validator::Validator;
+pub use values::Values;

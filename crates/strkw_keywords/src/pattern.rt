@@ -20,7 +20,7 @@ pub use build::compile;
 use std::alloc::{AllocError, Global};
 use std::marker::PhantomData;
 use strkw_pattern::{EngineFailure, LiteralMatcher, RegexEngine};
-use strkw_report::{Failure, Node};
+use strkw_report::{Failure, Node, TextNode};
 
 /// Demands that a text begins with a literal: patterns as `^items`.
 pub type PrefixPatternValidator = Keyed<Literal<OfPrefix>>;
@@ -90,8 +90,13 @@ impl<K: Kind> Test for Literal<K> {
         Parts::plain(origin)
     }
 
-    fn findings<N: Node>(&self, alloc: Global, _: &N, text: &str, _: &Checks) -> Found<'_> {
-        Ok(Findings::one(literal_finding(alloc, self.pattern.as_str(), &self.matcher, text)))
+    fn findings<N: Node>(&self, alloc: Global, text: &TextNode<'_, N>, _: &Checks) -> Found<'_> {
+        Ok(Findings::one(literal_finding(
+            alloc,
+            self.pattern.as_str(),
+            &self.matcher,
+            text.as_str(),
+        )))
     }
 }
 
@@ -135,9 +140,9 @@ impl<E: RegexEngine> Test for Matching<E> {
         Parts::of_content(origin, None, None)
     }
 
-    fn findings<N: Node>(&self, alloc: Global, _: &N, text: &str, _: &Checks) -> Found<'_> {
+    fn findings<N: Node>(&self, alloc: Global, text: &TextNode<'_, N>, _: &Checks) -> Found<'_> {
         let pattern = self.pattern.as_str();
-        let failure = match self.engine.is_match(alloc, text) {
+        let failure = match self.engine.is_match(alloc, text.as_str()) {
             Ok(true) => None,
             Ok(false) => Some(Failure::Pattern(pattern)),
             Err(EngineFailure::BacktrackLimit) => Some(Failure::BacktrackLimitExceeded(pattern)),

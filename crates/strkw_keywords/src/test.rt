@@ -1,6 +1,6 @@
 //! What a validator is, beside the place of its schema object: a test of texts.
 
-ghost use Rattle.std.specs.Prelude.{◌↔◌, ◌≡◌, IfOk, IsOk, List, None, Option, Some, [], true, ℕ};
+ghost use Rattle.std.specs.Prelude.{◌↔◌, ◌≡◌, IfOk, IsOk, List, None, Option, [], true, ℕ};
 ghost use Rattle.strkw_keywords.specs.Demands.{Demand, Finds, IsInUse, all_quiet};
 ghost use Rattle.strkw_keywords.specs.Findings.{findings_of};
 ghost use Rattle.strkw_keywords.specs.Lists.{lists_of};
@@ -12,7 +12,7 @@ use crate::checks::{Checks, ContentCodec, Format, MediaTypeCheck};
 use crate::findings::Found;
 use crate::parts::{Origin, Parts};
 use std::alloc::Global;
-use strkw_report::Node;
+use strkw_report::{Node, TextNode};
 
 /// What a validator is, beside the place of its schema object. `Keyed` makes a validator of it.
 pub trait Test {
@@ -30,10 +30,9 @@ pub trait Test {
         ensures quiet { result.is_quiet ≡ all_quiet (demands self.now) }
         ensures rows { (lists : Lists) → RowsAreFirst result lists ↔ IsInUse (demands self.now) lists };
 
-    /// What a node that is this text fails at, in the order of the errors. The only error is out of memory, and none
-    /// where `is_quiet` of its parts is true.
-    fn findings<N: Node>(&self, alloc: Global, node: &N, text: &str, checks: &Checks) -> Found<'_>
-        requires is_text { N.text node.now ≡ Some text.now }
+    /// What a text fails at, in the order of the errors. The only error is out of memory, and none where `is_quiet` of
+    /// its parts is true.
+    fn findings<N: Node>(&self, alloc: Global, text: &TextNode<'_, N>, checks: &Checks) -> Found<'_>
         ensures found { IfOk result (λ fs. Finds (demands self.now)
             (lists_of admits accepted encoded decoding checks.now) text.now (findings_of fs)) }
         ensures answers { all_quiet (demands self.now) ≡ true → IsOk result };

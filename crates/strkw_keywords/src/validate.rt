@@ -20,7 +20,7 @@ use std::alloc::{AllocError, Global};
 use std::error::Error;
 use std::fmt;
 use strkw_coding::laws::encodes_once;
-use strkw_report::{EvaluationResult, Node, Site, ValidationError};
+use strkw_report::{EvaluationResult, Node, Site, TextNode, ValidationError};
 
 /// Why a node was not found valid.
 #[derive(Debug, Drop)]
@@ -111,11 +111,10 @@ pub trait Uses {
 /// A validator of the nodes of one representation. Its four calls rest on one meaning: the errors that a node has of what
 /// the validator demands. Each asks that `uses` is true of the lists that it is given.
 pub trait Validate<N: Node>: Uses {
-    /// What a node that is this text fails at, in the order of the errors. The only error is out of memory, and none
-    /// where `takes_no_memory` is true.
-    fn findings(&self, alloc: Global, node: &N, text: &str, checks: &Checks) -> Found<'_>
-        requires in_use { IsInUse (Self.demands self.now) (lists_of admits accepted encoded decoding checks.now) }
-        requires is_text { N.text node.now ≡ Some text.now }
+    /// What a text fails at, in the order of the errors. The only error is out of memory, and none where
+    /// `takes_no_memory` is true.
+    fn findings(&self, alloc: Global, text: &TextNode<'_, N>, checks: &Checks) -> Found<'_>
+        requires { IsInUse (Self.demands self.now) (lists_of admits accepted encoded decoding checks.now) }
         ensures found { IfOk result (λ fs. Finds (Self.demands self.now) (lists_of admits accepted encoded decoding checks.now)
             text.now (findings_of fs)) }
         ensures answers { all_quiet (Self.demands self.now) ≡ true → IsOk result };
@@ -129,10 +128,10 @@ pub trait Validate<N: Node>: Uses {
         ensures answers { all_quiet (Self.demands self.now) ≡ true → IsOk result }
     {
         encodes_once();
-        let Some(text) = node.as_text() else {
+        let Some(text) = TextNode::of(node) else {
             return Ok(true);
         };
-        Ok(self.findings(alloc, node, text, checks)?.is_empty())
+        Ok(self.findings(alloc, &text, checks)?.is_empty())
     }
 
     /// Appends the errors of the node, each with the place of its keyword in the schema and on the way of evaluation,
@@ -152,32 +151,30 @@ pub trait Validate<N: Node>: Uses {
             errors.old.items errors.new.items) }
         ensures kept { OnErr result (errors.new.items ≡ errors.old.items) }
     {
-        match node.as_text() {
-            Some(text) => self.push_errors(alloc, node, text, site, checks, errors),
+        match TextNode::of(node) {
+            Some(text) => self.push_errors(alloc, &text, site, checks, errors),
             None => Ok(()),
         }
     }
 
-    /// Appends the errors of a node that is this text, as `collect_errors` does of any.
+    /// Appends the errors of a text, as `collect_errors` does of a node.
     final fn push_errors(
         &self,
         alloc: Global,
-        node: &N,
-        text: &str,
+        text: &TextNode<'_, N>,
         site: &Site,
         checks: &Checks,
         errors: &mut Vec<ValidationError>,
     ) -> Result<(), AllocError>
-        requires in_use { IsInUse (Self.demands self.now) (lists_of admits accepted encoded decoding checks.now) }
-        requires is_text { N.text node.now ≡ Some text.now }
+        requires { IsInUse (Self.demands self.now) (lists_of admits accepted encoded decoding checks.now) }
         ensures appended { OnOk result (Appends
             (NodeReports (placed (Self.place self.now) (Self.demands self.now)) (lists_of admits accepted encoded decoding checks.now)
-            site.now (N.text node.now))
+            site.now (Some text.now))
             errors.old.items errors.new.items) }
         ensures kept { OnErr result (errors.new.items ≡ errors.old.items) }
     {
-        let findings = self.findings(alloc, node, text, checks)?;
-        push_findings(alloc, self.origin(), text, site, &findings, errors)
+        let findings = self.findings(alloc, text, checks)?;
+        push_findings(alloc, self.origin(), text.as_str(), site, &findings, errors)
     }
 
     /// `Ok` where the node has no errors.
@@ -195,34 +192,32 @@ pub trait Validate<N: Node>: Uses {
         ensures { IsVerdict (placed (Self.place self.now) (Self.demands self.now)) (lists_of admits accepted encoded decoding checks.now)
             site.now (N.text node.now) result }
     {
-        match node.as_text() {
-            Some(text) => self.validate_text(alloc, node, text, site, checks),
+        match TextNode::of(node) {
+            Some(text) => self.validate_text(alloc, &text, site, checks),
             None => Ok(()),
         }
     }
 
-    /// `Ok` where a node that is this text has no errors.
+    /// `Ok` where a text has no errors.
     ///
     /// Errors: those of `validate`.
     final fn validate_text(
         &self,
         alloc: Global,
-        node: &N,
-        text: &str,
+        text: &TextNode<'_, N>,
         site: &Site,
         checks: &Checks,
     ) -> Result<(), Fault>
-        requires in_use { IsInUse (Self.demands self.now) (lists_of admits accepted encoded decoding checks.now) }
-        requires is_text { N.text node.now ≡ Some text.now }
+        requires { IsInUse (Self.demands self.now) (lists_of admits accepted encoded decoding checks.now) }
         ensures { IsVerdict (placed (Self.place self.now) (Self.demands self.now)) (lists_of admits accepted encoded decoding checks.now)
-            site.now (N.text node.now) result }
+            site.now (Some text.now) result }
     {
         encodes_once();
-        let findings = self.findings(alloc, node, text, checks)?;
+        let findings = self.findings(alloc, text, checks)?;
         match findings.first() {
             None => Ok(()),
             Some(finding) => {
-                let error = error_of(alloc, finding, self.origin(), text, site)?;
+                let error = error_of(alloc, finding, self.origin(), text.as_str(), site)?;
                 Err(Fault::Invalid(error))
             }
         }
@@ -244,8 +239,8 @@ pub trait Validate<N: Node>: Uses {
     {
         let mut errors = Vec::new(alloc);
         let mut annotation = None;
-        if let Some(text) = node.as_text() {
-            self.push_errors(alloc, node, text, site, checks, &mut errors)?;
+        if let Some(text) = TextNode::of(node) {
+            self.push_errors(alloc, &text, site, checks, &mut errors)?;
             annotation = self.note(alloc)?.map(|note| note.value);
         }
         Ok(EvaluationResult { errors, annotation })

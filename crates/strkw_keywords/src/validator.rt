@@ -22,7 +22,7 @@ use crate::pattern::{
 use crate::validate::{Uses, Validate};
 use std::alloc::Global;
 use strkw_pattern::RegexEngine;
-use strkw_report::Node;
+use strkw_report::{Node, TextNode};
 
 /// The validator of a compiled entry, or of the entries `minLength` and `maxLength` together.
 #[derive(Drop)]
@@ -120,7 +120,7 @@ impl<E: RegexEngine> Uses for Validator<E> {
 }
 
 impl<E: RegexEngine, N: Node> Validate<N> for Validator<E> {
-    fn findings(&self, alloc: Global, node: &N, text: &str, checks: &Checks) -> Found<'_> {
-        of_each!(self, v => v.findings(alloc, node, text, checks))
+    fn findings(&self, alloc: Global, text: &TextNode<'_, N>, checks: &Checks) -> Found<'_> {
+        of_each!(self, v => v.findings(alloc, text, checks))
     }
 }

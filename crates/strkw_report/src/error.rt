@@ -1,9 +1,9 @@
-ghost use Rattle.std.specs.Prelude.{◌≡◌, IfOk, ◌++◌, ◌∷◌, string_bytes, codes, decimal};
-ghost use Rattle.strkw_report.specs.Nouns.{characters};
+ghost use Rattle.std.specs.Prelude.{◌≡◌, IfOk, ◌++◌, codes, string_bytes};
 ghost use Rattle.strkw_report.specs.Kinds.{report_at};
 ghost use Rattle.strkw_report.specs.KindOf.{kind_of};
 ghost use Rattle.strkw_report.specs.Standings.{standing_of};
 
+use crate::failure::Failure;
 use crate::location::Location;
 use serde_json::Value;
 use std::alloc::{AllocError, Global};
@@ -72,72 +72,26 @@ impl Model for ValidationError {
 }
 
 impl ErrorKind {
-    ghost use Rattle.strkw_report.specs.KindOf.{kind_of};
-    ghost use Rattle.strkw_report.specs.Kinds.{message};
+    ghost use Rattle.strkw_report.specs.Failures.{kind_failed};
 
-    // What is said of an error of this kind, `x` being the compact JSON text of the instance.
-    fn message(&self, alloc: Global, x: &str) -> Result<String, AllocError>
-        ensures { IfOk result (λ s. string_bytes s ≡ message (kind_of self.now) x.now) }
+    /// The same, by names that are borrowed.
+    pub fn failure(&self) -> Failure<'_>
+        ensures { kind_failed result ≡ kind_of self.now }
     {
         match self {
-            ErrorKind::MinLength { limit } => limited(alloc, x, " is shorter than ", *limit),
-            ErrorKind::MaxLength { limit } => limited(alloc, x, " is longer than ", *limit),
-            ErrorKind::Pattern { pattern } => named(alloc, x, " does not match \"", pattern, "\""),
-            ErrorKind::BacktrackLimitExceeded { .. } => String::from_str(
-                alloc,
-                "Error executing regex: Max limit for backtracking count exceeded",
+            ErrorKind::MinLength { limit } => Failure::MinLength(*limit),
+            ErrorKind::MaxLength { limit } => Failure::MaxLength(*limit),
+            ErrorKind::Pattern { pattern } => Failure::Pattern(pattern),
+            ErrorKind::BacktrackLimitExceeded { pattern } => Failure::BacktrackLimitExceeded(
+                pattern,
             ),
-            ErrorKind::RegexEngineFailure { pattern } => {
-                format!(in alloc; "Regex engine failed to evaluate pattern '{pattern}'")
-            }
-            ErrorKind::Format { format } => named(alloc, x, " is not a \"", format, "\""),
-            ErrorKind::ContentEncoding { name } => {
-                named(
-                    alloc,
-                    x,
-                    " is not compliant with \"",
-                    name,
-                    "\" content encoding",
-                )
-            }
-            ErrorKind::ContentMediaType { name } => {
-                named(alloc, x, " is not compliant with \"", name, "\" media type")
-            }
-            ErrorKind::FromUtf8 => joined(alloc, x, " does not decode to UTF-8 text"),
+            ErrorKind::RegexEngineFailure { pattern } => Failure::RegexEngineFailure(pattern),
+            ErrorKind::Format { format } => Failure::Format(format),
+            ErrorKind::ContentEncoding { name } => Failure::ContentEncoding(name),
+            ErrorKind::ContentMediaType { name } => Failure::ContentMediaType(name),
+            ErrorKind::FromUtf8 => Failure::FromUtf8,
         }
     }
-}
-
-pub(crate) fn joined(alloc: Global, x: &str, rest: &str) -> Result<String, AllocError>
-    ensures { IfOk result (λ s. string_bytes s ≡ x.now ++ rest.now) }
-{
-    format!(in alloc; "{x}{rest}")
-}
-
-fn named(
-    alloc: Global,
-    x: &str,
-    before: &str,
-    name: &str,
-    after: &str,
-) -> Result<String, AllocError>
-    ensures { IfOk result (λ s. string_bytes s ≡ x.now ++ before.now ++ name.now ++ after.now) }
-{
-    format!(in alloc; "{x}{before}{name}{after}")
-}
-
-fn limited(alloc: Global, x: &str, relation: &str, limit: u64) -> Result<String, AllocError>
-    ensures { IfOk result (λ s. string_bytes s
-        ≡ x.now ++ relation.now ++ decimal limit ++ codes " " ++ characters limit) }
-{
-    let noun = characters(limit);
-    format!(in alloc; "{x}{relation}{limit} {noun}")
-}
-
-pub(crate) fn characters(n: u64) -> &'static str
-    ensures { result.now ≡ characters n }
-{
-    if n == 1 { "character" } else { "characters" }
 }
 
 impl ValidationError {
@@ -147,8 +101,14 @@ impl ValidationError {
     pub fn text(&self, alloc: Global) -> Result<String, AllocError>
         ensures { IfOk result (λ s. string_bytes s ≡ text_of self.now) }
     {
-        let x = self.instance.to_string(alloc)?;
-        self.kind.message(alloc, x.as_str())
+        self.kind.failure().text(alloc, self.instance_text())
+    }
+
+    /// The text that the instance is.
+    pub(crate) fn instance_text(&self) -> &str
+        ensures { result.now ≡ self.now.instance }
+    {
+        self.instance.as_str().unwrap_or_default()
     }
 }
 
@@ -186,7 +146,7 @@ fn absolute_location(
     prefix: &str,
     schema_path: &Location,
 ) -> Result<String, AllocError>
-    ensures { IfOk result (λ s. string_bytes s ≡ prefix.now ++ 35 ∷ schema_path.now) }
+    ensures { IfOk result (λ s. string_bytes s ≡ prefix.now ++ codes "#" ++ schema_path.now) }
 {
     let path = schema_path.as_str();
     format!(in alloc; "{prefix}#{path}")

@@ -1,16 +1,16 @@
-//! What a text failed at, by names that are borrowed, and what is said of it, appended to bytes.
+//! What a text failed at, by names that are borrowed, and what is said of it: all words of errors stand here.
 
-ghost use Rattle.std.specs.Prelude.{◌≡◌, ℕ, List, ◌++◌, IfOk, OnOk, OnErr, codes, decimal};
+ghost use Rattle.std.specs.Prelude.{◌≡◌, ℕ, List, ◌++◌, IfOk, OnOk, OnErr, codes, decimal, string_bytes};
 ghost use Rattle.serde_json.specs.Data.{string};
 ghost use Rattle.serde_json.specs.Written.{compact_text};
 ghost use Rattle.strkw_report.specs.Nouns.{characters};
 ghost use Rattle.strkw_report.specs.Kinds.{message};
 ghost use Rattle.strkw_report.specs.Failures.{kind_failed};
 ghost use Rattle.strkw_report.specs.KindOf.{kind_of};
+ghost use Rattle.strkw_report.specs.Wordings.{spelled};
 
-use crate::error::{ErrorKind, characters};
-use crate::json_text::push_json_string;
-use itoa::Buffer;
+use crate::error::ErrorKind;
+use crate::wording::Wording;
 use std::alloc::{AllocError, Global};
 
 /// What a text failed at: an `ErrorKind` whose names are borrowed.
@@ -36,7 +36,7 @@ pub enum Failure<'a> {
     FromUtf8,
 }
 
-impl Failure<'_> {
+impl<'a> Failure<'a> {
     /// The same, with a copy of its name. It is refused only where it is out of memory.
     pub fn kind(&self, alloc: Global) -> Result<ErrorKind, AllocError>
         ensures { IfOk result (λ kind. kind_of kind ≡ kind_failed self.now) }
@@ -66,84 +66,68 @@ impl Failure<'_> {
         }
     }
 
-    /// Appends what is said of a text that failed so, as `ValidationError::text` gives it. Out of memory, a beginning of
-    /// it may have been appended.
+    /// What is said of a text that failed so, as `ValidationError::text` gives it. It is refused only where it is out
+    /// of memory.
+    pub fn text(&self, alloc: Global, text: &str) -> Result<String, AllocError>
+        ensures { IfOk result (λ s. string_bytes s
+            ≡ message (kind_failed self.now) (compact_text (string text.now))) }
+    {
+        self.wording(text).text(alloc)
+    }
+
+    /// Appends what `text` gives. Out of memory, a beginning of it may have been appended.
     pub fn push_text(&self, text: &str, out: &mut Vec<u8>) -> Result<(), AllocError>
-        ensures ok { OnOk result (out.new.items ≡ out.old.items ++ message (kind_failed self.now) (compact_text (string text.now))) }
+        ensures ok { OnOk result (out.new.items
+            ≡ out.old.items ++ message (kind_failed self.now) (compact_text (string text.now))) }
         ensures err { OnErr result ((more : List ℕ) × (out.new.items ≡ out.old.items ++ more)) }
     {
-        match self {
-            Failure::MinLength(limit) => push_limited(text, " is shorter than ", *limit, out),
-            Failure::MaxLength(limit) => push_limited(text, " is longer than ", *limit, out),
+        self.wording(text).push(out)
+    }
+
+    /// What is said of a text that failed so. These are all words of errors.
+    pub(crate) fn wording<'t>(&self, text: &'t str) -> Wording<'t, 'a>
+        ensures { spelled result ≡ message (kind_failed self.now) (compact_text (string text.now)) }
+    {
+        match *self {
+            Failure::MinLength(limit) => self.limited(text, " is shorter than ", limit),
+            Failure::MaxLength(limit) => self.limited(text, " is longer than ", limit),
             Failure::Pattern(pattern) => {
-                push_named(text, " does not match \"", pattern, "\"", out)
+                Wording::behind(text, " does not match \"", pattern, "\"")
             }
-            Failure::BacktrackLimitExceeded(_) => out.extend_from_slice(
-                b"Error executing regex: Max limit for backtracking count exceeded",
+            Failure::BacktrackLimitExceeded(_) => Wording::alone(
+                "Error executing regex: Max limit for backtracking count exceeded",
+                "",
+                "",
             ),
-            Failure::RegexEngineFailure(pattern) => push_within(
-                "Regex engine failed to evaluate pattern '",
-                pattern,
-                "'",
-                out,
-            ),
-            Failure::Format(name) => push_named(text, " is not a \"", name, "\"", out),
-            Failure::ContentEncoding(name) => push_named(
+            Failure::RegexEngineFailure(pattern) => {
+                Wording::alone("Regex engine failed to evaluate pattern '", pattern, "'")
+            }
+            Failure::Format(name) => Wording::behind(text, " is not a \"", name, "\""),
+            Failure::ContentEncoding(name) => Wording::behind(
                 text,
                 " is not compliant with \"",
                 name,
                 "\" content encoding",
-                out,
             ),
-            Failure::ContentMediaType(name) => push_named(
-                text,
-                " is not compliant with \"",
-                name,
-                "\" media type",
-                out,
-            ),
-            Failure::FromUtf8 => {
-                push_json_string(text, out)?;
-                out.extend_from_slice(b" does not decode to UTF-8 text")
+            Failure::ContentMediaType(name) => {
+                Wording::behind(text, " is not compliant with \"", name, "\" media type")
             }
+            Failure::FromUtf8 => Wording::behind(text, " does not decode to UTF-8 text", "", ""),
         }
+    }
+
+    // What is said of a text and of a limit of its characters.
+    fn limited<'t>(&self, text: &'t str, relation: &'static str, limit: u64) -> Wording<'t, 'a>
+        ensures { spelled result ≡ compact_text (string text.now)
+            ++ relation.now ++ decimal limit ++ codes " " ++ characters limit }
+    {
+        Wording::counting(text, relation, limit, characters(limit))
     }
 }
 
-fn push_named(
-    text: &str,
-    before: &str,
-    name: &str,
-    after: &str,
-    out: &mut Vec<u8>,
-) -> Result<(), AllocError>
-    ensures ok { OnOk result (out.new.items
-        ≡ out.old.items ++ (compact_text (string text.now) ++ before.now ++ name.now ++ after.now)) }
-    ensures err { OnErr result ((more : List ℕ) × (out.new.items ≡ out.old.items ++ more)) }
+// What stands behind a number of characters.
+fn characters(n: u64) -> &'static str
+    ensures { result.now ≡ codes " " ++ characters n }
 {
-    push_json_string(text, out)?;
-    push_within(before, name, after, out)
-}
-
-fn push_limited(text: &str, relation: &str, limit: u64, out: &mut Vec<u8>) -> Result<(), AllocError>
-    ensures ok { OnOk result (out.new.items ≡ out.old.items
-        ++ (compact_text (string text.now) ++ relation.now ++ decimal limit ++ codes " " ++ characters limit)) }
-    ensures err { OnErr result ((more : List ℕ) × (out.new.items ≡ out.old.items ++ more)) }
-{
-    let mut digits = Buffer::new();
-    push_json_string(text, out)?;
-    out.extend_from_slice(relation.as_bytes())?;
-    out.extend_from_slice(digits.format(limit).as_bytes())?;
-    out.extend_from_slice(b" ")?;
-    out.extend_from_slice(characters(limit).as_bytes())
-}
-
-// Appends a name, and what stands before and after it.
-fn push_within(before: &str, name: &str, after: &str, out: &mut Vec<u8>) -> Result<(), AllocError>
-    ensures ok { OnOk result (out.new.items ≡ out.old.items ++ (before.now ++ name.now ++ after.now)) }
-    ensures err { OnErr result ((more : List ℕ) × (out.new.items ≡ out.old.items ++ more)) }
-{
-    out.extend_from_slice(before.as_bytes())?;
-    out.extend_from_slice(name.as_bytes())?;
-    out.extend_from_slice(after.as_bytes())
+    if n == 1 { " character" } else { " characters" }
 }

@@ -34,8 +34,8 @@ fn push_escaped(text: &[u8], out: &mut Vec<u8>) -> Result<(), AllocError>
     Ok(())
 }
 
-// Whether each byte stands for itself.
-fn is_plain(text: &[u8]) -> bool
+/// Whether each byte stands for itself in a JSON string.
+pub(crate) fn is_plain(text: &[u8]) -> bool
     ensures { OnTrue result (escape text.now ≡ text.now) }
 {
     for byte in text {

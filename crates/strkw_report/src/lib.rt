@@ -16,6 +16,7 @@ mod node;
 mod quoted;
 mod refusal;
 mod text_node;
+mod wording;
 
 pub use draft::Draft;
 pub use error::{ErrorKind, Site, ValidationError, error_at};
@@ -26,3 +27,4 @@ pub use json_text::push_json_string;
 pub use location::Location;
 pub use node::{Node, char_count};
 pub use refusal::{CompileError, CompileErrorKind};
+pub use text_node::TextNode;

@@ -1,10 +1,9 @@
-ghost use Rattle.std.specs.Prelude.{◌≡◌, false, IfOk, string_bytes};
-ghost use Rattle.serde_json.specs.Data.{string};
-ghost use Rattle.serde_json.specs.Written.{compact_text};
-ghost use Rattle.strkw_report.specs.Refusals.{reason_of, prints_float, explanation, unknown_format as unknown};
+ghost use Rattle.std.specs.Prelude.{◌≡◌, ◌++◌, false, IfOk, string_bytes};
+ghost use Rattle.strkw_report.specs.Refusals.{reason_of, prints_float, explanation, value_text, advice};
+ghost use Rattle.strkw_report.specs.Wordings.{spelled};
 
-use crate::error::joined;
 use crate::location::Location;
+use crate::wording::Wording;
 use serde_json::Value;
 use std::alloc::{AllocError, Global};
 
@@ -51,49 +50,64 @@ impl CompileErrorKind {
         ensures { IfOk result (λ s. prints_float (reason_of self.now) ≡ false
             → string_bytes s ≡ explanation (reason_of self.now)) }
     {
+        let value = self.value_text(alloc)?;
+        let wording = self.wording();
+        format!(in alloc; "{value}{wording}")
+    }
+
+    // The refused value that the text begins with, as compact JSON text, and nothing where it begins with none.
+    fn value_text(&self, alloc: Global) -> Result<String, AllocError>
+        ensures { IfOk result (λ s. prints_float (reason_of self.now) ≡ false
+            → string_bytes s ≡ value_text (reason_of self.now)) }
+    {
         match self {
-            CompileErrorKind::NotString { value } => {
-                let x = value.to_string(alloc)?;
-                joined(alloc, &x, " is not of type \"string\"")
-            }
-            CompileErrorKind::Size => String::from_str(
-                alloc,
-                "the limit is not a non-negative whole number of 64 bits",
+            CompileErrorKind::NotString { value } => value.to_string(alloc),
+            _ => Ok(String::new(alloc)),
+        }
+    }
+
+    /// What the text says behind the refused value, where there is one. These are all words of refusals.
+    pub(crate) fn wording(&self) -> Wording<'_, '_>
+        ensures { value_text (reason_of self.now) ++ spelled result ≡ explanation (reason_of self.now) }
+    {
+        match self {
+            CompileErrorKind::NotString { .. } => Wording::alone(
+                " is not of type \"string\"",
+                "",
+                "",
             ),
+            CompileErrorKind::Size => {
+                Wording::alone(
+                    "the limit is not a non-negative whole number of 64 bits",
+                    "",
+                    "",
+                )
+            }
             CompileErrorKind::UnknownFormat { name, by_dialect } => {
-                unknown_format(alloc, name, *by_dialect)
+                Wording::alone("Unknown format: '", name, advice(*by_dialect))
             }
             CompileErrorKind::Regex { pattern } => {
-                let x = quote(alloc, pattern)?;
-                joined(alloc, &x, " is not a \"regex\"")
+                Wording::behind(pattern, " is not a \"regex\"", "", "")
             }
-            CompileErrorKind::FractionalNumber => String::from_str(
-                alloc,
-                "the value holds a number that is no whole number of 64 bits",
-            ),
-            CompileErrorKind::Memory => String::from_str(alloc, "out of memory"),
+            CompileErrorKind::FractionalNumber => {
+                Wording::alone(
+                    "the value holds a number that is no whole number of 64 bits",
+                    "",
+                    "",
+                )
+            }
+            CompileErrorKind::Memory => Wording::alone("out of memory", "", ""),
         }
     }
 }
 
-fn unknown_format(alloc: Global, name: &str, by_dialect: bool) -> Result<String, AllocError>
-    ensures { IfOk result (λ s. string_bytes s ≡ explanation (unknown name.now by_dialect)) }
+// What stands behind the name of an unknown format.
+fn advice(by_dialect: bool) -> &'static str
+    ensures { result.now ≡ advice by_dialect }
 {
     if by_dialect {
-        format!(in alloc;
-            "Unknown format: '{name}'. The meta-schema asserts formats, so unrecognized ones cannot be ignored. Register a check for it or disable format validation"
-        )
+        "'. The meta-schema asserts formats, so unrecognized ones cannot be ignored. Register a check for it or disable format validation"
     } else {
-        format!(in alloc;
-            "Unknown format: '{name}'. Adjust configuration to ignore unrecognized formats"
-        )
+        "'. Adjust configuration to ignore unrecognized formats"
     }
-}
-
-// The JSON string of a text.
-fn quote(alloc: Global, text: &str) -> Result<String, AllocError>
-    ensures { IfOk result (λ s. string_bytes s ≡ compact_text (string text.now)) }
-{
-    let value = Value::try_from_str(alloc, text)?;
-    value.to_string(alloc)
 }

@@ -10,7 +10,7 @@ use serde_json::Value;
 use std::alloc::{AllocError, Global};
 use std::test::Fail;
 use strkw_doubles::{ScriptedBuilder, ScriptedEngine};
-use strkw_keywords::{Checks, Context, Keyword, Uses, Validate, Validator};
+use strkw_keywords::{Checks, Context, Keyword, Uses, Validate, Validator, Values, compile_among};
 use strkw_report::{CompileError, Draft, Site};
 
 // A draft, a keyword, a schema object, and where it is refused with ample memory.
@@ -140,10 +140,40 @@ fn is_refused_at(
     Ok(is_at(&outcome, place))
 }
 
+// The same of an entry of the object's values.
+fn is_refused_among(
+    alloc: Global,
+    draft: Draft,
+    keyword: Keyword,
+    schema: &str,
+    place: Option<&str>,
+) -> Result<bool, Fail> {
+    let builder = builder();
+    let formats = [even_format(alloc)?];
+    let ctx = context(alloc, draft, &builder, &formats)?;
+    let (schema, before) = (json(alloc, schema)?, json(alloc, schema)?);
+    let values = Values::of(schema.as_object().ok_or("no object")?);
+    let Some(outcome) = compile_among(alloc, &ctx, &values, keyword) else {
+        return Ok(false);
+    };
+    ended_well(alloc, (&ctx, draft), (&schema, &before), &outcome)?;
+    Ok(is_at(&outcome, place))
+}
+
 #[test]
 fn compile_functions_under_refusal(rt: HostRuntime) -> Result<(), Fail> {
     for (draft, keyword, schema, place) in ENTRIES_AND_PLACES {
         if !is_refused_at(rt.alloc(), draft, keyword, schema, place)? {
+            return Err(Fail::new(schema));
+        }
+    }
+    Ok(())
+}
+
+#[test]
+fn compile_among_under_refusal(rt: HostRuntime) -> Result<(), Fail> {
+    for (draft, keyword, schema, place) in ENTRIES_AND_PLACES {
+        if !is_refused_among(rt.alloc(), draft, keyword, schema, place)? {
             return Err(Fail::new(schema));
         }
     }

@@ -42,7 +42,7 @@ fn outcome_of(
     Ok(outcome)
 }
 
-// Whether these lines are noted of a text.
+// Whether these lines are noted of a text, one by each validator.
 fn notes(
     alloc: Global,
     keywords: &Keywords,
@@ -54,7 +54,8 @@ fn notes(
     }
     let node = Value::try_from_str(alloc, "x")?;
     let found = keywords.evaluate(alloc, &node, &root_site(alloc), checks)?;
-    Ok(note_lines(alloc, &found.notes)?.as_str() == lines)
+    let is_one_each = keywords.validators().len() == found.notes.len();
+    Ok(is_one_each && note_lines(alloc, &found.notes)?.as_str() == lines)
 }
 
 // Whether an object is compiled to what notes these lines, or refused at its place.

@@ -116,13 +116,16 @@ fn is_said(
     }
 }
 
-// Whether a text that fails at this says so.
+// Whether a text that fails at this says so, by the failure and by the error.
 fn is_failed_so(
     alloc: Global,
     failure: Failure,
     text: &str,
     want: &str,
 ) -> Result<bool, AllocError> {
+    if failure.text(alloc, text)?.as_str() != want {
+        return Ok(false);
+    }
     let error = error_of(alloc, failure, text)?;
     is_said(alloc, &error, text, want)
 }

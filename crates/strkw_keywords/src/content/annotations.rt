@@ -13,7 +13,7 @@ ghost use Rattle.strkw_keywords.specs.Settings.{place_in, settings_of};
 ghost use Rattle.strkw_keywords.specs.Without.{IsWithoutSchema};
 
 use crate::checks::{Checks, ContentCodec, Format, MediaTypeCheck};
-use crate::compile::{Refused, compile_value, located, member, origin_of};
+use crate::compile::{Refused, compile_value, located, origin_of};
 use crate::content_rule::ContentRule;
 use crate::findings::{Findings, Found};
 use crate::keyed::Keyed;
@@ -22,10 +22,11 @@ use crate::options::Context;
 use crate::parts::{Noted, Origin, Parts};
 use crate::test::Test;
 use crate::validator::Validator;
+use crate::values::Object;
 use serde_json::{Map, Value};
 use std::alloc::Global;
 use strkw_pattern::EngineBuilder;
-use strkw_report::{CompileError, CompileErrorKind, Node, holds_fraction};
+use strkw_report::{CompileError, CompileErrorKind, Node, TextNode, holds_fraction};
 
 /// Notes the media type of a text, and makes no errors (2020-12, section 8.4).
 pub type ContentMediaTypeAnnotationValidator = Keyed<Untested>;
@@ -50,7 +51,7 @@ impl Test for Untested {
         Parts::noting(origin, Noted::Value(self.keyword, &self.value))
     }
 
-    fn findings<N: Node>(&self, _: Global, _: &N, _: &str, _: &Checks) -> Found<'_> {
+    fn findings<N: Node>(&self, _: Global, _: &TextNode<'_, N>, _: &Checks) -> Found<'_> {
         Ok(Findings::one(None))
     }
 }
@@ -93,13 +94,13 @@ pub(crate) fn build_encoding_annotation<B: EngineBuilder>(
     })))
 }
 
-pub(crate) fn build_schema_annotation<B: EngineBuilder>(
+pub(crate) fn build_schema_annotation<B: EngineBuilder, O: Object>(
     ctx: &Context<'_, B>,
-    parent: &Map<String, Value>,
+    parent: &O,
     value: &Value,
 ) -> Result<Option<Validator<B::Engine>>, Refused>
     ensures { IsBuilt B.Engine.outcome (place_in ctx.now) (alone Keyword.ContentSchema
-        (schema_entry ContentRule.Noted (members_view parent.now.entries) (view value.now))) result }
+        (schema_entry ContentRule.Noted (O.members parent.now) (view value.now))) result }
 {
     if !notes_schema(parent, value)? {
         return Ok(None);
@@ -137,15 +138,17 @@ fn build_owned_schema<B: EngineBuilder>(
 }
 
 // Whether a value is noted as a schema: where there is a media type beside it.
-fn notes_schema(parent: &Map<String, Value>, value: &Value) -> Result<bool, Refused>
+fn notes_schema<O: Object>(parent: &O, value: &Value) -> Result<bool, Refused>
     ensures noted { IfOk result (λ b. MatchBool b
-        (schema_entry ContentRule.Noted (members_view parent.now.entries) (view value.now) ≡ gives [] (Some (view value.now)))
-        (schema_entry ContentRule.Noted (members_view parent.now.entries) (view value.now) ≡ nothing)) }
-    ensures refused { IfErr result (λ r. (schema_entry ContentRule.Noted (members_view parent.now.entries) (view value.now)
+        (schema_entry ContentRule.Noted (O.members parent.now) (view value.now)
+        ≡ gives [] (Some (view value.now)))
+        (schema_entry ContentRule.Noted (O.members parent.now) (view value.now) ≡ nothing)) }
+    ensures refused { IfErr result (λ r.
+        (schema_entry ContentRule.Noted (O.members parent.now) (view value.now)
         ≡ malformed Keyword.ContentSchema fractional_number)
         × (r ≡ Refused.Malformed Keyword.ContentSchema CompileErrorKind.FractionalNumber)) }
 {
-    if member(parent, Keyword::ContentMediaType.as_str()).is_none() {
+    if parent.value(Keyword::ContentMediaType).is_none() {
         return Ok(false);
     }
     if holds_fraction(value) {

@@ -12,7 +12,7 @@ ghost use Rattle.strkw_keywords.specs.Settings.{place_in, settings_of};
 
 use super::{accepts, chosen_codec, chosen_media_type, decode, is_encoding};
 use crate::checks::{Checks, Choice, ContentCodec, Format, MediaTypeCheck};
-use crate::compile::{Refused, compile_value, member, no_string, origin_of};
+use crate::compile::{Refused, compile_value, no_string, origin_of};
 use crate::content_rule::ContentRule;
 use crate::findings::{Findings, Found, FoundOne};
 use crate::keyed::Keyed;
@@ -21,11 +21,12 @@ use crate::options::Context;
 use crate::parts::{Origin, Parts};
 use crate::test::Test;
 use crate::validator::Validator;
+use crate::values::Object;
 use serde_json::{Map, Value};
 use std::alloc::{AllocError, Global};
 use strkw_coding::{BuiltinMediaType, Codec, DecodeError};
 use strkw_pattern::EngineBuilder;
-use strkw_report::{CompileError, Failure, Node};
+use strkw_report::{CompileError, Failure, Node, TextNode};
 
 /// Demands that a text is of a media type (draft 7, section 8.4).
 pub type ContentMediaTypeValidator = Keyed<OfMediaType>;
@@ -43,8 +44,13 @@ impl Test for OfMediaType {
         Parts::of_content(origin, self.media_type.row(), None)
     }
 
-    fn findings<N: Node>(&self, alloc: Global, _: &N, text: &str, checks: &Checks) -> Found<'_> {
-        let is_accepted = accepts(alloc, &self.media_type, checks, text)?;
+    fn findings<N: Node>(
+        &self,
+        alloc: Global,
+        text: &TextNode<'_, N>,
+        checks: &Checks,
+    ) -> Found<'_> {
+        let is_accepted = accepts(alloc, &self.media_type, checks, text.as_str())?;
         let failure = Failure::ContentMediaType(chosen_media_type(&self.media_type));
         Ok(Findings::one((!is_accepted).then_some(failure)))
     }
@@ -79,8 +85,13 @@ impl Test for Encoded {
         Parts::of_content(origin, None, self.codec.row())
     }
 
-    fn findings<N: Node>(&self, alloc: Global, _: &N, text: &str, checks: &Checks) -> Found<'_> {
-        Ok(Findings::one(self.finding(alloc, text, checks)?))
+    fn findings<N: Node>(
+        &self,
+        alloc: Global,
+        text: &TextNode<'_, N>,
+        checks: &Checks,
+    ) -> Found<'_> {
+        Ok(Findings::one(self.finding(alloc, text.as_str(), checks)?))
     }
 }
 
@@ -123,8 +134,13 @@ impl Test for EncodedMediaType {
         Parts::of_content(origin, self.media_type.row(), self.codec.row())
     }
 
-    fn findings<N: Node>(&self, alloc: Global, _: &N, text: &str, checks: &Checks) -> Found<'_> {
-        Ok(Findings::one(self.finding(alloc, text, checks)?))
+    fn findings<N: Node>(
+        &self,
+        alloc: Global,
+        text: &TextNode<'_, N>,
+        checks: &Checks,
+    ) -> Found<'_> {
+        Ok(Findings::one(self.finding(alloc, text.as_str(), checks)?))
     }
 }
 
@@ -177,15 +193,16 @@ fn codec_known<B>(
     }
 }
 
-pub(crate) fn build_media_type<B: EngineBuilder>(
+pub(crate) fn build_media_type<B: EngineBuilder, O: Object>(
     alloc: Global,
     ctx: &Context<'_, B>,
-    parent: &Map<String, Value>,
+    parent: &O,
     value: &Value,
 ) -> Result<Option<Validator<B::Engine>>, Refused>
     ensures { IsBuilt B.Engine.outcome (place_in ctx.now) (alone Keyword.ContentMediaType
-        (media_type_entry ContentRule.Checked (settings_of B.takes B.outcome admits accepted encoded decoding ctx.now) (members_view parent.now.entries)
-        (view value.now))) result }
+        (media_type_entry ContentRule.Checked
+        (settings_of B.takes B.outcome admits accepted encoded decoding ctx.now)
+        (O.members parent.now) (view value.now))) result }
 {
     let Some(name) = value.as_str() else {
         return Err(no_string(value, Keyword::ContentMediaType));
@@ -194,7 +211,7 @@ pub(crate) fn build_media_type<B: EngineBuilder>(
         return Ok(None);
     };
     let origin = origin_of(ctx)?;
-    let Some(encoding) = member(parent, Keyword::ContentEncoding.as_str()) else {
+    let Some(encoding) = parent.value(Keyword::ContentEncoding) else {
         return Ok(Some(Validator::ContentMediaType(Keyed {
             origin,
             test: OfMediaType { media_type },
@@ -212,17 +229,18 @@ pub(crate) fn build_media_type<B: EngineBuilder>(
     }
 }
 
-pub(crate) fn build_encoding<B: EngineBuilder>(
+pub(crate) fn build_encoding<B: EngineBuilder, O: Object>(
     alloc: Global,
     ctx: &Context<'_, B>,
-    parent: &Map<String, Value>,
+    parent: &O,
     value: &Value,
 ) -> Result<Option<Validator<B::Engine>>, Refused>
     ensures { IsBuilt B.Engine.outcome (place_in ctx.now) (alone Keyword.ContentEncoding
-        (encoding_entry ContentRule.Checked (settings_of B.takes B.outcome admits accepted encoded decoding ctx.now) (members_view parent.now.entries)
-        (view value.now))) result }
+        (encoding_entry ContentRule.Checked
+        (settings_of B.takes B.outcome admits accepted encoded decoding ctx.now)
+        (O.members parent.now) (view value.now))) result }
 {
-    if member(parent, Keyword::ContentMediaType.as_str()).is_some() {
+    if parent.value(Keyword::ContentMediaType).is_some() {
         return Ok(None);
     }
     let Some(name) = value.as_str() else {

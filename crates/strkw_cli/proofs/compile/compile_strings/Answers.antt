@@ -7,21 +7,29 @@ use Rattle.strkw_cli.proofs.Meaning.{compiled_in_use}
 use Rattle.strkw_cli.proofs.compile.compile_strings.Goals as goal
 
 pub returns-clause-compiled : goal.returns-clause-compiled
-returns-clause-compiled g c = c.compile_beside.ensures.compiled (members_view c.args.object.now.entries) (keeps_itself (members_view c.args.object.now.entries)) c.compile_entry-schema.ensures
+returns-clause-compiled g c =
+    let ms = members_view c.args.object.now.entries in
+    c.compile_beside.ensures.compiled ms ms (keeps_itself ms) c.of-values.ensures
+    (c.compile_among-schema.ensures ms c.of-values.ensures)
 
 pub returns-clause-in_use : goal.returns-clause-in_use
 returns-clause-in_use g c =
     let s = (settings_of g.B.EngineBuilder.takes g.B.EngineBuilder.outcome (λ b. (goal.Format-dyn g b).admits b.1) (λ b. (goal.MediaTypeCheck-dyn g b).accepted b.1) (λ b. (goal.ContentCodec-dyn g b).encoded b.1) (λ b. (goal.ContentCodec-dyn g b).decoding b.1) c.args.ctx.now) in
-    let ms = (members_view c.args.object.now.entries) in
-    let compiled = c.compile_beside.ensures.compiled ms (keeps_itself (members_view c.args.object.now.entries)) c.compile_entry-schema.ensures in
+    let ms = members_view c.args.object.now.entries in
+    let compiled = c.compile_beside.ensures.compiled ms ms (keeps_itself ms) c.of-values.ensures
+    (c.compile_among-schema.ensures ms c.of-values.ensures) in
     IfOk-weaker c.compile_beside.result _ _ (λ k. compiled_in_use g.B.Engine.RegexEngine.outcome s ms k c.compiled_is_in_use.ensures) compiled
 
 pub returns-clause-refused : goal.returns-clause-refused
-returns-clause-refused g c = c.compile_beside.ensures.refused (members_view c.args.object.now.entries) (keeps_itself (members_view c.args.object.now.entries)) c.compile_entry-schema.ensures
+returns-clause-refused g c =
+    let ms = members_view c.args.object.now.entries in
+    c.compile_beside.ensures.refused ms ms (keeps_itself ms) c.of-values.ensures
+    (c.compile_among-schema.ensures ms c.of-values.ensures)
 
 pub returns-clause-printable : goal.returns-clause-printable
 returns-clause-printable g c =
     let s = (settings_of g.B.EngineBuilder.takes g.B.EngineBuilder.outcome (λ b. (goal.Format-dyn g b).admits b.1) (λ b. (goal.MediaTypeCheck-dyn g b).accepted b.1) (λ b. (goal.ContentCodec-dyn g b).encoded b.1) (λ b. (goal.ContentCodec-dyn g b).decoding b.1) c.args.ctx.now) in
-    let ms = (members_view c.args.object.now.entries) in
-    let refused = c.compile_beside.ensures.refused ms (keeps_itself (members_view c.args.object.now.entries)) c.compile_entry-schema.ensures in
+    let ms = members_view c.args.object.now.entries in
+    let refused = c.compile_beside.ensures.refused ms ms (keeps_itself ms) c.of-values.ensures
+    (c.compile_among-schema.ensures ms c.of-values.ensures) in
     MatchResult-weaker c.compile_beside.result refused (λ k h. h) (refused_prints s ms)

@@ -5,8 +5,8 @@ use Rattle.strkw_keywords.proofs.Reports.{valid_by_findings}
 use Rattle.strkw_cli.proofs.Many.{in_use_at, nothing_at, nothing_more, quiet_at}
 use Rattle.strkw_cli.proofs.strings.StringKeywords.is_valid.Goals as goal
 
-pub findings-requires-clause-in_use : goal.findings-requires-clause-in_use
-findings-requires-clause-in_use g c =
+pub findings-requires : goal.findings-requires
+findings-requires g c =
     let checks = (lists_of (λ b. (goal.Format-dyn g b).admits b.1) (λ b. (goal.MediaTypeCheck-dyn g b).accepted b.1) (λ b. (goal.ContentCodec-dyn g b).encoded b.1) (λ b. (goal.ContentCodec-dyn g b).decoding b.1) c.args.checks.now) in
     in_use_at g.E.RegexEngine.outcome checks c.args.self.now.validators.items c.loop-validator.validator-index c.validator-item.result
     (rw c.deref-validator-items.ensures.value at c.loop-validator-test.true)

@@ -10,4 +10,4 @@ returns-clause-found g c =
     (λ m. (goal.MediaTypeCheck-dyn g (m.vtable, m.value)).accepted m.value)
     (λ k. (goal.ContentCodec-dyn g (k.vtable, k.value)).encoded k.value)
     (λ k. (goal.ContentCodec-dyn g (k.vtable, k.value)).decoding k.value) c.args._checks.now in
-    rw c.one.ensures (finds_one (is_format (builtin c.args.self.now.format)) checks c.args.text.now _ c.finding.ensures)
+    rw c.one.ensures (finds_one (is_format (builtin c.args.self.now.format)) checks c.args.text.now _ (rw c.as_str.ensures at c.finding.ensures))
