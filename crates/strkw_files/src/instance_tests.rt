@@ -5,8 +5,7 @@ use std::alloc::{AllocError, Global};
 use std::test::Fail;
 use strkw_pattern::NoPatterns;
 use strkw_plan::{
-    PlanFault, PlanKind, Rules, check_instance, compile_schema, errors_of, push_messages,
-    require_schema,
+    PlanFault, PlanKind, Rules, check_instance, compile_schema, push_messages, require_schema,
 };
 use strkw_report::Draft;
 
@@ -56,9 +55,8 @@ fn checked_by_compiled(alloc: Global, schema: &str) -> Result<String, Fail> {
     let (kind, draft) = (PlanKind::Columns, Draft::Draft7);
     match compile_schema(alloc, &rules, kind, draft, "a", &schema) {
         Ok(keywords) => {
-            let errors = errors_of(alloc, &keywords, &rules.checks, &TEXT)?;
             let mut out = String::new(alloc);
-            push_messages(alloc, "a", &errors, &mut out)?;
+            push_messages(alloc, &keywords, &rules.checks, &"a", &TEXT, &mut out)?;
             Ok(out)
         }
         Err(fault) => fault_text(alloc, &fault),
@@ -78,7 +76,7 @@ fn check_instance_under_refusal(rt: HostRuntime) -> Result<(), Fail> {
 
 // Where it had memory it appends every line, or tells of the fault.
 #[test]
-fn errors_of_under_refusal(rt: HostRuntime) -> Result<(), Fail> {
+fn push_messages_under_refusal(rt: HostRuntime) -> Result<(), Fail> {
     for (schema, wanted) in cases() {
         if checked_by_compiled(rt.alloc(), schema)?.as_str() != wanted {
             return Err(Fail::new(wanted));

@@ -2,17 +2,16 @@
 use Rattle.std.proofs.Common.{◌≡◌, ◌++◌, ◌∙◌, ℕ, List, length, refl, sym, ap, subst, map}
 use Rattle.std.proofs.lemmas.List.{length-map}
 use Rattle.std.specs.Prelude.{Option, Some, None}
-use Rattle.std.specs.List.{concat, flat_map}
+use Rattle.std.specs.List.{concat}
 use Rattle.serde_json.specs.Data.{Data, Members}
 use Rattle.serde_json.specs.Find.{as_object}
-use Rattle.strkw_report.specs.Kinds.{Report}
 use Rattle.strkw_pattern.specs.declared.engine.Outcome.{Outcome}
 use Rattle.strkw_keywords.specs.Errors.{NodeReports}
 use Rattle.strkw_keywords.specs.Object.{Settings}
 use Rattle.strkw_cli.specs.declared.strings.StringKeywords.{StringKeywords}
 use Rattle.strkw_cli.specs.Compiled.{IsCompiledFrom, keywords_assertions}
 use Rattle.strkw_cli.specs.Answer.{root_site}
-use Rattle.strkw_plan.specs.Messages.{IsSchema, InstanceMessages, message}
+use Rattle.strkw_plan.specs.Messages.{AppendsMessages, IsSchema, InstanceMessages, message}
 use Rattle.strkw_plan.specs.Compiled.{IsCompiledFor}
 use Rattle.strkw_plan.proofs.Gathering.{concat-map}
 
@@ -29,17 +28,17 @@ module _ {E : Type 0} (outcome : E → List ℕ → Outcome) (s : Settings) (k :
       (members, (e, (from.entries, from.are_entries, from.good)))
 
   -- a message for each error
-  pub said_of_instance : (schema : Data) (place : List ℕ) (instance : Option (List ℕ)) (reports : List Report) (old new : List ℕ)
-      → IsCompiledFor outcome s (as_object schema) (Some k) → NodeReports (keywords_assertions outcome k) s.lists root_site instance reports
-      → new ≡ old ++ flat_map (message place) reports
+  pub said_of_instance : (schema : Data) (place : List ℕ) (instance : Option (List ℕ)) (count : ℕ) (old new : List ℕ)
+      → IsCompiledFor outcome s (as_object schema) (Some k)
+      → AppendsMessages (NodeReports (keywords_assertions outcome k) s.lists root_site instance) place count old new
       → (members : Members) × (messages : List (List ℕ)) × IsSchema s schema members × InstanceMessages s members place instance messages
-      × (length reports ≡ length messages) × (new ≡ old ++ concat messages)
-  said_of_instance schema place instance reports old new p errors grown =
+      × (count ≡ length messages) × (new ≡ old ++ concat messages)
+  said_of_instance schema place instance count old new p said =
       let (members, e, from) = compiled_members (as_object schema) p in (
         members,
-        map (message place) reports,
+        map (message place) said.reports,
         (e, (from.entries, from.are_entries, from.good)),
-        (reports, (from.entries, from.are_entries, subst (λ assertions. NodeReports assertions s.lists root_site instance reports) from.asserts errors), refl),
-        sym (length-map reports (message place)),
-        grown ∙ ap (λ l. old ++ l) (sym (concat-map (message place) reports)),
+        (said.reports, (from.entries, from.are_entries, subst (λ all. NodeReports all s.lists root_site instance said.reports) from.asserts said.reported), refl),
+        said.counted ∙ sym (length-map said.reports (message place)),
+        said.grown ∙ ap (λ l. old ++ l) (sym (concat-map (message place) said.reports)),
       )

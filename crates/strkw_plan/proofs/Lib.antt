@@ -3,5 +3,6 @@ mod Searches
 mod Members
 mod Refusals
 mod InstanceLemmas
+mod MessageLemmas
 mod Names
 mod Twice

@@ -1,5 +1,6 @@
 -- How the errors by the schema objects of a plan are told.
-use Rattle.std.specs.Prelude.{◌≡◌, ℕ, List, ◌++◌, Option, Some, None, codes, map}
+use Rattle.std.specs.Prelude.{◌≡◌, ℕ, List, ◌++◌, Option, Some, None, codes, length, map}
+use Rattle.std.specs.List.{flat_map}
 use Rattle.serde_json.specs.Data.{Data, Members}
 use Rattle.serde_json.specs.Find.{as_object}
 use Rattle.strkw_report.specs.Kinds.{Report, text_of}
@@ -26,3 +27,11 @@ message place r =
 abbrev pub InstanceMessages : Settings → Members → List ℕ → Option (List ℕ) → List (List ℕ) → Type 0
 InstanceMessages s schema place instance messages = (reports : List Report)
     × Errors s schema s.lists root_site instance reports × (messages ≡ map (message place) reports)
+
+-- New is old, and behind it the messages about an instance at a place: one for each of errors that have P, in their
+-- order; and so many they are.
+pub record AppendsMessages (P : List Report → Type 0) (place : List ℕ) (count : ℕ) (old new : List ℕ) : Type 0 where
+  pub reports : List Report
+  pub reported : P reports
+  pub counted : count ≡ length reports
+  pub grown : new ≡ old ++ flat_map (message place) reports

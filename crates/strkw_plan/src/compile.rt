@@ -19,7 +19,7 @@ use strkw_pattern::EngineBuilder;
 use strkw_report::{CompileError, CompileErrorKind, Draft};
 
 /// What the schema of a name in a plan is compiled to, under the caller's rules. Instances are checked by it with the
-/// rules' own checks (`errors_of`).
+/// rules' own checks (`push_messages`).
 ///
 /// Errors: `NoObject`, `Refused`, and `Memory`.
 pub fn compile_schema<B: EngineBuilder>(

@@ -11,7 +11,7 @@ ghost use Rattle.strkw_plan.specs.Rules.{rules_settings};
 use crate::compile::compile_schema;
 use crate::faults::PlanFault;
 use crate::kind::PlanKind;
-use crate::messages::{errors_of, push_messages};
+use crate::messages::push_messages;
 use crate::rules::Rules;
 use serde_json::Value;
 use std::alloc::Global;
@@ -67,7 +67,5 @@ pub fn check_instance<B: EngineBuilder, N: Node>(
         IfErr result (λ fault. Refuses s kind place.now (view schema.now) fault) }
 {
     let keywords = compile_schema(alloc, rules, kind, draft, place, schema)?;
-    let errors = errors_of(alloc, &keywords, &rules.checks, instance)?;
-    push_messages(alloc, place, &errors, out)?;
-    Ok(errors.len() as u64)
+    Ok(push_messages(alloc, &keywords, &rules.checks, &place, instance, out)?)
 }

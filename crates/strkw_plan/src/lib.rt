@@ -22,7 +22,7 @@ pub use file::{PlanFileFault, read_plan_file};
 pub use instance::{check_instance, require_schema};
 pub use kind::PlanKind;
 pub use limits::Limits;
-pub use messages::{errors_of, push_messages};
+pub use messages::{InstancePlace, push_messages};
 pub use plan::{Plan, plan_in};
 pub use rules::Rules;
 pub use shown::{Shown, push_shown};

@@ -1,9 +1,11 @@
 -- What is said of a field by the schema object of its column.
-use Rattle.std.proofs.Common.{◌≡◌, ◌++◌, ◌∙◌, ℕ, List, [], length, refl, sym, ap, map, append-nil}
-use Rattle.std.proofs.lemmas.List.{length-map, nil_from_length}
-use Rattle.std.specs.Prelude.{Some, None}
+use Rattle.std.proofs.Common.{◌≡◌, ◌++◌, ◌∙◌, ℕ, List, [], Result, Ok, Err, length, refl, sym, ap, map, append_assoc, append-nil}
+use Rattle.std.proofs.lemmas.List.{length-map}
+use Rattle.std.proofs.lemmas.List.Concat.{flat_map-append}
+use Rattle.std.proofs.lemmas.Str.{chars-append}
+use Rattle.std.specs.Prelude.{Some, None, IfOk, codes, decimal}
 use Rattle.std.specs.List.{concat, flat_map}
-use Rattle.strkw_report.specs.Kinds.{Report}
+use Rattle.std.specs.Str.{IsUtf8, chars}
 use Rattle.strkw_pattern.specs.declared.engine.Outcome.{Outcome}
 use Rattle.strkw_keywords.specs.Meanings.{Lists}
 use Rattle.strkw_keywords.specs.Errors.{NodeReports}
@@ -12,9 +14,25 @@ use Rattle.strkw_cli.specs.Compiled.{keywords_assertions}
 use Rattle.strkw_cli.specs.Answer.{root_site}
 use Rattle.strkw_table.specs.declared.schema_column.SchemaColumn.{SchemaColumn}
 use Rattle.strkw_table.specs.Fields.{field_place}
-use Rattle.strkw_plan.specs.Messages.{message}
+use Rattle.strkw_plan.specs.Messages.{AppendsMessages, message}
+use Rattle.strkw_plan.specs.Shown.{shown, shown_char}
 use Rattle.strkw_table.specs.Columns.{ColumnMessages, keywords_of}
 use Rattle.strkw_plan.proofs.Gathering.{concat-map}
+
+-- ---- the place of a field
+
+-- two texts are shown as the one and then the other
+shown-append : (xs ys : List ℕ) → IsUtf8 xs → shown (xs ++ ys) ≡ shown xs ++ shown ys
+shown-append xs ys u = ap (λ cs. flat_map shown_char cs) (chars-append xs ys u) ∙ flat_map-append shown_char (chars xs) (chars ys)
+
+-- the line and the column, one after the other
+pub shown_place : (line : ℕ) (name : List ℕ) → IsUtf8 (decimal line) → IsUtf8 (codes ": ")
+    → shown (field_place line name) ≡ shown (decimal line) ++ (shown (codes ": ") ++ shown name)
+shown_place line name digits colon =
+    ap shown (append_assoc (decimal line) (codes ": ") name) ∙ shown-append (decimal line) (codes ": " ++ name) digits
+    ∙ ap (λ l. shown (decimal line) ++ l) (shown-append (codes ": ") name colon)
+
+-- ---- the messages about it
 
 -- what is appended for a field: messages, and so many
 abbrev pub Said : {E : Type 0} → (E → List ℕ → Outcome) → Lists → SchemaColumn E → ℕ → List ℕ → ℕ → List ℕ → List ℕ → Type 0
@@ -26,25 +44,16 @@ module _ {E : Type 0} (outcome : E → List ℕ → Outcome) (lists : Lists) (co
   pub said_nothing : keywords_of column ≡ None → Said outcome lists column line field 0 old old
   said_nothing e = ([], ([], rw e refl, refl), refl, sym (append-nil old))
 
-  -- nor of one that has no error
-  pub said_no_error : (k : StringKeywords E) (reports : List Report) → keywords_of column ≡ Some k
-      → NodeReports (keywords_assertions outcome k) lists root_site (Some field) reports
-      → length reports ≡ 0 → Said outcome lists column line field 0 old old
-  said_no_error k reports e r none = (
-    [],
-    (reports, rw e r, sym (ap (map (message (field_place line (column.name.now)))) (nil_from_length reports none))),
-    refl,
-    sym (append-nil old),
-  )
-
   -- and otherwise a message for each of its errors
-  pub said_errors : (k : StringKeywords E) (reports : List Report) (new : List ℕ) → keywords_of column ≡ Some k
-      → NodeReports (keywords_assertions outcome k) lists root_site (Some field) reports
-      → new ≡ old ++ flat_map (message (field_place line (column.name.now))) reports
-      → Said outcome lists column line field (length reports) old new
-  said_errors k reports new e r grown = (
-    map (message (field_place line (column.name.now))) reports,
-    (reports, rw e r, refl),
-    sym (length-map reports (message (field_place line (column.name.now)))),
-    grown ∙ ap (λ l. old ++ l) (sym (concat-map (message (field_place line (column.name.now))) reports)),
-  )
+  pub said_errors : {F : Type 0} (result : Result ℕ F) (k : StringKeywords E) (new : List ℕ) → keywords_of column ≡ Some k
+      → IfOk result (λ count. AppendsMessages (NodeReports (keywords_assertions outcome k) lists root_site (Some field))
+      (field_place line column.name.now) count old new)
+      → IfOk result (λ count. Said outcome lists column line field count old new)
+  said_errors (Ok count) k new e said =
+      let say = message (field_place line column.name.now) in (
+        map say said.reports,
+        (said.reports, rw e said.reported, refl),
+        said.counted ∙ sym (length-map said.reports say),
+        said.grown ∙ ap (λ l. old ++ l) (sym (concat-map say said.reports)),
+      )
+  said_errors (Err e) k new same said = tt

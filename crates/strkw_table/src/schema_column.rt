@@ -6,11 +6,12 @@ ghost use Rattle.strkw_keywords.specs.Handed.{lists_of};
 ghost use Rattle.strkw_table.specs.Columns.{ColumnMessages, IsUsable};
 ghost use Rattle.strkw_table.specs.Fields.{field_place};
 
+use itoa::Buffer;
 use std::alloc::{AllocError, Global};
 use strkw_cli::StringKeywords;
 use strkw_keywords::Checks;
 use strkw_pattern::RegexEngine;
-use strkw_plan::{errors_of, push_messages};
+use strkw_plan::{InstancePlace, push_messages, push_shown};
 
 /// A column of a file: its name, and the compiled schema object of that name, where the plan has one.
 #[derive(Clone, Copy)]
@@ -22,7 +23,6 @@ pub(crate) struct SchemaColumn<'a, E> {
 impl<E: RegexEngine> SchemaColumn<'_, E> {
     /// Appends the messages about a field of the column, in a record that begins on this line, and answers how many
     /// they are. The only error is out of memory.
-    #[tactic(auto, using(crate::proofs::MessageLemmas::said_nothing, crate::proofs::MessageLemmas::said_no_error, crate::proofs::MessageLemmas::said_errors))]
     pub fn push_messages(
         &self,
         alloc: Global,
@@ -42,19 +42,28 @@ impl<E: RegexEngine> SchemaColumn<'_, E> {
         let Some(keywords) = self.keywords else {
             return Ok(0);
         };
-        let errors = errors_of(alloc, keywords, checks, &field)?;
-        if errors.is_empty() {
-            return Ok(0);
-        }
-        let place = field_place(alloc, line, self.name)?;
-        push_messages(alloc, &place, &errors, out)?;
-        Ok(errors.len() as u64)
+        let place = FieldPlace {
+            line,
+            column: self.name,
+        };
+        push_messages(alloc, keywords, checks, &place, &field, out)
     }
 }
 
-// Where a field is.
-fn field_place(alloc: Global, line: u64, name: &str) -> Result<String, AllocError>
-    ensures { IfOk result (λ place. string_bytes place ≡ field_place line name.now) }
-{
-    format!(in alloc; "{line}: {name}")
+// Where a field is: the line on which its record begins, and its column.
+#[derive(Clone, Copy)]
+struct FieldPlace<'a> {
+    line: u64,
+    column: &'a str,
+}
+
+impl InstancePlace for FieldPlace<'_> {
+    ghost name = { λ place. field_place place.line place.column.now };
+
+    fn push_shown(&self, out: &mut String) -> Result<(), AllocError> {
+        let mut digits = Buffer::new();
+        push_shown(digits.format(self.line), out)?;
+        push_shown(": ", out)?;
+        push_shown(self.column, out)
+    }
 }

@@ -1,7 +1,15 @@
-use Rattle.std.proofs.Common.{◌≡◌, ◌++◌, take, string_bytes}
-use Rattle.std.specs.List.{flat_map}
-use Rattle.strkw_plan.specs.Messages.{message}
+use Rattle.std.proofs.Common.{Some, take, string_bytes}
+use Rattle.strkw_keywords.specs.Handed.{lists_of}
+use Rattle.strkw_keywords.specs.Errors.{NodeReports}
+use Rattle.strkw_keywords.specs.Validators.{assertions_in}
+use Rattle.strkw_cli.specs.Answer.{root_site}
+use Rattle.strkw_plan.specs.Messages.{AppendsMessages}
 use Rattle.strkw_plan.proofs.messages.push_messages.Given as goal
 
-abbrev pub invariant-loop-error : goal.invariant-loop-error
-invariant-loop-error l = string_bytes l.out ≡ string_bytes l.initial.out ++ flat_map (message l.place) (take l.error-index l.errors)
+abbrev pub invariant-loop-validator : goal.invariant-loop-validator
+invariant-loop-validator g l =
+    let lists =
+    lists_of (λ b. (goal.Format-dyn g b).admits b.1) (λ b. (goal.MediaTypeCheck-dyn g b).accepted b.1)
+    (λ b. (goal.ContentCodec-dyn g b).encoded b.1) (λ b. (goal.ContentCodec-dyn g b).decoding b.1) l.checks in
+    AppendsMessages (NodeReports (assertions_in g.E.RegexEngine.outcome (take l.validator-index l.validator-items)) lists root_site (Some l.text))
+    (g.P.InstancePlace.name l.place) l.count (string_bytes l.initial.out) (string_bytes l.out)
