@@ -1,5 +1,5 @@
 #!/usr/bin/env python3
-"""Makes the rows of crates/strkw_files that ask for each keyword of each draft, from the meta-schemas of the drafts.
+"""Makes the rows of crates/strkw_test_files that ask for each keyword of each draft, from the meta-schemas of the drafts.
 
     python3 tools/vocabulary.py           whether the rows in `stdin` and `stdout` are those that are made here
     python3 tools/vocabulary.py write     writes them: they are the last part of both files, from the comment TITLE on
@@ -14,7 +14,7 @@ import json
 import sys
 from pathlib import Path
 
-ROWS = Path(__file__).resolve().parent.parent / "crates" / "strkw_files"
+ROWS = Path(__file__).resolve().parent.parent / "crates" / "strkw_test_files"
 TITLE = "# strkw_plan: each keyword of each draft, by the members of its meta-schema"
 SCHEMAS = {
     4: "http://json-schema.org/draft-04/schema#",

@@ -5,7 +5,7 @@
 
 A proof holds a program to its definitions, and nothing of it holds the definitions to their standards. So each file
 tools/wrong_definitions/CRATE/NAME.edit changes a definition, the code and the tables of proofs together, and every crate
-is to refuse that: by a row of crates/strkw_cases, whose expected values come from the standard, or else by the check,
+is to refuse that: by a row of crates/strkw_test_grammars, whose expected values come from the standard, or else by the check,
 whose laws say the standard's own spelling.
 
 A file has lines 'file: PATH', the path within the crate, each with pairs of lines 'old: TEXT' and 'new: TEXT' behind it;
@@ -22,7 +22,7 @@ from pathlib import Path
 
 TOP = Path(__file__).resolve().parent.parent
 STORED = TOP / "tools" / "wrong_definitions"
-CASES = "strkw_cases"
+CASES = "strkw_test_grammars"
 WRONG_ROW = re.compile(r"^(.+): \d+ WRONG of \d+$", re.MULTILINE)
 COUNTS = re.compile(r"^\d+ rows, [1-9]\d* answers, (\d+) of them wrong$", re.MULTILINE)
 NOT_PROVED = re.compile(r"^fn (\S+): no proof: (?!it calls)|^(?:\./)?(proofs/\S+?):.*error", re.MULTILINE)
