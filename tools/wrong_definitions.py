@@ -9,8 +9,8 @@ is to refuse that: by a row of crates/strkw_test_grammars, whose expected values
 whose laws say the standard's own spelling.
 
 A file has lines 'file: PATH', the path within the crate, each with pairs of lines 'old: TEXT' and 'new: TEXT' behind it;
-each old text stands in that file exactly once, and \\n is the end of a line in both. The edits are applied to a scratch
-copy, one after the other. What checks of the crates have kept is copied with them; without it the first check of each
+each old text stands in that file exactly once, where blanks and ends of lines count as one blank, and \\n is the end of
+a line in a new text. The edits are applied to a scratch copy, one after the other. What checks of the crates have kept is copied with them; without it the first check of each
 crate takes minutes. Not part of the gate: a minute or more for each.
 """
 import re
@@ -65,7 +65,7 @@ def replacements(stored):
         if line.startswith("file: "):
             path = line.removeprefix("file: ").strip()
         elif line.startswith("old: ") and path is not None:
-            old = line.removeprefix("old: ").replace("\\n", "\n")
+            old = line.removeprefix("old: ").replace("\\n", " ")
         elif line.startswith("new:") and old is not None:
             yield path, old, line.removeprefix("new:").removeprefix(" ").replace("\\n", "\n")
             old = None
@@ -81,9 +81,10 @@ def apply(stored, crate):
             file = crate / path
             text = file.read_text()
             before.setdefault(file, text)
-            if text.count(old) != 1:
-                raise Broken(f"{path} has {text.count(old)} times {old!r}")
-            file.write_text(text.replace(old, new))
+            places = [*re.finditer(r"\s+".join(map(re.escape, old.split())), text)]
+            if len(places) != 1:
+                raise Broken(f"{path} has {len(places)} times {old!r}")
+            file.write_text(text[:places[0].start()] + new.strip() + text[places[0].end():])
         if not before:
             raise Broken("replaces nothing")
     except (Broken, OSError) as why:

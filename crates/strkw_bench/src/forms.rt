@@ -75,16 +75,19 @@ fn long_text(
     Ok(text)
 }
 
+// Each row is what 64 KiB are of, the start of the text, the piece behind it, and how often that stands there.
 fn time_long(
     rt: HostRuntime,
-    name: &str,
+    form: &str,
     call: &Call,
-    start: &str,
-    piece: &str,
-    count: u32,
+    rows: &[(&str, &str, &str, u32)],
 ) -> io::Result<()> {
-    let text = long_text(rt.alloc(), start, piece, "", count)?;
-    time(rt, name, call, &[text.as_str()], LONG)
+    for (what, start, piece, count) in rows {
+        let text = long_text(rt.alloc(), start, piece, "", *count)?;
+        let name = format!(in rt.alloc(); "{form}, 64 KiB{what}")?;
+        time(rt, name.as_str(), call, &[text.as_str()], LONG)?;
+    }
+    Ok(())
 }
 
 fn templates_and_pointers(rt: HostRuntime) -> io::Result<()> {
@@ -96,30 +99,12 @@ fn templates_and_pointers(rt: HostRuntime) -> io::Result<()> {
         "/files/{+path:20}/{y}",
     ];
     time(rt, "template, four of 20 bytes", &template, &four, SHORT)?;
-    time_long(
-        rt,
-        "template, 64 KiB of literals",
-        &template,
-        "",
-        "abcdefghijklmnop",
-        4096,
-    )?;
-    time_long(
-        rt,
-        "template, 64 KiB of literals past ASCII",
-        &template,
-        "",
-        "abcdefghijklémn",
-        4096,
-    )?;
-    time_long(
-        rt,
-        "template, 64 KiB of expressions",
-        &template,
-        "",
-        "/{id,name*}{&x:3}",
-        3855,
-    )?;
+    let long = [
+        (" of literals", "", "abcdefghijklmnop", 4096),
+        (" of literals past ASCII", "", "abcdefghijklémn", 4096),
+        (" of expressions", "", "/{id,name*}{&x:3}", 3855),
+    ];
+    time_long(rt, "template", &template, &long)?;
     let pointer = Call::Pointer;
     let four = [
         "/definitions/address",
@@ -128,22 +113,16 @@ fn templates_and_pointers(rt: HostRuntime) -> io::Result<()> {
         "/a/b/c/d/e/f/g/h/i/j",
     ];
     time(rt, "pointer, four of 20 bytes", &pointer, &four, SHORT)?;
-    time_long(
-        rt,
-        "pointer, 64 KiB without escapes",
-        &pointer,
-        "/",
-        "abcdefg/",
-        8192,
-    )?;
-    time_long(
-        rt,
-        "pointer, 64 KiB with an escape every 16 bytes",
-        &pointer,
-        "/",
-        "abcdef/ghijkl~01",
-        4096,
-    )?;
+    let long = [
+        (" without escapes", "/", "abcdefg/", 8192),
+        (
+            " with an escape every 16 bytes",
+            "/",
+            "abcdef/ghijkl~01",
+            4096,
+        ),
+    ];
+    time_long(rt, "pointer", &pointer, &long)?;
     let four = ["0#", "1/definitions/address", "120/a/b", "2/paths/~1users"];
     time(
         rt,
@@ -156,38 +135,13 @@ fn templates_and_pointers(rt: HostRuntime) -> io::Result<()> {
 
 fn iris(rt: HostRuntime) -> io::Result<()> {
     let iri = Call::IriReference;
-    time_long(
-        rt,
-        "IRI, 64 KiB of characters of 2 bytes",
-        &iri,
-        "",
-        "éàüöéàüö",
-        4096,
-    )?;
-    time_long(
-        rt,
-        "IRI, 64 KiB of characters of 3 bytes",
-        &iri,
-        "",
-        "漢字漢字",
-        5461,
-    )?;
-    time_long(
-        rt,
-        "IRI, 64 KiB of characters of 4 bytes",
-        &iri,
-        "",
-        "𠀀𠀁𠀂𠀃",
-        4096,
-    )?;
-    time_long(
-        rt,
-        "IRI, 64 KiB of mixed characters",
-        &iri,
-        "",
-        "abcdéf漢字/gh",
-        4096,
-    )?;
+    let long = [
+        (" of characters of 2 bytes", "", "éàüöéàüö", 4096),
+        (" of characters of 3 bytes", "", "漢字漢字", 5461),
+        (" of characters of 4 bytes", "", "𠀀𠀁𠀂𠀃", 4096),
+        (" of mixed characters", "", "abcdéf漢字/gh", 4096),
+    ];
+    time_long(rt, "IRI", &iri, &long)?;
     time(
         rt,
         "IRI, three of 20 bytes",
@@ -214,30 +168,12 @@ fn patterns(rt: HostRuntime) -> io::Result<()> {
         &[hundred.as_str()],
         SHORT,
     )?;
-    time_long(
-        rt,
-        "no white space, 64 KiB",
-        &solid,
-        "",
-        "abcdefghijklmnop",
-        4096,
-    )?;
-    time_long(
-        rt,
-        "no white space, 64 KiB past ASCII",
-        &solid,
-        "",
-        "abcdefghijklémn",
-        4096,
-    )?;
-    time_long(
-        rt,
-        "no white space, 64 KiB of Han characters",
-        &solid,
-        "",
-        "漢字",
-        10922,
-    )?;
+    let long = [
+        ("", "", "abcdefghijklmnop", 4096),
+        (" past ASCII", "", "abcdefghijklémn", 4096),
+        (" of Han characters", "", "漢字", 10922),
+    ];
+    time_long(rt, "no white space", &solid, &long)?;
     let prefix = Call::Pattern(LiteralMatcher::Prefix {
         literal: String::from_str(rt.alloc(), "public")?,
     });

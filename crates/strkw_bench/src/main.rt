@@ -1,5 +1,5 @@
-//! How fast the calls are. Without an argument it prints nothing; with the names of topics it times their calls, each as
-//! the least time of some rounds.
+//! How fast the calls are. Without an argument it prints nothing; with the names of topics it times their calls, each
+//! as the least time of some rounds.
 #![tactic(auto)]
 
 mod characters;

@@ -1,6 +1,6 @@
-//! Nanoseconds of a search for a pattern of ECMA-262, beside the kit's `regex` with a matcher kept. The patterns and the
-//! texts are lines of the standard input: a pattern, a piece of text, how often it stands there, and what stands behind,
-//! with a tab between each two.
+//! Nanoseconds of a search for a pattern of ECMA-262, beside the kit's `regex` with a matcher kept. The patterns and
+//! the texts are lines of the standard input: a pattern, a piece of text, how often it stands there, and what stands
+//! behind, with a tab between each two.
 
 use crate::timing::Round;
 use regex::{Matcher, Regex};

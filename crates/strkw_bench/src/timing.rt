@@ -40,7 +40,8 @@ impl Round {
 }
 
 /// Times rounds of so many calls on each of the texts.
-// Compiled by itself, where nothing is known of the texts: else a call on a text that stays the same is made once for all.
+// Compiled by itself, where nothing is known of the texts: else a call on a text that stays the same is made once for
+// all.
 #[inline(never)]
 pub fn least<C: Call>(rt: HostRuntime, call: &C, texts: &[&str], calls: u32) -> io::Result<Round> {
     let alloc = rt.alloc();

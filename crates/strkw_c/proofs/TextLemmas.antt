@@ -1,5 +1,6 @@
 -- The texts that stand in a run of bytes, by their ends.
-use Rattle.std.proofs.Common.{◌≡◌, ◌≤◌, ℕ, ◌+◌, ◌-◌, List, [], ◌∷◌, ◌++◌, length, take, drop, refl, sym, ap, subst, ◌∙◌, arith, append_assoc, length-append, length-take, length-drop, drop-drop, take-append-drop}
+use Rattle.std.proofs.Common.{◌≡◌, ◌≤◌, ℕ, ◌+◌, ◌-◌, List, [], ◌∷◌, ◌++◌, length, take, drop, refl, sym, ap, subst, ◌∙◌, arith, append_assoc, length-append}
+use Rattle.std.proofs.Common.{length-take, length-drop, drop-drop, take-append-drop}
 use Rattle.std.specs.Prelude.{⊤}
 use Rattle.std.specs.List.{concat}
 use Rattle.strkw_c.specs.Texts.{ends_from, AreTexts}
@@ -19,11 +20,13 @@ rest_from : List ℕ → ℕ → List ℕ → List ℕ
 rest_from bytes start [] = drop start bytes
 rest_from bytes start (end ∷ ends) = rest_from bytes end ends
 
+-- what is behind an end is what is behind the start, without what stands between the two
 drop-on : (bytes : List ℕ) (start end : ℕ) → start ≤ end → drop (end - start) (drop start bytes) ≡ drop end bytes
 drop-on bytes start end up =
     let there : start + (end - start) ≡ end = omega (arith, up) in
     drop-drop (end - start) start bytes ∙ ap (λ n. drop n bytes) there
 
+-- the bytes from a start are the texts up to the ends, joined, and what stands behind them
 bytes_joined : (bytes : List ℕ) (start : ℕ) (ends : List ℕ) → Ascend (length bytes) start ends
     → drop start bytes ≡ concat (texts_from bytes start ends) ++ rest_from bytes start ends
 unfolding rest_from
@@ -33,6 +36,7 @@ bytes_joined bytes start (end ∷ ends) (up, within, more) =
     sym (take-append-drop (end - start) (drop start bytes)) ∙ ap (λ l. text ++ l) (drop-on bytes start end up ∙ bytes_joined bytes end ends more)
     ∙ sym (append_assoc text (concat (texts_from bytes end ends)) (rest_from bytes end ends))
 
+-- ends that ascend are where the texts up to them end
 ends_met : (bytes : List ℕ) (start : ℕ) (ends : List ℕ) → Ascend (length bytes) start ends → ends ≡ ends_from start (texts_from bytes start ends)
 ends_met bytes start [] up = refl
 ends_met bytes start (end ∷ ends) (up, within, more) =
@@ -44,6 +48,7 @@ ends_met bytes start (end ∷ ends) (up, within, more) =
 pub are_texts : (bytes : List ℕ) (ends : List ℕ) → Ascend (length bytes) 0 ends → AreTexts bytes ends (texts_from bytes 0 ends)
 are_texts bytes ends up = (rest_from bytes 0 ends, bytes_joined bytes 0 ends up, ends_met bytes 0 ends up)
 
+-- the ends of texts that go no further than the count ascend
 ascends_from : (count start : ℕ) (texts : List (List ℕ)) → start + length (concat texts) ≤ count → Ascend count start (ends_from start texts)
 ascends_from count start [] within = tt
 ascends_from count start (text ∷ texts) within =

@@ -8,15 +8,17 @@ use Rattle.strkw_pattern.specs.declared.engine.Outcome.{Outcome}
 use Rattle.strkw_keywords.specs.declared.options.Options.{Options}
 use Rattle.strkw_keywords.specs.Compiled.{out_of_memory}
 use Rattle.strkw_keywords.specs.Object.{Settings, FirstRefusal}
-use Rattle.strkw_cli.specs.declared.strings.StringKeywords.{StringKeywords}
-use Rattle.strkw_cli.specs.Request.{draft_numbered}
-use Rattle.strkw_cli.specs.Compiled.{IsCompiledFrom}
+use Rattle.strkw_object.specs.declared.strings.StringKeywords.{StringKeywords}
+use Rattle.strkw_report.specs.Drafts.{draft_numbered}
+use Rattle.strkw_object.specs.Compiled.{IsCompiledFrom}
 use Rattle.strkw_c.specs.declared.schemas.Failure.{Failure}
 use Rattle.strkw_c.specs.declared.schemas.Failure.TheVariants.{Refused}
 use Rattle.strkw_c.specs.Settings.{options_of, settings_for, settings_of}
 use Rattle.strkw_c.specs.Verdicts.{HasFirstRefusal, Fails, IsVerdict, AreVerdicts}
 
-verdict_alike : (P Q : List ℕ → Type 0) → ((text : List ℕ) → P text ↔ Q text) → (text : List ℕ) (verdict : ℕ) → IsVerdict P text verdict → IsVerdict Q text verdict
+-- what holds of the same texts gives the same verdict on one
+verdict_alike : (P Q : List ℕ → Type 0) → ((text : List ℕ) → P text ↔ Q text) → (text : List ℕ) (verdict : ℕ) → IsVerdict P text verdict
+    → IsVerdict Q text verdict
 verdict_alike P Q same text verdict (inl (is, utf8, valid)) = inl (is, utf8, (same text).0 valid)
 verdict_alike P Q same text verdict (inr (inl (is, utf8, not_valid))) = inr (inl (is, utf8, λ valid. not_valid ((same text).1 valid)))
 verdict_alike P Q same text verdict (inr (inr (is, not_utf8))) = inr (inr (is, not_utf8))

@@ -1,11 +1,12 @@
 -- What a schema object is compiled under: a draft and options, each given by a number.
-use Rattle.std.specs.Prelude.{ℕ, ◌==◌, [], Bool, true, false, Option, Some, None, option_and_then, option_map, if◌then◌else◌}
+use Rattle.std.specs.Prelude.{ℕ, ◌==◌, [], Bool, true, false, Option, Some, None, option_and_then}
+use Rattle.std.specs.Prelude.{option_map, if◌then◌else◌}
 use Rattle.strkw_report.specs.declared.draft.Draft.{Draft}
 use Rattle.strkw_pattern.specs.declared.engine.Outcome.TheVariants.{NoMatch}
 use Rattle.strkw_keywords.specs.declared.options.Options.{Options}
 use Rattle.strkw_keywords.specs.Meanings.{no_lists}
 use Rattle.strkw_keywords.specs.Object.{Settings, default_options}
-use Rattle.strkw_cli.specs.Request.{draft_numbered}
+use Rattle.strkw_report.specs.Drafts.{draft_numbered}
 
 -- whether formats are checked (None: the draft decides), and whether an unknown one adds nothing
 abbrev pub options_with : Option Bool → Bool → Options

@@ -1,5 +1,6 @@
 -- What one schema object says of many texts.
-use Rattle.std.specs.Prelude.{◌≡◌, ◌⊎◌, ℕ, List, [], ◌∷◌, false, Option, Some, None, option_and_then, ⊤}
+use Rattle.std.specs.Prelude.{◌≡◌, ◌⊎◌, ℕ, List, [], ◌∷◌, false, Option, Some, None}
+use Rattle.std.specs.Prelude.{option_and_then, ⊤}
 use Rattle.std.specs.Str.{IsUtf8}
 use Rattle.serde_json.specs.Data.{Data, Members}
 use Rattle.serde_json.specs.Find.{as_object}
@@ -8,10 +9,10 @@ use Rattle.strkw_pattern.specs.declared.engine.Outcome.{Outcome}
 use Rattle.strkw_keywords.specs.Meanings.{no_lists}
 use Rattle.strkw_keywords.specs.Errors.{NodeReports}
 use Rattle.strkw_keywords.specs.Object.{Settings, Errors, FirstRefusal}
-use Rattle.strkw_cli.specs.Request.{IsReading}
-use Rattle.strkw_cli.specs.Answer.{root_site}
-use Rattle.strkw_cli.specs.declared.strings.StringKeywords.{StringKeywords}
-use Rattle.strkw_cli.specs.Compiled.{keywords_assertions}
+use Rattle.strkw_json.specs.Json.{IsReading}
+use Rattle.strkw_report.specs.Standings.{root_site}
+use Rattle.strkw_object.specs.declared.strings.StringKeywords.{StringKeywords}
+use Rattle.strkw_object.specs.Compiled.{keywords_assertions}
 use Rattle.strkw_c.specs.declared.schemas.Failure.{Failure}
 use Rattle.strkw_c.specs.declared.schemas.Failure.TheVariants.{Memory, NoSchema, Refused}
 

@@ -2,7 +2,7 @@
 
 ghost use Rattle.std.specs.Prelude.{◌≡◌, MatchResult, if◌then◌else◌};
 ghost use Rattle.std.specs.Str.{IsUtf8};
-ghost use Rattle.strkw_coding.specs.Json.{IsJson};
+ghost use Rattle.strkw_json.specs.Json.{IsJson};
 ghost use Rattle.strkw_coding.specs.declared.codec.Codec.TheVariants as codec;
 ghost use Rattle.strkw_c.specs.Statuses.{Tells, TellsEncoding};
 

@@ -1,21 +1,21 @@
 //! Why a schema object is refused.
 
-ghost use Rattle.std.specs.Prelude.{◌≡◌, ◌≢◌, ◌⊎◌, ◌↔◌, ◌<◌, ◌++◌, [], ℕ, List, Some, None, IsSome, OnOk, false};
+ghost use Rattle.std.specs.Prelude.{◌≡◌, ◌≢◌, ◌⊎◌, ◌↔◌, ◌≤◌, ◌++◌, [], ℕ, List, Some, None, IsSome, OnOk, false};
 ghost use Rattle.strkw_report.specs.Refusals.{Refusal, prints_float, reason_of, refusal_of, regex};
 ghost use Rattle.strkw_keywords.specs.Object.{Settings};
-ghost use Rattle.strkw_cli.specs.Request.{draft_numbered};
+ghost use Rattle.strkw_report.specs.Drafts.{draft_numbered};
 ghost use Rattle.strkw_c.specs.Buffers.{IsPut, IsTooLong};
 ghost use Rattle.strkw_c.specs.Refusals.{reason_text, refusal_text};
 ghost use Rattle.strkw_c.specs.Settings.{options_of, settings_of};
 ghost use Rattle.strkw_c.specs.Verdicts.{HasFirstRefusal, IsSchema};
+ghost use Rattle.strkw_c.specs.declared.statuses.TheConstants.{DONE, NO_DRAFT, NO_OPTION, NO_ROOM, NO_SCHEMA, OUT_OF_MEMORY, REFUSED};
 
 use crate::buffers::put;
 use crate::schemas::{Failure, compile};
 use crate::settings::options_of;
 use crate::statuses::{DONE, NO_DRAFT, NO_OPTION, NO_ROOM, NO_SCHEMA, OUT_OF_MEMORY, REFUSED};
 use std::alloc::{AllocError, Global};
-use strkw_cli::draft_numbered;
-use strkw_report::{CompileError, CompileErrorKind, push_json_string};
+use strkw_report::{CompileError, CompileErrorKind, draft_numbered, push_json_string};
 
 /// Tells why a schema object is refused, under a draft and options as `strkw_nonnull_check` has them. Status 5: it is
 /// refused, and the text of its first refusal is at the head of `out`, with its count of bytes in `written`: the JSON
@@ -35,20 +35,20 @@ pub extern "C" fn strkw_nonnull_refusal(
     out: &mut [u8],
     written: &mut usize,
 ) -> u8
-    ensures status { result < 7 }
-    ensures no_draft { (result ≡ 3) ↔ (draft_numbered draft ≡ None) }
-    ensures no_option { (result ≡ 6)
+    ensures status { result ≤ NO_OPTION }
+    ensures no_draft { (result ≡ NO_DRAFT) ↔ (draft_numbered draft ≡ None) }
+    ensures no_option { (result ≡ NO_OPTION)
         ↔ (IsSome (draft_numbered draft) × (options_of options ≡ None)) }
-    ensures no_schema { result ≡ 4 → IsSchema schema.now None }
-    ensures taken { result ≡ 0 → (s : Settings) × (settings_of draft options ≡ Some s)
+    ensures no_schema { result ≡ NO_SCHEMA → IsSchema schema.now None }
+    ensures taken { result ≡ DONE → (s : Settings) × (settings_of draft options ≡ Some s)
         × HasFirstRefusal s schema.now None × IsPut [] out.old out.new written.new }
-    ensures told { result ≡ 5 → (s : Settings) × (why : Refusal)
+    ensures told { result ≡ REFUSED → (s : Settings) × (why : Refusal)
         × (settings_of draft options ≡ Some s) × HasFirstRefusal s schema.now (Some why)
         × IsPut (refusal_text why) out.old out.new written.new }
-    ensures short { result ≡ 2 → (s : Settings) × (why : Refusal)
+    ensures short { result ≡ NO_ROOM → (s : Settings) × (why : Refusal)
         × (settings_of draft options ≡ Some s) × HasFirstRefusal s schema.now (Some why)
         × IsTooLong (refusal_text why) out.old out.new written.new }
-    ensures kept { result ≢ 0 → result ≢ 2 → result ≢ 5
+    ensures kept { result ≢ DONE → result ≢ NO_ROOM → result ≢ REFUSED
         → (out.new ≡ out.old) × (written.new ≡ written.old) }
 {
     let Some(draft) = draft_numbered(u64::from(draft)) else {
@@ -71,12 +71,12 @@ pub extern "C" fn strkw_nonnull_refusal(
 // Puts the text of a refusal.
 fn tell(alloc: Global, refusal: &CompileError, out: &mut [u8], written: &mut usize) -> u8
     requires { prints_float (reason_of refusal.now.kind) ≡ false }
-    ensures status { (result ≡ 1) ⊎ (result ≡ 2) ⊎ (result ≡ 5) }
-    ensures told { result ≡ 5
+    ensures status { (result ≡ OUT_OF_MEMORY) ⊎ (result ≡ NO_ROOM) ⊎ (result ≡ REFUSED) }
+    ensures told { result ≡ REFUSED
         → IsPut (refusal_text (refusal_of refusal.now)) out.old out.new written.new }
-    ensures short { result ≡ 2
+    ensures short { result ≡ NO_ROOM
         → IsTooLong (refusal_text (refusal_of refusal.now)) out.old out.new written.new }
-    ensures kept { result ≡ 1 → (out.new ≡ out.old) × (written.new ≡ written.old) }
+    ensures kept { result ≡ OUT_OF_MEMORY → (out.new ≡ out.old) × (written.new ≡ written.old) }
 {
     let mut text = Vec::new(alloc);
     let Ok(()) = push_refusal(alloc, refusal, &mut text) else {

@@ -7,22 +7,23 @@ ghost use Rattle.strkw_report.specs.declared.refusal.CompileError.{CompileError}
 ghost use Rattle.strkw_pattern.specs.Matcher.{literal_outcome};
 ghost use Rattle.strkw_keywords.specs.Meanings.{no_lists};
 ghost use Rattle.strkw_keywords.specs.Demands.{IsInUse};
-ghost use Rattle.strkw_cli.specs.Compiled.{IsCompiledFrom, keywords_demands};
+ghost use Rattle.strkw_object.specs.Compiled.{IsCompiledFrom, keywords_demands};
 ghost use Rattle.strkw_c.specs.declared.schemas.Failure.TheVariants.{Memory};
 ghost use Rattle.strkw_c.specs.Settings.{settings_for};
 ghost use Rattle.strkw_c.specs.Verdicts.{IsSchema, Fails, FailsObject};
 
 use serde_json::{Map, Value};
 use std::alloc::{AllocError, Global};
-use strkw_cli::{StringKeywords, compile_strings, read_value};
+use strkw_json::read_value;
 use strkw_keywords::{Context, Options};
+use strkw_object::{StringKeywords, compile_strings};
 use strkw_pattern::{LiteralMatcher, NoPatterns};
 use strkw_report::{CompileError, CompileErrorKind, Draft};
 
 /// Why a schema has no verdicts.
 #[derive(Debug, Drop)]
 pub(crate) enum Failure {
-    /// A growth was refused.
+    /// Out of memory.
     Memory,
     /// The bytes are no JSON object.
     NoSchema,

@@ -3,7 +3,7 @@
 /// What was asked for is done.
 pub(crate) const DONE: u8 = 0;
 
-/// A growth was refused.
+/// Out of memory.
 pub(crate) const OUT_OF_MEMORY: u8 = 1;
 
 /// A buffer has too little room.

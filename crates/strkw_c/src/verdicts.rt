@@ -1,27 +1,28 @@
 //! One schema object, asked of many texts.
 
-ghost use Rattle.std.specs.Prelude.{◌≡◌, ◌≢◌, ◌↔◌, ◌<◌, ℕ, List, Some, None, IsSome, IfOk, IfErr, length};
+ghost use Rattle.std.specs.Prelude.{◌≡◌, ◌≢◌, ◌↔◌, ◌≤◌, ℕ, List, Some, None, IsSome, IfOk, IfErr, length};
 ghost use Rattle.serde_json.specs.Data.{Members};
 ghost use Rattle.strkw_report.specs.Refusals.{Refusal};
 ghost use Rattle.strkw_keywords.specs.Meanings.{no_lists};
 ghost use Rattle.strkw_keywords.specs.Demands.{IsInUse};
 ghost use Rattle.strkw_keywords.specs.Object.{Settings, FirstRefusal};
-ghost use Rattle.strkw_cli.specs.Request.{draft_numbered};
-ghost use Rattle.strkw_cli.specs.Compiled.{keywords_demands};
+ghost use Rattle.strkw_report.specs.Drafts.{draft_numbered};
+ghost use Rattle.strkw_object.specs.Compiled.{keywords_demands};
 ghost use Rattle.strkw_c.specs.Settings.{options_of, settings_for, settings_of};
 ghost use Rattle.strkw_c.specs.Texts.{AreTexts, HaveRoom};
 ghost use Rattle.strkw_c.specs.Verdicts.{IsSchema, HasFirstRefusal, Fails, IsValid, Passes, IsVerdict, AreVerdicts};
+ghost use Rattle.strkw_c.specs.declared.statuses.TheConstants.{DONE, NO_DRAFT, NO_OPTION, NO_SCHEMA, NO_TEXTS, REFUSED};
 
 use crate::schemas::{Failure, compile};
 use crate::settings::options_of;
 use crate::statuses::{DONE, NO_DRAFT, NO_OPTION, NO_SCHEMA, NO_TEXTS, OUT_OF_MEMORY, REFUSED};
 use crate::texts::are_ends;
 use std::alloc::{AllocError, Global};
-use strkw_cli::laws::compiled_errors_are_those_of_the_object;
-use strkw_cli::{StringKeywords, draft_numbered};
 use strkw_keywords::{Checks, Options};
+use strkw_object::StringKeywords;
+use strkw_object::laws::compiled_errors_are_those_of_the_object;
 use strkw_pattern::{LiteralMatcher, RegexEngine};
-use strkw_report::Draft;
+use strkw_report::{Draft, draft_numbered};
 
 const INVALID: u8 = 0;
 
@@ -49,17 +50,18 @@ pub extern "C" fn strkw_nonnull_check(
     ends: &[usize],
     verdicts: &mut [u8],
 ) -> u8
-    ensures status { result < 7 }
-    ensures kept { result ≢ 0 → verdicts.new ≡ verdicts.old }
-    ensures no_texts { (result ≡ 2) ↔ (HaveRoom texts.now ends.now (length verdicts.old) → ⊥) }
-    ensures no_draft { (result ≡ 3) ↔ (HaveRoom texts.now ends.now (length verdicts.old)
+    ensures status { result ≤ NO_OPTION }
+    ensures kept { result ≢ DONE → verdicts.new ≡ verdicts.old }
+    ensures no_texts { (result ≡ NO_TEXTS)
+        ↔ (HaveRoom texts.now ends.now (length verdicts.old) → ⊥) }
+    ensures no_draft { (result ≡ NO_DRAFT) ↔ (HaveRoom texts.now ends.now (length verdicts.old)
         × (draft_numbered draft ≡ None)) }
-    ensures no_option { (result ≡ 6) ↔ (HaveRoom texts.now ends.now (length verdicts.old)
+    ensures no_option { (result ≡ NO_OPTION) ↔ (HaveRoom texts.now ends.now (length verdicts.old)
         × IsSome (draft_numbered draft) × (options_of options ≡ None)) }
-    ensures no_schema { result ≡ 4 → IsSchema schema.now None }
-    ensures refused { result ≡ 5 → (s : Settings) × (why : Refusal)
+    ensures no_schema { result ≡ NO_SCHEMA → IsSchema schema.now None }
+    ensures refused { result ≡ REFUSED → (s : Settings) × (why : Refusal)
         × (settings_of draft options ≡ Some s) × HasFirstRefusal s schema.now (Some why) }
-    ensures done { result ≡ 0 → (s : Settings) × (object : Members) × (list : List (List ℕ))
+    ensures done { result ≡ DONE → (s : Settings) × (object : Members) × (list : List (List ℕ))
         × (settings_of draft options ≡ Some s)
         × IsSchema schema.now (Some object) × FirstRefusal s object None
         × AreTexts texts.now ends.now list × AreVerdicts (IsValid s object) list verdicts.new }

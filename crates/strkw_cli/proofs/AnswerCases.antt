@@ -1,5 +1,6 @@
 -- From what is compiled and evaluated to the answer.
-use Rattle.std.proofs.Common.{◌≡◌, ◌≢◌, ◌↔◌, ◌⊎◌, inl, inr, ℕ, List, [], Bool, true, false, ◌++◌, Option, Some, None, Result, Ok, Err, OnOk, OnErr, refl, ap, ◌∙◌, subst, codes, append_assoc, if◌then◌else◌, is_ok}
+use Rattle.std.proofs.Common.{◌≡◌, ◌≢◌, ◌↔◌, ◌⊎◌, inl, inr, ℕ, List, [], Bool, true, false, ◌++◌, Option, Some, None, Result, Ok, Err, OnOk, OnErr, refl, ap}
+use Rattle.std.proofs.Common.{◌∙◌, subst, codes, append_assoc, if◌then◌else◌, is_ok}
 use Rattle.serde_json.specs.Data.{Members}
 use Rattle.strkw_report.specs.Kinds.{Report}
 use Rattle.strkw_report.specs.Refusals.{reason_of, refusal_of, memory}
@@ -11,14 +12,16 @@ use Rattle.strkw_keywords.specs.Remarks.{Remark}
 use Rattle.strkw_keywords.specs.Object.{Settings, FirstRefusal, remarks_on}
 use Rattle.strkw_keywords.specs.Lengths.{IsEmpty}
 use Rattle.strkw_keywords.proofs.Folding.{interval_is_left}
-use Rattle.strkw_cli.specs.declared.strings.StringKeywords.{StringKeywords}
-use Rattle.strkw_cli.specs.Compiled.{IsCompiledFrom, keywords_assertions, keywords_interval, keywords_remarks}
+use Rattle.strkw_object.specs.declared.strings.StringKeywords.{StringKeywords}
+use Rattle.strkw_object.specs.Compiled.{IsCompiledFrom, keywords_assertions, keywords_interval, keywords_remarks}
 use Rattle.strkw_keywords.specs.Compiled.{out_of_memory}
 use Rattle.strkw_cli.specs.Request.{Request}
-use Rattle.strkw_cli.specs.Printed.{ArePrintable, refused_line, TellsFold, verdict_lines, note_lines}
-use Rattle.strkw_cli.specs.Answer.{settings_for, root_site, Answers}
-use Rattle.strkw_cli.proofs.Meaning.{compiled_folds}
-use Rattle.strkw_cli.proofs.Printable.{notes_printable}
+use Rattle.strkw_object.specs.Printable.{ArePrintable}
+use Rattle.strkw_cli.specs.Printed.{refused_line, TellsFold, verdict_lines, note_lines}
+use Rattle.strkw_report.specs.Standings.{root_site}
+use Rattle.strkw_cli.specs.Answer.{settings_for, Answers}
+use Rattle.strkw_object.proofs.Meaning.{compiled_folds}
+use Rattle.strkw_object.proofs.Printable.{notes_printable}
 
 -- what a compiled object notes has a text
 pub compiled_printable : {E : Type 0} (outcome : E → List ℕ → Outcome) (s : Settings) (ms : Members) (k : StringKeywords E) → IsCompiledFrom outcome s ms k
@@ -32,7 +35,8 @@ tells_alike true told same (inl holds) = inl (same.0 holds.0, holds.1)
 tells_alike true told same (inr fails) = inr ((λ q. fails.0 (same.1 q)), fails.1)
 
 -- the answer by a compiled object
-pub answer_of_compiled : {E : Type 0} (outcome : E → List ℕ → Outcome) (r : Request) (k : StringKeywords E) (told : List ℕ) (errors : List Report) (notes : List Remark)
+pub answer_of_compiled : {E : Type 0} (outcome : E → List ℕ → Outcome) (r : Request) (k : StringKeywords E) (told : List ℕ) (errors : List Report)
+    (notes : List Remark)
     → IsCompiledFrom outcome (settings_for r) r.schema k
     → TellsFold r.fold (IsEmpty (keywords_interval outcome k)) told
     → NodeReports (keywords_assertions outcome k) no_lists root_site r.instance errors
@@ -54,7 +58,8 @@ answer_of_compiled outcome r k told errors notes of tells reports noted =
     )
 
 -- the answer by a refusal that is not out of memory
-pub answer_of_refusal : (r : Request) (e : CompileError) → (refusal_of e ≡ out_of_memory) ⊎ FirstRefusal (settings_for r) r.schema (Some (refusal_of e)) → reason_of e.kind ≢ memory
+pub answer_of_refusal : (r : Request) (e : CompileError) → (refusal_of e ≡ out_of_memory) ⊎ FirstRefusal (settings_for r) r.schema (Some (refusal_of e))
+    → reason_of e.kind ≢ memory
     → Answers (Some r) (refused_line (refusal_of e) ++ codes "end\n")
 answer_of_refusal r e (inl none) had = absurd (had (ap (λ r. r.reason) none))
 answer_of_refusal r e (inr first) had = (Some (refusal_of e), first, refl)
@@ -66,7 +71,8 @@ told_appended (Ok x) asked P old new told kept asks tells grown = (told, grown, 
 told_appended (Err e) asked P old new told kept asks tells grown = tt
 
 -- where the first of two steps appended, the second was refused
-pub appended_more : {T E : Type 0} (result : Result T E) (old mid new front : List ℕ) → mid ≡ old ++ front → OnErr result ((more : List ℕ) × (new ≡ mid ++ more)) → OnErr result ((more : List ℕ) × (new ≡ old ++ more))
+pub appended_more : {T E : Type 0} (result : Result T E) (old mid new front : List ℕ) → mid ≡ old ++ front
+    → OnErr result ((more : List ℕ) × (new ≡ mid ++ more)) → OnErr result ((more : List ℕ) × (new ≡ old ++ more))
 appended_more (Ok x) old mid new front first second = tt
 appended_more (Err e) old mid new front first second = (front ++ second.0, second.1 ∙ ap (λ l. l ++ second.0) first ∙ append_assoc old front second.0)
 
@@ -75,14 +81,16 @@ abbrev pub found_lines : Option (List ℕ) → List Report → List Remark → L
 found_lines node errors remarks = verdict_lines errors ++ note_lines (remarks_on node remarks) ++ codes "end\n"
 
 -- an instance that is no text
-pub appended_none : {T E : Type 0} (result : Result T E) (assertions : List Assertion) (lists : Lists) (node : Option (List ℕ)) (remarks : List Remark) (old new : List ℕ)
+pub appended_none : {T E : Type 0} (result : Result T E) (assertions : List Assertion) (lists : Lists) (node : Option (List ℕ)) (remarks : List Remark)
+    (old new : List ℕ)
     → node ≡ None → OnOk result (new ≡ old ++ codes "valid\nend\n")
     → OnOk result ((errors : List Report) × (new ≡ old ++ found_lines node errors remarks) × NodeReports assertions lists root_site node errors)
 appended_none (Ok x) assertions lists text remarks old new is grown = ([], rw is grown, rw is refl)
 appended_none (Err e) assertions lists text remarks old new is grown = tt
 
 -- what is told, and then the lines of an instance, are an answer
-pub appended_found : {T E F : Type 0} (result : Result T F) (outcome : E → List ℕ → Outcome) (r : Request) (s : Settings) (k : StringKeywords E) (told old mid new : List ℕ)
+pub appended_found : {T E F : Type 0} (result : Result T F) (outcome : E → List ℕ → Outcome) (r : Request) (s : Settings) (k : StringKeywords E)
+    (told old mid new : List ℕ)
     → s ≡ settings_for r → IsCompiledFrom outcome s r.schema k → TellsFold r.fold (IsEmpty (keywords_interval outcome k)) told → mid ≡ old ++ told
     → OnOk result ((errors : List Report) × (new ≡ mid ++ found_lines r.instance errors (keywords_remarks k))
     × NodeReports (keywords_assertions outcome k) s.lists root_site r.instance errors)

@@ -6,19 +6,21 @@ use Rattle.json.specs.Json.{parse_map}
 use Rattle.serde_json.specs.Data.{Data, array, object, Members}
 use Rattle.serde_json.specs.Find.{as_object}
 use Rattle.serde_json.specs.Read.{number_of, read as read_text}
-use Rattle.strkw_coding.specs.Passing.{items_read, members_read}
-use Rattle.strkw_coding.proofs.FirstTokens.{seen, none_seen, none_seen_if, none_in_number}
-use Rattle.strkw_coding.proofs.Reading.{first_read, at_end, read_by_tokens}
+use Rattle.strkw_json.specs.Passing.{items_read, members_read}
+use Rattle.strkw_json.proofs.FirstTokens.{seen, none_seen, none_seen_if, none_in_number}
+use Rattle.strkw_json.proofs.Reading.{first_read, at_end, read_by_tokens}
 use Rattle.strkw_cli.specs.Request.{request_in, request_of_members}
 use Rattle.strkw_cli.specs.Tokens.{begins_object}
 
 -- ---- whether it begins with an object
 
+-- of tokens that do not begin an object, no object is read first
 no_object_first : (depth : ℕ) (ts : List Token) → begins_object ts ≡ false → seen as_object (first_read depth ts) ≡ None
 no_object_first depth [] none = refl
 no_object_first depth (Token.begin_object ∷ ts) none = absurd (true≢false none)
 no_object_first depth (Token.end_object ∷ ts) none = refl
-no_object_first depth (Token.begin_array ∷ ts) none = none_seen_if as_object (nat_lt 0 depth) _ (none_seen as_object array (λ is. refl) (items_read (depth - 1) ts))
+no_object_first depth (Token.begin_array ∷ ts) none = none_seen_if as_object (nat_lt 0 depth) _
+    (none_seen as_object array (λ is. refl) (items_read (depth - 1) ts))
 no_object_first depth (Token.end_array ∷ ts) none = refl
 no_object_first depth (Token.key s ∷ ts) none = refl
 no_object_first depth (Token.string s ∷ ts) none = refl
@@ -30,23 +32,34 @@ no_object_first depth (Token.bad ∷ ts) none = refl
 -- ---- the request, by the members of the object
 
 module _ (text : List ℕ) where
-  by_object : (ts : List Token) → tokens text ≡ Token.begin_object ∷ ts → option_and_then request_in (read_text text) ≡ option_and_then request_in (at_end (parse_map object (members_read 126 ts)))
+  -- the request of a text that begins an object is that of the members read behind it
+  by_object : (ts : List Token) → tokens text ≡ Token.begin_object ∷ ts
+      → option_and_then request_in (read_text text) ≡ option_and_then request_in (at_end (parse_map object (members_read 126 ts)))
   by_object ts first = ap (option_and_then request_in) (read_by_tokens text ∙ ap (λ x. at_end (first_read 127 x)) first)
 
-  pub asked : (ts : List Token) (ms : Members) → tokens text ≡ Token.begin_object ∷ ts → members_read 126 ts ≡ Some (ms, []) → option_and_then request_in (read_text text) ≡ request_of_members ms
+  -- where the members are read and nothing is left, the request is that of the members
+  pub asked : (ts : List Token) (ms : Members) → tokens text ≡ Token.begin_object ∷ ts → members_read 126 ts ≡ Some (ms, [])
+      → option_and_then request_in (read_text text) ≡ request_of_members ms
   asked ts ms first read = by_object ts first ∙ ap (λ r. option_and_then request_in (at_end (parse_map object r))) read
 
-  pub asked_with_more : (ts : List Token) (ms : Members) (t : Token) (more : List Token) → tokens text ≡ Token.begin_object ∷ ts → members_read 126 ts ≡ Some (ms, t ∷ more)
+  -- where tokens are left behind the members, there is no request
+  pub asked_with_more : (ts : List Token) (ms : Members) (t : Token) (more : List Token) → tokens text ≡ Token.begin_object ∷ ts
+      → members_read 126 ts ≡ Some (ms, t ∷ more)
       → option_and_then request_in (read_text text) ≡ None
   asked_with_more ts ms t more first read = by_object ts first ∙ ap (λ r. option_and_then request_in (at_end (parse_map object r))) read
 
-  pub no_members_read : (ts : List Token) → tokens text ≡ Token.begin_object ∷ ts → members_read 126 ts ≡ None → option_and_then request_in (read_text text) ≡ None
+  -- where no members are read, there is no request
+  pub no_members_read : (ts : List Token) → tokens text ≡ Token.begin_object ∷ ts → members_read 126 ts ≡ None
+      → option_and_then request_in (read_text text) ≡ None
   no_members_read ts first none = by_object ts first ∙ ap (λ r. option_and_then request_in (at_end (parse_map object r))) none
 
+  -- what was read is no request where it is no object
   no_object : (r : Option (Data × List Token)) → seen as_object r ≡ None → option_and_then request_in (at_end r) ≡ None
   no_object None none = refl
   no_object (Some (d, [])) none = ap (option_and_then request_of_members) none
   no_object (Some (d, t ∷ ts)) none = refl
 
+  -- a text that does not begin an object is no request
   pub no_object_read : begins_object (tokens text) ≡ false → option_and_then request_in (read_text text) ≡ None
-  no_object_read none = ap (option_and_then request_in) (read_by_tokens text) ∙ no_object (first_read 127 (tokens text)) (no_object_first 127 (tokens text) none)
+  no_object_read none = ap (option_and_then request_in) (read_by_tokens text)
+      ∙ no_object (first_read 127 (tokens text)) (no_object_first 127 (tokens text) none)

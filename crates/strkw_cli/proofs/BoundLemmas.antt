@@ -1,5 +1,6 @@
 -- Lemmas on lines that have a bound.
-use Rattle.std.proofs.Common.{◌≡◌, ℕ, ◌+◌, ◌-◌, ◌<◌, ◌≤◌, false, Option, Some, None, List, [], ◌∷◌, ◌++◌, length, take, drop, get_or, refl, sym, ap, subst, ◌∙◌, append_assoc, append-nil, arith, inl, inr, length-append, length-take, length-drop, position}
+use Rattle.std.proofs.Common.{◌≡◌, ℕ, ◌+◌, ◌-◌, ◌<◌, ◌≤◌, false, Option, Some, None, List, [], ◌∷◌, ◌++◌, length, take, drop, get_or, refl, sym, ap, subst, ◌∙◌}
+use Rattle.std.proofs.Common.{append_assoc, append-nil, arith, inl, inr, length-append, length-take, length-drop, position}
 use Rattle.std.proofs.lemmas.List.{drop_more, get_or-drop, take_all}
 use Rattle.std.proofs.lemmas.List.Quantifiers.{position-Some}
 use Rattle.std.proofs.lemmas.List.Elements.{All-take}
@@ -11,19 +12,23 @@ use Rattle.strkw_cli.proofs.AnswerLemmas.{cut_at, ends_line, goes_on, plain_from
 
 -- ---- lines within a bound
 
+-- an empty line is within any bound
 pub fits_none : (bound : Option ℕ) → Fits bound []
 fits_none None = tt
 fits_none (Some longest) = omega arith
 
+-- an empty list of lines is within any bound
 pub within_none : (bound : Option ℕ) → AreWithin bound []
 unfolding AreWithin
 within_none bound = tt
 
+-- lines that are within a bound, and one more that is, are within it together
 within_one_more : (bound : Option ℕ) (before : List (List ℕ)) (line : List ℕ) → AreWithin bound before → Fits bound line → AreWithin bound (before ++ line ∷ [])
 unfolding AreWithin
 within_one_more bound [] line none fits = (fits, tt)
 within_one_more bound (first ∷ more) line (short, are) fits = (short, within_one_more bound more line are fits)
 
+-- without a bound all lines are within it
 unbounded : (lines : List (List ℕ)) → AreWithin None lines
 unfolding AreWithin
 unbounded [] = tt
@@ -62,7 +67,8 @@ module _ (longest : ℕ) (start piece : List ℕ) where
       }
 
   -- what goes on without a line feed
-  short_plain : (at count : ℕ) → HasNoLineFeed (take count (drop at piece)) → (room : ℕ) → Reaches longest (start ++ take at piece) room → at + count ≤ length piece → count ≤ room
+  short_plain : (at count : ℕ) → HasNoLineFeed (take count (drop at piece)) → (room : ℕ) → Reaches longest (start ++ take at piece) room
+      → at + count ≤ length piece → count ≤ room
       → HasShortLines (Some longest) (start ++ take (at + count) piece) × (length (last_part (start ++ take (at + count) piece)) + (room - count) ≡ longest)
   short_plain at count plain room reaches within fits =
       let bytes = start ++ take at piece in
@@ -72,8 +78,10 @@ module _ (longest : ℕ) (start piece : List ℕ) where
       let both = plain_more bytes more plain in
       let size : length more ≡ count = omega (arith, length-take count (drop at piece), length-drop at piece, within) in
       let last : length (last_part (start ++ take (at + count) piece)) ≡ length (last_part bytes) + count =
-      ap (λ x. length (last_part x)) whole ∙ ap length both.1 ∙ length-append (last_part bytes) more ∙ ap (λ n. length (last_part bytes) + n) size in
-      ((subst (AreWithin (Some longest)) (sym (ap ended_lines whole ∙ both.0)) reaches.within, omega (arith, last, reaches.room_is, fits)), omega (arith, last, reaches.room_is, fits))
+      ap (λ x. length (last_part x)) whole ∙ ap length both.1 ∙ length-append (last_part bytes) more ∙ ap (λ n. length (last_part bytes) + n) size in (
+        (subst (AreWithin (Some longest)) (sym (ap ended_lines whole ∙ both.0)) reaches.within, omega (arith, last, reaches.room_is, fits)),
+        omega (arith, last, reaches.room_is, fits),
+      )
 
   -- what is taken where the line goes on past its room
   past : (at room : ℕ) → HasNoLineFeed (take room (drop at piece)) → Reaches longest (start ++ take at piece) room → at + room < length piece
@@ -85,7 +93,8 @@ module _ (longest : ℕ) (start piece : List ℕ) where
         rest = drop (at + room) piece;
         splits = cut_at start piece (at + room);
         short = short.0;
-        stops = inr (subst (GoesPast (Some longest) (start ++ take (at + room) piece)) (sym (drop_more piece (at + room) 0 within)) (full, sym (ap is_line_feed (get_or-drop at piece room 0)) ∙ other));
+        stops = inr (subst (GoesPast (Some longest) (start ++ take (at + room) piece)) (sym (drop_more piece (at + room) 0 within))
+            (full, sym (ap is_line_feed (get_or-drop at piece room 0)) ∙ other));
       }
 
   -- where a line feed comes behind the room
@@ -93,7 +102,8 @@ module _ (longest : ℕ) (start piece : List ℕ) where
       → IsTaken (Some longest) (start ++ piece) (start ++ take (at + room) piece)
   taken_before at offset room reaches found long =
       let (below, feed, before) = position-Some is_line_feed (drop at piece) offset 0 found in
-      past at room (plain_before (drop at piece) offset room before (omega (arith, long))) reaches (omega (arith, length-drop at piece, below, long)) (before room long)
+      past at room (plain_before (drop at piece) offset room before (omega (arith, long))) reaches (omega (arith, length-drop at piece, below, long))
+      (before room long)
 
   -- where none comes any more, and the room is less than what is left
   pub taken_short : (at room : ℕ) → Reaches longest (start ++ take at piece) room → position is_line_feed (drop at piece) ≡ None → room < length piece - at
@@ -117,8 +127,18 @@ module _ (longest : ℕ) (start piece : List ℕ) where
 -- ---- a run that stops
 
 -- what is left is not empty, so that a line is too long
-pub past_from_taken : (bound : Option ℕ) (before piece : List ℕ) (count : ℕ) → count < length piece → (t : IsTaken bound (before ++ piece) (before ++ take count piece)) → GoesPast bound (before ++ take count piece) t.rest
+pub past_from_taken : (bound : Option ℕ) (before piece : List ℕ) (count : ℕ) → count < length piece
+    → (t : IsTaken bound (before ++ piece) (before ++ take count piece)) → GoesPast bound (before ++ take count piece) t.rest
 past_from_taken bound before piece count few t = elim t.stops [
-  | inl none ↦ absurd (omega (arith, few, ap length t.splits, ap length none, length-append before piece, length-append (before ++ take count piece) t.rest, length-append before (take count piece), length-take count piece))
+  | inl none ↦ absurd (omega (
+    arith,
+    few,
+    ap length t.splits,
+    ap length none,
+    length-append before piece,
+    length-append (before ++ take count piece) t.rest,
+    length-append before (take count piece),
+    length-take count piece,
+  ))
   | inr past ↦ past
 ]

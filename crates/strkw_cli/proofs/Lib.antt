@@ -1,11 +1,5 @@
-pub mod Results
-pub mod Many
 mod FirstPlaces
-pub mod Steps
-pub mod Whole
-pub mod Meaning
 pub mod Notes
-pub mod Printable
 pub mod AnswerCases
 pub mod AnswerMeaning
 pub mod LineLemmas
@@ -13,7 +7,6 @@ pub mod AnswerLemmas
 pub mod OutcomeLemmas
 pub mod BoundLemmas
 pub mod RunLemmas
-pub mod Folding
 pub mod AnswerExistence
 pub mod Lines
 pub mod Asked

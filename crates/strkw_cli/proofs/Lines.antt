@@ -1,5 +1,6 @@
 -- The lines of errors, as they are written one validator after another.
-use Rattle.std.proofs.Common.{◌≡◌, ℕ, ◌<◌, ◌+◌, List, [], ◌∷◌, ◌++◌, Option, Some, None, Result, Ok, Err, OnOk, refl, sym, ap, ◌∙◌, subst, length, get_or, take, arith, append_assoc}
+use Rattle.std.proofs.Common.{◌≡◌, ℕ, ◌<◌, ◌+◌, List, [], ◌∷◌, ◌++◌, Option, Some, None, Result, Ok, Err, OnOk, refl, sym, ap, ◌∙◌, subst, length, get_or, take}
+use Rattle.std.proofs.Common.{arith, append_assoc}
 use Rattle.std.specs.List.{flat_map}
 use Rattle.std.proofs.lemmas.List.{append-nil, length-append}
 use Rattle.std.proofs.lemmas.List.Concat.{flat_map-append}
@@ -12,23 +13,28 @@ use Rattle.strkw_keywords.specs.Errors.{placed, reported, NodeReports}
 use Rattle.strkw_keywords.specs.Validators.{assertions_of, assertions_in}
 use Rattle.strkw_keywords.specs.declared.validator.Validator.{Validator}
 use Rattle.strkw_keywords.proofs.Reports.{errors_of, found_reports}
-use Rattle.strkw_cli.specs.Answer.{root_site}
+use Rattle.strkw_report.specs.Standings.{root_site}
 use Rattle.strkw_cli.specs.Printed.{error_line, verdict_lines}
 use Rattle.strkw_cli.specs.Written.{AppendsLines}
-use Rattle.strkw_cli.proofs.Many.{nothing_asserted, report_append, in_more}
+use Rattle.strkw_object.proofs.Many.{nothing_asserted, report_append, in_more}
 
+-- the lines of errors, one after the other
 abbrev lines_of : List Report → List ℕ
 lines_of rs = flat_map error_line rs
 
 -- ---- one validator
 
-two_lines : (s : Standing) (text : List ℕ) (a b : Option Finding) → lines_of (errors_of s text (listed a ++ listed b)) ≡ lines_of (reported s text a) ++ lines_of (reported s text b)
+-- the lines of two findings, which may be missing, are those of each in turn
+two_lines : (s : Standing) (text : List ℕ) (a b : Option Finding)
+    → lines_of (errors_of s text (listed a ++ listed b)) ≡ lines_of (reported s text a) ++ lines_of (reported s text b)
 two_lines s text None None = refl
 two_lines s text None (Some f) = refl
 two_lines s text (Some f) None = sym (append-nil (lines_of (reported s text (Some f))))
 two_lines s text (Some f) (Some g) = flat_map-append error_line (reported s text (Some f)) (reported s text (Some g))
 
-of_text : (place : Place) (ds : List Demand) (lists : Lists) (text : List ℕ) (a b : Option Finding) (old mid new : List ℕ) → Finds ds lists text (listed a ++ listed b)
+-- the lines of two findings of a text, in turn, are those of its errors by the demands
+of_text : (place : Place) (ds : List Demand) (lists : Lists) (text : List ℕ) (a b : Option Finding) (old mid new : List ℕ)
+    → Finds ds lists text (listed a ++ listed b)
     → mid ≡ old ++ lines_of (reported (standing place root_site) text a) → new ≡ mid ++ lines_of (reported (standing place root_site) text b)
     → AppendsLines (NodeReports (placed place ds) lists root_site (Some text)) old new
 of_text place ds lists text a b old mid new finds first second =
@@ -40,35 +46,44 @@ of_text place ds lists text a b old mid new finds first second =
     }
 
 -- the lines of what a validator finds of a text
-pub found_lines : {T E : Type 0} (r : Result T E) (place : Place) (ds : List Demand) (lists : Lists) (there : Option (List ℕ)) (text : List ℕ) (a b : Option Finding) (old mid new : List ℕ)
+pub found_lines : {T E : Type 0} (r : Result T E) (place : Place) (ds : List Demand) (lists : Lists) (there : Option (List ℕ)) (text : List ℕ)
+    (a b : Option Finding) (old mid new : List ℕ)
     → there ≡ Some text → Finds ds lists text (listed a ++ listed b)
     → mid ≡ old ++ lines_of (reported (standing place root_site) text a) → OnOk r (new ≡ mid ++ lines_of (reported (standing place root_site) text b))
     → OnOk r (AppendsLines (NodeReports (placed place ds) lists root_site there) old new)
 found_lines (Ok x) place ds lists there text a b old mid new is finds first second =
-    subst (λ n. AppendsLines (NodeReports (placed place ds) lists root_site n) old new) (sym is) (of_text place ds lists text a b old mid new finds first second)
+    subst (λ n. AppendsLines (NodeReports (placed place ds) lists root_site n) old new) (sym is)
+    (of_text place ds lists text a b old mid new finds first second)
 found_lines (Err e) place ds lists there text a b old mid new is finds first second = tt
 
 -- ---- several
 
+-- nothing is written where nothing is asserted
 pub nothing_written : (lists : Lists) (there : Option (List ℕ)) (old : List ℕ) → AppendsLines (NodeReports [] lists root_site there) old old
 nothing_written lists there old = record { errors = []; grown = sym (append-nil old); reported = nothing_asserted lists root_site there }
 
-pub written_more : {E : Type 0} (outcome : E → List ℕ → Outcome) (lists : Lists) (there : Option (List ℕ)) (vs : List (Validator E)) (i : ℕ) (v : Validator E) (old mid new : List ℕ)
+-- the lines up to one validator more
+pub written_more : {E : Type 0} (outcome : E → List ℕ → Outcome) (lists : Lists) (there : Option (List ℕ)) (vs : List (Validator E)) (i : ℕ) (v : Validator E)
+    (old mid new : List ℕ)
     → i < length vs → v ≡ get_or vs i v → AppendsLines (NodeReports (assertions_in outcome (take i vs)) lists root_site there) old mid
-    → AppendsLines (NodeReports (assertions_of outcome v) lists root_site there) mid new → AppendsLines (NodeReports (assertions_in outcome (take (i + 1) vs)) lists root_site there) old new
+    → AppendsLines (NodeReports (assertions_of outcome v) lists root_site there) mid new
+    → AppendsLines (NodeReports (assertions_in outcome (take (i + 1) vs)) lists root_site there) old new
 written_more outcome lists there vs i v old mid new h e a b = record {
   errors = a.errors ++ b.errors;
   grown = b.grown ∙ ap (λ l. l ++ lines_of b.errors) a.grown ∙ append_assoc old (lines_of a.errors) (lines_of b.errors)
       ∙ ap (λ l. old ++ l) (sym (flat_map-append error_line a.errors b.errors));
-  reported = rw (in_more outcome vs i v h e) (report_append (assertions_in outcome (take i vs)) (assertions_of outcome v) lists root_site there a.errors b.errors a.reported b.reported);
+  reported = rw (in_more outcome vs i v h e) (report_append (assertions_in outcome (take i vs)) (assertions_of outcome v) lists root_site there a.errors
+      b.errors a.reported b.reported);
 }
 
 -- ---- whether there is a line
 
+-- where something was written, the lines of the errors are those of the verdict
 pub some_lines : (old new : List ℕ) (errors : List Report) → new ≡ old ++ lines_of errors → length old < length new → new ≡ old ++ verdict_lines errors
 some_lines old new [] grown longer = absurd (omega (arith, ap (λ l. length l) (grown ∙ append-nil old), longer))
 some_lines old new (r ∷ rs) grown longer = grown
 
+-- where nothing was written, there are no errors
 pub no_lines : (old new : List ℕ) (errors : List Report) → new ≡ old ++ lines_of errors → (length old < length new → ⊥) → errors ≡ []
 no_lines old new [] grown short = refl
 no_lines old new (r ∷ rs) grown short =

@@ -9,9 +9,11 @@ use Rattle.strkw_keywords.specs.declared.keyword.Keyword.{Keyword}
 use Rattle.strkw_keywords.specs.Remarks.{Remark, remark_at}
 use Rattle.strkw_keywords.specs.Validators.{remarks_in, listed_remark, remark_made}
 use Rattle.strkw_keywords.specs.declared.validator.Validator.{Validator}
-use Rattle.strkw_cli.specs.Printed.{HasText, ArePrintable, note_line, note_lines}
-use Rattle.strkw_cli.proofs.Many.{remarks_more}
+use Rattle.strkw_object.specs.Printable.{HasText, ArePrintable}
+use Rattle.strkw_cli.specs.Printed.{note_line, note_lines}
+use Rattle.strkw_object.proofs.Many.{remarks_more}
 
+-- where all of joined notes can be printed, so can those of both parts
 printable_split : (rs ss : List Remark) → ArePrintable (rs ++ ss) → ArePrintable rs × ArePrintable ss
 printable_split [] ss h = (All-nil HasText, h)
 printable_split (r ∷ rs) ss h =
@@ -19,14 +21,18 @@ printable_split (r ∷ rs) ss h =
     (All-cons HasText r rs (All-head HasText r (rs ++ ss) h) below.0, below.1)
 
 -- where all notes can be printed, those of each validator can
-pub printable_at : {E : Type 0} (vs : List (Validator E)) (i : ℕ) (v : Validator E) → ArePrintable (remarks_in vs) → i < length vs → v ≡ get_or vs i v → ArePrintable (listed_remark (remark_made v))
+pub printable_at : {E : Type 0} (vs : List (Validator E)) (i : ℕ) (v : Validator E) → ArePrintable (remarks_in vs) → i < length vs → v ≡ get_or vs i v
+    → ArePrintable (listed_remark (remark_made v))
 printable_at [] i v printable within is = absurd (omega (arith, within))
 printable_at (w ∷ vs) zero v printable within is = rw is (printable_split (listed_remark (remark_made w)) (remarks_in vs) printable).0
-printable_at (w ∷ vs) (suc i) v printable within is = printable_at vs i v (printable_split (listed_remark (remark_made w)) (remarks_in vs) printable).1 (omega (arith, within)) is
+printable_at (w ∷ vs) (suc i) v printable within is = printable_at vs i v (printable_split (listed_remark (remark_made w)) (remarks_in vs) printable).1
+    (omega (arith, within)) is
 
 -- the lines up to one validator more
-pub noted_more : {E : Type 0} (outcome : E → List ℕ → Outcome) (vs : List (Validator E)) (i : ℕ) (v : Validator E) (old mid new : List ℕ) → i < length vs → v ≡ get_or vs i v
-    → mid ≡ old ++ note_lines (remarks_in (take i vs)) → new ≡ mid ++ note_lines (listed_remark (remark_made v)) → new ≡ old ++ note_lines (remarks_in (take (i + 1) vs))
+pub noted_more : {E : Type 0} (outcome : E → List ℕ → Outcome) (vs : List (Validator E)) (i : ℕ) (v : Validator E) (old mid new : List ℕ) → i < length vs
+    → v ≡ get_or vs i v
+    → mid ≡ old ++ note_lines (remarks_in (take i vs)) → new ≡ mid ++ note_lines (listed_remark (remark_made v))
+    → new ≡ old ++ note_lines (remarks_in (take (i + 1) vs))
 noted_more outcome vs i v old mid new within is first second =
     let front = remarks_in (take i vs) in
     let back = listed_remark (remark_made v) in

@@ -1,5 +1,6 @@
 -- Lemmas on what a run has written.
-use Rattle.std.proofs.Common.{◌≡◌, ℕ, ◌+◌, ◌-◌, ◌<◌, true, false, Option, List, [], ◌∷◌, ◌++◌, Result, Ok, Err, OnOk, OnErr, is_err, length, take, drop, refl, sym, ap, subst, ◌∙◌, append_assoc, append-nil, arith, inl, inr, cond, eqb, length-append, take-append-drop, eq-eqb}
+use Rattle.std.proofs.Common.{◌≡◌, ℕ, ◌+◌, ◌-◌, ◌<◌, true, false, Option, List, [], ◌∷◌, ◌++◌, Result, Ok, Err, OnOk, OnErr, is_err, length, take, drop, refl}
+use Rattle.std.proofs.Common.{sym, ap, subst, ◌∙◌, append_assoc, append-nil, arith, inl, inr, cond, eqb, length-append, take-append-drop, eq-eqb}
 use Rattle.std.proofs.lemmas.List.{take-append-le}
 use Rattle.std.proofs.Math.Seq.{take-append-add}
 use Rattle.std.proofs.lemmas.Bool.{cases_lt, ne_eqb}
@@ -14,7 +15,8 @@ use Rattle.strkw_cli.proofs.LineLemmas.{ended_lines-append, lines-append}
 use Rattle.strkw_cli.proofs.AnswerLemmas.{AreAnswers-append, AreAnswers-one, none_ended}
 
 -- the same after the lines that were answered before
-pub AnswersSome-after : (front requests : List (List ℕ)) (made written : List ℕ) → AreAnswers front made → AnswersSome requests written → AnswersSome (front ++ requests) (made ++ written)
+pub AnswersSome-after : (front requests : List (List ℕ)) (made written : List ℕ) → AreAnswers front made → AnswersSome requests written
+    → AnswersSome (front ++ requests) (made ++ written)
 AnswersSome-after front requests made written are some = record {
   answered = front ++ some.answered;
   later = some.later;
@@ -22,7 +24,9 @@ AnswersSome-after front requests made written are some = record {
   wrote = AreAnswers-append front some.answered made written are some.wrote;
 }
 
-pub IsCutShort-after : (front requests : List (List ℕ)) (made written : List ℕ) → AreAnswers front made → IsCutShort requests written → IsCutShort (front ++ requests) (made ++ written)
+-- and so it is with answers that are cut short
+pub IsCutShort-after : (front requests : List (List ℕ)) (made written : List ℕ) → AreAnswers front made → IsCutShort requests written
+    → IsCutShort (front ++ requests) (made ++ written)
 IsCutShort-after front requests made written are cut = record {
   answered = front ++ cut.answered;
   next = cut.next;
@@ -37,7 +41,8 @@ IsCutShort-after front requests made written are cut = record {
 }
 
 -- less than the answers to these lines is cut short
-cut_short : (answered later : List (List ℕ)) (out : List ℕ) (count : ℕ) → AreAnswers answered out → count < length out → IsCutShort (answered ++ later) (take count out)
+cut_short : (answered later : List (List ℕ)) (out : List ℕ) (count : ℕ) → AreAnswers answered out → count < length out
+    → IsCutShort (answered ++ later) (take count out)
 cut_short [] later out count none short = let few : count < 0 = subst (λ x. count < length x) none short in absurd (omega (arith, few))
 cut_short (line ∷ more) later out count (first, rest, is, are, e) short = elim (cases_lt count (length first)) [
   | inl here ↦ record {
@@ -62,7 +67,8 @@ cut_short (line ∷ more) later out count (first, rest, is, are, e) short = elim
 ]
 
 -- less than the answers to some beginning of the lines is cut short
-pub cut_short_from_some : (requests : List (List ℕ)) (out : List ℕ) (count : ℕ) → AnswersSome requests out → count < length out → IsCutShort requests (take count out)
+pub cut_short_from_some : (requests : List (List ℕ)) (out : List ℕ) (count : ℕ) → AnswersSome requests out → count < length out
+    → IsCutShort requests (take count out)
 cut_short_from_some requests out count some short = rw some.of_requests (cut_short some.answered some.later out count some.wrote short)
 
 -- the answers to some beginning of the lines that end
@@ -86,7 +92,8 @@ pub some_none : (requests : List (List ℕ)) → AnswersSome requests []
 some_none requests = record { answered = []; later = requests; of_requests = refl; wrote = refl }
 
 -- whether a piece was answered whole or not
-pub some_either : {T E : Type 0} (r : Result T E) (old out : List ℕ) (requests : List (List ℕ)) → old ≡ [] → OnOk r ((made : List ℕ) × (out ≡ old ++ made) × AreAnswers requests made)
+pub some_either : {T E : Type 0} (r : Result T E) (old out : List ℕ) (requests : List (List ℕ)) → old ≡ []
+    → OnOk r ((made : List ℕ) × (out ≡ old ++ made) × AreAnswers requests made)
     → OnErr r ((written : List ℕ) × (out ≡ old ++ written) × AnswersSome requests written) → AnswersSome requests out
 some_either (Ok x) old out requests none (made, is, are) part = subst (AnswersSome requests) (sym (is ∙ ap (λ x. x ++ made) none)) (some_all requests made are)
 some_either (Err x) old out requests none whole (written, is, some) = subst (AnswersSome requests) (sym (is ∙ ap (λ x. x ++ written) none)) some
@@ -99,7 +106,8 @@ written_short (Ok x) a b requests out e short some = cc
 written_short (Err x) a b requests out e (count, short, took) some = (take count out, took, cut_short_from_some requests out count some short)
 
 -- what a whole write has written
-pub written_whole : {T E : Type 0} (r : Result T E) (a b : Option (List ℕ)) (out : List ℕ) (whole : List (List ℕ)) → is_err r ≡ false → OnOk r (Appends a b out) → AreAnswers whole out
+pub written_whole : {T E : Type 0} (r : Result T E) (a b : Option (List ℕ)) (out : List ℕ) (whole : List (List ℕ)) → is_err r ≡ false → OnOk r (Appends a b out)
+    → AreAnswers whole out
     → (written : List ℕ) × Appends a b written × AreAnswers whole written
 written_whole (Ok x) a b out whole e took are = (out, took, are)
 written_whole (Err x) a b out whole e took are = cc
@@ -115,16 +123,20 @@ unfolding lines
 lines-last_one line begun some = rw (none_ended line begun, begun, ne_eqb (length line) 0 some) refl
 
 -- a part of a run, after the lines that were answered before
-pub Serves-after : {T : Type 0} (r : Result T RunFault) (whole : List (List ℕ)) (before more made written : List ℕ) → AreAnswers (ended_lines before) made → Serves r whole (last_part before ++ more) written
+pub Serves-after : {T : Type 0} (r : Result T RunFault) (whole : List (List ℕ)) (before more made written : List ℕ) → AreAnswers (ended_lines before) made
+    → Serves r whole (last_part before ++ more) written
     → Serves r (ended_lines before ++ whole) (before ++ more) (made ++ written)
 Serves-after (Ok x) whole before more made written are s = AreAnswers-append (ended_lines before) whole made written are s
 Serves-after (Err Read) whole before more made written are s = s
 Serves-after (Err TooLong) whole before more made written are s = s
-Serves-after (Err Memory) whole before more made written are s = rw (ended_lines-append before more) (AnswersSome-after (ended_lines before) (ended_lines (last_part before ++ more)) made written are s)
-Serves-after (Err Write) whole before more made written are s = rw (lines-append before more) (IsCutShort-after (ended_lines before) (lines (last_part before ++ more)) made written are s)
+Serves-after (Err Memory) whole before more made written are s =
+    rw (ended_lines-append before more) (AnswersSome-after (ended_lines before) (ended_lines (last_part before ++ more)) made written are s)
+Serves-after (Err Write) whole before more made written are s =
+    rw (lines-append before more) (IsCutShort-after (ended_lines before) (lines (last_part before ++ more)) made written are s)
 
 -- the fault of a part of a run is that of the run
-pub outcome_from_fault : (U : Type 0) (e : RunFault) (whole : List (List ℕ)) (read written : List ℕ) → Serves {T = U} (Err e) whole read written → IsFaultOutcome e read written
+pub outcome_from_fault : (U : Type 0) (e : RunFault) (whole : List (List ℕ)) (read written : List ℕ) → Serves {T = U} (Err e) whole read written
+    → IsFaultOutcome e read written
 outcome_from_fault U Read whole read written s = absurd s
 outcome_from_fault U TooLong whole read written s = absurd s
 outcome_from_fault U Memory whole read written s = s

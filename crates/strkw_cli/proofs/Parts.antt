@@ -1,5 +1,6 @@
 -- What the members of a request come to, one member after another.
-use Rattle.std.proofs.Common.{◌≡◌, ℕ, List, Bool, true, false, ◌&&◌, bytes_eq, codes, Option, Some, option_map, option_and_then, Ordering, Less, Equal, Greater, is_eq, nat_cmp, refl, sym, ap, ◌∙◌, true≢false, if◌then◌else◌}
+use Rattle.std.proofs.Common.{◌≡◌, ℕ, List, Bool, true, false, ◌&&◌, bytes_eq, codes, Option, Some, option_map, option_and_then, Ordering, Less, Equal, Greater}
+use Rattle.std.proofs.Common.{is_eq, nat_cmp, refl, sym, ap, ◌∙◌, true≢false, if◌then◌else◌}
 use Rattle.std.proofs.lemmas.Map.Text.{is_eq-slice_cmp}
 use Rattle.std.proofs.lemmas.Slice.Eq.{bytes_eq-Decides}
 use Rattle.std.specs.Cmp.Lexicographic.{slice_cmp}
@@ -7,12 +8,14 @@ use Rattle.std.specs.Ordering.{match_ordering}
 use Rattle.serde_json.specs.Data.{Data, Members, no_members, member, put}
 use Rattle.serde_json.specs.Find.{get_member, as_str, as_object}
 use Rattle.serde_json.proofs.Views.{get_member-put, get_member-put_other}
-use Rattle.strkw_cli.specs.Request.{draft_in, flag_in, is_request_key, has_only_request_keys}
+use Rattle.strkw_report.specs.Drafts.{draft_in}
+use Rattle.strkw_cli.specs.Request.{flag_in, is_request_key, has_only_request_keys}
 use Rattle.strkw_cli.specs.Parts.{AreParts, Takes, after, schema_of, instance_of}
 use Rattle.strkw_cli.specs.declared.request.Parts.{Parts}
 
 -- ---- the part of one name
 
+-- a put changes what comes of the value at its own name alone, and to the new one's
 by_name : {A : Type 0} (f : Option Data → A) (name k : List ℕ) (same : Bool) → bytes_eq name k ≡ same → (d : Data) (ms : Members)
     → f (get_member name (put k d ms)) ≡ (if same then f (Some d) else f (get_member name ms))
 by_name f name k true is d ms =
@@ -20,24 +23,31 @@ by_name f name k true is d ms =
 by_name f name k false is d ms =
     ap f (get_member-put_other name k d ms (λ same. absurd (true≢false (sym ((bytes_eq-Decides name k).1 same) ∙ is))))
 
-part_taken : {A : Type 0} (f : Option Data → A) (name k : List ℕ) (d : Data) (ms : Members) (was is : A) → was ≡ f (get_member name ms) → is ≡ after name k (f (Some d)) was
+-- the part of a name, after a member was taken, is that of the members with this one
+part_taken : {A : Type 0} (f : Option Data → A) (name k : List ℕ) (d : Data) (ms : Members) (was is : A) → was ≡ f (get_member name ms)
+    → is ≡ after name k (f (Some d)) was
     → is ≡ f (get_member name (put k d ms))
 part_taken f name k d ms was is before takes =
     takes ∙ ap (after name k (f (Some d))) before ∙ sym (by_name f name k (bytes_eq name k) refl d ms)
 
 -- ---- no other names
 
+-- to ask the first of two conditions twice changes nothing
 asked_twice : (a b : Bool) → (a && b) ≡ (a && (a && b))
 asked_twice true b = refl
 asked_twice false b = refl
 
+-- of three conditions the first two may change places
 swapped : (a b c : Bool) → (a && (b && c)) ≡ (b && (a && c))
 swapped true b c = refl
 swapped false true c = refl
 swapped false false c = refl
 
-only_by_order : (o : Ordering) (k l : List ℕ) (d e : Data) (ms : Members) → slice_cmp nat_cmp k l ≡ o → has_only_request_keys (put k d ms) ≡ (is_request_key k && has_only_request_keys ms)
-    → has_only_request_keys (match_ordering o (member k d (member l e ms)) (member l d ms) (member l e (put k d ms))) ≡ (is_request_key k && has_only_request_keys (member l e ms))
+-- after a put, by how two names compare, all are a request's exactly where new and old are
+only_by_order : (o : Ordering) (k l : List ℕ) (d e : Data) (ms : Members) → slice_cmp nat_cmp k l ≡ o
+    → has_only_request_keys (put k d ms) ≡ (is_request_key k && has_only_request_keys ms)
+    → has_only_request_keys (match_ordering o (member k d (member l e ms)) (member l d ms) (member l e (put k d ms)))
+    ≡ (is_request_key k && has_only_request_keys (member l e ms))
 only_by_order Less k l d e ms is later = refl
 only_by_order Equal k l d e ms is later =
     let same : k ≡ l = (bytes_eq-Decides k l).0 (sym (is_eq-slice_cmp k l) ∙ ap is_eq is) in
@@ -45,12 +55,14 @@ only_by_order Equal k l d e ms is later =
 only_by_order Greater k l d e ms is later =
     ap (λ b. is_request_key l && b) later ∙ swapped (is_request_key l) (is_request_key k) (has_only_request_keys ms)
 
+-- after a put, all names are a request's exactly where the new one and the old ones are
 only_put : (k : List ℕ) (d : Data) (ms : Members) → has_only_request_keys (put k d ms) ≡ (is_request_key k && has_only_request_keys ms)
 only_put k d no_members = refl
 only_put k d (member l e ms) = only_by_order (slice_cmp nat_cmp k l) k l d e ms refl (only_put k d ms)
 
 -- ---- all parts
 
+-- the parts of an object, after a member was taken, are those of the object with this member
 pub parts_taken : (name : List ℕ) (d : Data) (p q : Parts) (ms : Members) → Takes name d p q → AreParts p ms → AreParts q (put name d ms)
 parts_taken name d p q ms takes are = record {
   draft = part_taken (option_and_then draft_in) (codes "draft") name d ms _ _ are.draft takes.draft;
@@ -64,18 +76,22 @@ parts_taken name d p q ms takes are = record {
 
 -- ---- a name that is none of a request
 
+-- names that are not the same do not compare as equal
 differ : (a b : List ℕ) → (b ≡ a → ⊥) → bytes_eq a b ≡ false
 differ a b apart = by_test (bytes_eq a b) refl
   where
+    -- whatever the test of equality answers, it is false
     by_test : (same : Bool) → bytes_eq a b ≡ same → same ≡ false
     by_test true is = absurd (apart (sym ((bytes_eq-Decides a b).0 is)))
     by_test false is = refl
 
+-- nor do they the other way round
 differ_too : (a b : List ℕ) → (a ≡ b → ⊥) → bytes_eq a b ≡ false
 differ_too a b apart = differ a b (λ same. apart (sym same))
 
 module _ (name : List ℕ) (d : Data) (p : Parts) (draft : name ≡ codes "draft" → ⊥) (schema : name ≡ codes "schema" → ⊥) (instance : name ≡ codes "instance" → ⊥)
     (validate : name ≡ codes "validate_formats" → ⊥) (ignore : name ≡ codes "ignore_unknown_formats" → ⊥) (fold : name ≡ codes "fold" → ⊥) where
+  -- a name that is none of the six is no name of a request
   is_none : is_request_key name ≡ false
   is_none = rw (
     differ_too name (codes "draft") draft,
@@ -86,9 +102,11 @@ module _ (name : List ℕ) (d : Data) (p : Parts) (draft : name ≡ codes "draft
     differ_too name (codes "fold") fold,
   ) refl
 
+  -- a part of another name is as it was
   as_it_was : {A : Type 0} (own was : A) (part : List ℕ) → (name ≡ part → ⊥) → was ≡ after part name own was
   as_it_was own was part apart = sym (ap (λ same. if same then own else was) (differ part name apart))
 
+  -- a member of such a name changes no part, but then not all names are a request's
   pub unknown_taken : Takes name d p (record {
     draft = p.draft;
     schema = p.schema;

@@ -1,5 +1,6 @@
 -- What a run keeps from piece to piece.
-use Rattle.std.proofs.Common.{◌≡◌, ℕ, ◌+◌, ◌-◌, ◌^◌, ◌<◌, ◌≤◌, Option, Some, None, List, ◌++◌, [], Result, Ok, Err, length, take, sym, ap, subst, ◌∙◌, arith, length-append, append-nil, refl, IfSome}
+use Rattle.std.proofs.Common.{◌≡◌, ℕ, ◌+◌, ◌-◌, ◌^◌, ◌<◌, ◌≤◌, Option, Some, None, List, ◌++◌, [], Result, Ok, Err, length, take, sym, ap, subst, ◌∙◌, arith}
+use Rattle.std.proofs.Common.{length-append, append-nil, refl, IfSome}
 use Rattle.std.specs.Io.KnownBytes.{Appends, Consumes, Keeps}
 use Rattle.std.proofs.KnownBytes.{Consumes-nil, Appends-nil, Consumes-trans, Consumes-kept, Appends-trans}
 use Rattle.strkw_cli.specs.Lines.{parts, ended_lines, last_part, lines}
@@ -15,8 +16,8 @@ use Rattle.strkw_cli.proofs.AnswerLemmas.{AreAnswers-append}
 use Rattle.strkw_cli.proofs.OutcomeLemmas.{Serves-after, outcome_from_fault}
 use Rattle.strkw_cli.proofs.BoundLemmas.{fits_none, past_from_taken, taken_whole, within_none}
 
--- So many reads have each given bytes; each line that has ended is answered, and the line that is kept is what follows. No
--- line is longer than the bound.
+-- So many reads have each given bytes; each line that has ended is answered, and the line that is kept is what follows.
+-- No line is longer than the bound.
 pub record Runs (bound : Option ℕ) (left left' taken taken' : Option (List ℕ)) (line : List ℕ) (reads : ℕ) : Type 0 where
   pub read : List ℕ
   pub consumed : Consumes left left' read
@@ -27,6 +28,7 @@ pub record Runs (bound : Option ℕ) (left left' taken taken' : Option (List ℕ
   pub short : HasShortLines bound read
   pub counted : reads ≤ length read
 
+-- where there are no bytes, no line ends, and the last part is empty
 pub none_read : (ended_lines [] ≡ []) × (last_part [] ≡ [])
 unfolding ended_lines last_part parts
 none_read = (refl, refl)
@@ -45,36 +47,57 @@ Runs-start bound left taken = record {
 }
 
 -- what is kept is a last part
-pub Runs-begun : {bound : Option ℕ} {left left' taken taken' : Option (List ℕ)} {line : List ℕ} {reads : ℕ} → Runs bound left left' taken taken' line reads → last_part line ≡ line
+pub Runs-begun : {bound : Option ℕ} {left left' taken taken' : Option (List ℕ)} {line : List ℕ} {reads : ℕ} → Runs bound left left' taken taken' line reads
+    → last_part line ≡ line
 Runs-begun runs = rw runs.begun (last_part-again runs.read)
 
 -- the line that is kept is within the bound
-pub Runs-fits : (bound : Option ℕ) {left left' taken taken' : Option (List ℕ)} {line : List ℕ} {reads : ℕ} → Runs bound left left' taken taken' line reads → IfSome bound (λ longest. length line ≤ longest)
+pub Runs-fits : (bound : Option ℕ) {left left' taken taken' : Option (List ℕ)} {line : List ℕ} {reads : ℕ} → Runs bound left left' taken taken' line reads
+    → IfSome bound (λ longest. length line ≤ longest)
 Runs-fits None runs = tt
 Runs-fits (Some longest) runs = omega (arith, ap length runs.begun, runs.short.1)
 
-module _ (bound : Option ℕ) (left left' left'' taken taken' taken'' : Option (List ℕ)) (line : List ℕ) (reads : ℕ) (runs : Runs bound left left' taken taken' line reads) where
+module _ (bound : Option ℕ) (left left' left'' taken taken' taken'' : Option (List ℕ)) (line : List ℕ) (reads : ℕ)
+    (runs : Runs bound left left' taken taken' line reads) where
   -- what a run has read and written
   abbrev pub HasWritten : Result Ending RunFault → Type 0
   HasWritten r = (read : List ℕ) × (written : List ℕ) × Consumes left left'' read × Appends taken taken'' written × IsOutcomeWithin bound r read written
 
   -- the clause of a run at a fault of the source
-  pub written_at_read_fault : Keeps left' left'' → (read : List ℕ) × (written : List ℕ) × Consumes left left'' read × Appends taken taken' written × IsOutcomeWithin bound (Err Read) read written
-  written_at_read_fault kept =
-      (runs.read, runs.written, Consumes-kept left left' left'' runs.read runs.consumed kept, runs.took, (runs.read, taken_whole bound runs.read runs.short, runs.answered))
+  pub written_at_read_fault : Keeps left' left'' → (read : List ℕ) × (written : List ℕ) × Consumes left left'' read × Appends taken taken' written
+      × IsOutcomeWithin bound (Err Read) read written
+  written_at_read_fault kept = (
+    runs.read,
+    runs.written,
+    Consumes-kept left left' left'' runs.read runs.consumed kept,
+    runs.took,
+    (runs.read, taken_whole bound runs.read runs.short, runs.answered),
+  )
 
   -- the clause of a run after so many reads
-  pub written_at_too_long : 2 ^ 64 - 1 ≤ reads → (read : List ℕ) × (written : List ℕ) × Consumes left left' read × Appends taken taken' written × IsOutcomeWithin bound (Err TooLong) read written
-  written_at_too_long many =
-      (runs.read, runs.written, runs.consumed, runs.took, (runs.read, taken_whole bound runs.read runs.short, (runs.answered, omega (arith, many, runs.counted))))
+  pub written_at_too_long : 2 ^ 64 - 1 ≤ reads → (read : List ℕ) × (written : List ℕ) × Consumes left left' read × Appends taken taken' written
+      × IsOutcomeWithin bound (Err TooLong) read written
+  written_at_too_long many = (
+    runs.read,
+    runs.written,
+    runs.consumed,
+    runs.took,
+    (
+      runs.read,
+      taken_whole bound runs.read runs.short,
+      (runs.answered, omega (arith, many, runs.counted)),
+    ),
+  )
 
   -- what the last part of the run has served, after what was served before
   pub written_at_last : {T : Type 0} (r : Result T RunFault) → Consumes left' left'' []
       → (written : List ℕ) × Appends taken' taken'' written × Serves r (lines line) line written
-      → (read : List ℕ) × (written : List ℕ) × Consumes left left'' read × Appends taken taken'' written × HasShortLines bound read × Serves r (lines read) read written
+      → (read : List ℕ) × (written : List ℕ) × Consumes left left'' read × Appends taken taken'' written × HasShortLines bound read
+      × Serves r (lines read) read written
   written_at_last r none (written, took, serves) =
       let begun : line ≡ last_part runs.read ++ [] = runs.begun ∙ sym (append-nil (last_part runs.read)) in
-      let all : ended_lines runs.read ++ lines line ≡ lines (runs.read ++ []) = ap (λ l. ended_lines runs.read ++ lines l) begun ∙ sym (lines-append runs.read []) in
+      let all : ended_lines runs.read ++ lines line ≡ lines (runs.read ++ []) = ap (λ l. ended_lines runs.read ++ lines l) begun
+      ∙ sym (lines-append runs.read []) in
       let joined = Serves-after r (lines line) runs.read [] runs.written written runs.answered (subst (λ l. Serves r (lines line) l written) begun serves) in (
         runs.read ++ [],
         runs.written ++ written,
@@ -89,8 +112,18 @@ module _ (bound : Option ℕ) (left left' left'' taken taken' taken'' : Option (
       → (written : List ℕ) × Appends taken' taken'' written × Serves r (lines line) line written
       → HasWritten (Err e)
   written_at_last_fault {T} r e is none served =
-      let (read, written, consumed, took, short, serves) = written_at_last r none served in
-      (read, written, consumed, took, (read, taken_whole bound read short, outcome_from_fault T e (lines read) read written (subst (λ s. Serves s (lines read) read written) is serves)))
+      let (read, written, consumed, took, short, serves) = written_at_last r none served in (
+        read,
+        written,
+        consumed,
+        took,
+        (
+          read,
+          taken_whole bound read short,
+          outcome_from_fault T e (lines read) read written
+              (subst (λ s. Serves s (lines read) read written) is serves),
+        ),
+      )
 
   -- and at the end
   pub written_at_end : {T : Type 0} (r : Result T RunFault) (done : T) → r ≡ Ok done → Consumes left' left'' []
@@ -123,12 +156,14 @@ module _ (bound : Option ℕ) (left left' left'' taken taken' taken'' : Option (
   }
 
   -- the clause of a run at a fault while the front of a piece is served
-  pub written_at_fault : (U : Type 0) (e : RunFault) (piece front : List ℕ) → Consumes left' left'' piece → IsTaken bound (runs.read ++ piece) (runs.read ++ front)
+  pub written_at_fault : (U : Type 0) (e : RunFault) (piece front : List ℕ) → Consumes left' left'' piece
+      → IsTaken bound (runs.read ++ piece) (runs.read ++ front)
       → (written : List ℕ) × Appends taken' taken'' written × Serves {T = U} (Err e) (ended_lines (line ++ front)) (line ++ front) written
       → HasWritten (Err e)
   written_at_fault U e piece front consumed is (written, took, serves) =
       let whole = ended_lines (line ++ front) in
-      let joined = Serves-after {T = U} (Err e) whole runs.read front runs.written written runs.answered (subst (λ l. Serves {T = U} (Err e) whole (l ++ front) written) runs.begun serves) in (
+      let joined = Serves-after {T = U} (Err e) whole runs.read front runs.written written runs.answered
+      (subst (λ l. Serves {T = U} (Err e) whole (l ++ front) written) runs.begun serves) in (
         runs.read ++ piece,
         runs.written ++ written,
         Consumes-trans left left' left'' runs.read piece runs.consumed consumed,
@@ -137,7 +172,8 @@ module _ (bound : Option ℕ) (left left' left'' taken taken' taken'' : Option (
       )
 
   -- the clause of a run where a line of a piece is too long, and the bytes before it were served
-  pub written_at_long_line : (piece : List ℕ) (count : ℕ) → Consumes left' left'' piece → count < length piece → IsTaken bound (runs.read ++ piece) (runs.read ++ take count piece)
+  pub written_at_long_line : (piece : List ℕ) (count : ℕ) → Consumes left' left'' piece → count < length piece
+      → IsTaken bound (runs.read ++ piece) (runs.read ++ take count piece)
       → (written : List ℕ) × Appends taken' taken'' written × AreAnswers (ended_lines (line ++ take count piece)) written
       → HasWritten (Ok AtLongLine)
   written_at_long_line piece count consumed few is (written, took, are) = (

@@ -1,16 +1,18 @@
 -- The answer to a line, and to lines: a relation, since it stands on facts that no test decides.
-use Rattle.std.specs.Prelude.{◌≡◌, ℕ, List, [], ◌∷◌, ◌++◌, false, Option, Some, None, option_and_then, codes}
+use Rattle.std.specs.Prelude.{◌≡◌, ℕ, List, [], ◌∷◌, ◌++◌, false, Option, Some, None}
+use Rattle.std.specs.Prelude.{option_and_then, codes}
 use Rattle.serde_json.specs.Data.{Data}
 use Rattle.strkw_report.specs.Kinds.{Report}
 use Rattle.strkw_report.specs.Refusals.{Refusal}
-use Rattle.strkw_report.specs.declared.error.Site.{Site}
+use Rattle.strkw_report.specs.Standings.{root_site}
 use Rattle.strkw_pattern.specs.declared.engine.Outcome.TheVariants.{NoMatch}
 use Rattle.strkw_keywords.specs.declared.options.Options.{Options}
 use Rattle.strkw_keywords.specs.Meanings.{no_lists}
 use Rattle.strkw_keywords.specs.Remarks.{Remark}
 use Rattle.strkw_keywords.specs.Object.{Settings, default_options, Errors, FirstRefusal, Notes}
 use Rattle.strkw_keywords.specs.Folding.{FoldsToFalse}
-use Rattle.strkw_cli.specs.Request.{Request, IsReading, request_in}
+use Rattle.strkw_json.specs.Json.{IsReading}
+use Rattle.strkw_cli.specs.Request.{Request, request_in}
 use Rattle.strkw_cli.specs.Printed.{refused_line, TellsFold, verdict_lines, note_lines}
 use Rattle.strkw_cli.specs.Lines.{lines}
 
@@ -25,8 +27,8 @@ options_for r = record {
   overridden = default_options.overridden;
 }
 
--- What the schema object of a request is compiled under: it stands at the root, there is no absolute prefix, no check
--- is registered, and the builder takes no pattern.
+-- What the schema object of a request is compiled under: it stands at the root, there is no
+-- absolute prefix, no check is registered, and the builder takes no pattern.
 abbrev pub settings_for : Request → Settings
 settings_for r = record {
   draft = r.draft;
@@ -36,10 +38,6 @@ settings_for r = record {
   takes = λ pattern. false;
   outcome = λ pattern text. NoMatch;
 }
-
--- the schema object and the instance both stand at the root
-abbrev pub root_site : Site
-root_site = record { evaluation = []; instance = [] }
 
 -- the answer to a request, by the first refusal of its schema object
 abbrev pub AnswersBy : Option Refusal → Request → List ℕ → Type 0
@@ -53,7 +51,8 @@ AnswersBy None r answer = (told : List ℕ) × (errors : List Report) × (notes 
 -- the answer to a request, or to what is none
 abbrev pub Answers : Option Request → List ℕ → Type 0
 Answers None answer = answer ≡ codes "bad request\nend\n"
-Answers (Some r) answer = (first : Option Refusal) × FirstRefusal (settings_for r) r.schema first × AnswersBy first r answer
+Answers (Some r) answer = (first : Option Refusal) × FirstRefusal (settings_for r) r.schema first
+    × AnswersBy first r answer
 
 -- The answer to one line.
 pub record IsAnswer (line answer : List ℕ) : Type 0 where
@@ -64,7 +63,8 @@ pub record IsAnswer (line answer : List ℕ) : Type 0 where
 -- the answers to lines, joined
 abbrev pub AreAnswers : List (List ℕ) → List ℕ → Type 0
 AreAnswers [] out = out ≡ []
-AreAnswers (line ∷ more) out = (first : List ℕ) × (rest : List ℕ) × IsAnswer line first × AreAnswers more rest × (out ≡ first ++ rest)
+AreAnswers (line ∷ more) out = (first : List ℕ) × (rest : List ℕ) × IsAnswer line first
+    × AreAnswers more rest × (out ≡ first ++ rest)
 
 -- The output for an input: the answers to its lines, joined.
 abbrev pub IsOutput : List ℕ → List ℕ → Type 0

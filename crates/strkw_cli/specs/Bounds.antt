@@ -1,5 +1,6 @@
 -- Lines that are no longer than a bound, and what is written where one is.
-use Rattle.std.specs.Prelude.{◌≡◌, ◌⊎◌, ◌≤◌, ℕ, false, List, [], ◌∷◌, ◌++◌, length, Option, Some, None, Result, Ok, Err, ⊤}
+use Rattle.std.specs.Prelude.{◌≡◌, ◌⊎◌, ◌≤◌, ℕ, false, List, [], ◌∷◌, ◌++◌, length, Option, Some}
+use Rattle.std.specs.Prelude.{None, Result, Ok, Err, ⊤}
 use Rattle.strkw_cli.specs.Answer.{AreAnswers, IsOutput}
 use Rattle.strkw_cli.specs.Lines.{ended_lines, is_line_feed, last_part}
 use Rattle.strkw_cli.specs.Outcome.{IsFaultOutcome}
@@ -30,15 +31,16 @@ GoesPast (Some longest) bytes [] = ⊥
 GoesPast (Some longest) bytes (byte ∷ rest) =
     (length (last_part bytes) ≡ longest) × (is_line_feed byte ≡ false)
 
--- What a run has taken of the bytes that it read: all of them, or those before the first byte by which a line is
--- longer than the bound.
+-- What a run has taken of the bytes that it read: all of them, or those before the first byte by
+-- which a line is longer than the bound.
 pub record IsTaken (bound : Option ℕ) (read taken : List ℕ) : Type 0 where
   pub rest : List ℕ
   pub splits : read ≡ taken ++ rest
   pub short : HasShortLines bound taken
   pub stops : (rest ≡ []) ⊎ GoesPast bound taken rest
 
--- A line of what was read is longer than the bound, and the answers to the lines before it were written.
+-- A line of what was read is longer than the bound, and the answers to the lines before it were
+-- written.
 pub record StopsAtLongLine (bound : Option ℕ) (read written : List ℕ) : Type 0 where
   pub taken : List ℕ
   pub rest : List ℕ
@@ -47,7 +49,8 @@ pub record StopsAtLongLine (bound : Option ℕ) (read written : List ℕ) : Type
   pub goes_past : GoesPast bound taken rest
   pub answered : AreAnswers (ended_lines taken) written
 
--- What is written for the bytes read, by the result of a run within a bound: where it is at the end, no line is longer.
+-- What is written for the bytes read, by the result of a run within a bound: where it is at the
+-- end, no line is longer.
 abbrev pub IsOutcomeWithin : Option ℕ → Result Ending RunFault → List ℕ → List ℕ → Type 0
 IsOutcomeWithin bound (Ok AtEnd) read written = HasShortLines bound read × IsOutput read written
 IsOutcomeWithin bound (Ok AtLongLine) read written = StopsAtLongLine bound read written

@@ -1,4 +1,3 @@
-pub mod Compiled
 pub mod Request
 pub mod Borrowed
 pub mod Printed

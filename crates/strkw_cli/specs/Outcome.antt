@@ -25,11 +25,13 @@ pub record IsCutShort (requests : List (List ℕ)) (written : List ℕ) : Type 0
   pub of_next : IsAnswer next (begun ++ missing)
   pub wrote : written ≡ whole ++ begun
 
--- What is written for the bytes read, by the fault that a run ended with. After a fault of reading, of memory or of length,
--- only lines whose line feed was read are answered, and each of their answers is whole.
+-- What is written for the bytes read, by the fault that a run ended with. After a fault of reading,
+-- of memory or of length, only lines whose line feed was read are answered, and each of their
+-- answers is whole.
 abbrev pub IsFaultOutcome : RunFault → List ℕ → List ℕ → Type 0
 IsFaultOutcome Read read written = AreAnswers (ended_lines read) written
-IsFaultOutcome TooLong read written = AreAnswers (ended_lines read) written × (2 ^ 64 - 1 ≤ length read)
+IsFaultOutcome TooLong read written = AreAnswers (ended_lines read) written
+    × (2 ^ 64 - 1 ≤ length read)
 IsFaultOutcome Memory read written = AnswersSome (ended_lines read) written
 IsFaultOutcome Write read written = IsCutShort (lines read) written
 

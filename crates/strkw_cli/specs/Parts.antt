@@ -1,11 +1,13 @@
--- What the members of a request come to, as they are read. The functions below `read_request` speak of it, and no public
--- clause does.
-use Rattle.std.specs.Prelude.{◌≡◌, ◌&&◌, ℕ, List, Option, Some, option_map, option_and_then, codes, if◌then◌else◌}
+-- What the members of a request come to, as they are read. The functions below `read_request` speak
+-- of it, and no public clause does.
+use Rattle.std.specs.Prelude.{◌≡◌, ◌&&◌, ℕ, List, Option, Some, option_map, option_and_then, codes}
+use Rattle.std.specs.Prelude.{if◌then◌else◌}
 use Rattle.std.specs.Str.{bytes_eq}
 use Rattle.serde_json.specs.Data.{Data, Members}
 use Rattle.serde_json.specs.Find.{get_member, as_str, as_object}
 use Rattle.serde_json.specs.View.{members_view}
-use Rattle.strkw_cli.specs.Request.{draft_in, flag_in, is_request_key, has_only_request_keys}
+use Rattle.strkw_report.specs.Drafts.{draft_in}
+use Rattle.strkw_cli.specs.Request.{flag_in, is_request_key, has_only_request_keys}
 use Rattle.strkw_cli.specs.declared.request.Parts.{Parts}
 
 -- the schema object, and the text of the instance, that parts hold
@@ -21,7 +23,8 @@ pub record AreParts (p : Parts) (ms : Members) : Type 0 where
   pub schema : schema_of p ≡ option_and_then as_object (get_member (codes "schema") ms)
   pub instance : instance_of p ≡ option_map as_str (get_member (codes "instance") ms)
   pub validate_formats : p.validate_formats ≡ flag_in (get_member (codes "validate_formats") ms)
-  pub ignore_unknown_formats : p.ignore_unknown_formats ≡ flag_in (get_member (codes "ignore_unknown_formats") ms)
+  pub ignore_unknown_formats : p.ignore_unknown_formats
+      ≡ flag_in (get_member (codes "ignore_unknown_formats") ms)
   pub fold : p.fold ≡ flag_in (get_member (codes "fold") ms)
   pub known : p.has_only_request_keys ≡ has_only_request_keys ms
 
@@ -34,8 +37,10 @@ pub record Takes (name : List ℕ) (d : Data) (p q : Parts) : Type 0 where
   pub draft : q.draft ≡ after (codes "draft") name (draft_in d) p.draft
   pub schema : schema_of q ≡ after (codes "schema") name (as_object d) (schema_of p)
   pub instance : instance_of q ≡ after (codes "instance") name (Some (as_str d)) (instance_of p)
-  pub validate_formats : q.validate_formats ≡ after (codes "validate_formats") name (flag_in (Some d)) p.validate_formats
-  pub ignore_unknown_formats : q.ignore_unknown_formats ≡ after (codes "ignore_unknown_formats") name (flag_in (Some d))
+  pub validate_formats : q.validate_formats
+      ≡ after (codes "validate_formats") name (flag_in (Some d)) p.validate_formats
+  pub ignore_unknown_formats : q.ignore_unknown_formats
+      ≡ after (codes "ignore_unknown_formats") name (flag_in (Some d))
       p.ignore_unknown_formats
   pub fold : q.fold ≡ after (codes "fold") name (flag_in (Some d)) p.fold
   pub known : q.has_only_request_keys ≡ (is_request_key name && p.has_only_request_keys)

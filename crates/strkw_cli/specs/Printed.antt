@@ -1,7 +1,8 @@
 -- The lines of an answer, each ended by a line feed.
-use Rattle.std.specs.Prelude.{◌≡◌, ◌⊎◌, ℕ, List, [], ◌∷◌, ◌++◌, Bool, true, false, codes, map, if◌then◌else◌, nat_lt}
-use Rattle.std.specs.List.{All, flat_map}
-use Rattle.serde_json.specs.Written.{compact_text, has_float}
+use Rattle.std.specs.Prelude.{◌≡◌, ◌⊎◌, ℕ, List, [], ◌∷◌, ◌++◌, Bool, true, false, codes, map}
+use Rattle.std.specs.Prelude.{if◌then◌else◌, nat_lt}
+use Rattle.std.specs.List.{flat_map}
+use Rattle.serde_json.specs.Written.{compact_text}
 use Rattle.strkw_report.specs.Kinds.{Report, text_of}
 use Rattle.strkw_report.specs.Refusals.{Refusal, explanation}
 use Rattle.strkw_keywords.specs.Remarks.{Remark}
@@ -31,7 +32,8 @@ verdict_lines (r ∷ rs) = flat_map error_line (r ∷ rs)
 -- what is told of folding: nothing where it is not asked, or else whether P holds
 abbrev pub TellsFold : Bool → Type 0 → List ℕ → Type 0
 TellsFold false P told = told ≡ []
-TellsFold true P told = (P × (told ≡ codes "fold true\n")) ⊎ ((P → ⊥) × (told ≡ codes "fold false\n"))
+TellsFold true P told = (P × (told ≡ codes "fold true\n"))
+    ⊎ ((P → ⊥) × (told ≡ codes "fold false\n"))
 
 -- a note, its value as compact JSON text (RFC 8259)
 abbrev pub note_line : Remark → List ℕ
@@ -39,10 +41,3 @@ note_line r = line_of (codes "note") r.schema_path (compact_text r.value)
 
 abbrev pub note_lines : List Remark → List ℕ
 note_lines rs = flat_map note_line rs
-
--- the value of a note has a defined text: it holds no number but whole ones of 64 bits
-abbrev pub HasText : Remark → Type 0
-HasText r = has_float r.value ≡ false
-
-abbrev pub ArePrintable : List Remark → Type 0
-ArePrintable rs = All HasText rs

@@ -1,14 +1,16 @@
--- The request that a line is: JSON text (RFC 8259), as serde_json reads it, that is an object of certain members.
-use Rattle.std.specs.Prelude.{◌≡◌, ℕ, ◌==◌, List, ◌&&◌, ◌||◌, Bool, true, false, Option, Some, None, option_map, option_and_then, unwrap_or, codes, if◌then◌else◌}
+-- The request that a line is: JSON text (RFC 8259), as serde_json reads it, that is an object of
+-- certain members.
+use Rattle.std.specs.Prelude.{◌≡◌, ℕ, ◌==◌, List, ◌&&◌, ◌||◌, Bool, true, false, Option, Some, None}
+use Rattle.std.specs.Prelude.{option_map, option_and_then, unwrap_or, codes, if◌then◌else◌}
 use Rattle.std.specs.Str.{IsUtf8, bytes_eq}
 use Rattle.serde_json.specs.Data.{Data, Members, no_members, member}
 use Rattle.serde_json.specs.Find.{get_member, as_number, as_u64, as_bool, as_str, as_object}
 use Rattle.serde_json.specs.Read.{read as read_text}
 use Rattle.strkw_report.specs.declared.draft.Draft.{Draft}
-use Rattle.strkw_report.specs.declared.draft.Draft.TheVariants.{Draft4, Draft6, Draft7, Draft201909, Draft202012}
+use Rattle.strkw_report.specs.Drafts.{draft_in}
 
--- what is asked: the draft, the schema object, the instance's text, where it is one, two options, and whether the object
--- folds to false
+-- what is asked: the draft, the schema object, the instance's text, where it is one, two options,
+-- and whether the object folds to false
 pub record Request : Type 0 where
   pub draft : Draft
   pub schema : Members
@@ -16,22 +18,6 @@ pub record Request : Type 0 where
   pub validate_formats : Option Bool
   pub ignore_unknown_formats : Bool
   pub fold : Bool
-
--- the value that a line is, or that it is none: where it is no UTF-8 text, or no JSON
-abbrev pub IsReading : List ℕ → Option Data → Type 0
-IsReading line (Some d) = IsUtf8 line × (read_text line ≡ Some d)
-IsReading line None = IsUtf8 line → read_text line ≡ None
-
-abbrev pub draft_numbered : ℕ → Option Draft
-draft_numbered n =
-    if n == 4 then Some Draft4
-    else (if n == 6 then Some Draft6
-    else (if n == 7 then Some Draft7
-    else (if n == 201909 then Some Draft201909
-    else (if n == 202012 then Some Draft202012 else None))))
-
-abbrev pub draft_in : Data → Option Draft
-draft_in d = option_and_then draft_numbered (option_and_then as_u64 (as_number d))
 
 -- an option that may be left out: true, false, or not there
 abbrev pub flag_in : Option Data → Option (Option Bool)
@@ -41,17 +27,20 @@ flag_in (Some d) = option_map Some (as_bool d)
 abbrev pub is_request_key : List ℕ → Bool
 is_request_key k =
     bytes_eq k (codes "draft") || bytes_eq k (codes "schema") || bytes_eq k (codes "instance")
-    || bytes_eq k (codes "validate_formats") || bytes_eq k (codes "ignore_unknown_formats") || bytes_eq k (codes "fold")
+    || bytes_eq k (codes "validate_formats") || bytes_eq k (codes "ignore_unknown_formats")
+    || bytes_eq k (codes "fold")
 
 abbrev pub has_only_request_keys : Members → Bool
 has_only_request_keys no_members = true
 has_only_request_keys (member k d ms) = is_request_key k && has_only_request_keys ms
 
 -- the parts of a request, each of its kind
-abbrev pub request_of_parts : Option Draft → Option Members → Option (Option (List ℕ)) → Option (Option Bool) → Option (Option Bool) → Option (Option Bool)
+abbrev pub request_of_parts : Option Draft → Option Members → Option (Option (List ℕ))
+    → Option (Option Bool) → Option (Option Bool) → Option (Option Bool)
     → Option Request
 request_of_parts draft schema instance validate ignore fold =
-    option_and_then (λ d. option_and_then (λ s. option_and_then (λ i. option_and_then (λ v. option_and_then (λ g. option_map (λ f. record {
+    option_and_then (λ d. option_and_then (λ s.
+    option_and_then (λ i. option_and_then (λ v. option_and_then (λ g. option_map (λ f. record {
       draft = d;
       schema = s;
       instance = i;

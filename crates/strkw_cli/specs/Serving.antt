@@ -6,8 +6,8 @@ use Rattle.strkw_cli.specs.Outcome.{AnswersSome, IsCutShort}
 use Rattle.strkw_cli.specs.declared.faults.RunFault.{RunFault}
 use Rattle.strkw_cli.specs.declared.faults.RunFault.TheVariants.{Read, Write, Memory, TooLong}
 
--- The part is to answer the lines `whole` of these bytes. It reads nothing, and fails only by a refused growth or by the
--- sink.
+-- The part is to answer the lines `whole` of these bytes. It reads nothing, and fails only where
+-- it is out of memory or the sink fails.
 abbrev pub Serves : {T : Type 0} → Result T RunFault → List (List ℕ) → List ℕ → List ℕ → Type 0
 Serves (Ok done) whole bytes written = AreAnswers whole written
 Serves (Err Read) whole bytes written = ⊥

@@ -5,22 +5,23 @@ ghost use Rattle.strkw_keywords.specs.Handed.{settings_of};
 ghost use Rattle.strkw_keywords.specs.Lengths.{IsEmpty};
 ghost use Rattle.strkw_cli.specs.Answer.{Answers, IsAnswer, settings_for};
 ghost use Rattle.strkw_cli.specs.Borrowed.{request_view};
-ghost use Rattle.strkw_cli.specs.Compiled.{keywords_interval};
+ghost use Rattle.strkw_object.specs.Compiled.{keywords_interval};
 ghost use Rattle.strkw_cli.specs.Printed.{TellsFold};
 
-use super::compile::compile_owned;
 use super::printing::{push_bad_request, push_refusal};
 use super::request::{Request, read_request};
-use super::strings::StringKeywords;
+use super::writing::push_found;
 use json::Scratch;
 use std::alloc::{AllocError, Global};
 use strkw_keywords::{Checks, ContentCodec, Context, Format, MediaTypeCheck, Options};
+use strkw_object::{StringKeywords, compile_owned};
 use strkw_pattern::{EngineBuilder, NoPatterns, RegexEngine};
 use strkw_report::Location;
 
 /// Appends the answer to a line. Out of memory, the vector is as it was.
 pub fn answer(alloc: Global, line: &[u8], out: &mut Vec<u8>) -> Result<(), AllocError>
-    ensures ok { OnOk result ((made : List ℕ) × (out.new.items ≡ out.old.items ++ made) × IsAnswer line.now made) }
+    ensures ok { OnOk result ((made : List ℕ) × (out.new.items ≡ out.old.items ++ made)
+        × IsAnswer line.now made) }
     ensures err { OnErr result (out.new.items ≡ out.old.items) }
 {
     answer_with(alloc, line, &mut Scratch::new(alloc), out)
@@ -33,7 +34,8 @@ pub(super) fn answer_with(
     scratch: &mut Scratch,
     out: &mut Vec<u8>,
 ) -> Result<(), AllocError>
-    ensures ok { OnOk result ((made : List ℕ) × (out.new.items ≡ out.old.items ++ made) × IsAnswer line.now made) }
+    ensures ok { OnOk result ((made : List ℕ) × (out.new.items ≡ out.old.items ++ made)
+        × IsAnswer line.now made) }
     ensures err { OnErr result (out.new.items ≡ out.old.items) }
 {
     let before = out.len();
@@ -51,7 +53,8 @@ fn answer_line(
     scratch: &mut Scratch,
     out: &mut Vec<u8>,
 ) -> Result<(), AllocError>
-    ensures ok { OnOk result ((made : List ℕ) × (out.new.items ≡ out.old.items ++ made) × IsAnswer line.now made) }
+    ensures ok { OnOk result ((made : List ℕ) × (out.new.items ≡ out.old.items ++ made)
+        × IsAnswer line.now made) }
     ensures err { OnErr result ((more : List ℕ) × (out.new.items ≡ out.old.items ++ more)) }
 {
     match read_request(alloc, line, scratch)? {
@@ -60,10 +63,11 @@ fn answer_line(
     }
 }
 
-// Appends the answer to a request: the refusal of its schema object, or whether that folds to false, where this is asked,
-// with the errors and the notes of its instance.
+// Appends the answer to a request: the refusal of its schema object, or whether that folds to false, where this is
+// asked, with the errors and the notes of its instance.
 fn answer_request(alloc: Global, request: Request<'_>, out: &mut Vec<u8>) -> Result<(), AllocError>
-    ensures ok { OnOk result ((made : List ℕ) × (out.new.items ≡ out.old.items ++ made) × Answers (Some (request_view request.entry)) made) }
+    ensures ok { OnOk result ((made : List ℕ) × (out.new.items ≡ out.old.items ++ made)
+        × Answers (Some (request_view request.entry)) made) }
     ensures err { OnErr result ((more : List ℕ) × (out.new.items ≡ out.old.items ++ more)) }
 {
     let builder = NoPatterns;
@@ -71,7 +75,7 @@ fn answer_request(alloc: Global, request: Request<'_>, out: &mut Vec<u8>) -> Res
     match compile_owned(alloc, &ctx, request.schema) {
         Ok(keywords) => {
             push_fold(request.fold, &keywords, out)?;
-            keywords.push_found(alloc, request.instance, &ctx.checks, out)
+            push_found(alloc, &keywords, request.instance, &ctx.checks, out)
         }
         Err(refusal) => push_refusal(alloc, &refusal, out),
     }
@@ -103,7 +107,8 @@ fn context_of<'a>(
     request: &Request<'_>,
     builder: &'a NoPatterns,
 ) -> Context<'a, NoPatterns>
-    ensures { settings_of ⟦<NoPatterns as EngineBuilder>⟧.takes ⟦<NoPatterns as EngineBuilder>⟧.outcome
+    ensures { settings_of ⟦<NoPatterns as EngineBuilder>⟧.takes
+        ⟦<NoPatterns as EngineBuilder>⟧.outcome
         admits accepted encoded decoding result ≡ settings_for (request_view request.now) }
 {
     let mut options = Options::default();

@@ -1,25 +1,21 @@
-//! The string keywords of one JSON Schema object (`contentMediaType`, `contentEncoding`, `contentSchema`, `format`,
-//! `minLength`, `maxLength`, `pattern`), compiled and asked for the errors and the notes of an instance; and `run`,
-//! which answers requests, one to a line of JSON, from any source of bytes to any sink.
+//! Requests and their answers: `answer` answers one line of JSON, and `run` each line of any source of bytes to any
+//! sink. What compiles a schema object and asks it of an instance stands in `strkw_object`, and is handed on.
 #![tactic(auto)]
 
 mod answering;
-mod compile;
 mod faults;
 pub mod laws;
 mod printing;
 mod request;
 mod running;
-mod strings;
 mod writing;
 
 pub use answering::answer;
-pub use compile::{compile_owned, compile_strings};
 pub use faults::{BoundedRunFault, RunFault};
-pub use request::{draft_in, draft_numbered, read_value};
 pub use running::{run, run_bounded};
-pub use strings::{ObjectEvaluation, StringKeywords};
 pub use strkw_devices::{
     DeviceFailed, HostSink, HostSource, MemorySink, MemorySource, Sink, Source,
 };
-pub use strkw_keywords::Note;
+pub use strkw_json::read_value;
+pub use strkw_object::{Note, ObjectEvaluation, StringKeywords, compile_owned, compile_strings};
+pub use strkw_report::{draft_in, draft_numbered};

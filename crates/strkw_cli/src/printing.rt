@@ -1,4 +1,5 @@
-//! The lines of an answer to what is no request, and of a refusal. Each call appends them, or a beginning of them where it is out of memory.
+//! The lines of an answer to what is no request, and of a refusal. Each call appends them, or a beginning of them where
+//! it is out of memory.
 
 ghost use Rattle.std.specs.Prelude.{◌++◌, ◌↔◌, ◌≡◌, ◌≢◌, ℕ, IsTrue, List, OnErr, OnOk, codes, false};
 ghost use Rattle.strkw_report.specs.Refusals.{memory, prints_float, reason_of, refusal_of};
@@ -22,7 +23,8 @@ pub(super) fn push_refusal(
     out: &mut Vec<u8>,
 ) -> Result<(), AllocError>
     requires { prints_float (reason_of refusal.now.kind) ≡ false }
-    ensures ok { OnOk result (out.new.items ≡ out.old.items ++ (refused_line (refusal_of refusal.now) ++ codes "end\n")) }
+    ensures ok { OnOk result (out.new.items ≡ out.old.items
+        ++ (refused_line (refusal_of refusal.now) ++ codes "end\n")) }
     ensures memory { OnOk result (reason_of refusal.now.kind ≢ memory) }
     ensures err { OnErr result ((more : List ℕ) × (out.new.items ≡ out.old.items ++ more)) }
 {

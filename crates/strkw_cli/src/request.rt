@@ -7,17 +7,19 @@ ghost use Rattle.serde_json.specs.Data.{Data, Members, no_members};
 ghost use Rattle.serde_json.specs.Find.{as_object};
 ghost use Rattle.serde_json.specs.Read.{read as read_text};
 ghost use Rattle.serde_json.specs.View.{members_view, view};
-ghost use Rattle.strkw_coding.specs.Passing.{members_read, value_read};
+ghost use Rattle.strkw_json.specs.Passing.{members_read, value_read};
 ghost use Rattle.strkw_cli.specs.Borrowed.{request_view};
 ghost use Rattle.strkw_cli.specs.Parts.{AreParts, Takes};
-ghost use Rattle.strkw_cli.specs.Request.{IsReading, draft_in, draft_numbered, flag_in, request_in, request_of_members};
+ghost use Rattle.strkw_report.specs.Drafts.{draft_in, draft_numbered};
+ghost use Rattle.strkw_json.specs.Json.{IsReading};
+ghost use Rattle.strkw_cli.specs.Request.{flag_in, request_in, request_of_members};
 ghost use Rattle.strkw_cli.specs.Tokens.{begins_object, member_depth};
 
 use json::{Reader, Scratch, Token};
 use serde_json::{Map, Value};
 use std::alloc::{AllocError, Global};
-use strkw_coding::{JsonError, build_object, json_scalar, json_text};
-use strkw_report::Draft;
+use strkw_json::{JsonError, build_object, json_scalar, json_text};
+use strkw_report::{Draft, draft_in};
 
 /// A request. The text of its instance stands in its line, or unescaped in the scratch that its line was read with.
 #[derive(Drop)]
@@ -29,38 +31,6 @@ pub struct Request<'a> {
     pub validate_formats: Option<bool>,
     pub ignore_unknown_formats: bool,
     pub fold: bool,
-}
-
-/// The JSON value that bytes are, or `None` where they are none. The only error is out of memory.
-pub fn read_value(alloc: Global, bytes: &[u8]) -> Result<Option<Value>, AllocError>
-    ensures { IfOk result (λ value. IsReading bytes.now (option_map view value)) }
-{
-    match Value::from_slice(alloc, bytes) {
-        Ok(value) => Ok(Some(value)),
-        Err(e) if e.is_memory() => Err(AllocError),
-        Err(_) => Ok(None),
-    }
-}
-
-/// The draft of a number: 4, 6, 7, 201909 or 202012.
-pub fn draft_numbered(number: u64) -> Option<Draft>
-    ensures { result ≡ draft_numbered number }
-{
-    match number {
-        4 => Some(Draft::Draft4),
-        6 => Some(Draft::Draft6),
-        7 => Some(Draft::Draft7),
-        201909 => Some(Draft::Draft201909),
-        202012 => Some(Draft::Draft202012),
-        _ => None,
-    }
-}
-
-/// The draft whose number a value is.
-pub fn draft_in(value: &Value) -> Option<Draft>
-    ensures { result ≡ draft_in (view value.now) }
-{
-    draft_numbered(value.as_u64()?)
 }
 
 fn flag_in(value: &Value) -> Option<Option<bool>>
@@ -133,7 +103,8 @@ impl<'a> Parts<'a> {
         tokens: &mut Reader<'a>,
     ) -> Result<(), JsonError>
         ensures ok { OnOk result ((d : Data)
-            × (value_read member_depth tokens.old ≡ Some (d, tokens.new)) × Takes name.now d self.old self.new) }
+            × (value_read member_depth tokens.old ≡ Some (d, tokens.new))
+            × Takes name.now d self.old self.new) }
         ensures none { IsErrOf result JsonError.NotJson
             → value_read member_depth tokens.old ≡ None }
         ensures shorter { OnOk result (length tokens.new < length tokens.old) }
@@ -222,8 +193,8 @@ fn request_in<'a>(
     }
 }
 
-/// The request that a line is, or `None` where it is none. The scratch is kept from line to line. The only error is out of
-/// memory.
+/// The request that a line is, or `None` where it is none. The scratch is kept from line to line. The only error is out
+/// of memory.
 pub fn read_request<'a>(
     alloc: Global,
     line: &'a [u8],

@@ -59,7 +59,8 @@ fn answer_ending(
     scratch: &mut Scratch,
     out: &mut Vec<u8>,
 ) -> Result<(), AllocError>
-    ensures ok { OnOk result ((made : List ℕ) × (out.new.items ≡ out.old.items ++ made) × IsAnswer (line.old.items ++ ending.now) made) }
+    ensures ok { OnOk result ((made : List ℕ) × (out.new.items ≡ out.old.items ++ made)
+        × IsAnswer (line.old.items ++ ending.now) made) }
     ensures cleared { OnOk result (line.new.items ≡ []) }
     ensures err { OnErr result (out.new.items ≡ out.old.items) }
 {
@@ -84,7 +85,8 @@ fn serve_piece<K: Sink>(
     requires begun { last_part line.old.items ≡ line.old.items }
     requires sink_works { K.has_failed sink.old ≡ false }
     ensures written { (written : List ℕ) × Appends (K.taken sink.old) (K.taken sink.new) written
-        × Serves result (ended_lines (line.old.items ++ piece.now)) (line.old.items ++ piece.now) written }
+        × Serves result (ended_lines (line.old.items ++ piece.now)) (line.old.items ++ piece.now)
+        written }
     ensures begun { OnOk result (line.new.items ≡ last_part (line.old.items ++ piece.now)) }
     ensures write_fault { IsErrOf result RunFault.Write ↔ (K.has_failed sink.new ≡ true) }
 {
@@ -133,19 +135,20 @@ fn piece_room(alloc: Global) -> Result<Vec<u8>, AllocError>
 ///
 /// Each line, ended by a line feed or the last one without, is a request: a JSON object with the members `draft` (4, 6,
 /// 7, 201909 or 202012), `schema` (an object) and `instance`, and at will `validate_formats`, `ignore_unknown_formats`
-/// and `fold` (true or false). Its answer is lines: `bad request` where the line is no such object; `refused L: T` where
-/// the schema object is refused at the location L, with the text T; where `fold` is true, `fold true` or `fold false`, as
-/// `folds_to_false` says; `error L: T` for each error, or `valid`, and then `note L: V` for each note, with its value V as
-/// compact JSON; and at last `end`. No check is registered, and a pattern that is not literal is refused.
+/// and `fold` (true or false). Its answer is lines: `bad request` where the line is no such object; `refused L: T`
+/// where the schema object is refused at the location L, with the text T; where `fold` is true, `fold true` or `fold
+/// false`, as `folds_to_false` says; `error L: T` for each error, or `valid`, and then `note L: V` for each note, with
+/// its value V as compact JSON; and at last `end`. No check is registered, and a pattern that is not literal is
+/// refused.
 ///
 /// `Read` and `Write` come exactly where the source and the sink have failed, `Memory` where it is out of memory,
-/// `TooLong` after 2^64 - 1 reads that each gave bytes. Each answer is made whole before its first byte is written. What
-/// is written after `Read`, `Memory` and `TooLong` are whole answers, to lines whose line feed was read.
+/// `TooLong` after 2^64 - 1 reads that each gave bytes. Each answer is made whole before its first byte is written.
+/// What is written after `Read`, `Memory` and `TooLong` are whole answers, to lines whose line feed was read.
 ///
 /// The run holds the longest line so far, a piece of 64 KiB, the answers to the lines that end in one piece, and what
-/// one request takes: a byte for each byte of the longest line, its schema object, and its answer. Measured on the program,
-/// in bytes of memory at the peak for each byte of a long line: 2 where it is no JSON, and where its instance is valid,
-/// whatever it is, and 6 where that is a text with four errors.
+/// one request takes: a byte for each byte of the longest line, its schema object, and its answer. Measured on the
+/// program, in bytes of memory at the peak for each byte of a long line: 2 where it is no JSON, and where its instance
+/// is valid, whatever it is, and 6 where that is a text with four errors.
 pub fn run<S: Source, K: Sink>(alloc: Global, source: &mut S, sink: &mut K) -> Result<(), RunFault>
     requires source_works { S.has_failed source.old ≡ false }
     requires sink_works { K.has_failed sink.old ≡ false }
@@ -165,9 +168,9 @@ pub fn run<S: Source, K: Sink>(alloc: Global, source: &mut S, sink: &mut K) -> R
 
 /// As `run`, but no line may be longer than so many bytes, without its line feed.
 ///
-/// `LongLine` comes where one is, as soon as that byte of it is read which is one too many: the answers to the lines before
-/// it were written, and the source was read a piece of 64 KiB past it at most. So the run holds, for its input, no more
-/// than such a line and a piece. The other faults are those of `run`.
+/// `LongLine` comes where one is, as soon as that byte of it is read which is one too many: the answers to the lines
+/// before it were written, and the source was read a piece of 64 KiB past it at most. So the run holds, for its input,
+/// no more than such a line and a piece. The other faults are those of `run`.
 pub fn run_bounded<S: Source, K: Sink>(
     alloc: Global,
     longest: usize,

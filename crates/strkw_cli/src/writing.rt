@@ -17,16 +17,17 @@ ghost use Rattle.strkw_keywords.specs.Object.{remarks_on};
 ghost use Rattle.strkw_keywords.specs.Parts.{noted_remark};
 ghost use Rattle.strkw_keywords.specs.Places.{standing};
 ghost use Rattle.strkw_keywords.specs.Validators.{assertions_of, demands_of, listed_remark, remark_made};
-ghost use Rattle.strkw_cli.specs.Answer.{root_site};
-ghost use Rattle.strkw_cli.specs.Compiled.{keywords_assertions, keywords_demands, keywords_remarks};
-ghost use Rattle.strkw_cli.specs.Printed.{ArePrintable, error_line, note_lines, printed, verdict_lines};
+ghost use Rattle.strkw_report.specs.Standings.{root_site};
+ghost use Rattle.strkw_object.specs.Compiled.{keywords_assertions, keywords_demands, keywords_remarks};
+ghost use Rattle.strkw_object.specs.Printable.{ArePrintable};
+ghost use Rattle.strkw_cli.specs.Printed.{error_line, note_lines, printed, verdict_lines};
 ghost use Rattle.strkw_cli.specs.Written.{AppendsLines};
 
 use super::printing::{is_plain, push_printed};
-use super::strings::StringKeywords;
 use serde_json::Value;
 use std::alloc::{AllocError, Global};
 use strkw_keywords::{Checks, Keyword, Noted, Origin, Uses, Validate, Validator};
+use strkw_object::StringKeywords;
 use strkw_pattern::RegexEngine;
 use strkw_report::{Failure, Location, Node, TextNode, push_json_string};
 
@@ -40,7 +41,8 @@ fn push_failure(
     out: &mut Vec<u8>,
 ) -> Result<(), AllocError>
     ensures ok { OnOk result (out.new.items
-        ≡ out.old.items ++ printed (message (kind_failed failure.now) (compact_text (string text.now)))) }
+        ≡ out.old.items ++ printed (message (kind_failed failure.now)
+        (compact_text (string text.now)))) }
     ensures err { OnErr result ((more : List ℕ) × (out.new.items ≡ out.old.items ++ more)) }
 {
     let before = out.len();
@@ -61,7 +63,8 @@ fn push_start(
     out: &mut Vec<u8>,
 ) -> Result<(), AllocError>
     ensures ok { OnOk result (out.new.items
-        ≡ out.old.items ++ (word.now ++ codes " " ++ below location.now (keyword_name keyword) ++ codes ": ")) }
+        ≡ out.old.items ++ (word.now ++ codes " " ++ below location.now (keyword_name keyword)
+        ++ codes ": ")) }
     ensures err { OnErr result ((more : List ℕ) × (out.new.items ≡ out.old.items ++ more)) }
 {
     out.extend_from_slice(word.as_bytes())?;
@@ -79,7 +82,8 @@ fn push_found_line(
     out: &mut Vec<u8>,
 ) -> Result<(), AllocError>
     ensures ok { OnOk result (out.new.items ≡ out.old.items
-        ++ flat_map error_line (reported (standing origin.now root_site) text.now (option_map finding_of failure.now))) }
+        ++ flat_map error_line (reported (standing origin.now root_site) text.now
+        (option_map finding_of failure.now))) }
     ensures err { OnErr result ((more : List ℕ) × (out.new.items ≡ out.old.items ++ more)) }
 {
     let Some(failure) = failure else {
@@ -101,7 +105,8 @@ fn push_note_line(
 ) -> Result<(), AllocError>
     requires { ArePrintable (listed_remark (noted_remark location.now (Some noted))) }
     ensures ok { OnOk result (out.new.items
-        ≡ out.old.items ++ note_lines (listed_remark (noted_remark location.now (Some noted.entry)))) }
+        ≡ out.old.items ++ note_lines (listed_remark
+        (noted_remark location.now (Some noted.entry)))) }
     ensures err { OnErr result ((more : List ℕ) × (out.new.items ≡ out.old.items ++ more)) }
 {
     match noted {
@@ -138,9 +143,11 @@ fn push_errors_of<E: RegexEngine, N: Node>(
     checks: &Checks,
     out: &mut Vec<u8>,
 ) -> Result<(), AllocError>
-    requires { IsInUse (demands_of E.outcome validator.now) (lists_of admits accepted encoded decoding checks.now) }
+    requires { IsInUse (demands_of E.outcome validator.now)
+        (lists_of admits accepted encoded decoding checks.now) }
     ensures ok { OnOk result (AppendsLines (NodeReports (assertions_of E.outcome validator.now)
-        (lists_of admits accepted encoded decoding checks.now) root_site (Some text.now)) out.old.items out.new.items) }
+        (lists_of admits accepted encoded decoding checks.now) root_site (Some text.now))
+        out.old.items out.new.items) }
     ensures err { OnErr result ((more : List ℕ) × (out.new.items ≡ out.old.items ++ more)) }
 {
     let found = validator.findings(alloc, text, checks)?;
@@ -157,7 +164,8 @@ fn push_note_of<E: RegexEngine>(
     out: &mut Vec<u8>,
 ) -> Result<(), AllocError>
     requires { ArePrintable (listed_remark (remark_made validator.now)) }
-    ensures ok { OnOk result (out.new.items ≡ out.old.items ++ note_lines (listed_remark (remark_made validator.now))) }
+    ensures ok { OnOk result (out.new.items ≡ out.old.items
+        ++ note_lines (listed_remark (remark_made validator.now))) }
     ensures err { OnErr result ((more : List ℕ) × (out.new.items ≡ out.old.items ++ more)) }
 {
     let parts = validator.parts();
@@ -170,85 +178,97 @@ fn push_note_of<E: RegexEngine>(
 
 // ---- all validators
 
-impl<E: RegexEngine> StringKeywords<E> {
-    // Appends the lines of the errors of a text.
-    fn push_errors<N: Node>(
-        &self,
-        alloc: Global,
-        text: &TextNode<'_, N>,
-        checks: &Checks,
-        out: &mut Vec<u8>,
-    ) -> Result<(), AllocError>
-        requires { IsInUse (keywords_demands E.outcome self.now) (lists_of admits accepted encoded decoding checks.now) }
-        ensures ok { OnOk result (AppendsLines (NodeReports (keywords_assertions E.outcome self.now)
-            (lists_of admits accepted encoded decoding checks.now) root_site (Some text.now)) out.old.items out.new.items) }
-        ensures err { OnErr result ((more : List ℕ) × (out.new.items ≡ out.old.items ++ more)) }
-    {
-        for validator in &self.validators {
-            push_errors_of(alloc, validator, text, checks, out)?;
-        }
-        Ok(())
+// Appends the lines of the errors of a text.
+fn push_errors<E: RegexEngine, N: Node>(
+    alloc: Global,
+    keywords: &StringKeywords<E>,
+    text: &TextNode<'_, N>,
+    checks: &Checks,
+    out: &mut Vec<u8>,
+) -> Result<(), AllocError>
+    requires { IsInUse (keywords_demands E.outcome keywords.now)
+        (lists_of admits accepted encoded decoding checks.now) }
+    ensures ok { OnOk result (AppendsLines (NodeReports (keywords_assertions E.outcome keywords.now)
+        (lists_of admits accepted encoded decoding checks.now) root_site (Some text.now))
+        out.old.items out.new.items) }
+    ensures err { OnErr result ((more : List ℕ) × (out.new.items ≡ out.old.items ++ more)) }
+{
+    for validator in keywords.validators() {
+        push_errors_of(alloc, validator, text, checks, out)?;
     }
+    Ok(())
+}
 
-    // Appends the lines of what is noted of texts.
-    fn push_notes(&self, alloc: Global, out: &mut Vec<u8>) -> Result<(), AllocError>
-        requires { ArePrintable (keywords_remarks self.now) }
-        ensures ok { OnOk result (out.new.items ≡ out.old.items ++ note_lines (keywords_remarks self.now)) }
-        ensures err { OnErr result ((more : List ℕ) × (out.new.items ≡ out.old.items ++ more)) }
-    {
-        for validator in &self.validators {
-            push_note_of(alloc, validator, out)?;
-        }
-        Ok(())
+// Appends the lines of what is noted of texts.
+fn push_notes<E: RegexEngine>(
+    alloc: Global,
+    keywords: &StringKeywords<E>,
+    out: &mut Vec<u8>,
+) -> Result<(), AllocError>
+    requires { ArePrintable (keywords_remarks keywords.now) }
+    ensures ok { OnOk result (out.new.items ≡ out.old.items
+        ++ note_lines (keywords_remarks keywords.now)) }
+    ensures err { OnErr result ((more : List ℕ) × (out.new.items ≡ out.old.items ++ more)) }
+{
+    for validator in keywords.validators() {
+        push_note_of(alloc, validator, out)?;
     }
+    Ok(())
+}
 
-    // Appends the lines of the errors of a text, or that it has none.
-    fn push_verdict<N: Node>(
-        &self,
-        alloc: Global,
-        text: &TextNode<'_, N>,
-        checks: &Checks,
-        out: &mut Vec<u8>,
-    ) -> Result<(), AllocError>
-        requires { IsInUse (keywords_demands E.outcome self.now) (lists_of admits accepted encoded decoding checks.now) }
-        ensures ok { OnOk result ((errors : List Report) × (out.new.items ≡ out.old.items ++ verdict_lines errors)
-            × NodeReports (keywords_assertions E.outcome self.now) (lists_of admits accepted encoded decoding checks.now) root_site
-            (Some text.now) errors) }
-        ensures err { OnErr result ((more : List ℕ) × (out.new.items ≡ out.old.items ++ more)) }
-    {
-        let before = out.len();
-        self.push_errors(alloc, text, checks, out)?;
-        if out.len() > before {
-            return Ok(());
-        }
-        out.extend_from_slice(b"valid\n")
+// Appends the lines of the errors of a text, or that it has none.
+fn push_verdict<E: RegexEngine, N: Node>(
+    alloc: Global,
+    keywords: &StringKeywords<E>,
+    text: &TextNode<'_, N>,
+    checks: &Checks,
+    out: &mut Vec<u8>,
+) -> Result<(), AllocError>
+    requires { IsInUse (keywords_demands E.outcome keywords.now)
+        (lists_of admits accepted encoded decoding checks.now) }
+    ensures ok { OnOk result ((errors : List Report)
+        × (out.new.items ≡ out.old.items ++ verdict_lines errors)
+        × NodeReports (keywords_assertions E.outcome keywords.now)
+        (lists_of admits accepted encoded decoding checks.now) root_site
+        (Some text.now) errors) }
+    ensures err { OnErr result ((more : List ℕ) × (out.new.items ≡ out.old.items ++ more)) }
+{
+    let before = out.len();
+    push_errors(alloc, keywords, text, checks, out)?;
+    if out.len() > before {
+        return Ok(());
     }
+    out.extend_from_slice(b"valid\n")
+}
 
-    /// Appends the lines of the errors of an instance, or that it has none, then of what is noted of it, and the end. The
-    /// instance is its text, or `None` where it is another value.
-    pub(super) fn push_found(
-        &self,
-        alloc: Global,
-        instance: Option<&str>,
-        checks: &Checks,
-        out: &mut Vec<u8>,
-    ) -> Result<(), AllocError>
-        requires in_use { IsInUse (keywords_demands E.outcome self.now) (lists_of admits accepted encoded decoding checks.now) }
-        requires printable { ArePrintable (keywords_remarks self.now) }
-        ensures ok { OnOk result ((errors : List Report)
-            × (out.new.items ≡ out.old.items
-            ++ (verdict_lines errors ++ note_lines (remarks_on (option_map (λ text. text.now) instance.entry) (keywords_remarks self.now)) ++ codes "end\n"))
-            × NodeReports (keywords_assertions E.outcome self.now) (lists_of admits accepted encoded decoding checks.now) root_site
-            (option_map (λ text. text.now) instance.entry) errors) }
-        ensures err { OnErr result ((more : List ℕ) × (out.new.items ≡ out.old.items ++ more)) }
-    {
-        match TextNode::of(&instance) {
-            None => out.extend_from_slice(b"valid\nend\n"),
-            Some(text) => {
-                self.push_verdict(alloc, &text, checks, out)?;
-                self.push_notes(alloc, out)?;
-                out.extend_from_slice(b"end\n")
-            }
+/// Appends the lines of the errors of an instance, or that it has none, then of what is noted of it, and the end. The
+/// instance is its text, or `None` where it is another value.
+pub(super) fn push_found<E: RegexEngine>(
+    alloc: Global,
+    keywords: &StringKeywords<E>,
+    instance: Option<&str>,
+    checks: &Checks,
+    out: &mut Vec<u8>,
+) -> Result<(), AllocError>
+    requires in_use { IsInUse (keywords_demands E.outcome keywords.now)
+        (lists_of admits accepted encoded decoding checks.now) }
+    requires printable { ArePrintable (keywords_remarks keywords.now) }
+    ensures ok { OnOk result ((errors : List Report)
+        × (out.new.items ≡ out.old.items
+        ++ (verdict_lines errors ++ note_lines
+        (remarks_on (option_map (λ text. text.now) instance.entry)
+        (keywords_remarks keywords.now)) ++ codes "end\n"))
+        × NodeReports (keywords_assertions E.outcome keywords.now)
+        (lists_of admits accepted encoded decoding checks.now) root_site
+        (option_map (λ text. text.now) instance.entry) errors) }
+    ensures err { OnErr result ((more : List ℕ) × (out.new.items ≡ out.old.items ++ more)) }
+{
+    match TextNode::of(&instance) {
+        None => out.extend_from_slice(b"valid\nend\n"),
+        Some(text) => {
+            push_verdict(alloc, keywords, &text, checks, out)?;
+            push_notes(alloc, keywords, out)?;
+            out.extend_from_slice(b"end\n")
         }
     }
 }

@@ -1,12 +1,14 @@
 -- What `hex` decodes is the code up to the case of letters.
-use Rattle.std.proofs.Common.{◌≡◌, ℕ, suc, ◌+◌, ◌-◌, ◌*◌, ◌/◌, ◌%◌, ◌<◌, ◌≤◌, ◌==◌, ◌⊎◌, ◌↔◌, unwrap_or, nat_lt, Bool, true, false, cond, List, [], ◌∷◌, map, length, slice_index, Option, Some, None, Result, Ok, Err, refl, sym, ap, ◌∙◌, inl, inr, arith}
+use Rattle.std.proofs.Common.{◌≡◌, ℕ, suc, ◌+◌, ◌-◌, ◌*◌, ◌/◌, ◌%◌, ◌<◌, ◌≤◌, ◌==◌, ◌⊎◌, ◌↔◌, unwrap_or, nat_lt, Bool, true, false, cond, List, [], ◌∷◌, map}
+use Rattle.std.proofs.Common.{length, slice_index, Option, Some, None, Result, Ok, Err, refl, sym, ap, ◌∙◌, inl, inr, arith}
 use Rattle.std.specs.Char.{is_ascii_hexdigit, to_ascii_uppercase}
 use Rattle.std.specs.Prelude.{IsTrue}
 use Rattle.std.specs.List.{list_all}
 use Rattle.std.proofs.lemmas.List.Sums.{AllPass-from_list_all, list_all-from_AllPass}
 use Rattle.std.proofs.lemmas.List.{length-map}
 use Rattle.std.proofs.lemmas.Bool.{cases_lt, eqb-true, false≢true}
-use Rattle.hex.specs.Hex.{decode_of, decode_pairs, digit_or_error, hex_digit_value, is_hex_digit, encode_upper, encode_with, pair_value, upper_digits, value_at, ◌>>=◌}
+use Rattle.hex.specs.Hex.{decode_of, decode_pairs, digit_or_error, hex_digit_value, is_hex_digit, encode_upper, encode_with, pair_value, upper_digits, value_at}
+use Rattle.hex.specs.Hex.{◌>>=◌}
 use Rattle.hex.specs.declared.error.FromHexError.{FromHexError}
 use Rattle.hex.proofs.HexLemmas.{decode_of-digits, decode_of-even, decode_of-ok, length-encode_with}
 use Rattle.hex.proofs.Pairs.{decode_pairs-ok_pair, cons_byte}
@@ -16,6 +18,7 @@ use Rattle.strkw_coding.proofs.Encoders.{code-base16}
 use Rattle.strkw_coding.proofs.Passes.{passes_below-at}
 
 -- the digit of a value
+-- in upper case it is 48 more than a value below 10, and 55 more than another
 upper_digit : (d : ℕ) → d < 16 → slice_index upper_digits d ≡ cond (nat_lt d 10) (d + 48) (d + 55)
 upper_digit d lt = eqb-true _ _ (passes_below-at (λ k. slice_index upper_digits k == cond (nat_lt k 10) (k + 48) (k + 55)) 16 d refl lt)
 
@@ -24,15 +27,19 @@ hex_digit_value-small : (c v : ℕ) → hex_digit_value c ≡ Some v → v < 16
 hex_digit_value-small c v h = grind (arith)
 
 -- which digit has a value
+-- with a value below 10 it is 48 more, and with another it is 55 or 87 more
 digit_is : (c v : ℕ) → hex_digit_value c ≡ Some v → ((c ≡ v + 48) × (v < 10)) ⊎ (((c ≡ v + 55) ⊎ (c ≡ v + 87)) × (10 ≤ v) × (v < 16))
 digit_is c v h = grind (arith)
 
+-- a decimal digit in upper case is the digit of its value
 upper_low : (v : ℕ) → v < 10 → to_ascii_uppercase (v + 48) ≡ slice_index upper_digits v
 upper_low v lt = eqb-true _ _ (passes_below-at (λ k. to_ascii_uppercase (k + 48) == slice_index upper_digits k) 10 v refl lt)
 
+-- and so is a capital letter from A to F
 upper_upper : (v : ℕ) → v < 6 → to_ascii_uppercase (v + 65) ≡ slice_index upper_digits (v + 10)
 upper_upper v lt = eqb-true _ _ (passes_below-at (λ k. to_ascii_uppercase (k + 65) == slice_index upper_digits (k + 10)) 6 v refl lt)
 
+-- and a small letter from a to f
 upper_lower : (v : ℕ) → v < 6 → to_ascii_uppercase (v + 97) ≡ slice_index upper_digits (v + 10)
 upper_lower v lt = eqb-true _ _ (passes_below-at (λ k. to_ascii_uppercase (k + 97) == slice_index upper_digits (k + 10)) 6 v refl lt)
 
@@ -54,22 +61,29 @@ digit_upper c v h = elim (digit_is c v h) [
 ]
 
 -- what becomes x in upper case
+-- it is x itself, or the small letter that is 32 more
 uppercase_is : (c x : ℕ) → to_ascii_uppercase c ≡ x → (c ≡ x) ⊎ ((c ≡ x + 32) × (97 ≤ c) × (c < 123))
 uppercase_is c x h = grind (arith)
 
 -- what the test shows of one place
+-- an optional value that is below 16, where none counts as 99, is that value
 some_from_unwrap : (o : Option ℕ) (d : ℕ) → d < 16 → unwrap_or o 99 ≡ d → o ≡ Some d
 some_from_unwrap (Some v) d lt e = ap Some e
 some_from_unwrap None d lt e = absurd (omega arith)
 
+-- a decimal digit reads as its value
 value_low : (v : ℕ) → v < 10 → hex_digit_value (v + 48) ≡ Some v
 value_low v lt = some_from_unwrap _ v (omega arith) (eqb-true _ _ (passes_below-at (λ k. unwrap_or (hex_digit_value (k + 48)) 99 == k) 10 v refl lt))
 
+-- and so does a capital letter from A to F
 value_upper : (v : ℕ) → v < 6 → hex_digit_value (v + 65) ≡ Some (v + 10)
-value_upper v lt = some_from_unwrap _ (v + 10) (omega arith) (eqb-true _ _ (passes_below-at (λ k. unwrap_or (hex_digit_value (k + 65)) 99 == k + 10) 6 v refl lt))
+value_upper v lt = some_from_unwrap _ (v + 10) (omega arith)
+    (eqb-true _ _ (passes_below-at (λ k. unwrap_or (hex_digit_value (k + 65)) 99 == k + 10) 6 v refl lt))
 
+-- and a small letter from a to f
 value_lower : (v : ℕ) → v < 6 → hex_digit_value (v + 97) ≡ Some (v + 10)
-value_lower v lt = some_from_unwrap _ (v + 10) (omega arith) (eqb-true _ _ (passes_below-at (λ k. unwrap_or (hex_digit_value (k + 97)) 99 == k + 10) 6 v refl lt))
+value_lower v lt = some_from_unwrap _ (v + 10) (omega arith)
+    (eqb-true _ _ (passes_below-at (λ k. unwrap_or (hex_digit_value (k + 97)) 99 == k + 10) 6 v refl lt))
 
 -- the digit of a value, in either case, reads as that value
 upper_reads : (c v : ℕ) → v < 16 → to_ascii_uppercase c ≡ slice_index upper_digits v → hex_digit_value c ≡ Some v
@@ -96,12 +110,14 @@ upper_reads c v small h = elim (cases_lt v 10) [
 ]
 
 -- what an `Ok` after `>>=` shows
+-- the first answer was `Ok`, and so was the second, with that value
 bind_ok : {A B : Type 0} (r : Result A FromHexError) (f : A → Result B FromHexError) (y : B)
     → (r >>= f) ≡ Ok y → (x : A) × (r ≡ Ok x) × (f x ≡ Ok y)
 bind_ok (Ok x) f y h = (x, refl, h)
 bind_ok (Err e) f y h = cc h
 
 -- the value of a digit that read
+-- is the one that the digit has
 digit_read : (c i : ℕ) (o : Option ℕ) (v : ℕ) → digit_or_error c i o ≡ Ok v → o ≡ Some v
 digit_read c i (Some w) v h = cc h
 digit_read c i None v h = cc h
@@ -166,6 +182,7 @@ decode_of-encoding s bytes h e =
 digit_test : (c : ℕ) → is_ascii_hexdigit c ≡ is_hex_digit c
 digit_test c = grind (arith)
 
+-- and so is that of all the characters of a text
 digits_test : (s : List ℕ) → list_all is_ascii_hexdigit s ≡ list_all is_hex_digit s
 digits_test [] = refl
 digits_test (c ∷ s) = rw (digit_test c, digits_test s) refl
@@ -183,10 +200,12 @@ encoding_base16 s = (
 )
 
 -- the test of an even number of digits, once their number is even
+-- the test of the digits answers whether the text is an encoding
 pub digits_answer : (s : List ℕ) (answer : Bool) → length s % 2 ≡ 0 → answer ≡ list_all is_ascii_hexdigit s → IsTrue answer ↔ IsEncoding Base16 s
 digits_answer s true even is = (λ _. (encoding_base16 s).1 (even, sym is), λ _. refl)
 digits_answer s false even is = (λ t. absurd (false≢true t), λ e. cc (is ∙ ((encoding_base16 s).0 e).1))
 
 -- and once it is odd
+-- the test for an even length answers so too, as both are false
 pub odd_answer : (s : List ℕ) → (length s % 2 ≡ 0 → ⊥) → IsTrue (length s % 2 == 0) ↔ IsEncoding Base16 s
 odd_answer s odd = (λ t. absurd (odd (eqb-true _ _ t)), λ e. absurd (odd ((encoding_base16 s).0 e).0))

@@ -16,6 +16,7 @@ abbrev pub WritesCode : Codec → (List ℕ → List ℕ) → Type 0
 WritesCode c encoded = (b : List ℕ) → AreBytes b → encoded b ≡ code c b
 
 -- what it wrote is an encoding
+-- a text is an encoding exactly where it is what such an encoder writes of some bytes
 pub encoding_by : (c : Codec) (encoded : List ℕ → List ℕ) (text : List ℕ) → folded c text ≡ text → WritesCode c encoded
     → IsEncoding c text ↔ IsCodeOf encoded text
 encoding_by c encoded text same is = (
@@ -33,10 +34,12 @@ reads_by items c encoded text same is (Ok (Some v)) h = record { are_bytes = h.0
 reads_by items c encoded text same is (Err e) h = tt
 
 -- the encoder of five bits a letter, by the letters of base32 and of base32hex
+-- by those of base32 it writes the code of base32
 pub writes_base32 : WritesCode Base32 (code32 (alphabet Base32))
 unfolding code32
 writes_base32 b h = refl
 
+-- and by those of base32hex that of base32hex
 pub writes_base32hex : WritesCode Base32Hex (code32 (alphabet Base32Hex))
 unfolding code32
 writes_base32hex b h = refl

@@ -9,10 +9,12 @@ use Rattle.hex.specs.Hex.{encode_with, encode_upper}
 use Rattle.std.proofs.lemmas.List.{append-nil}
 
 -- one more letter, of the same value
+-- before the same text makes the same text
 pub cons_at : (t : List ℕ) (a b : ℕ) (xs ys : List ℕ) → a ≡ b → xs ≡ ys → slice_index t a ∷ xs ≡ slice_index t b ∷ ys
 cons_at t a b xs ys e es = rw (e, es) refl
 
 -- the letters of bytes in groups of three
+-- are those of all their bits, six bits each
 pub encode_symbols-letters : (t m : List ℕ) → AreBytes m → encode_symbols t m ≡ letters t 6 (letter_count 6 (length m)) (bits_of m)
 unfolding encode_symbols bits number letters
 encode_symbols-letters t [] h = refl
@@ -33,6 +35,7 @@ encode_symbols-letters t (a ∷ b ∷ c ∷ rest) h =
     (cons_at t _ _ _ _ (omega arith) (cons_at t _ _ _ _ (omega arith) ih))))
 
 -- the letters of bytes one at a time
+-- are those of all their bits, four bits each
 pub encode_with-letters : (t m : List ℕ) → AreBytes m → encode_with t m ≡ letters t 4 (letter_count 4 (length m)) (bits_of m)
 unfolding encode_with bits number letters
 encode_with-letters t [] h = refl
@@ -48,6 +51,7 @@ code-base64 m h =
     let n : padding_len (length m) ≡ padding_count 4 (letter_count 6 (length m)) = omega arith in
     rw (encode_symbols-letters (alphabet Base64) m h, n) refl
 
+-- and so is what it encodes with the alphabet for URLs
 pub code-base64url : (m : List ℕ) → AreBytes m → encode_of url_safe m ≡ code Base64Url m
 code-base64url m h =
     let n : padding_len (length m) ≡ padding_count 4 (letter_count 6 (length m)) = omega arith in

@@ -18,12 +18,15 @@ pub record FirstBlock (abc text p q : List ℕ) : Type 0 where
   pub last : length p < 5 → q ≡ []
   pub long : 8 ≤ length text
 
+-- the code of some bytes has one, of the first of them, and the others follow
 abbrev pub HasFirstBlock : List ℕ → List ℕ → Type 0
 HasFirstBlock abc b = (p : List ℕ) × (q : List ℕ) × FirstBlock abc (code32 abc b) p q × (b ≡ p ++ q)
 
+-- where there are no elements, each is a byte
 no_bytes : AreBytes []
 no_bytes i = omega arith
 
+-- five numbers below 256 are bytes
 pub five_bytes : (a b c d e : ℕ) → a < 256 → b < 256 → c < 256 → d < 256 → e < 256 → AreBytes (a ∷ b ∷ c ∷ d ∷ e ∷ [])
 five_bytes a b c d e fa fb fc fd fe zero = fa
 five_bytes a b c d e fa fb fc fd fe (suc zero) = fb
@@ -33,6 +36,7 @@ five_bytes a b c d e fa fb fc fd fe (suc (suc (suc (suc zero)))) = fe
 five_bytes a b c d e fa fb fc fd fe (suc (suc (suc (suc (suc i))))) = omega arith
 
 -- a code of one block alone
+-- is its own first block, and nothing follows it
 one_block : (abc p : List ℕ) → AreBytes p → 0 < length p → length p ≤ 5 → length (code32 abc p) ≡ 8 → HasFirstBlock abc p
 one_block abc p h some few eight =
     let all : take 8 (code32 abc p) ≡ code32 abc p = take_all 8 (code32 abc p) (omega (arith, eight)) in
@@ -52,6 +56,7 @@ one_block abc p h some few eight =
       sym (append-nil p),
     )
 
+-- a code that is not empty has a first block
 pub first_block : (abc b : List ℕ) → AreBytes b → 0 < length (code32 abc b) → HasFirstBlock abc b
 first_block abc [] h long = absurd (let e = ap length (code32-nil abc) in omega (arith, e, long))
 first_block abc (a ∷ []) h long = one_block abc (a ∷ []) h (omega arith) (omega arith) (ap length (code32-1 abc a (h 0)))
@@ -80,11 +85,13 @@ first_block abc (a ∷ b ∷ c ∷ d ∷ e ∷ rest) h long =
 
 -- the steps of decoding, a block at a time
 
+-- bytes with bytes behind them are bytes
 pub bytes-append : (xs ys : List ℕ) → AreBytes xs → AreBytes ys → AreBytes (xs ++ ys)
 bytes-append [] ys hx hy i = hy i
 bytes-append (x ∷ xs) ys hx hy zero = hx 0
 bytes-append (x ∷ xs) ys hx hy (suc i) = bytes-append xs ys (λ k. hx (suc k)) hy i
 
+-- and so is a front of bytes
 pub bytes-take : (n : ℕ) (xs : List ℕ) → AreBytes xs → AreBytes (take n xs)
 bytes-take zero xs h i = omega arith
 bytes-take (suc n) [] h i = omega arith
@@ -113,14 +120,17 @@ front_block abc rest block after q front back some bytes is =
     )
 
 -- what the test of a length says
+-- a length that is tested not to be 0 is more than 0
 pub positive : (n : ℕ) → (n == 0) ≡ false → 0 < n
 positive zero h = cc h
 positive (suc n) h = omega arith
 
+-- and one that is tested to be 0 is 0
 pub none_left : (n : ℕ) → (n == 0) ≡ true → n ≡ 0
 none_left n h = eqb-true n 0 h
 
 -- how many bytes a first block has
+-- they are as many as `len` says
 pub block_len : (abc text bytes : List ℕ) (len : ℕ) (after : List ℕ) → BeginsWithBlock abc text bytes len after → length (take len bytes) ≡ len
 block_len abc text bytes len after is = length-take-le len bytes (omega (arith, is.five, is.few))
 
@@ -157,6 +167,7 @@ more_is_full abc text bytes len after is more = elim (cases_lt len 5) [
 ]
 
 -- one block more is decoded
+-- the code of what was decoded, with the bytes of that block, then goes up to what follows it
 pub push_block : (abc whole out text bytes : List ℕ) (len : ℕ) (after : List ℕ) → BeginsWithBlock abc text bytes len after → whole ≡ code32 abc out ++ text
     → AreBytes out → length out % 5 ≡ 0 → whole ≡ code32 abc (out ++ take len bytes) ++ after
 push_block abc whole out text bytes len after is split out_bytes fives =

@@ -1,5 +1,6 @@
 -- The code of a group of one to five bytes, character by character.
-use Rattle.std.proofs.Common.{◌≡◌, ℕ, zero, suc, ◌+◌, ◌-◌, ◌*◌, ◌/◌, ◌%◌, ◌<◌, ◌≤◌, nat_lt, Bool, false, cond, List, [], ◌∷◌, length, take, drop, replicate, slice_index, refl, sym, ◌∙◌, arith}
+use Rattle.std.proofs.Common.{◌≡◌, ℕ, zero, suc, ◌+◌, ◌-◌, ◌*◌, ◌/◌, ◌%◌, ◌<◌, ◌≤◌, nat_lt, Bool, false, cond, List, [], ◌∷◌, length, take, drop, replicate}
+use Rattle.std.proofs.Common.{slice_index, refl, sym, ◌∙◌, arith}
 use Rattle.strkw_coding.specs.Rfc4648.{AreBytes}
 use Rattle.strkw_coding.specs.Blocks.{code32}
 use Rattle.strkw_coding.proofs.Encoders.{cons_at}
@@ -22,6 +23,7 @@ group_code abc len bytes =
     ∷ letter_or abc (nat_lt len 3) (c % 16 * 2 + d / 128) ∷ letter_or abc (nat_lt len 4) (d / 4 % 32)
     ∷ letter_or abc (nat_lt len 4) (d % 4 * 8 + e / 32) ∷ letter_or abc (nat_lt len 5) (e % 32) ∷ []
 
+-- they are the code of the first `len` of five bytes, where the others are 0
 pub group_code-code : (abc bytes : List ℕ) (len : ℕ) → length bytes ≡ 5 → AreBytes bytes → 0 < len → len ≤ 5
     → drop len bytes ≡ replicate (5 - len) 0 → group_code abc len bytes ≡ code32 abc (take len bytes)
 group_code-code abc (a ∷ b ∷ c ∷ d ∷ e ∷ []) zero five h some few zeros = absurd (omega arith)
@@ -35,16 +37,25 @@ group_code-code abc (a ∷ b ∷ c ∷ d ∷ e ∷ []) (suc (suc zero)) five h s
     let zc : c ≡ 0 = cc zeros in
     let zd : d ≡ 0 = cc zeros in
     let ze : e ≡ 0 = cc zeros in
-    cons_at abc _ _ _ _ (omega arith) (cons_at abc _ _ _ _ (omega arith) (cons_at abc _ _ _ _ (omega arith) (cons_at abc _ _ _ _ (omega arith) refl))) ∙ sym (code32-2 abc a b (h 0) (h 1))
+    cons_at abc _ _ _ _ (omega arith) (cons_at abc _ _ _ _ (omega arith) (cons_at abc _ _ _ _ (omega arith) (cons_at abc _ _ _ _ (omega arith) refl)))
+    ∙ sym (code32-2 abc a b (h 0) (h 1))
 group_code-code abc (a ∷ b ∷ c ∷ d ∷ e ∷ []) (suc (suc (suc zero))) five h some few zeros =
     let zd : d ≡ 0 = cc zeros in
     let ze : e ≡ 0 = cc zeros in
-    cons_at abc _ _ _ _ (omega arith) (cons_at abc _ _ _ _ (omega arith) (cons_at abc _ _ _ _ (omega arith) (cons_at abc _ _ _ _ (omega arith) (cons_at abc _ _ _ _ (omega arith) refl)))) ∙ sym (code32-3 abc a b c (h 0) (h 1) (h 2))
+    cons_at abc _ _ _ _ (omega arith) (cons_at abc _ _ _ _ (omega arith)
+    (cons_at abc _ _ _ _ (omega arith) (cons_at abc _ _ _ _ (omega arith) (cons_at abc _ _ _ _ (omega arith) refl))))
+    ∙ sym (code32-3 abc a b c (h 0) (h 1) (h 2))
 group_code-code abc (a ∷ b ∷ c ∷ d ∷ e ∷ []) (suc (suc (suc (suc zero)))) five h some few zeros =
     let ze : e ≡ 0 = cc zeros in
-    cons_at abc _ _ _ _ (omega arith) (cons_at abc _ _ _ _ (omega arith) (cons_at abc _ _ _ _ (omega arith) (cons_at abc _ _ _ _ (omega arith) (cons_at abc _ _ _ _ (omega arith) (cons_at abc _ _ _ _ (omega arith) (cons_at abc _ _ _ _ (omega arith) refl)))))) ∙ sym (code32-4 abc a b c d (h 0) (h 1) (h 2) (h 3))
+    cons_at abc _ _ _ _ (omega arith) (cons_at abc _ _ _ _ (omega arith)
+    (cons_at abc _ _ _ _ (omega arith) (cons_at abc _ _ _ _ (omega arith)
+    (cons_at abc _ _ _ _ (omega arith) (cons_at abc _ _ _ _ (omega arith) (cons_at abc _ _ _ _ (omega arith) refl))))))
+    ∙ sym (code32-4 abc a b c d (h 0) (h 1) (h 2) (h 3))
 group_code-code abc (a ∷ b ∷ c ∷ d ∷ e ∷ []) (suc (suc (suc (suc (suc zero))))) five h some few zeros =
-    cons_at abc _ _ _ _ (omega arith) (cons_at abc _ _ _ _ (omega arith) (cons_at abc _ _ _ _ (omega arith) (cons_at abc _ _ _ _ (omega arith) (cons_at abc _ _ _ _ (omega arith) (cons_at abc _ _ _ _ (omega arith) (cons_at abc _ _ _ _ (omega arith) (cons_at abc _ _ _ _ (omega arith) refl))))))) ∙ sym (code32-5 abc a b c d e (h 0) (h 1) (h 2) (h 3) (h 4))
+    cons_at abc _ _ _ _ (omega arith) (cons_at abc _ _ _ _ (omega arith)
+    (cons_at abc _ _ _ _ (omega arith) (cons_at abc _ _ _ _ (omega arith)
+    (cons_at abc _ _ _ _ (omega arith) (cons_at abc _ _ _ _ (omega arith) (cons_at abc _ _ _ _ (omega arith) (cons_at abc _ _ _ _ (omega arith) refl)))))))
+    ∙ sym (code32-5 abc a b c d e (h 0) (h 1) (h 2) (h 3) (h 4))
 group_code-code abc (a ∷ b ∷ c ∷ d ∷ e ∷ []) (suc (suc (suc (suc (suc (suc len)))))) five h some few zeros = absurd (omega arith)
 group_code-code abc [] len five h some few zeros = absurd (omega arith)
 group_code-code abc (a ∷ []) len five h some few zeros = absurd (omega arith)

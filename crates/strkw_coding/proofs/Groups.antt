@@ -1,5 +1,6 @@
 -- What a block of eight characters stands for.
-use Rattle.std.proofs.Common.{◌≡◌, ℕ, ◌+◌, ◌-◌, ◌*◌, ◌/◌, ◌%◌, ◌<◌, ◌≤◌, ◌==◌, ◌&&◌, nat_lt, true, false, unwrap_or, List, [], ◌∷◌, ◌++◌, length, replicate, slice_index, refl, arith}
+use Rattle.std.proofs.Common.{◌≡◌, ℕ, ◌+◌, ◌-◌, ◌*◌, ◌/◌, ◌%◌, ◌<◌, ◌≤◌, ◌==◌, ◌&&◌, nat_lt, true, false, unwrap_or, List, [], ◌∷◌, ◌++◌, length, replicate}
+use Rattle.std.proofs.Common.{slice_index, refl, arith}
 use Rattle.std.specs.Prelude.{position}
 use Rattle.std.proofs.lemmas.Bool.{and_parts, eqb-true, ltb-true, not-true}
 use Rattle.strkw_coding.specs.Rfc4648.{AreBytes}
@@ -8,6 +9,7 @@ use Rattle.strkw_coding.proofs.Passes.{passes_below-at}
 use Rattle.strkw_coding.proofs.Codes32.{code32-1, code32-2, code32-3, code32-4, code32-5}
 
 -- the test of an alphabet, at one letter
+-- holds at each place below 32
 letter_at : (abc : List ℕ) (d : ℕ) → is_alphabet abc ≡ true → d < 32 → is_letter_at abc d ≡ true
 unfolding is_alphabet
 letter_at abc d alpha lt =
@@ -30,13 +32,16 @@ padding_value abc alpha =
     eqb-true _ _ (and_parts (passes_below (is_letter_at abc) 32) (unwrap_or (position (λ x. x == 61) abc) 0 == 0) alpha).1
 
 -- the group of a block
+-- it has the length of these bytes, and is these bytes filled with zeros to five
 pub record IsGroup (abc block p : List ℕ) : Type 0 where
   pub len : group_len block ≡ length p
   pub bytes : block_bytes abc block ≡ p ++ replicate (5 - length p) 0
 
+-- five numbers that are each the same make the same list
 same_five : {a b c d e v w x y z : ℕ} → a ≡ v → b ≡ w → c ≡ x → d ≡ y → e ≡ z → a ∷ b ∷ c ∷ d ∷ e ∷ [] ≡ v ∷ w ∷ x ∷ y ∷ z ∷ []
 same_five p q r s t = rw (p, q, r, s, t) refl
 
+-- the code of one byte stands for that byte
 group-1 : (abc : List ℕ) (a : ℕ) → is_alphabet abc ≡ true → a < 256 → IsGroup abc (code32 abc (a ∷ [])) (a ∷ [])
 group-1 abc a alpha fa =
     let v0 : value_of abc (slice_index abc (a / 8)) ≡ a / 8 = letter_value abc (a / 8) alpha (omega arith) in
@@ -47,6 +52,7 @@ group-1 abc a alpha fa =
       bytes = rw (v0, v1, pad) (same_five (omega arith) (omega arith) (omega arith) (omega arith) (omega arith));
     }
 
+-- that of two bytes stands for the two
 group-2 : (abc : List ℕ) (a b : ℕ) → is_alphabet abc ≡ true → a < 256 → b < 256 → IsGroup abc (code32 abc (a ∷ b ∷ [])) (a ∷ b ∷ [])
 group-2 abc a b alpha fa fb =
     let v0 : value_of abc (slice_index abc (a / 8)) ≡ a / 8 = letter_value abc (a / 8) alpha (omega arith) in
@@ -60,6 +66,7 @@ group-2 abc a b alpha fa fb =
       bytes = rw (v0, v1, v2, v3, pad) (same_five (omega arith) (omega arith) (omega arith) (omega arith) (omega arith));
     }
 
+-- that of three bytes stands for the three
 group-3 : (abc : List ℕ) (a b c : ℕ) → is_alphabet abc ≡ true → a < 256 → b < 256 → c < 256 → IsGroup abc (code32 abc (a ∷ b ∷ c ∷ [])) (a ∷ b ∷ c ∷ [])
 group-3 abc a b c alpha fa fb fc =
     let v0 : value_of abc (slice_index abc (a / 8)) ≡ a / 8 = letter_value abc (a / 8) alpha (omega arith) in
@@ -75,7 +82,9 @@ group-3 abc a b c alpha fa fb fc =
       bytes = rw (v0, v1, v2, v3, v4, pad) (same_five (omega arith) (omega arith) (omega arith) (omega arith) (omega arith));
     }
 
-group-4 : (abc : List ℕ) (a b c d : ℕ) → is_alphabet abc ≡ true → a < 256 → b < 256 → c < 256 → d < 256 → IsGroup abc (code32 abc (a ∷ b ∷ c ∷ d ∷ [])) (a ∷ b ∷ c ∷ d ∷ [])
+-- that of four bytes stands for the four
+group-4 : (abc : List ℕ) (a b c d : ℕ) → is_alphabet abc ≡ true → a < 256 → b < 256 → c < 256 → d < 256
+    → IsGroup abc (code32 abc (a ∷ b ∷ c ∷ d ∷ [])) (a ∷ b ∷ c ∷ d ∷ [])
 group-4 abc a b c d alpha fa fb fc fd =
     let v0 : value_of abc (slice_index abc (a / 8)) ≡ a / 8 = letter_value abc (a / 8) alpha (omega arith) in
     let v1 : value_of abc (slice_index abc (a % 8 * 4 + b / 64)) ≡ a % 8 * 4 + b / 64 = letter_value abc (a % 8 * 4 + b / 64) alpha (omega arith) in
@@ -93,7 +102,9 @@ group-4 abc a b c d alpha fa fb fc fd =
       bytes = rw (v0, v1, v2, v3, v4, v5, v6, pad) (same_five (omega arith) (omega arith) (omega arith) (omega arith) (omega arith));
     }
 
-group-5 : (abc : List ℕ) (a b c d e : ℕ) → is_alphabet abc ≡ true → a < 256 → b < 256 → c < 256 → d < 256 → e < 256 → IsGroup abc (code32 abc (a ∷ b ∷ c ∷ d ∷ e ∷ [])) (a ∷ b ∷ c ∷ d ∷ e ∷ [])
+-- and that of five bytes stands for the five
+group-5 : (abc : List ℕ) (a b c d e : ℕ) → is_alphabet abc ≡ true → a < 256 → b < 256 → c < 256 → d < 256 → e < 256
+    → IsGroup abc (code32 abc (a ∷ b ∷ c ∷ d ∷ e ∷ [])) (a ∷ b ∷ c ∷ d ∷ e ∷ [])
 group-5 abc a b c d e alpha fa fb fc fd fe =
     let v0 : value_of abc (slice_index abc (a / 8)) ≡ a / 8 = letter_value abc (a / 8) alpha (omega arith) in
     let v1 : value_of abc (slice_index abc (a % 8 * 4 + b / 64)) ≡ a % 8 * 4 + b / 64 = letter_value abc (a % 8 * 4 + b / 64) alpha (omega arith) in
@@ -114,6 +125,7 @@ group-5 abc a b c d e alpha fa fb fc fd fe =
     }
 
 -- the group of the code of one to five bytes
+-- is those bytes
 pub group_only : (abc block p : List ℕ) → is_alphabet abc ≡ true → AreBytes p → 0 < length p → length p ≤ 5 → block ≡ code32 abc p → IsGroup abc block p
 group_only abc block [] alpha h some few is = absurd (omega arith)
 group_only abc block (a ∷ []) alpha h some few is = rw is (group-1 abc a alpha (h 0))
@@ -125,6 +137,7 @@ group_only abc block (a ∷ b ∷ c ∷ d ∷ e ∷ f ∷ rest) alpha h some few
 
 -- ---- the table
 
+-- the test of a table holds at each byte
 table_at : (abc places : List ℕ) (c : ℕ) → is_table abc places ≡ true → c < 256
     → (nat_lt (slice_index places c) 32 && slice_index places c == value_of abc c) ≡ true
 unfolding is_table
@@ -135,5 +148,6 @@ table_at abc places c table lt =
 pub table_value : (abc places : List ℕ) (c : ℕ) → is_table abc places ≡ true → c < 256 → slice_index places c ≡ value_of abc c
 table_value abc places c table lt = eqb-true _ _ (and_parts _ _ (table_at abc places c table lt)).1
 
+-- and each place that is in it is below 32
 pub table_below : (abc places : List ℕ) (c : ℕ) → is_table abc places ≡ true → c < 256 → slice_index places c < 32
 table_below abc places c table lt = ltb-true _ _ (and_parts _ _ (table_at abc places c table lt)).0

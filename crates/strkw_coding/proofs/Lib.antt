@@ -1,9 +1,5 @@
 pub mod Encoders
 pub mod Passes
-pub mod Reading
-pub mod Passing
-pub mod FirstTokens
-pub mod Built
 pub mod Base16
 pub mod Codes32
 pub mod ByGroups

@@ -7,6 +7,7 @@ use Rattle.strkw_coding.proofs.Codes32.{code32-nil, code32-1, code32-2, code32-3
 use Rattle.strkw_coding.proofs.Groups.{group_only}
 use Rattle.strkw_coding.proofs.FirstBlocks.{first_block}
 
+-- where there are bytes, their code is not empty
 some_code : (abc b : List ℕ) → AreBytes b → 0 < length b → 0 < length (code32 abc b)
 some_code abc [] h some = absurd (omega arith)
 some_code abc (a ∷ []) h some = rw (code32-1 abc a (h 0)) (omega arith)
@@ -15,6 +16,7 @@ some_code abc (a ∷ b ∷ c ∷ []) h some = rw (code32-3 abc a b c (h 0) (h 1)
 some_code abc (a ∷ b ∷ c ∷ d ∷ []) h some = rw (code32-4 abc a b c d (h 0) (h 1) (h 2) (h 3)) (omega arith)
 some_code abc (a ∷ b ∷ c ∷ d ∷ e ∷ rest) h some = rw (code32-block abc a b c d e rest (h 0) (h 1) (h 2) (h 3) (h 4)) (omega arith)
 
+-- by one alphabet no two lists of bytes have the same code
 pub code32-once : (abc : List ℕ) (n : ℕ) (a b : List ℕ) → is_alphabet abc ≡ true → length a ≤ n → AreBytes a → AreBytes b → code32 abc a ≡ code32 abc b → a ≡ b
 code32-once abc n [] [] alpha few ha hb e = refl
 code32-once abc n [] (y ∷ ys) alpha few ha hb e =

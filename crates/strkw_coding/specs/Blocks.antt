@@ -1,6 +1,8 @@
 -- What the private contracts of the code for base32 and base32hex speak of: blocks of eight
 -- characters, which stand for one to five bytes. None of it stands in a public contract.
-use Rattle.std.specs.Prelude.{◌≡◌, ℕ, zero, suc, ◌+◌, ◌*◌, ◌/◌, ◌%◌, ◌<◌, ◌≤◌, Bool, true, if◌then◌else◌, List, [], ◌∷◌, ◌++◌, length, drop, slice_index, ◌&&◌, ◌==◌, nat_lt, unwrap_or, position, not, take}
+use Rattle.std.specs.Prelude.{◌≡◌, ℕ, zero, suc, ◌+◌, ◌*◌, ◌/◌, ◌%◌, ◌<◌, ◌≤◌, Bool, true}
+use Rattle.std.specs.Prelude.{if◌then◌else◌, List, [], ◌∷◌, ◌++◌, length, drop, slice_index, ◌&&◌}
+use Rattle.std.specs.Prelude.{◌==◌, nat_lt, unwrap_or, position, not, take}
 use Rattle.std.specs.Str.{byte}
 use Rattle.strkw_coding.specs.Rfc4648.{code_by, AreBytes}
 
@@ -16,15 +18,18 @@ value_of abc character = unwrap_or (position (λ x. x == character) abc) 0
 -- the letter at place d is at no other place, and is not "="
 abbrev pub is_letter_at : List ℕ → ℕ → Bool
 is_letter_at abc d =
-    unwrap_or (position (λ x. x == slice_index abc d) abc) 0 == d && not (slice_index abc d == byte "=")
+    unwrap_or (position (λ x. x == slice_index abc d) abc) 0 == d
+    && not (slice_index abc d == byte "=")
 
 -- there are 32 letters, no two are the same, and none is "="
 unfoldable pub is_alphabet : List ℕ → Bool
-is_alphabet abc = passes_below (is_letter_at abc) 32 && unwrap_or (position (λ x. x == byte "=") abc) 0 == 0
+is_alphabet abc = passes_below (is_letter_at abc) 32
+    && unwrap_or (position (λ x. x == byte "=") abc) 0 == 0
 
 -- the table has the place of each character among the letters
 unfoldable pub is_table : List ℕ → List ℕ → Bool
-is_table abc places = passes_below (λ c. nat_lt (slice_index places c) 32 && slice_index places c == value_of abc c) 256
+is_table abc places = passes_below (λ c. nat_lt (slice_index places c) 32
+    && slice_index places c == value_of abc c) 256
 
 -- the text that encodes some bytes, five bits a letter and eight letters a block
 unfoldable pub code32 : List ℕ → List ℕ → List ℕ
@@ -50,13 +55,16 @@ group_len block =
 -- the five bytes of eight values
 abbrev pub group_bytes : ℕ → ℕ → ℕ → ℕ → ℕ → ℕ → ℕ → ℕ → List ℕ
 group_bytes v0 v1 v2 v3 v4 v5 v6 v7 =
-    (v0 * 8 + v1 / 4) ∷ (v1 % 4 * 64 + v2 * 2 + v3 / 16) ∷ (v3 % 16 * 16 + v4 / 2) ∷ (v4 % 2 * 128 + v5 * 4 + v6 / 8) ∷ (v6 % 8 * 32 + v7) ∷ []
+    (v0 * 8 + v1 / 4) ∷ (v1 % 4 * 64 + v2 * 2 + v3 / 16) ∷ (v3 % 16 * 16 + v4 / 2)
+    ∷ (v4 % 2 * 128 + v5 * 4 + v6 / 8) ∷ (v6 % 8 * 32 + v7) ∷ []
 
 -- those of the characters of a block, each read as a letter
 abbrev pub block_bytes : List ℕ → List ℕ → List ℕ
 block_bytes abc block =
-    group_bytes (value_of abc (slice_index block 0)) (value_of abc (slice_index block 1)) (value_of abc (slice_index block 2)) (value_of abc (slice_index block 3))
-    (value_of abc (slice_index block 4)) (value_of abc (slice_index block 5)) (value_of abc (slice_index block 6)) (value_of abc (slice_index block 7))
+    group_bytes (value_of abc (slice_index block 0)) (value_of abc (slice_index block 1))
+    (value_of abc (slice_index block 2)) (value_of abc (slice_index block 3))
+    (value_of abc (slice_index block 4)) (value_of abc (slice_index block 5))
+    (value_of abc (slice_index block 6)) (value_of abc (slice_index block 7))
 
 -- the character is a letter
 abbrev pub is_letter : List ℕ → ℕ → Bool

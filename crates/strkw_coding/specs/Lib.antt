@@ -2,8 +2,7 @@ pub mod Rfc4648
 pub mod Tables
 pub mod Groups
 pub mod Blocks
-pub mod Json
-pub mod Passing
+pub mod MediaTypes
 pub mod Names
 pub mod Laws
 pub mod DecodeTexts

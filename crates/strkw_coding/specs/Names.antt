@@ -1,7 +1,9 @@
--- The names of the encodings and of the media type. They are compared exactly, letter case included.
+-- The names of the encodings and of the media type. They are compared exactly, letter case
+-- included.
 use Rattle.std.specs.Prelude.{ℕ, List, codes}
 use Rattle.strkw_coding.specs.declared.codec.Codec.{Codec}
-use Rattle.strkw_coding.specs.declared.codec.Codec.TheVariants.{Base64, Base64Url, Base32, Base32Hex, Base16}
+use Rattle.strkw_coding.specs.declared.codec.Codec.TheVariants.{Base64, Base64Url, Base32}
+use Rattle.strkw_coding.specs.declared.codec.Codec.TheVariants.{Base32Hex, Base16}
 use Rattle.strkw_coding.specs.declared.media_type.BuiltinMediaType.{BuiltinMediaType}
 use Rattle.strkw_coding.specs.declared.media_type.BuiltinMediaType.TheVariants.{Json}
 

@@ -1,14 +1,18 @@
--- The base encodings of RFC 4648: one definition, from three figures an encoding. Texts and data are
--- lists of bytes; an encoding is ASCII, so the bytes of a text that is one are its characters.
-use Rattle.std.specs.Prelude.{◌≡◌, ℕ, zero, suc, ◌+◌, ◌-◌, ◌*◌, ◌/◌, ◌%◌, ◌^◌, ◌<◌, List, [], ◌∷◌, ◌++◌, drop, length, replicate, slice_index, codes, String, Option, MatchOption}
+-- The base encodings of RFC 4648: one definition, from three figures an encoding. Texts and data
+-- are lists of bytes; an encoding is ASCII, so the bytes of a text that is one are its characters.
+use Rattle.std.specs.Prelude.{◌≡◌, ℕ, zero, suc, ◌+◌, ◌-◌, ◌*◌, ◌/◌, ◌%◌, ◌^◌, ◌<◌, List, [], ◌∷◌}
+use Rattle.std.specs.Prelude.{◌++◌, drop, length, replicate, slice_index, codes, String, Option}
+use Rattle.std.specs.Prelude.{MatchOption}
 use Rattle.std.specs.List.{flat_map}
 use Rattle.std.specs.Str.{byte, str_to_ascii_uppercase, IsUtf8}
 use Rattle.std.specs.String.{string_bytes}
 use Rattle.std.specs.declared.alloc.Global.{Global}
 use Rattle.strkw_coding.specs.declared.codec.Codec.{Codec}
-use Rattle.strkw_coding.specs.declared.codec.Codec.TheVariants.{Base64, Base64Url, Base32, Base32Hex, Base16}
+use Rattle.strkw_coding.specs.declared.codec.Codec.TheVariants.{Base64, Base64Url, Base32}
+use Rattle.strkw_coding.specs.declared.codec.Codec.TheVariants.{Base32Hex, Base16}
 
--- the letters of an encoding, in the order of their values: RFC 4648, tables 1 to 5 (sections 4 to 8)
+-- the letters of an encoding, in the order of their values: RFC 4648, tables 1 to 5 (sections 4 to
+-- 8)
 abbrev pub alphabet : Codec → List ℕ
 alphabet Base64 = codes "ABCDEFGHIJKLMNOPQRSTUVWXYZabcdefghijklmnopqrstuvwxyz0123456789+/"
 alphabet Base64Url = codes "ABCDEFGHIJKLMNOPQRSTUVWXYZabcdefghijklmnopqrstuvwxyz0123456789-_"
@@ -76,8 +80,9 @@ code c bytes = code_by (alphabet c) (letter_bits c) (block_letters c) bytes
 abbrev pub AreBytes : List ℕ → Type 0
 AreBytes bytes = (i : ℕ) → slice_index bytes i < 256
 
--- a text as its encoding sees it: base16 takes letters of either case (section 8). For the others a letter in
--- the other case is a character outside the alphabet, which makes a text no encoding (section 3.3)
+-- a text as its encoding sees it: base16 takes letters of either case (section 8). For the others a
+-- letter in the other case is a character outside the alphabet, which makes a text no encoding
+-- (section 3.3)
 abbrev pub folded : Codec → List ℕ → List ℕ
 folded Base64 text = text
 folded Base64Url text = text
@@ -98,9 +103,11 @@ IsEncoding c text = (bytes : List ℕ) × Encodes c text bytes
 abbrev pub EncodesNoText : Codec → List ℕ → Type 0
 EncodesNoText c text = (bytes : List ℕ) × Encodes c text bytes × (IsUtf8 bytes → ⊥)
 
--- what a decoder reads: a value that holds the bytes which the text encodes, or none where it is no encoding
+-- what a decoder reads: a value that holds the bytes which the text encodes, or none where it is no
+-- encoding
 abbrev pub Reads : {V : Type 0} → (V → List ℕ) → Codec → List ℕ → Option V → Type 0
-Reads bytes_of c text read = MatchOption read (IsEncoding c text → ⊥) (λ v. Encodes c text (bytes_of v))
+Reads bytes_of c text read = MatchOption read (IsEncoding c text → ⊥)
+    (λ v. Encodes c text (bytes_of v))
 
 -- the text whose UTF-8 bytes a text encodes
 abbrev pub IsTextOf : Codec → List ℕ → Option (String Global) → Type 0

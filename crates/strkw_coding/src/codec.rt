@@ -29,7 +29,7 @@ pub enum Codec {
 pub enum DecodeError {
     /// It encodes bytes that are not UTF-8.
     NotUtf8,
-    /// Memory ran out.
+    /// Out of memory.
     Memory,
 }
 
@@ -117,7 +117,8 @@ fn bytes_of(codec: Codec, alloc: Global, text: &[u8]) -> Result<Option<Vec<u8>>,
 // The text that the bytes of an encoding spell.
 fn text_of(bytes: Option<Vec<u8>>) -> Result<Option<String>, DecodeError>
     ensures { MatchOption bytes (result ≡ Ok None)
-        (λ v. MatchResult result (λ o. IsSomeAnd o (λ s. string_bytes s ≡ v.items)) (λ e. (e ≡ DecodeError.NotUtf8) × (IsUtf8 v.items → ⊥))) }
+        (λ v. MatchResult result (λ o. IsSomeAnd o (λ s. string_bytes s ≡ v.items))
+        (λ e. (e ≡ DecodeError.NotUtf8) × (IsUtf8 v.items → ⊥))) }
 {
     match bytes {
         None => Ok(None),

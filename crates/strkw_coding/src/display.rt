@@ -1,9 +1,8 @@
-//! What is said of a text that was not decoded, and of tokens that are no JSON.
+//! What is said of a text that was not decoded.
 
-ghost use Rattle.strkw_coding.specs.DecodeTexts.{decode_text, json_error_text};
+ghost use Rattle.strkw_coding.specs.DecodeTexts.{decode_text};
 
 use crate::codec::DecodeError;
-use crate::json_build::JsonError;
 use std::error::Error;
 use std::fmt;
 
@@ -22,19 +21,3 @@ impl fmt::Display for DecodeError {
 }
 
 impl Error for DecodeError {}
-
-/// `the text is not JSON`, or `out of memory`.
-impl fmt::Display for JsonError {
-    ghost use Rattle.std.specs.Prelude.{Some};
-
-    ghost output = { λ e. Some (json_error_text e) };
-
-    fn fmt<W: fmt::Write>(&self, f: &mut fmt::Formatter<W>) -> fmt::Result {
-        match self {
-            JsonError::NotJson => f.write_str("the text is not JSON"),
-            JsonError::Memory => f.write_str("out of memory"),
-        }
-    }
-}
-
-impl Error for JsonError {}

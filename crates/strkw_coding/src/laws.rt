@@ -6,25 +6,25 @@ ghost use Rattle.strkw_coding.specs.Groups.{EncodedByGroups};
 ghost use Rattle.strkw_coding.specs.Tables.{AlphabetsAsPublished};
 ghost use Rattle.strkw_coding.specs.declared.codec.Codec.{Codec};
 ghost use Rattle.strkw_coding.specs.declared.codec.DecodeError.{DecodeError};
-ghost use Rattle.strkw_coding.specs.declared.json_build.JsonError.{JsonError};
+ghost use Rattle.strkw_json.specs.declared.error.JsonError.{JsonError};
 ghost use Rattle.strkw_coding.specs.declared.media_type.BuiltinMediaType.{BuiltinMediaType};
 
 use crate::codec::{Codec, DecodeError};
-use crate::json_build::JsonError;
 use crate::media_type::BuiltinMediaType;
+use strkw_json::JsonError;
 
 /// A text encodes at most one list of bytes.
 pub fn encodes_once()
     ensures { EncodesOnce }
 {}
 
-/// What a decoder answers, memory aside: a text exactly where the text encodes its UTF-8 bytes, `NotUtf8`
+/// What a decoder answers, out of memory aside: a text exactly where the text encodes its UTF-8 bytes, `NotUtf8`
 /// exactly where it encodes other bytes, and `None` exactly where it is no encoding.
 pub fn decodes_exactly()
     ensures { DecodesExactly }
 {}
 
-/// A decoder answers `None` exactly where the check of its encoding answers false, memory aside.
+/// A decoder answers `None` exactly where the check of its encoding answers false, out of memory aside.
 pub fn none_where_false()
     ensures { NoneWhereFalse }
 {}
@@ -35,8 +35,8 @@ pub fn alphabets_as_published()
     ensures { AlphabetsAsPublished }
 {}
 
-/// An encoding is made group by group as sections 4, 6 and 8 of RFC 4648 tell it: of three, five or one bytes at a time,
-/// the last group filled with zero bits and with "=".
+/// An encoding is made group by group as sections 4, 6 and 8 of RFC 4648 tell it: of three, five or one bytes at a
+/// time, the last group filled with zero bits and with "=".
 pub fn encoded_by_groups()
     ensures { EncodedByGroups }
 {}
@@ -63,5 +63,6 @@ pub fn json_errors_equal_by_variant()
 
 /// Two media types are equal by `==` exactly where they are the same media type.
 pub fn media_types_equal_by_variant()
-    ensures { (a b : BuiltinMediaType) → IsTrue (⟦<BuiltinMediaType as PartialEq>⟧.eq a b) ↔ (a ≡ b) }
+    ensures { (a b : BuiltinMediaType)
+        → IsTrue (⟦<BuiltinMediaType as PartialEq>⟧.eq a b) ↔ (a ≡ b) }
 {}

@@ -6,8 +6,6 @@
 mod codec;
 mod display;
 mod encodings;
-mod json_build;
-mod json_check;
 pub mod laws;
 mod media_type;
 mod radix16;
@@ -19,6 +17,7 @@ pub use encodings::{
     from_base16, from_base32, from_base32hex, from_base64, from_base64url, is_base16, is_base32,
     is_base32hex, is_base64, is_base64url,
 };
-pub use json_build::{JsonError, build_json, build_object, json_scalar, json_text};
-pub use json_check::{is_json, json_number, passes_json};
 pub use media_type::BuiltinMediaType;
+pub use strkw_json::{
+    JsonError, build_json, build_object, is_json, json_number, json_scalar, json_text, passes_json,
+};

@@ -1,11 +1,11 @@
 //! The media type that is known without the caller's help.
 
 ghost use Rattle.std.specs.Prelude.{◌≡◌, ◌↔◌, IfOk, IsTrue};
-ghost use Rattle.strkw_coding.specs.Json.{IsOfMediaType};
+ghost use Rattle.strkw_coding.specs.MediaTypes.{IsOfMediaType};
 ghost use Rattle.strkw_coding.specs.Names.{media_type_name};
 
-use crate::json_check::is_json;
 use std::alloc::{AllocError, Global};
+use strkw_json::is_json;
 
 /// A media type that is known without the caller's help.
 #[derive(Debug, Clone, Copy, PartialEq, Eq)]

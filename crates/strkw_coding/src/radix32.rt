@@ -181,7 +181,8 @@ impl Alphabet {
     fn decode_block(&self, block: &[u8]) -> Option<Group>
         requires block { length block.now ≡ 8 }
         ensures found { IfSome result (λ g. IsBlockOf self.now.letters block.now g.bytes g.len) }
-        ensures only { (p : List ℕ) → AreBytes p → 0 < length p → length p ≤ 5 → block.now ≡ code32 self.now.letters p
+        ensures only { (p : List ℕ) → AreBytes p → 0 < length p → length p ≤ 5
+            → block.now ≡ code32 self.now.letters p
             → IsSomeAnd result (λ g. take g.len g.bytes ≡ p) }
     {
         let group = self.group_of(block);
@@ -210,7 +211,8 @@ impl Alphabet {
         ensures few { result.len ≤ 5 }
         ensures five { length result.bytes ≡ 5 }
         ensures are_bytes { AreBytes result.bytes }
-        ensures only { (p : List ℕ) → AreBytes p → 0 < length p → length p ≤ 5 → block.now ≡ code32 self.now.letters p
+        ensures only { (p : List ℕ) → AreBytes p → 0 < length p → length p ≤ 5
+            → block.now ≡ code32 self.now.letters p
             → (result.len ≡ length p) × (result.bytes ≡ p ++ replicate (5 - length p) 0) }
     {
         let v0 = self.value_of(block[0]);

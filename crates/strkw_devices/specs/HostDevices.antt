@@ -12,4 +12,5 @@ writer_of sink = sink.writer
 
 -- A beginning of the bytes was appended, where the held bytes are known.
 abbrev pub AppendsSome : Option (List ℕ) → Option (List ℕ) → List ℕ → Type 0
-AppendsSome old new bytes = (count : ℕ) × (count ≤ length bytes) × Appends old new (take count bytes)
+AppendsSome old new bytes = (count : ℕ) × (count ≤ length bytes)
+    × Appends old new (take count bytes)

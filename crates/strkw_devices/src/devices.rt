@@ -3,8 +3,9 @@
 ghost use Rattle.std.specs.Prelude.{◌≡◌, ℕ, ◌<◌, ◌≤◌, List, Bool, Option, true, length, take, IfOk, OnOk, OnErr};
 ghost use Rattle.std.specs.Io.KnownBytes.{Appends, ReadConsumes, WriteAppends};
 
-/// A source or a sink has failed. Where the device tells its bytes, the call that answers it moved none. A device that
-/// tells none may have moved some: so a `HostSink` whose writer took bytes that it could not flush.
+/// A source or a sink has failed. A `read` or `write` that answers it moved none of the bytes that the device tells. A
+/// `write_all` has moved the bytes that it took before the failure. A device that tells no bytes may have moved some:
+/// so a `HostSink` whose writer took bytes that it could not flush.
 #[derive(Clone, Copy, Debug, PartialEq, Eq)]
 pub struct DeviceFailed;
 
@@ -50,8 +51,8 @@ pub trait Sink {
     fn has_failed(&self) -> bool
         ensures { result ≡ has_failed self.now };
 
-    /// Takes all the bytes, write by write. An `Err` comes where a write fails, and the bytes taken before it are some from the
-    /// front, less than all.
+    /// Takes all the bytes, write by write. An `Err` comes where a write fails; the bytes taken before it are a front
+    /// of them, less than all.
     final fn write_all(&mut self, bytes: &[u8]) -> Result<(), DeviceFailed>
         ensures ok { OnOk result (Appends (taken self.old) (taken self.new) bytes.now) }
         ensures short { OnErr result ((count : ℕ) × (count < length bytes.now)

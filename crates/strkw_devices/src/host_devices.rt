@@ -36,10 +36,12 @@ impl<R: Read> Source for HostSource<R> {
     fn read(&mut self, buffer: &mut [u8]) -> Result<usize, DeviceFailed>
         ensures count { IfOk result (λ count. count ≤ length buffer.new) }
         ensures moved { ReadConsumes None None result buffer.new }
-        ensures ok { OnOk result (⟦<HostSource<R> as Source>⟧.has_failed self.new ≡ ⟦<HostSource<R> as Source>⟧.has_failed self.old) }
+        ensures ok { OnOk result (⟦<HostSource<R> as Source>⟧.has_failed self.new
+            ≡ ⟦<HostSource<R> as Source>⟧.has_failed self.old) }
         ensures err { OnErr result (⟦<HostSource<R> as Source>⟧.has_failed self.new ≡ true) }
         // Where the reader tells its bytes, they are the ones that were read.
-        ensures reader { ReadConsumes (R.remaining (reader_of self.old)) (R.remaining (reader_of self.new)) result buffer.new }
+        ensures reader { ReadConsumes (R.remaining (reader_of self.old))
+            (R.remaining (reader_of self.new)) result buffer.new }
     {
         match self.reader.read(buffer) {
             Ok(count) => Ok(count),
@@ -81,8 +83,10 @@ impl<W: Write> HostSink<W> {
         ensures count { IfSome result (λ count. count ≤ length bytes.now) }
         ensures some { IfSome result (λ count. 0 < length bytes.now → 0 < count) }
         ensures works { self.new.writer_works ≡ self.old.writer_works }
-        ensures writer { IfSome result (λ count. Appends (W.contents (writer_of self.old)) (W.contents (writer_of self.new)) (take count bytes.now)) }
-        ensures begun { result ≡ None → AppendsSome (W.contents (writer_of self.old)) (W.contents (writer_of self.new)) bytes.now }
+        ensures writer { IfSome result (λ count. Appends (W.contents (writer_of self.old))
+            (W.contents (writer_of self.new)) (take count bytes.now)) }
+        ensures begun { result ≡ None → AppendsSome (W.contents (writer_of self.old))
+            (W.contents (writer_of self.new)) bytes.now }
     {
         let count = self.writer.write(bytes).ok()?;
         if count == 0 && !bytes.is_empty() {
@@ -102,12 +106,15 @@ impl<W: Write> Sink for HostSink<W> {
         ensures count { IfOk result (λ count. count ≤ length bytes.now) }
         ensures some { IfOk result (λ count. 0 < length bytes.now → 0 < count) }
         ensures moved { WriteAppends None None result bytes.now }
-        ensures ok { OnOk result (⟦<HostSink<W> as Sink>⟧.has_failed self.new ≡ ⟦<HostSink<W> as Sink>⟧.has_failed self.old) }
+        ensures ok { OnOk result (⟦<HostSink<W> as Sink>⟧.has_failed self.new
+            ≡ ⟦<HostSink<W> as Sink>⟧.has_failed self.old) }
         ensures err { OnErr result (⟦<HostSink<W> as Sink>⟧.has_failed self.new ≡ true) }
         // Where the writer tells its bytes, the ones taken were appended.
-        ensures writer { IfOk result (λ count. Appends (W.contents (writer_of self.old)) (W.contents (writer_of self.new)) (take count bytes.now)) }
+        ensures writer { IfOk result (λ count. Appends (W.contents (writer_of self.old))
+            (W.contents (writer_of self.new)) (take count bytes.now)) }
         // A failure leaves no byte behind but those of a beginning, which a failed flush may have kept back.
-        ensures begun { OnErr result (AppendsSome (W.contents (writer_of self.old)) (W.contents (writer_of self.new)) bytes.now) }
+        ensures begun { OnErr result (AppendsSome (W.contents (writer_of self.old))
+            (W.contents (writer_of self.new)) bytes.now) }
     {
         let count = self.write_through(bytes);
         match count {

@@ -36,6 +36,7 @@ module _ (s : Settings) (document : Data) where
       let (members, messages, is_schema, are, counted, grown) = said in
       (messages, (is_pointer, members, is_schema, rw e are), counted, grown)
 
+  -- where there are no places, there are no messages
   pub no_places : DocumentMessages s no_members document []
   unfolding DocumentMessages
   no_places = refl

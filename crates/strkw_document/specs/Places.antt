@@ -12,15 +12,15 @@ use Rattle.strkw_plan.specs.Messages.{InstanceMessages, IsSchema}
 abbrev pub missing : List ℕ → List ℕ
 missing place = shown place ++ codes ": missing\n"
 
--- the messages about what stands at a place, by its schema object: one for each error of the value, which has none
--- where it is no string; or the one that there is no value
+-- the messages about what stands at a place, by its schema object: one for each error of the value,
+-- which has none where it is no string; or the one that there is no value
 abbrev pub FoundMessages : Settings → Members → List ℕ → Option Data → List (List ℕ) → Type 0
 FoundMessages s schema place None messages = messages ≡ missing place ∷ []
 FoundMessages s schema place (Some value) messages =
     InstanceMessages s schema place (as_str value) messages
 
--- The messages about a place of a document by its schema. The place is a JSON pointer; what it evaluates to (RFC 6901,
--- section 4) is that of `serde_json`.
+-- The messages about a place of a document by its schema. The place is a JSON pointer; what it
+-- evaluates to (RFC 6901, section 4) is that of `serde_json`.
 abbrev pub PlaceMessages : Settings → List ℕ → Data → Data → List (List ℕ) → Type 0
 PlaceMessages s place schema document messages = IsJsonPointer (chars place)
     × (members : Members) × IsSchema s schema members

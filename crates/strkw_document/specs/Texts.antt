@@ -9,7 +9,8 @@ use Rattle.strkw_document.specs.declared.text.DocumentTextFault.TheVariants as f
 abbrev pub IsWithin : Option ℕ → List ℕ → Type 0
 IsWithin longest text = IfSome longest (λ most. length text ≤ most)
 
--- Why a text is not read: it has more bytes than it may have, is not UTF-8, or no JSON. Of the device and of memory nothing is said.
+-- Why a text is not read: it has more bytes than it may have, is not UTF-8, or no JSON. Of the
+-- device and of memory nothing is said.
 abbrev pub IsWhyUnread : Option ℕ → List ℕ → DocumentTextFault → Type 0
 IsWhyUnread longest text (fault.Unread e) = ⊤
 IsWhyUnread longest text (fault.Long most) = (longest ≡ Some most) × (most < length text)

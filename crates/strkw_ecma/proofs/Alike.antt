@@ -1,28 +1,33 @@
 -- Characters about which the classes of a pattern give the same answers: the pattern does not tell them apart.
-use Rattle.std.proofs.Common.{◌≡◌, ℕ, zero, suc, ◌+◌, ◌*◌, ◌<◌, Bool, true, false, ◌&&◌, ◌||◌, List, [], ◌∷◌, Vec, Global, Option, Some, None, length, drop, get_or, refl, sym, ap, ◌∙◌, ⊎_elim, true≢false, if◌then◌else◌, ◌==◌, option_map, arith}
+use Rattle.std.proofs.Common.{◌≡◌, ℕ, zero, suc, ◌+◌, ◌*◌, ◌<◌, Bool, true, false, ◌&&◌, ◌||◌, List, [], ◌∷◌, Vec, Global, Option, Some, None, length, drop}
+use Rattle.std.proofs.Common.{get_or, refl, sym, ap, ◌∙◌, ⊎_elim, true≢false, if◌then◌else◌, ◌==◌, option_map, arith}
 use Rattle.std.proofs.lemmas.Bool.{eqb-true}
 use Rattle.std.specs.Prelude.{is_some}
 use Rattle.strkw_ecma.specs.Tree.{Look, Pattern, empty, class, look, cat, alt, star, plus, start, end, boundary, no_boundary, in_sets, differ}
 use Rattle.strkw_ecma.specs.Meaning.{is_word, is_edge, holds}
-use Rattle.strkw_ecma.specs.Marks.{leaves, step, classes, marked}
-use Rattle.strkw_ecma.specs.Columns.{answers, place_of, has_boundary, TellsSets, Tells}
+use Rattle.strkw_ecma.specs.machine.Marks.{leaves, step, classes, marked}
+use Rattle.strkw_ecma.specs.machine.Columns.{answers, place_of, has_boundary, TellsSets, Tells}
 use Rattle.strkw_ecma.specs.Program.{asks_word}
 use Rattle.strkw_ecma.specs.declared.tree.CharSet.{CharSet}
 use Rattle.strkw_ecma.proofs.Steps.{or_case, or_left, or_right}
 
 -- between characters that ^, $ and, where p has them, \b and \B do not tell apart
+-- where p has \b or \B, both are word characters or neither is
 unfoldable pub SameWord : Pattern → Option ℕ → Option ℕ → Type 0
 SameWord p b e = has_boundary p ≡ true → is_word b ≡ is_word e
 
+-- characters alike for two patterns together are alike for the first
 pub first_word : (p q : Pattern) (b e : Option ℕ) → ((has_boundary p || has_boundary q) ≡ true → is_word b ≡ is_word e) → SameWord p b e
 unfolding SameWord
 first_word p q b e same h = same (or_left _ _ h)
 
+-- and for the second
 pub other_word : (p q : Pattern) (b e : Option ℕ) → ((has_boundary p || has_boundary q) ≡ true → is_word b ≡ is_word e) → SameWord q b e
 unfolding SameWord
 other_word p q b e same h = same (or_right (has_boundary p) _ h)
 
 module _ (b e a d : Option ℕ) (edge : is_edge b ≡ is_edge e) (next_edge : is_edge a ≡ is_edge d) where
+  -- an assertion holds alike between characters that it does not tell apart
   same_look : (l : Look) → (asks_word l ≡ true → is_word b ≡ is_word e) → (asks_word l ≡ true → is_word a ≡ is_word d)
       → holds l b a ≡ holds l e d
   same_look start word next_word = edge
@@ -30,6 +35,7 @@ module _ (b e a d : Option ℕ) (edge : is_edge b ≡ is_edge e) (next_edge : is
   same_look boundary word next_word = rw (word refl, next_word refl) refl
   same_look no_boundary word next_word = rw (word refl, next_word refl) refl
 
+  -- and a pattern is left alike between such characters
   pub same_leaves : (p : Pattern) (x : Bool) → SameWord p b e → SameWord p a d → leaves b a p x ≡ leaves e d p x
   unfolding SameWord
   same_leaves empty x word next = refl
@@ -46,16 +52,19 @@ module _ (b e a d : Option ℕ) (edge : is_edge b ≡ is_edge e) (next_edge : is
       ap (λ (y : Bool). leaves b a p (x || y)) (same_leaves p false word next) ∙ same_leaves p _ word next
 
 -- the digits are the answers
+-- with a binary digit put behind each, two numbers are the same only where they and the digits are
 one_digit : (a b : ℕ) (x y : Bool) → 2 * a + (if x then 1 else 0) ≡ 2 * b + (if y then 1 else 0) → (a ≡ b) × (x ≡ y)
 one_digit a b true true e = (omega arith, refl)
 one_digit a b false false e = (omega arith, refl)
 one_digit a b true false e = absurd (omega arith)
 one_digit a b false true e = absurd (omega arith)
 
+-- behind different numbers the answers are never the same
 same_before : (ks : List (Vec CharSet Global)) (a b c d : ℕ) → answers a ks c ≡ answers b ks d → a ≡ b
 same_before [] a b c d e = e
 same_before (k ∷ ks) a b c d e = (one_digit a b _ _ (same_before ks _ _ c d e)).0
 
+-- of two characters with the same answers each class has both or neither
 pub told_at : (ks : List (Vec CharSet Global)) (n : ℕ) (k : Vec CharSet Global) (a b c d : ℕ) → n < length ks → k ≡ get_or ks n k
     → answers a ks c ≡ answers b ks d → in_sets k.items c ≡ in_sets k.items d
 told_at [] n k a b c d h is e = absurd (omega arith)
@@ -69,10 +78,12 @@ pub told_by : (ks : List (Vec CharSet Global)) (n : ℕ) (k : Vec CharSet Global
     → ((c : ℕ) → in_sets k.items c ≡ in_sets rs c) → TellsSets ks rs
 told_by ks n k rs h is same c d e = sym (same c) ∙ told_at ks n k 0 0 c d h is e ∙ same d
 
+-- `None` is not `Some` of a number
 none_some : (i : ℕ) → None ≡ Some i → ⊥
 none_some i h = true≢false (sym (ap is_some h))
 
 -- the place of a number has it
+-- so it is with one number more in front, if it is so of the others
 place_step : (k n : ℕ) (ks : List ℕ) (x : Bool) (o : Option ℕ) → (k == n) ≡ x → place_of ks n ≡ o
     → ((i : ℕ) → place_of ks n ≡ Some i → (i < length ks) × (get_or ks i 0 ≡ n))
     → (i : ℕ) → (if x then Some 0 else option_map suc o) ≡ Some i → (i < suc (length ks)) × (get_or (k ∷ ks) i 0 ≡ n)
@@ -86,6 +97,7 @@ place_step k n ks false (Some j) e f rest i h =
     let there = rest j f in
     rw (sym next) (omega (arith, there.0), there.1)
 
+-- the place of a number lies in the list, and the number stands there
 pub place_is : (ks : List ℕ) (n i : ℕ) → place_of ks n ≡ Some i → (i < length ks) × (get_or ks i 0 ≡ n)
 place_is [] n i h = absurd (none_some i h)
 place_is (k ∷ ks) n i h = place_step k n ks (k == n) (place_of ks n) refl refl (place_is ks n) i h
@@ -103,9 +115,11 @@ module _ (ks : List (Vec CharSet Global)) (c d : ℕ) (same : answers 0 ks c ≡
   next_word (plus p) t h = next_word p t h
 
   module _ (b e : Option ℕ) (edge : is_edge b ≡ is_edge e) where
+    -- between either of the two and characters alike the pattern is left alike
     pub left : (p : Pattern) (x : Bool) → SameWord p b e → Tells ks p → leaves b (Some c) p x ≡ leaves e (Some d) p x
     left p x word t = same_leaves b e (Some c) (Some d) edge refl p x word (next_word p t)
 
+    -- and a step over either leads to the same marks
     pub same_step : (p : Pattern) (x : Bool) → SameWord p b e → Tells ks p → step b (Some c) p x ≡ step e (Some d) p x
     unfolding SameWord
     same_step empty x word t = refl
@@ -134,6 +148,7 @@ marked_tells ks ms (alt p q) t = (marked_tells ks ms p t.0, marked_tells ks (dro
 marked_tells ks ms (star p) t = marked_tells ks ms p t
 marked_tells ks ms (plus p) t = marked_tells ks ms p t
 
+-- marks change nothing of whether \b or \B stands in a pattern
 marked_boundary : (ms : List Bool) (p : Pattern) → has_boundary (marked ms p) ≡ has_boundary p
 marked_boundary ms empty = refl
 marked_boundary ms (class m n rs) = refl
@@ -143,6 +158,7 @@ marked_boundary ms (alt p q) = rw (marked_boundary ms p, marked_boundary (drop (
 marked_boundary ms (star p) = marked_boundary ms p
 marked_boundary ms (plus p) = marked_boundary ms p
 
+-- characters alike for a pattern are alike for it with other marks
 pub marked_word : (ms : List Bool) (p : Pattern) (b e : Option ℕ) → SameWord p b e → SameWord (marked ms p) b e
 unfolding SameWord
 marked_word ms p b e same h = same (sym (marked_boundary ms p) ∙ h)

@@ -3,7 +3,7 @@ use Rattle.std.proofs.Common.{◌≡◌, ℕ, ◌+◌, ◌<◌, ◌≤◌, List,
 use Rattle.std.specs.Str.{chars}
 use Rattle.std.proofs.lemmas.List.{drop_more}
 use Rattle.std.proofs.lemmas.Str.{chars_past_char, IsUtf8-past_char, encode_ascii}
-use Rattle.strkw_ecma.specs.Columns.{column_of}
+use Rattle.strkw_ecma.specs.machine.Columns.{column_of}
 use Rattle.strkw_ecma.specs.declared.columns.Columns.{Columns}
 
 -- at a place of a text there is a character with this column, which is one byte
@@ -16,12 +16,15 @@ pub record ReadsByte (t : Columns) (text : List ℕ) (k b column : ℕ) : Type 0
 module _ (t : Columns) (text bytes columns : List ℕ) (all : bytes ≡ text) (ascii : columns ≡ t.ascii.items) (k b entry column : ℕ)
     (within : k < length bytes) (b_is : b ≡ get_or bytes k 0) (reached : b < length columns) (entry_is : entry ≡ get_or columns b 0)
     (column_is : column ≡ entry) (utf8 : IsUtf8 (drop k text)) where
+  -- its place lies in the text
   in_text : k < length text
   in_text = let same : length bytes ≡ length text = ap length all in omega arith
 
+  -- it has a column in that list
   in_ascii : b < length t.ascii.items
   in_ascii = let same : length columns ≡ length t.ascii.items = ap length ascii in omega arith
 
+  -- from its place on the text begins with it, encoded as a character
   begins : drop k text ≡ encode_utf8 b ++ drop (k + 1) text
   begins =
       let most : length t.ascii.items ≤ 128 = t.few_ascii in
@@ -30,9 +33,11 @@ module _ (t : Columns) (text bytes columns : List ℕ) (all : bytes ≡ text) (a
       ∙ ap (λ (c : ℕ). c ∷ drop (k + 1) text) (sym (b_is ∙ ap (λ (l : List ℕ). get_or l k 0) all))
       ∙ ap (λ (s : List ℕ). s ++ drop (k + 1) text) (sym (encode_ascii b small))
 
+  -- its column is that of the character
   right : column_of t.classes.items t.keys.items b ≡ Some column
   right = t.right_ascii b in_ascii ∙ ap Some (sym (column_is ∙ entry_is ∙ ap (λ (l : List ℕ). get_or l b 0) ascii))
 
+  -- at its place there is that character with that column
   pub reads_byte : ReadsByte t text k b column
   reads_byte = record {
     char = chars_past_char (drop k text) (drop (k + 1) text) b utf8 begins;

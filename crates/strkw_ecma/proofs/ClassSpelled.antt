@@ -4,38 +4,51 @@ use Rattle.std.proofs.lemmas.List.{append-nil}
 use Rattle.std.specs.Str.{byte}
 use Rattle.strkw_ecma.specs.Escapes.{Escape, itself, control, set, boundary, no_boundary, null, letter, hexadecimal, unicode, property, no_property, unknown}
 use Rattle.strkw_ecma.specs.Codes.{null_code}
-use Rattle.strkw_ecma.specs.CodeReading.{byte_width, two_more, Coding, letter_awaited, unit_opened, digits_of, Coded, fails, goes, makes}
+use Rattle.strkw_ecma.specs.machine.CodeReading.{byte_width, two_more, Coding, letter_awaited, unit_opened, digits_of, Coded, fails, goes, makes}
 use Rattle.strkw_ecma.specs.Names.{NameChar, name_spelling}
-use Rattle.strkw_ecma.specs.Classes.{ClassToken, closing_bracket, class_backslash, dash, class_character, ClassAtom, class_plain, hyphen, class_escaped, class_control, class_set, backspace, class_coded, class_property, Ranges, class_atom_spelling, ranges_spelling, negation_spelling}
-use Rattle.strkw_ecma.specs.Syntax.{Disjunction, Alternative, more, Term, Atom, quantifier_spelling, group_spelling, spelling, alternative_spelling, term_spelling, atom_spelling}
-use Rattle.strkw_ecma.specs.Reading.{Open, Outer, Level, Last, none, atom, counted, Pending, fresh, one, dashed, Class, Mode, between, escaping, opening, extending, class_opened, Count, low, high, counting, in_class, class_escaping, coding, class_coding, in_property, in_class_property, naming, name_escaping, name_coding, State, ended, joined, with_atom, took, took_dash, ranged, class_read, within, on_class_token, on_class_escape, with_coding, on_class_coding, when, with_property, on_class_property}
+use Rattle.strkw_ecma.specs.Classes.{ClassToken, closing_bracket, class_escaper, dash, class_char, ClassAtom, class_plain, hyphen, class_escaped}
+use Rattle.strkw_ecma.specs.Classes.{class_control, class_set, backspace, class_coded, class_property, Ranges, class_atom_spelling, ranges_spelling}
+use Rattle.strkw_ecma.specs.Classes.{negation_spelling}
+use Rattle.strkw_ecma.specs.Syntax.{Disjunction, Alternative, more, Term, Atom, quantifier_spelling, group_spelling, spelling, alternative_spelling}
+use Rattle.strkw_ecma.specs.Syntax.{term_spelling, atom_spelling}
+use Rattle.strkw_ecma.specs.machine.Reading.{Open, Outer, Level, Last, none, atom, counted, Pending, fresh, one, dashed, Class, Mode, between, escaping}
+use Rattle.strkw_ecma.specs.machine.Reading.{opening, extending, class_opened, Count, low, high, counting, in_class, class_escaping, coding, class_coding}
+use Rattle.strkw_ecma.specs.machine.Reading.{in_property, in_class_property, naming, name_escaping, name_coding, State, ended, joined, with_atom, took}
+use Rattle.strkw_ecma.specs.machine.Reading.{took_dash, ranged, class_read, within, on_class_token, on_class_escape, with_coding, on_class_coding, when}
+use Rattle.strkw_ecma.specs.machine.Reading.{with_property, on_class_property}
 use Rattle.strkw_ecma.proofs.Letters.{char_of_letter, char_of_class}
 use Rattle.strkw_ecma.proofs.CodeReadings.{coding_spelling, IsCodedAs}
-use Rattle.strkw_ecma.specs.PropertyReading.{PropertyPart, brace_awaited, PropertyRead, no_property_read, property_goes, property_ends}
+use Rattle.strkw_ecma.specs.machine.PropertyReading.{PropertyPart, brace_awaited, PropertyRead, no_property_read, property_goes, property_ends}
 use Rattle.strkw_ecma.proofs.PropertyReadings.{part_spelling, IsReadAs}
 use Rattle.strkw_ecma.specs.declared.tree.CharSet.{CharSet}
 
+-- a level as it is written: the alternatives before, and the terms of the last
 abbrev pub level_spelling : Option Disjunction → Alternative → List ℕ
 level_spelling None a = alternative_spelling a
 level_spelling (Some d) a = spelling d ++ byte "|" ∷ alternative_spelling a
 
+-- the last term as it is written, with its quantifier, or nothing
 abbrev pub last_spelling : Last → List ℕ
 last_spelling none = []
 last_spelling (atom x) = atom_spelling x
 last_spelling (counted x q) = atom_spelling x ++ quantifier_spelling q
 
+-- the open groups as they are written, with what stands before each in the level around it
 abbrev pub outer_spelling : List Open → List ℕ
 outer_spelling [] = []
 outer_spelling (o ∷ ls) = (outer_spelling ls ++ level_spelling o.earlier o.current) ++ group_spelling o.group
 
+-- what may still belong to a range, as it is written
 abbrev pending_spelling : Pending → List ℕ
 pending_spelling fresh = []
 pending_spelling (one x) = class_atom_spelling x
 pending_spelling (dashed x) = class_atom_spelling x ++ byte "-" ∷ []
 
+-- the beginning of a class as it is written, with what is pending
 abbrev pub class_text : Bool → Ranges → Pending → List ℕ
 class_text n r p = (negation_spelling n ++ ranges_spelling r) ++ pending_spelling p
 
+-- the beginning of a count as it is written
 abbrev count_spelling : Count → List ℕ
 count_spelling (low ds) = byte "{" ∷ ds
 count_spelling (high ds es) = byte "{" ∷ (ds ++ byte "," ∷ es)
@@ -44,6 +57,7 @@ count_spelling (high ds es) = byte "{" ∷ (ds ++ byte "," ∷ es)
 abbrev pub name_text : List NameChar → List ℕ
 name_text n = byte "(" ∷ byte "?" ∷ byte "<" ∷ name_spelling n
 
+-- what is read behind the last term, in each mode
 abbrev mode_spelling : Mode → List ℕ
 mode_spelling between = []
 mode_spelling escaping = byte "\\" ∷ []
@@ -65,21 +79,25 @@ mode_spelling (name_coding n k) = name_text n ++ byte "\\" ∷ coding_spelling k
 abbrev pub spelled : State → List ℕ
 spelled s = ((outer_spelling s.outer.groups ++ level_spelling s.level.earlier s.level.current) ++ last_spelling s.last) ++ mode_spelling s.mode
 
+-- terms to which the last is added are spelled with the last behind them
 pub ended_spelling : (a : Alternative) (x : Last) → alternative_spelling (ended a x) ≡ alternative_spelling a ++ last_spelling x
 ended_spelling a none = sym (append-nil _)
 ended_spelling a (atom x) = refl
 ended_spelling a (counted x q) = ap (λ z. alternative_spelling a ++ z) (append-nil _)
 
+-- and so is a level
 pub level_ended_spelling : (e : Option Disjunction) (a : Alternative) (x : Last)
     → level_spelling e (ended a x) ≡ level_spelling e a ++ last_spelling x
 level_ended_spelling None a x = ended_spelling a x
 level_ended_spelling (Some d) a x =
     ap (λ z. spelling d ++ byte "|" ∷ z) (ended_spelling a x) ∙ sym (append_assoc (spelling d) (byte "|" ∷ alternative_spelling a) (last_spelling x))
 
+-- the alternatives of a level, joined, are spelled as the level is
 pub joined_spelling : (e : Option Disjunction) (a : Alternative) → spelling (joined e a) ≡ level_spelling e a
 joined_spelling None a = refl
 joined_spelling (Some d) a = refl
 
+-- a level with one term more is spelled with that behind it
 pub more_spelling : (e : Option Disjunction) (a : Alternative) (t : Term) → level_spelling e (more a t) ≡ level_spelling e a ++ term_spelling t
 more_spelling None a t = refl
 more_spelling (Some d) a t = sym (append_assoc (spelling d) (byte "|" ∷ alternative_spelling a) (term_spelling t))
@@ -89,6 +107,7 @@ abbrev pub HasRead : Option State → List ℕ → Type 0
 HasRead None text = Unit {0}
 HasRead (Some t) text = spelled t ≡ text
 
+-- a state that has read the text has read it under a test too
 pub when_read : (b : Bool) (o : Option State) (text : List ℕ) → HasRead o text → HasRead (when b o) text
 when_read false o text h = tt
 when_read true o text h = h
@@ -98,43 +117,52 @@ abbrev HasTaken : Option Class → List ℕ → Type 0
 HasTaken None text = Unit {0}
 HasTaken (Some k) text = class_text k.negated k.ranges k.pending ≡ text
 
+-- a class that gets a range has read what it had, and the last atom of the range
 ranged_read : (n : Bool) (r : Ranges) (w y : ClassAtom) (o : Option CharSet)
     → HasTaken (ranged n r w y o) (class_text n r (dashed w) ++ class_atom_spelling y)
 ranged_read n r w y None = tt
 ranged_read n r w y (Some s) = append-nil _ ∙ regroup (negation_spelling n) (ranges_spelling r) (class_atom_spelling w) (class_atom_spelling y)
   where
+    -- in a text of four parts with a dash before the last the brackets may be moved
     regroup : (a b c d : List ℕ) → a ++ ((b ++ c) ++ byte "-" ∷ d) ≡ ((a ++ b) ++ (c ++ byte "-" ∷ [])) ++ d
     regroup a b c d =
         ap (λ z. a ++ z) (append_assoc b c (byte "-" ∷ d)) ∙ sym (append_assoc a b (c ++ byte "-" ∷ d))
         ∙ ap (λ z. (a ++ b) ++ z) (sym (append_assoc c (byte "-" ∷ []) d)) ∙ sym (append_assoc (a ++ b) (c ++ byte "-" ∷ []) d)
 
+-- a class behind an atom has read what it had, and the atom
 took_read : (n : Bool) (r : Ranges) (p : Pending) (y : ClassAtom) → HasTaken (took n r p y) (class_text n r p ++ class_atom_spelling y)
 took_read n r fresh y = ap (λ z. z ++ class_atom_spelling y) (sym (append-nil (negation_spelling n ++ ranges_spelling r)))
 took_read n r (one w) y =
     ap (λ z. z ++ class_atom_spelling y) (sym (append_assoc (negation_spelling n) (ranges_spelling r) (class_atom_spelling w)))
 took_read n r (dashed w) y = ranged_read n r w y _
 
+-- and behind a dash, what it had and the dash
 dash_read : (n : Bool) (r : Ranges) (p : Pending) → HasTaken (took_dash n r p) (class_text n r p ++ byte "-" ∷ [])
 dash_read n r fresh = took_read n r fresh hyphen
 dash_read n r (one w) = sym (append_assoc (negation_spelling n ++ ranges_spelling r) (class_atom_spelling w) (byte "-" ∷ []))
 dash_read n r (dashed w) = took_read n r (dashed w) hyphen
 
 module _ (outer : Outer) (l : Level) where
+  -- what is read up to the end of the last term
   abbrev pub before : Last → List ℕ
   before x = (outer_spelling outer.groups ++ level_spelling l.earlier l.current) ++ last_spelling x
 
+  -- it is the spelling with the last term taken into the level
   pub whole : (x : Last) → outer_spelling outer.groups ++ level_spelling l.earlier (ended l.current x) ≡ before x
   whole x =
       ap (λ z. outer_spelling outer.groups ++ z) (level_ended_spelling l.earlier l.current x)
       ∙ sym (append_assoc (outer_spelling outer.groups) (level_spelling l.earlier l.current) (last_spelling x))
 
+  -- a state behind an atom has read what was before it, and the atom
   pub atom_read : (x : Last) (a : Atom) → spelled (with_atom outer l x a) ≡ before x ++ atom_spelling a
   atom_read x a = append-nil _ ∙ ap (λ z. z ++ atom_spelling a) (whole x)
 
+  -- a state in a class has read what stands before the class, and what the class has
   within_read : (x : Last) (o : Option Class) (t : List ℕ) → HasTaken o t → (u : List ℕ) → before x ++ t ≡ u → HasRead (within outer l x o) u
   within_read x None t h u e = tt
   within_read x (Some k) t h u e = ap (λ z. before x ++ z) h ∙ e
 
+  -- a class that is ended is spelled as what was read of it, and the closing bracket
   class_atom_read : (x : Last) (n : Bool) (r : Ranges) (p : Pending) → atom_spelling (class_read n r p) ≡ class_text n r p ++ byte "]" ∷ []
   class_atom_read x n r fresh = ap (λ z. z ++ byte "]" ∷ []) (sym (append-nil (negation_spelling n ++ ranges_spelling r)))
   class_atom_read x n r (one y) =
@@ -143,23 +171,25 @@ module _ (outer : Outer) (l : Level) where
       ap (λ z. z ++ byte "-" ∷ byte "]" ∷ []) (sym (append_assoc (negation_spelling n) (ranges_spelling r) (class_atom_spelling y)))
       ∙ dash_last (negation_spelling n ++ ranges_spelling r) (class_atom_spelling y)
     where
+      -- a dash before the closing bracket may be put to what stands before it
       dash_last : (a b : List ℕ) → (a ++ b) ++ byte "-" ∷ byte "]" ∷ [] ≡ (a ++ (b ++ byte "-" ∷ [])) ++ byte "]" ∷ []
       dash_last a b =
           append_assoc a b (byte "-" ∷ byte "]" ∷ [])
           ∙ ap (λ z. a ++ z) (sym (append_assoc b (byte "-" ∷ []) (byte "]" ∷ [])))
           ∙ sym (append_assoc a (b ++ byte "-" ∷ []) (byte "]" ∷ []))
 
+  -- behind a character in a class, the state has read what was read before, and the character
   pub class_token_read : (x : Last) (n : Bool) (r : Ranges) (p : Pending) (c : ℕ) (k : ClassToken) → char_of_class k c ≡ c
       → HasRead (on_class_token outer l x n r p c k) ((before x ++ class_text n r p) ++ c ∷ [])
   class_token_read x n r p c closing_bracket e =
       atom_read x (class_read n r p) ∙ ap (λ z. before x ++ z) (class_atom_read x n r p)
       ∙ sym (append_assoc (before x) (class_text n r p) (byte "]" ∷ [])) ∙ ap (λ z. (before x ++ class_text n r p) ++ z ∷ []) e
-  class_token_read x n r p c class_backslash e =
+  class_token_read x n r p c class_escaper e =
       sym (append_assoc (before x) (class_text n r p) (byte "\\" ∷ [])) ∙ ap (λ z. (before x ++ class_text n r p) ++ z ∷ []) e
   class_token_read x n r p c dash e =
       within_read x (took_dash n r p) _ (dash_read n r p) _
       (sym (append_assoc (before x) (class_text n r p) (byte "-" ∷ [])) ∙ ap (λ z. (before x ++ class_text n r p) ++ z ∷ []) e)
-  class_token_read x n r p c class_character e =
+  class_token_read x n r p c class_char e =
       within_read x (took n r p (class_plain c)) _ (took_read n r p (class_plain c)) _ (sym (append_assoc (before x) (class_text n r p) (c ∷ [])))
 
   -- behind a backslash and s, where this and the letter c are spelled so
@@ -170,14 +200,17 @@ module _ (outer : Outer) (l : Level) where
       ∙ ap (λ z. before x ++ z) (sym (append_assoc (class_text n r p) (byte "\\" ∷ s) (c ∷ [])))
       ∙ sym (append_assoc (before x) (class_text n r p ++ byte "\\" ∷ s) (c ∷ []))
 
+  -- behind an escape of one letter in a class, the backslash and the letter are read too
   letter_read : (x : Last) (n : Bool) (r : Ranges) (p : Pending) (c : ℕ) (y : ClassAtom) → class_atom_spelling y ≡ byte "\\" ∷ c ∷ []
       → HasRead (within outer l x (took n r p y)) ((before x ++ (class_text n r p ++ byte "\\" ∷ [])) ++ c ∷ [])
   letter_read x n r p c y e = within_read x (took n r p y) _ (took_read n r p y) _ (behind x n r p [] c _ e)
 
+  -- and behind the letter that begins an escape by a number
   coding_begun : (x : Last) (n : Bool) (r : Ranges) (p : Pending) (c : ℕ) (k : Coding) → coding_spelling k ≡ c ∷ []
       → spelled (with_coding outer l x n r p k) ≡ (before x ++ (class_text n r p ++ byte "\\" ∷ [])) ++ c ∷ []
   coding_begun x n r p c k e = behind x n r p [] c (byte "\\" ∷ coding_spelling k) (ap (λ z. byte "\\" ∷ z) e)
 
+  -- behind one more character of an escape by a number in a class, that is read too
   pub class_coding_read : (x : Last) (n : Bool) (r : Ranges) (p : Pending) (k : Coding) (c : ℕ) (o : Coded) → IsCodedAs o (coding_spelling k ++ c ∷ [])
       → HasRead (on_class_coding outer l x n r p o) ((before x ++ (class_text n r p ++ byte "\\" ∷ coding_spelling k)) ++ c ∷ [])
   class_coding_read x n r p k c fails h = tt
@@ -186,10 +219,12 @@ module _ (outer : Outer) (l : Level) where
       within_read x (took n r p (class_coded d)) _ (took_read n r p (class_coded d)) _
       (behind x n r p (coding_spelling k) c (class_atom_spelling (class_coded d)) (ap (λ z. byte "\\" ∷ z) h))
 
+  -- behind the letter that begins a property in a class, the backslash and the letter are read too
   property_begun : (x : Last) (n : Bool) (r : Ranges) (p : Pending) (c : ℕ) (b : Bool) → part_spelling (brace_awaited b) ≡ c ∷ []
       → spelled (with_property outer l x n r p (brace_awaited b)) ≡ (before x ++ (class_text n r p ++ byte "\\" ∷ [])) ++ c ∷ []
   property_begun x n r p c b e = behind x n r p [] c (byte "\\" ∷ part_spelling (brace_awaited b)) (ap (λ z. byte "\\" ∷ z) e)
 
+  -- behind one more character of a property in a class, that is read too
   pub class_property_read : (x : Last) (n : Bool) (r : Ranges) (p : Pending) (k : PropertyPart) (c : ℕ) (o : PropertyRead)
       → IsReadAs o (part_spelling k ++ c ∷ [])
       → HasRead (on_class_property outer l x n r p o) ((before x ++ (class_text n r p ++ byte "\\" ∷ part_spelling k)) ++ c ∷ [])
@@ -201,6 +236,7 @@ module _ (outer : Outer) (l : Level) where
       (within_read x (took n r p (class_property b e)) _ (took_read n r p (class_property b e)) _
       (behind x n r p (part_spelling k) c (class_atom_spelling (class_property b e)) (ap (λ z. byte "\\" ∷ z) h)))
 
+  -- behind a backslash and a character in a class, both are read too
   pub class_escape_read : (x : Last) (n : Bool) (r : Ranges) (p : Pending) (c : ℕ) (k : Escape) → char_of_letter k c ≡ c
       → HasRead (on_class_escape outer l x n r p c k) ((before x ++ (class_text n r p ++ byte "\\" ∷ [])) ++ c ∷ [])
   class_escape_read x n r p c itself e = letter_read x n r p c (class_escaped c) refl

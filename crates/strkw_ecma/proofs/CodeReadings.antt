@@ -1,13 +1,18 @@
 -- Escapes by a number: each is read from its spelling, and what is read is spelled so and gives a character.
-use Rattle.std.proofs.Common.{◌≡◌, ℕ, ◌+◌, ◌*◌, ◌≤◌, ◌==◌, Bool, true, false, List, [], ◌∷◌, ◌++◌, Option, None, length, refl, sym, ap, subst, ◌∙◌, true≢false, append_assoc, arith}
+use Rattle.std.proofs.Common.{◌≡◌, ℕ, ◌+◌, ◌*◌, ◌≤◌, ◌==◌, Bool, true, false, List, [], ◌∷◌, ◌++◌, Option, None, length, refl, sym, ap, subst, ◌∙◌, true≢false}
+use Rattle.std.proofs.Common.{append_assoc, arith}
 use Rattle.std.proofs.lemmas.List.{append-nil, length_push}
 use Rattle.std.proofs.lemmas.Bool.{le-leb}
 use Rattle.std.proofs.lemmas.Bool.Decides.{nat_tests}
 use Rattle.std.specs.Char.{digit_value, is_ascii_alphabetic}
 use Rattle.std.specs.Str.{byte}
-use Rattle.strkw_ecma.specs.Codes.{Code, null_code, letter_code, byte_code, unit_code, pair_code, point_code, is_hex_digit, are_hex_digits, hex_number_from, hex_number, max_code_point, is_lead, is_trail, is_scalar, has_digits, code_spelling, code_value, AreDigits, AreCodeDigits, IsCode}
+use Rattle.strkw_ecma.specs.Codes.{Code, null_code, letter_code, byte_code, unit_code, pair_code, point_code, is_hex_digit, are_hex_digits, hex_number_from}
+use Rattle.strkw_ecma.specs.Codes.{hex_number, max_code_point, is_lead, is_trail, is_scalar, has_digits, code_spelling, code_value, AreDigits, AreCodeDigits}
+use Rattle.strkw_ecma.specs.Codes.{IsCode}
 use Rattle.strkw_ecma.specs.Names.{is_unicode}
-use Rattle.strkw_ecma.specs.CodeReading.{Width, byte_width, unit_width, trail_width, Wanted, one_more, two_more, three_more, four_more, Coding, letter_awaited, unit_opened, digits_of, lead_read, lead_escaped, point_opened, Coded, fails, goes, makes, coded_if, made, with_lead, all_read, digit_read, is_next_digit, on_digit, on_unit, on_point, coding_next}
+use Rattle.strkw_ecma.specs.machine.CodeReading.{Width, byte_width, unit_width, trail_width, Wanted, one_more, two_more, three_more, four_more, Coding}
+use Rattle.strkw_ecma.specs.machine.CodeReading.{letter_awaited, unit_opened, digits_of, lead_read, lead_escaped, point_opened, Coded, fails, goes, makes}
+use Rattle.strkw_ecma.specs.machine.CodeReading.{coded_if, made, with_lead, all_read, digit_read, is_next_digit, on_digit, on_unit, on_point, coding_next}
 use Rattle.strkw_ecma.specs.Syntax.{Disjunction}
 use Rattle.strkw_ecma.proofs.Steps.{and_true, and_left, and_right}
 use Rattle.strkw_ecma.proofs.Letters.{same_char, is_not}
@@ -18,6 +23,7 @@ width_spelling byte_width ds = byte "x" ∷ ds
 width_spelling unit_width ds = byte "u" ∷ ds
 width_spelling (trail_width ds) es = byte "u" ∷ (ds ++ byte "\\" ∷ byte "u" ∷ es)
 
+-- the same of any part of an escape by a number
 abbrev pub coding_spelling : Coding → List ℕ
 coding_spelling letter_awaited = byte "c" ∷ []
 coding_spelling unit_opened = byte "u" ∷ []
@@ -26,52 +32,63 @@ coding_spelling (lead_read ds) = byte "u" ∷ ds
 coding_spelling (lead_escaped ds) = byte "u" ∷ (ds ++ byte "\\" ∷ [])
 coding_spelling (point_opened ds) = byte "u" ∷ byte "{" ∷ ds
 
+-- what comes of a character, a part or the whole, is spelled so
 abbrev pub IsCodedAs : Coded → List ℕ → Type 0
 IsCodedAs fails t = Unit {0}
 IsCodedAs (goes k) t = coding_spelling k ≡ t
 IsCodedAs (makes d) t = code_spelling d ≡ t
 
+-- what comes of a character under a test is spelled so, if it is where the test holds
 if_as : (b : Bool) (k : Coded) (t : List ℕ) → (b ≡ true → IsCodedAs k t) → IsCodedAs (coded_if b k) t
 if_as false k t h = tt
 if_as true k t h = h refl
 
+-- what is made of a whole escape is spelled as the escape
 made_as : (d : Code) (t : List ℕ) → code_spelling d ≡ t → IsCodedAs (made d) t
 made_as d t h = if_as (is_scalar (code_value d)) (makes d) t (λ _. h)
 
+-- what is made of the digits behind `\u`, of a leading surrogate or not, is spelled as they are
 lead_as : (ds : List ℕ) (b : Bool) (t : List ℕ) → byte "u" ∷ ds ≡ t → IsCodedAs (with_lead ds b) t
 lead_as ds false t h = made_as (unit_code ds) t h
 lead_as ds true t h = h
 
+-- what is made of all digits of a number is spelled as they are
 all_read_as : (w : Width) (ds t : List ℕ) → width_spelling w ds ≡ t → IsCodedAs (all_read w ds) t
 all_read_as byte_width ds t h = made_as (byte_code ds) t h
 all_read_as unit_width ds t h = lead_as ds (is_lead (hex_number ds)) t h
 all_read_as (trail_width ds) es t h = if_as (is_trail (hex_number es)) (made (pair_code ds es)) t (λ _. made_as (pair_code ds es) t h)
 
+-- and so is what is made of digits, where more may be to come
 digit_read_as : (w : Width) (n : Wanted) (ds t : List ℕ) → width_spelling w ds ≡ t → IsCodedAs (digit_read w n ds) t
 digit_read_as w one_more ds t h = all_read_as w ds t h
 digit_read_as w two_more ds t h = h
 digit_read_as w three_more ds t h = h
 digit_read_as w four_more ds t h = h
 
+-- digits with one more are spelled with that behind them
 width_push : (w : Width) (ds : List ℕ) (c : ℕ) → width_spelling w (ds ++ c ∷ []) ≡ width_spelling w ds ++ c ∷ []
 width_push byte_width ds c = refl
 width_push unit_width ds c = refl
 width_push (trail_width ds) es c = ap (λ z. byte "u" ∷ z) (sym (append_assoc ds (byte "\\" ∷ byte "u" ∷ es) (c ∷ [])))
 
+-- what comes of a character among the digits is spelled with it
 on_digit_as : (w : Width) (n : Wanted) (ds : List ℕ) (c : ℕ) → IsCodedAs (on_digit w n ds c) (width_spelling w ds ++ c ∷ [])
 on_digit_as w n ds c =
     if_as (is_next_digit ds c) (digit_read w n (ds ++ c ∷ [])) _ (λ _. digit_read_as w n (ds ++ c ∷ []) _ (width_push w ds c))
 
+-- and so is what comes of one behind `\u`
 unit_as : (c : ℕ) (b : Bool) → (c == byte "{") ≡ b → IsCodedAs (on_unit c b) (byte "u" ∷ c ∷ [])
 unit_as c false e = on_digit_as unit_width four_more [] c
 unit_as c true e = ap (λ z. byte "u" ∷ z ∷ []) (same_char c (byte "{") e)
 
+-- and what comes of one behind `\u{` and digits
 point_as : (ds : List ℕ) (c : ℕ) (b : Bool) → (c == byte "}") ≡ b → IsCodedAs (on_point ds c b) (byte "u" ∷ byte "{" ∷ (ds ++ c ∷ []))
 point_as ds c false e = if_as (is_next_digit ds c) (goes (point_opened (ds ++ c ∷ []))) _ (λ _. refl)
 point_as ds c true e =
     if_as (has_digits ds) (made (point_code ds)) _
     (λ _. made_as (point_code ds) _ (ap (λ z. byte "u" ∷ byte "{" ∷ (ds ++ z ∷ [])) (same_char c (byte "}") e)))
 
+-- so what comes of the next character of an escape by a number is spelled with it
 pub coding_as : (k : Coding) (c : ℕ) → IsCodedAs (coding_next k c) (coding_spelling k ++ c ∷ [])
 coding_as letter_awaited c = if_as (is_ascii_alphabetic c) (made (letter_code c)) _ (λ _. made_as (letter_code c) _ refl)
 coding_as unit_opened c = unit_as c (c == byte "{") refl
@@ -85,25 +102,30 @@ coding_as (lead_escaped ds) c =
 coding_as (point_opened ds) c = point_as ds c (c == byte "}") refl
 
 -- what may have been read
+-- how many digits a number of this width has
 abbrev width_count : Width → ℕ
 width_count byte_width = 2
 width_count unit_width = 4
 width_count (trail_width ds) = 4
 
+-- how many digits are still to come
 abbrev wanted_count : Wanted → ℕ
 wanted_count one_more = 1
 wanted_count two_more = 2
 wanted_count three_more = 3
 wanted_count four_more = 4
 
+-- four digits that make a leading surrogate
 abbrev IsLead : List ℕ → Type 0
 IsLead ds = AreDigits 4 ds × (is_lead (hex_number ds) ≡ true)
 
+-- what stands before a trailing surrogate is a leading one
 abbrev IsWidth : Width → Type 0
 IsWidth byte_width = Unit {0}
 IsWidth unit_width = Unit {0}
 IsWidth (trail_width ds) = IsLead ds
 
+-- this part of an escape by a number may have been read
 abbrev pub IsCoding : Coding → Type 0
 IsCoding letter_awaited = Unit {0}
 IsCoding unit_opened = Unit {0}
@@ -112,28 +134,34 @@ IsCoding (lead_read ds) = IsLead ds
 IsCoding (lead_escaped ds) = IsLead ds
 IsCoding (point_opened ds) = are_hex_digits ds ≡ true
 
+-- what comes of a character, if anything, is such a part, or an escape that gives a character
 abbrev pub IsCoded : Coded → Type 0
 IsCoded fails = Unit {0}
 IsCoded (goes k) = IsCoding k
 IsCoded (makes d) = IsCode d
 
+-- what comes of a character under a test is such, if it is where the test holds
 if_formed : (b : Bool) (k : Coded) → (b ≡ true → IsCoded k) → IsCoded (coded_if b k)
 if_formed false k h = tt
 if_formed true k h = h refl
 
+-- what is made of an escape with the digits of one is such
 made_formed : (d : Code) → AreCodeDigits d → IsCoded (made d)
 made_formed d h = if_formed (is_scalar (code_value d)) (makes d) (λ e. (h, e))
 
+-- and what is made of four digits behind `\u`, of a leading surrogate or not
 lead_formed : (ds : List ℕ) (b : Bool) → is_lead (hex_number ds) ≡ b → AreDigits 4 ds → IsCoded (with_lead ds b)
 lead_formed ds false e h = made_formed (unit_code ds) h
 lead_formed ds true e h = (h, e)
 
+-- and what is made of all digits of a number
 all_read_formed : (w : Width) (ds : List ℕ) → IsWidth w → AreDigits (width_count w) ds → IsCoded (all_read w ds)
 all_read_formed byte_width ds v h = made_formed (byte_code ds) h
 all_read_formed unit_width ds v h = lead_formed ds _ refl h
 all_read_formed (trail_width ds) es v h =
     if_formed (is_trail (hex_number es)) (made (pair_code ds es)) (λ e. made_formed (pair_code ds es) (v, h, e))
 
+-- and what is made of digits with one more, as many of them as there may be
 digit_read_formed : (w : Width) (n : Wanted) (ds : List ℕ) → IsWidth w → are_hex_digits ds ≡ true
     → length ds + wanted_count n ≡ width_count w + 1 → IsCoded (digit_read w n ds)
 digit_read_formed w one_more ds v h e = all_read_formed w ds v (h, omega (arith, e))
@@ -141,25 +169,30 @@ digit_read_formed w two_more ds v h e = (v, h, omega (arith, e))
 digit_read_formed w three_more ds v h e = (v, h, omega (arith, e))
 digit_read_formed w four_more ds v h e = (v, h, omega (arith, e))
 
+-- digits with one more are digits
 hex_push_digit : (ds : List ℕ) (c : ℕ) → are_hex_digits ds ≡ true → is_hex_digit c ≡ true → are_hex_digits (ds ++ c ∷ []) ≡ true
 hex_push_digit [] c h e = and_true _ _ e refl
 hex_push_digit (d ∷ ds) c h e = and_true _ _ (and_left (is_hex_digit d) _ h) (hex_push_digit ds c (and_right (is_hex_digit d) _ h) e)
 
+-- what comes of a character among the digits is a part that may have been read, or an escape
 on_digit_formed : (w : Width) (n : Wanted) (ds : List ℕ) (c : ℕ) → IsWidth w → are_hex_digits ds ≡ true
     → length ds + wanted_count n ≡ width_count w → IsCoded (on_digit w n ds c)
 on_digit_formed w n ds c v h e =
     if_formed (is_next_digit ds c) (digit_read w n (ds ++ c ∷ []))
     (λ t. digit_read_formed w n (ds ++ c ∷ []) v (hex_push_digit ds c h (and_left (is_hex_digit c) _ t)) (omega (arith, length_push ds c, e)))
 
+-- and so is what comes of one behind `\u`
 unit_formed : (c : ℕ) (b : Bool) → IsCoded (on_unit c b)
 unit_formed c false = on_digit_formed unit_width four_more [] c tt refl refl
 unit_formed c true = refl
 
+-- and what comes of one behind `\u{` and digits
 point_formed : (ds : List ℕ) (c : ℕ) (b : Bool) → are_hex_digits ds ≡ true → IsCoded (on_point ds c b)
 point_formed ds c false h =
     if_formed (is_next_digit ds c) (goes (point_opened (ds ++ c ∷ []))) (λ t. hex_push_digit ds c h (and_left (is_hex_digit c) _ t))
 point_formed ds c true h = if_formed (has_digits ds) (made (point_code ds)) (λ t. made_formed (point_code ds) (h, t))
 
+-- so what comes of a character behind a part that may have been read is such a part, or an escape
 pub coding_formed : (k : Coding) (c : ℕ) → IsCoding k → IsCoded (coding_next k c)
 coding_formed letter_awaited c h = if_formed (is_ascii_alphabetic c) (made (letter_code c)) (λ e. made_formed (letter_code c) e)
 coding_formed unit_opened c h = unit_formed c (c == byte "{")
@@ -175,6 +208,7 @@ is_unicode_width byte_width = false
 is_unicode_width unit_width = true
 is_unicode_width (trail_width ds) = true
 
+-- the same of any part of an escape
 abbrev pub is_unicode_coding : Coding → Bool
 is_unicode_coding letter_awaited = false
 is_unicode_coding unit_opened = true
@@ -183,19 +217,23 @@ is_unicode_coding (lead_read ds) = true
 is_unicode_coding (lead_escaped ds) = true
 is_unicode_coding (point_opened ds) = true
 
+-- what comes of a character, if anything, is a part or a whole of an escape with `\u`
 abbrev pub IsUnicode : Coded → Type 0
 IsUnicode fails = Unit {0}
 IsUnicode (goes k) = is_unicode_coding k ≡ true
 IsUnicode (makes d) = is_unicode d ≡ true
 
+-- what is one with `\u` is so under a test too
 if_unicode : (b : Bool) (k : Coded) → IsUnicode k → IsUnicode (coded_if b k)
 if_unicode false k h = tt
 if_unicode true k h = h
 
+-- what is made of the digits behind `\u`, of a leading surrogate or not, is one with `\u`
 lead_unicode : (ds : List ℕ) (b : Bool) → IsUnicode (with_lead ds b)
 lead_unicode ds false = if_unicode (is_scalar (code_value (unit_code ds))) (makes (unit_code ds)) refl
 lead_unicode ds true = refl
 
+-- and what is made of all digits of a number with `\u`
 all_read_unicode : (w : Width) (ds : List ℕ) → is_unicode_width w ≡ true → IsUnicode (all_read w ds)
 all_read_unicode byte_width ds h = absurd (true≢false (sym h))
 all_read_unicode unit_width ds h = lead_unicode ds (is_lead (hex_number ds))
@@ -203,25 +241,30 @@ all_read_unicode (trail_width ds) es h =
     if_unicode (is_trail (hex_number es)) (made (pair_code ds es))
     (if_unicode (is_scalar (code_value (pair_code ds es))) (makes (pair_code ds es)) refl)
 
+-- and what is made of its digits, where more may be to come
 digit_read_unicode : (w : Width) (n : Wanted) (ds : List ℕ) → is_unicode_width w ≡ true → IsUnicode (digit_read w n ds)
 digit_read_unicode w one_more ds h = all_read_unicode w ds h
 digit_read_unicode w two_more ds h = h
 digit_read_unicode w three_more ds h = h
 digit_read_unicode w four_more ds h = h
 
+-- and what comes of a character among them
 on_digit_unicode : (w : Width) (n : Wanted) (ds : List ℕ) (c : ℕ) → is_unicode_width w ≡ true → IsUnicode (on_digit w n ds c)
 on_digit_unicode w n ds c h =
     if_unicode (is_next_digit ds c) (digit_read w n (ds ++ c ∷ [])) (digit_read_unicode w n (ds ++ c ∷ []) h)
 
+-- and what comes of one behind `\u`
 unit_unicode : (c : ℕ) (b : Bool) → IsUnicode (on_unit c b)
 unit_unicode c false = on_digit_unicode unit_width four_more [] c refl
 unit_unicode c true = refl
 
+-- and what comes of one behind `\u{` and digits
 point_unicode : (ds : List ℕ) (c : ℕ) (b : Bool) → IsUnicode (on_point ds c b)
 point_unicode ds c false = if_unicode (is_next_digit ds c) (goes (point_opened (ds ++ c ∷ []))) refl
 point_unicode ds c true =
     if_unicode (has_digits ds) (made (point_code ds)) (if_unicode (is_scalar (code_value (point_code ds))) (makes (point_code ds)) refl)
 
+-- so what comes of a character behind a part with `\u` is one with `\u`
 pub coding_unicode : (k : Coding) (c : ℕ) → is_unicode_coding k ≡ true → IsUnicode (coding_next k c)
 coding_unicode letter_awaited c h = absurd (true≢false (sym h))
 coding_unicode unit_opened c h = unit_unicode c (c == byte "{")
@@ -231,33 +274,41 @@ coding_unicode (lead_escaped ds) c h = if_unicode (c == byte "u") (goes (digits_
 coding_unicode (point_opened ds) c h = point_unicode ds c (c == byte "}")
 
 -- numbers
+-- the number of digits, and others behind them, goes on from the number of the first
 hex_append : (v : ℕ) (ds es : List ℕ) → hex_number_from v (ds ++ es) ≡ hex_number_from (hex_number_from v ds) es
 hex_append v [] es = refl
 hex_append v (d ∷ ds) es = hex_append (v * 16 + digit_value d) ds es
 
+-- more digits make no smaller number
 hex_grows : (v : ℕ) (ds : List ℕ) → v ≤ hex_number_from v ds
 hex_grows v [] = omega arith
 hex_grows v (d ∷ ds) =
     let next : v * 16 + digit_value d ≤ hex_number_from v (d ∷ ds) = hex_grows (v * 16 + digit_value d) ds in
     smaller v (digit_value d) _ next
   where
+    -- what is sixteen times a number or more is no smaller than it
     smaller : (v d n : ℕ) → v * 16 + d ≤ n → v ≤ n
     smaller v d n h = omega (arith, h)
 
+-- where a number is not above the greatest, that of its first digits is not
 front_small : (ds es : List ℕ) → hex_number (ds ++ es) ≤ max_code_point → hex_number ds ≤ max_code_point
 front_small ds es h =
     let whole : hex_number (ds ++ es) ≡ hex_number_from (hex_number ds) es = hex_append 0 ds es in
     omega (arith, whole, hex_grows (hex_number ds) es, h)
 
+-- a code point that a text can have is not above the greatest
 scalar_small : (n : ℕ) → is_scalar n ≡ true → n ≤ max_code_point
 scalar_small n h = grind (arith, nat_tests)
 
+-- nor is a leading surrogate
 lead_small : (n : ℕ) → is_lead n ≡ true → n ≤ max_code_point
 lead_small n h = grind (arith, nat_tests)
 
+-- nor a trailing one
 trail_small : (n : ℕ) → is_trail n ≡ true → n ≤ max_code_point
 trail_small n h = grind (arith, nat_tests)
 
+-- a code point that a text can have is no leading surrogate
 no_lead : (n : ℕ) (b : Bool) → is_lead n ≡ b → is_scalar n ≡ true → b ≡ false
 no_lead n false e h = refl
 no_lead n true e h = grind (arith, nat_tests)
@@ -266,6 +317,7 @@ no_lead n true e h = grind (arith, nat_tests)
 abbrev pub Behind : Type 0 → Type 0
 Behind A = A → List ℕ → Option Disjunction
 
+-- the same behind what comes of a character, which may be nothing
 abbrev pub follow : Behind Coding → Behind Code → Behind Coded
 follow F G fails cs = None
 follow F G (goes k) cs = F k cs
@@ -280,6 +332,7 @@ code_tail (unit_code ds) = ds
 code_tail (pair_code ds es) = ds ++ byte "\\" ∷ byte "u" ∷ es
 code_tail (point_code ds) = byte "{" ∷ (ds ++ byte "}" ∷ [])
 
+-- the rest of a pattern that is read, behind the backslash and the letter of an escape
 abbrev pub begun : Behind Coding → Behind Code → Behind Code
 begun F G null_code cs = G null_code cs
 begun F G (letter_code c) cs = F letter_awaited cs
@@ -288,6 +341,7 @@ begun F G (unit_code ds) cs = F unit_opened cs
 begun F G (pair_code ds es) cs = F unit_opened cs
 begun F G (point_code ds) cs = F unit_opened cs
 
+-- there is always a digit still to come
 no_digits : (n : Wanted) → 0 ≡ wanted_count n → ⊥
 no_digits one_more e = omega (arith, e)
 no_digits two_more e = omega (arith, e)
@@ -295,18 +349,22 @@ no_digits three_more e = omega (arith, e)
 no_digits four_more e = omega (arith, e)
 
 module _ (F : Behind Coding) (G : Behind Code) (turn : (k : Coding) (c : ℕ) (cs : List ℕ) → F k (c ∷ cs) ≡ follow F G (coding_next k c) cs) where
+  -- an escape whose character a text can have is read as a whole one
   made_follows : (d : Code) → is_scalar (code_value d) ≡ true → (cs : List ℕ) → follow F G (made d) cs ≡ G d cs
   made_follows d h cs = ap (λ (b : Bool). follow F G (coded_if b (makes d)) cs) h
 
+  -- a digit that makes no number above the greatest is read, and added to those before
   one_digit : (w : Width) (n : Wanted) (ds : List ℕ) (d : ℕ) (cs : List ℕ) → is_hex_digit d ≡ true → hex_number (ds ++ d ∷ []) ≤ max_code_point
       → F (digits_of w n ds) (d ∷ cs) ≡ follow F G (digit_read w n (ds ++ d ∷ [])) cs
   one_digit w n ds d cs h m =
       turn (digits_of w n ds) d cs
       ∙ ap (λ (b : Bool). follow F G (coded_if b (digit_read w n (ds ++ d ∷ []))) cs) (and_true _ _ h (le-leb (hex_number (ds ++ d ∷ [])) max_code_point m))
 
+  -- a number not above the greatest is not above it with the brackets among its digits moved
   shifted : (ds : List ℕ) (d : ℕ) (es : List ℕ) → hex_number (ds ++ d ∷ es) ≤ max_code_point → hex_number ((ds ++ d ∷ []) ++ es) ≤ max_code_point
   shifted ds d es m = subst (λ (z : List ℕ). hex_number z ≤ max_code_point) (sym (append_assoc ds (d ∷ []) es)) m
 
+  -- where the digits behind one are read to the last, they are with that one in front
   joins : (w : Width) (n : Wanted) (ds : List ℕ) (d : ℕ) (es cs : List ℕ) → is_hex_digit d ≡ true → hex_number (ds ++ d ∷ es) ≤ max_code_point
       → follow F G (digit_read w n (ds ++ d ∷ [])) (es ++ cs) ≡ follow F G (all_read w ((ds ++ d ∷ []) ++ es)) cs
       → F (digits_of w n ds) (d ∷ (es ++ cs)) ≡ follow F G (all_read w (ds ++ d ∷ es)) cs
@@ -314,6 +372,7 @@ module _ (F : Behind Coding) (G : Behind Code) (turn : (k : Coding) (c : ℕ) (c
       one_digit w n ds d (es ++ cs) h (front_small (ds ++ d ∷ []) es (shifted ds d es m)) ∙ rest
       ∙ ap (λ (z : List ℕ). follow F G (all_read w z) cs) (append_assoc ds (d ∷ []) es)
 
+  -- digits are read to the last, where there are as many as are to come
   reads_digits : (w : Width) (n : Wanted) (ds es : List ℕ) → are_hex_digits es ≡ true → length es ≡ wanted_count n
       → hex_number (ds ++ es) ≤ max_code_point → (cs : List ℕ) → F (digits_of w n ds) (es ++ cs) ≡ follow F G (all_read w (ds ++ es)) cs
   reads_digits w n ds [] h e m cs = absurd (no_digits n e)
@@ -330,6 +389,7 @@ module _ (F : Behind Coding) (G : Behind Code) (turn : (k : Coding) (c : ℕ) (c
       (reads_digits w three_more (ds ++ d ∷ []) es (and_right (is_hex_digit d) _ h) (omega (arith, e)) (shifted ds d es m) cs)
 
   -- behind `\u` the first digit is no brace
+  -- four digits there are read as those of a number of four
   opens : (ds : List ℕ) → AreDigits 4 ds → (cs : List ℕ) → F unit_opened (ds ++ cs) ≡ F (digits_of unit_width four_more []) (ds ++ cs)
   opens [] h cs = absurd (no_digits four_more h.1)
   opens (d ∷ ds) h cs =
@@ -337,6 +397,7 @@ module _ (F : Behind Coding) (G : Behind Code) (turn : (k : Coding) (c : ℕ) (c
       ∙ ap (λ (b : Bool). follow F G (on_unit d b) (ds ++ cs)) (is_not is_hex_digit d (byte "{") (d == byte "{") refl (and_left (is_hex_digit d) _ h.0) refl)
       ∙ sym (turn (digits_of unit_width four_more []) d (ds ++ cs))
 
+  -- behind `\u{`, digits are read and added to those before, up to the greatest number
   reads_point : (ds es : List ℕ) → are_hex_digits es ≡ true → hex_number (ds ++ es) ≤ max_code_point → (cs : List ℕ)
       → F (point_opened ds) (es ++ cs) ≡ F (point_opened (ds ++ es)) cs
   reads_point ds [] h m cs = ap (λ (z : List ℕ). F (point_opened z) cs) (sym (append-nil ds))
@@ -351,11 +412,13 @@ module _ (F : Behind Coding) (G : Behind Code) (turn : (k : Coding) (c : ℕ) (c
       ∙ ap (λ (z : List ℕ). F (point_opened z) cs) (append_assoc ds (d ∷ []) es)
 
   -- of four digits
+  -- behind `\u` they are read, as those of a leading surrogate or of a character
   reads_unit : (ds : List ℕ) → AreDigits 4 ds → hex_number ds ≤ max_code_point → (b : Bool) → is_lead (hex_number ds) ≡ b → (cs : List ℕ)
       → F unit_opened (ds ++ cs) ≡ follow F G (with_lead ds b) cs
   reads_unit ds h m b e cs =
       opens ds h cs ∙ reads_digits unit_width four_more [] ds h.0 h.1 m cs ∙ ap (λ (b : Bool). follow F G (with_lead ds b) cs) e
 
+  -- behind its backslash and letter, each escape by a number is read from the rest of its spelling
   pub reads_code : (d : Code) → IsCode d → (cs : List ℕ) → begun F G d (code_tail d ++ cs) ≡ G d cs
   reads_code null_code h cs = refl
   reads_code (letter_code c) h cs =

@@ -5,7 +5,7 @@ use Rattle.std.specs.Vec.{vec_len}
 use Rattle.strkw_ecma.specs.Tree.{Pattern, empty, alt}
 use Rattle.strkw_ecma.specs.Patterns.{repeated}
 use Rattle.strkw_ecma.specs.Program.{Instruction, fork, other, join, is_empty, program, alternatives, copied}
-use Rattle.strkw_ecma.specs.Machine.{written, Writes}
+use Rattle.strkw_ecma.specs.machine.Machine.{written, Writes}
 use Rattle.strkw_ecma.specs.declared.code.Code.{Code}
 use Rattle.strkw_ecma.proofs.Programs.{by_option}
 use Rattle.strkw_ecma.proofs.Written.{repeats_written}
@@ -15,6 +15,7 @@ pub repeated_beside : (n : ℕ) (p : Pattern) → alternatives (repeated n p) �
 repeated_beside zero p = refl
 repeated_beside (suc n) p = refl
 
+-- the program of what is repeated is so many copies of its program
 pub program_repeated : (n : ℕ) (p : Pattern) → program (repeated n p) ≡ copied n (program p)
 program_repeated zero p = refl
 program_repeated (suc n) p = ap (λ (is : List Instruction). program p ++ is) (program_repeated n p)
@@ -35,5 +36,6 @@ program_choice p q h =
     by_option (λ (is : List Instruction). is ≡ fork ∷ (alternatives p ++ (other ∷ (program q ++ (join ∷ [])))))
     p q _ _ (λ m n rs e f. absurd (not_both e)) refl
   where
+    -- the first is not the empty pattern
     not_both : p ≡ empty → ⊥
     not_both e = let nothing : is_empty p ≡ true = ap is_empty e in cc

@@ -1,20 +1,23 @@
 -- The laws of a pattern's text.
-use Rattle.std.proofs.Common.{◌≡◌, ◌↔◌, ◌⊎◌, inl, inr, ℕ, zero, suc, Bool, true, false, List, Option, Some, None, IsTrue, refl, sym, ap, subst, ◌∙◌, true≢false, length, leb, nat_le, ◌≤◌, if◌then◌else◌, option_map}
+use Rattle.std.proofs.Common.{◌≡◌, ◌↔◌, ◌⊎◌, inl, inr, ℕ, zero, suc, Bool, true, false, List, Option, Some, None, IsTrue, refl, sym, ap, subst, ◌∙◌, true≢false}
+use Rattle.std.proofs.Common.{length, leb, nat_le, ◌≤◌, if◌then◌else◌, option_map}
 use Rattle.std.specs.Prelude.{is_some}
 use Rattle.std.proofs.lemmas.Bool.{leb-true, le-leb}
 use Rattle.strkw_pattern.specs.Matcher.{outcome_of}
 use Rattle.strkw_pattern.specs.declared.engine.Outcome.{Outcome}
 use Rattle.strkw_pattern.specs.declared.engine.Outcome.TheVariants.{Match, NoMatch}
 use Rattle.strkw_ecma.specs.Names.{are_distinct}
-use Rattle.strkw_ecma.specs.Syntax.{Disjunction, names, only, either, Alternative, nothing, more, Term, at_start, at_end, at_boundary, at_no_boundary, once, quantified, Atom, plain, escaped, control_escape, set_escape, coded, property_escape, dot, bracketed, group, max_length}
-use Rattle.strkw_ecma.specs.Reading.{read, read_short, read_pattern, tree_if, small_tree}
+use Rattle.strkw_ecma.specs.Syntax.{Disjunction, names, only, either, Alternative, nothing, more, Term, at_start, at_end, at_boundary, at_no_boundary, once}
+use Rattle.strkw_ecma.specs.Syntax.{quantified, Atom, plain, escaped, control_escape, set_escape, coded, property_escape, dot, bracketed, group, max_length}
+use Rattle.strkw_ecma.specs.machine.Reading.{read, read_short, read_pattern, tree_if, small_tree}
 use Rattle.strkw_ecma.specs.Lookahead.{is_apart}
 use Rattle.strkw_ecma.specs.Size.{steps, max_steps}
 use Rattle.strkw_ecma.specs.Meaning.{Found}
 use Rattle.strkw_ecma.specs.Tree.{Pattern, empty, alt}
-use Rattle.strkw_ecma.specs.Marks.{is_clean}
-use Rattle.strkw_ecma.specs.Patterns.{pattern, alternative_pattern, term_pattern, atom_pattern, Times, any_times, some_times, once_at_most, exact_times, least_times, range_times, times, repeated, quantified_pattern}
-use Rattle.strkw_ecma.specs.Outcomes.{outcome_of_read, search_outcome}
+use Rattle.strkw_ecma.specs.machine.Marks.{is_clean}
+use Rattle.strkw_ecma.specs.Patterns.{pattern, alternative_pattern, term_pattern, atom_pattern, Times, any_times, some_times, once_at_most, exact_times}
+use Rattle.strkw_ecma.specs.Patterns.{least_times, range_times, times, repeated, quantified_pattern}
+use Rattle.strkw_ecma.specs.machine.Outcomes.{outcome_of_read, search_outcome}
 use Rattle.strkw_ecma.specs.Laws.{IsPattern, IsExact}
 use Rattle.strkw_ecma.proofs.Readings.{complete}
 use Rattle.strkw_ecma.proofs.Spelled.{IsSpelled, sound}
@@ -22,10 +25,12 @@ use Rattle.strkw_ecma.proofs.Formed.{IsFormed, read_formed}
 use Rattle.strkw_ecma.proofs.Answers.{search_is_exact}
 use Rattle.strkw_ecma.proofs.Steps.{and_true}
 
+-- a pattern without marks has none where it is repeated
 clean_repeated : (n : ℕ) (p : Pattern) → is_clean p ≡ true → is_clean (repeated n p) ≡ true
 clean_repeated zero p h = refl
 clean_repeated (suc n) p h = and_true _ _ h (clean_repeated n p h)
 
+-- and none under a quantifier
 clean_times : (t : Times) (p : Pattern) → is_clean p ≡ true → is_clean (quantified_pattern t p) ≡ true
 clean_times any_times p h = h
 clean_times some_times p h = h
@@ -35,14 +40,17 @@ clean_times (least_times n) p h = and_true _ _ (clean_repeated n p h) h
 clean_times (range_times n m) p h = and_true _ _ (clean_repeated n p h) (clean_repeated _ (alt empty p) h)
 
 mutual
+  -- the pattern of a tree has no marks
   pub clean : (d : Disjunction) → is_clean (pattern d) ≡ true
   clean (only a) = clean_alternative a
   clean (either d a) = and_true _ _ (clean d) (clean_alternative a)
 
+  -- nor has that of an alternative
   clean_alternative : (a : Alternative) → is_clean (alternative_pattern a) ≡ true
   clean_alternative nothing = refl
   clean_alternative (more a t) = and_true _ _ (clean_alternative a) (clean_term t)
 
+  -- nor has that of a term
   clean_term : (t : Term) → is_clean (term_pattern t) ≡ true
   clean_term at_start = refl
   clean_term at_end = refl
@@ -51,6 +59,7 @@ mutual
   clean_term at_no_boundary = refl
   clean_term (quantified a q g) = clean_times (times q) (atom_pattern a) (clean_atom a)
 
+  -- nor has that of an atom
   clean_atom : (a : Atom) → is_clean (atom_pattern a) ≡ true
   clean_atom (plain c) = refl
   clean_atom (escaped c) = refl
@@ -62,6 +71,7 @@ mutual
   clean_atom (bracketed n r e) = refl
   clean_atom (group g d) = clean d
 
+-- a tree that is not left out for its size is that of a pattern, if it is one when small
 small_of : (source : List ℕ) (d : Disjunction) (b : Bool) → nat_le (steps (pattern d)) max_steps ≡ b
     → (steps (pattern d) ≤ max_steps → IsPattern source d) → IsTrue (is_some (tree_if b d)) → (d : Disjunction) × IsPattern source d
 small_of source d false e p h = absurd (true≢false (sym h))
@@ -72,6 +82,7 @@ distinct_of : (d : Disjunction) (b : Bool) → are_distinct (names d) ≡ b → 
 distinct_of d false e h = absurd (true≢false (sym h))
 distinct_of d true e h = e
 
+-- where the reader comes to a tree that is not left out, the text is a pattern
 derived_of : (source : List ℕ) (a b : Bool) (o : Option Disjunction) → is_apart source ≡ a → leb (length source) max_length ≡ b
     → read source ≡ o → IsSpelled o source → IsFormed o
     → IsTrue (is_some (if a then small_tree (if b then o else None) else None)) → (d : Disjunction) × IsPattern source d
@@ -98,34 +109,42 @@ read_is source d p =
     ∙ ap (λ (b : Bool). small_tree (tree_if b d)) p.distinct
     ∙ ap (λ (b : Bool). tree_if b d) (le-leb (steps (pattern d)) max_steps p.small)
 
+-- the tree that there is, or else the first one
 tree_or : Disjunction → Option Disjunction → Disjunction
 tree_or e None = e
 tree_or e (Some d) = d
 
+-- trees that are the same as options are the same
 same_tree : (d e : Disjunction) → Some d ≡ Some e → d ≡ e
 unfolding tree_or
 same_tree d e h = ap (tree_or d) h
 
+-- the outcome is a match
 is_match : Outcome → Bool
 is_match Match = true
 is_match o = false
 
+-- an answer comes to a match exactly where it is true
 match_of : (b : Bool) → (outcome_of b ≡ Match) ↔ IsTrue b
 unfolding is_match
 match_of true = (λ _. refl, λ _. refl)
 match_of false = (λ h. absurd (true≢false (sym (ap is_match h))), λ h. absurd (true≢false (sym h)))
 
+-- two equivalences, one behind the other, are one
 both : {A B C : Type 0} → A ↔ B → B ↔ C → A ↔ C
 both e f = (λ a. f.0 (e.0 a), λ c. e.1 (f.1 c))
 
+-- an answer comes to a match or to none
 by_answer : (b : Bool) → (outcome_of b ≡ Match) ⊎ (outcome_of b ≡ NoMatch)
 by_answer true = inl refl
 by_answer false = inr refl
 
+-- a tree that is read, or none, comes to a match or to none on each text
 decided_of : (o : Option Disjunction) (text : List ℕ) → (outcome_of_read o text ≡ Match) ⊎ (outcome_of_read o text ≡ NoMatch)
 decided_of None text = inr refl
 decided_of (Some d) text = by_answer _
 
+-- the laws hold of each text
 pub exact : (source : List ℕ) → IsExact source
 exact source = record {
   derived = derived_of source (is_apart source) _ (read source) refl refl refl (sound source) (read_formed source);
@@ -137,27 +156,33 @@ exact source = record {
       (both (match_of _) (search_is_exact (pattern d) text (clean d)));
 }
 
+-- the pattern that there is, or else the first one
 pattern_or : Pattern → Option Pattern → Pattern
 pattern_or q None = q
 pattern_or q (Some p) = p
 
+-- patterns that are the same as options are the same
 same_pattern : (p q : Pattern) → Some p ≡ Some q → p ≡ q
 unfolding pattern_or
 same_pattern p q h = ap (pattern_or p) h
 
 -- the pattern that the code has read
+-- it has no marks
 pub clean_of : (p : Pattern) (o : Option Disjunction) → Some p ≡ option_map pattern o → is_clean p ≡ true
 clean_of p None e = absurd (true≢false (ap is_some e))
 clean_of p (Some d) e = ap is_clean (same_pattern p (pattern d) e) ∙ clean d
 
+-- its search comes to what is defined for the tree that is read
 pub outcome_of_it : (p : Pattern) (o : Option Disjunction) → Some p ≡ option_map pattern o → search_outcome p ≡ outcome_of_read o
 outcome_of_it p None e = absurd (true≢false (ap is_some e))
 outcome_of_it p (Some d) e = ap search_outcome (same_pattern p (pattern d) e)
 
+-- where there is a pattern, a tree is read
 pub some_of : (p : Pattern) (o : Option Disjunction) → Some p ≡ option_map pattern o → is_some o ≡ true
 some_of p None e = absurd (true≢false (ap is_some e))
 some_of p (Some d) e = refl
 
+-- and where there is none, no tree is
 pub none_of : (o : Option Disjunction) → None ≡ option_map pattern o → is_some o ≡ false
 none_of None e = refl
 none_of (Some d) e = absurd (true≢false (ap is_some (sym e)))

@@ -1,5 +1,6 @@
 -- What the instructions of a program have of the pattern that they are written for.
-use Rattle.std.proofs.Common.{◌≡◌, ℕ, zero, suc, ◌+◌, ◌≤◌, ◌<◌, nat_lt, Bool, true, false, ◌||◌, List, [], ◌∷◌, ◌++◌, Vec, Global, length, Option, slice_get, refl, ap, subst, ◌∙◌, true≢false, arith}
+use Rattle.std.proofs.Common.{◌≡◌, ℕ, zero, suc, ◌+◌, ◌≤◌, ◌<◌, nat_lt, Bool, true, false, ◌||◌, List, [], ◌∷◌, ◌++◌, Vec, Global, length, Option, slice_get}
+use Rattle.std.proofs.Common.{refl, ap, subst, ◌∙◌, true≢false, arith}
 use Rattle.std.specs.List.{All, AllByRecursion}
 use Rattle.std.proofs.lemmas.Bool.{ltb-true}
 use Rattle.std.proofs.lemmas.Bool.Decides.{nat_tests}
@@ -11,13 +12,14 @@ use Rattle.strkw_ecma.specs.declared.code.Turn.TheVariants as turn
 use Rattle.strkw_ecma.specs.declared.code.Instruction.{Instruction as CodeInstruction}
 use Rattle.strkw_ecma.specs.declared.code.Instruction.TheVariants.{Read, Turn}
 use Rattle.strkw_ecma.specs.Tree.{Look, Pattern, empty, class, look, cat, alt, star, plus}
-use Rattle.strkw_ecma.specs.Marks.{classes}
-use Rattle.strkw_ecma.specs.Columns.{TellsSets, has_boundary, Tells}
+use Rattle.strkw_ecma.specs.machine.Marks.{classes}
+use Rattle.strkw_ecma.specs.machine.Columns.{TellsSets, has_boundary, Tells}
 use Rattle.strkw_ecma.specs.Sets.{word_characters}
-use Rattle.strkw_ecma.specs.Program.{Instruction, read, assert, fork, other, join, star_begin, star_end, plus_begin, plus_end, program, alternatives, has_loop, read_count, asks_word, asks_boundary}
+use Rattle.strkw_ecma.specs.Program.{Instruction, read, assert, fork, other, join, star_begin, star_end, plus_begin, plus_end, program, alternatives, has_loop}
+use Rattle.strkw_ecma.specs.Program.{read_count, asks_word, asks_boundary}
 use Rattle.strkw_ecma.specs.Size.{instruction_steps, steps_of, steps}
-use Rattle.strkw_ecma.specs.Walk.{asked, below}
-use Rattle.strkw_ecma.specs.Shape.{turned, reading, instructions, are_within}
+use Rattle.strkw_ecma.specs.machine.Walk.{asked, below}
+use Rattle.strkw_ecma.specs.machine.Shape.{turned, reading, instructions, are_within}
 use Rattle.strkw_ecma.proofs.Steps.{and_left, and_right, or_left, or_right}
 use Rattle.strkw_ecma.proofs.Programs.{by_class, by_option}
 
@@ -26,10 +28,12 @@ one_at_least : (i : Instruction) → 1 ≤ instruction_steps i
 one_at_least (read again optional n rs) = omega arith
 one_at_least _ = omega arith
 
+-- instructions are no more than the steps that they take
 few_of : (is : List Instruction) → length is ≤ steps_of is
 few_of [] = omega arith
 few_of (i ∷ is) = omega (arith, one_at_least i, few_of is)
 
+-- the program of a pattern has no more instructions than the pattern has steps
 pub few_instructions : (p : Pattern) → length (program p) ≤ steps p
 few_instructions p = few_of (program p)
 
@@ -49,16 +53,20 @@ record GoesOver (R : Pattern → List Instruction → Type 0) : Type 0 where
 
 -- It holds then of each pattern and its program.
 module _ (R : Pattern → List Instruction → Type 0) (parts : GoesOver R) where
+  -- where it holds of a pattern, it holds of its star
   star_by_parts : (p : Pattern) → R p (program p) → R (star p) (program (star p))
   star_by_parts p body = by_class (R (star p)) p _ _ (λ m n rs e. rw e (parts.of_class_star m n rs)) (parts.of_star p (program p) body)
 
+  -- and of its plus
   plus_by_parts : (p : Pattern) → R p (program p) → R (plus p) (program (plus p))
   plus_by_parts p body = by_class (R (plus p)) p _ _ (λ m n rs e. rw e (parts.of_class_plus m n rs)) (parts.of_plus p (program p) body)
 
+  -- where it holds of the first as it stands among alternatives, and of the second, it holds of both
   alt_by_parts : (p q : Pattern) → R p (alternatives p) → R q (program q) → R (alt p q) (program (alt p q))
   alt_by_parts p q first second =
       by_option (R (alt p q)) p q _ _ (λ m n rs e f. rw (e, f) (parts.of_option m n rs)) (parts.of_alt p q (alternatives p) (program q) first second)
 
+  -- it holds of each pattern with its program, by itself and among alternatives
   both_by_parts : (p : Pattern) → R p (program p) × R p (alternatives p)
   both_by_parts empty = (parts.of_empty, parts.of_empty)
   both_by_parts (class m n rs) = (parts.of_class m n rs, parts.of_class m n rs)
@@ -73,11 +81,13 @@ module _ (R : Pattern → List Instruction → Type 0) (parts : GoesOver R) wher
   both_by_parts (star p) = (star_by_parts p (both_by_parts p).0, star_by_parts p (both_by_parts p).0)
   both_by_parts (plus p) = (plus_by_parts p (both_by_parts p).0, plus_by_parts p (both_by_parts p).0)
 
+-- the numbers of classes that two lists of instructions read add up
 more_reads : (xs ys : List Instruction) → read_count (xs ++ ys) ≡ read_count xs + read_count ys
 more_reads [] ys = omega arith
 more_reads (read again optional n rs ∷ xs) ys = omega (arith, more_reads xs ys)
 more_reads (_ ∷ xs) ys = more_reads xs ys
 
+-- the program of a pattern reads as many classes as stand in the pattern
 pub reads_are_classes : (p : Pattern) → read_count (program p) ≡ classes p
 reads_are_classes p =
     (both_by_parts
@@ -97,25 +107,31 @@ reads_are_classes p =
     })
     p).0
 
+-- an answer or false is the answer
 or_nothing : (x : Bool) → (x || false) ≡ x
 or_nothing true = refl
 or_nothing false = refl
 
+-- `\b` or `\B` stands in two lists together exactly where it stands in one of them
 more_asked : (xs ys : List Instruction) → asks_boundary (xs ++ ys) ≡ (asks_boundary xs || asks_boundary ys)
 more_asked [] ys = refl
 more_asked (assert l ∷ xs) ys =
     ap (λ (x : Bool). asks_word l || x) (more_asked xs ys) ∙ regroup (asks_word l) (asks_boundary xs) (asks_boundary ys)
   where
+    -- in a choice of three the brackets may be moved
     regroup : (x y z : Bool) → (x || (y || z)) ≡ ((x || y) || z)
     regroup x y z = grind (arith, nat_tests)
 more_asked (_ ∷ xs) ys = more_asked xs ys
 
+-- the same by what is known of each list
 both_ask : (xs ys : List Instruction) (x y : Bool) → asks_boundary xs ≡ x → asks_boundary ys ≡ y → asks_boundary (xs ++ ys) ≡ (x || y)
 both_ask xs ys x y e f = more_asked xs ys ∙ rw (e, f) refl
 
+-- where the second has neither, the first alone decides
 first_asks : (xs ys : List Instruction) (x : Bool) → asks_boundary xs ≡ x → asks_boundary ys ≡ false → asks_boundary (xs ++ ys) ≡ x
 first_asks xs ys x e f = both_ask xs ys x false e f ∙ or_nothing x
 
+-- `\b` or `\B` stands in the program of a pattern exactly where it stands in the pattern
 pub boundary_is_asked : (p : Pattern) → asks_boundary (program p) ≡ has_boundary p
 boundary_is_asked p =
     (both_by_parts
@@ -155,9 +171,11 @@ IsTold known star_end = Unit {0}
 IsTold known plus_begin = Unit {0}
 IsTold known plus_end = Unit {0}
 
+-- they tell it of each of these instructions
 abbrev pub AllTold : List (Vec CharSet Global) → List Instruction → Type 0
 AllTold known is = AllByRecursion (IsTold known) is
 
+-- what holds of all of two lists together holds of all of each
 all_parts : {A : Type 0} (P : A → Type 0) (xs ys : List A) → AllByRecursion P (xs ++ ys) → AllByRecursion P xs × AllByRecursion P ys
 all_parts P [] ys h = (tt, h)
 all_parts P (x ∷ xs) ys h = ((h.0, (all_parts P xs ys h.1).0), (all_parts P xs ys h.1).1)
@@ -167,11 +185,13 @@ module _ (known : List (Vec CharSet Global)) where
   abbrev AreTold : Pattern → List Instruction → Type 0
   AreTold p is = AllTold known is → (has_boundary p ≡ true → TellsSets known word_characters) → Tells known p
 
+  -- two patterns so told by their instructions are told, if word characters are where one asks
   told_parts : (p q : Pattern) (xs ys : List Instruction) → AreTold p xs → AreTold q ys → AllTold known xs → AllTold known ys
       → ((has_boundary p || has_boundary q) ≡ true → TellsSets known word_characters) → Tells known p × Tells known q
   told_parts p q xs ys e f x y word =
       (e x (λ h. word (or_left _ _ h)), f y (λ h. word (or_right (has_boundary p) _ h)))
 
+  -- this goes over from the parts of a pattern to the whole
   all_told_by_parts : GoesOver AreTold
   all_told_by_parts = record {
     of_empty = λ told word. tt;
@@ -191,19 +211,23 @@ module _ (known : List (Vec CharSet Global)) where
     of_plus = λ p xs e told. e (all_parts (IsTold known) xs (plus_end ∷ []) told.1).0;
   }
 
+  -- a pattern is told where the instructions of its program are, and word characters where it asks
   pub told : (p : Pattern) → AllTold known (program p) → (has_boundary p ≡ true → TellsSets known word_characters) → Tells known p
   told p = (both_by_parts AreTold all_told_by_parts p).0
 
+  -- where the sets of each class are told, an instruction that reads one of the classes is
   class_told : (again optional : Bool) (cs : List Class) (k : ℕ) → k < length cs → AllByRecursion (λ c. TellsSets known c.sets.items) cs
       → IsTold known (reading again optional (slice_get cs k))
   class_told again optional [] k h all = absurd (omega (arith, h))
   class_told again optional (c ∷ cs) zero h all = all.0
   class_told again optional (c ∷ cs) (suc k) h all = class_told again optional cs k (omega (arith, h)) all.1
 
+  -- an instruction that reads no class is told
   turn_told : (t : CodeTurn) → IsTold known (turned t)
   turn_told turn.Start = tt
   turn_told _ = tt
 
+  -- instructions that read only classes of a list are told, where the sets of each are
   instructions_told : (cs : List Class) (is : List CodeInstruction) → are_within (length cs) is ≡ true → AllByRecursion (λ c. TellsSets known c.sets.items) cs
       → AllTold known (instructions cs is)
   instructions_told cs [] h all = tt

@@ -1,16 +1,24 @@
 -- What is read is well formed: each character stands where it may.
-use Rattle.std.proofs.Common.{◌≡◌, ◌==◌, ℕ, Bool, true, false, List, [], ◌∷◌, Option, Some, None, refl, length, ◌<◌, ◌≤◌, ◌*◌, ◌++◌, nat_lt, nat_le, ◌&&◌, arith}
+use Rattle.std.proofs.Common.{◌≡◌, ◌==◌, ℕ, Bool, true, false, List, [], ◌∷◌, Option, Some, None, refl, length, ◌<◌, ◌≤◌, ◌*◌, ◌++◌, nat_lt, nat_le, ◌&&◌}
+use Rattle.std.proofs.Common.{arith}
 use Rattle.std.specs.Prelude.{option_and_then, option_map, is_some}
 use Rattle.std.proofs.lemmas.Bool.{ltb-true, leb-true}
 use Rattle.std.specs.Str.{byte}
-use Rattle.strkw_ecma.specs.Escapes.{Escape, itself, control, set, boundary, no_boundary, null, letter, hexadecimal, unicode, property, no_property, unknown, escape}
+use Rattle.strkw_ecma.specs.Escapes.{Escape, itself, control, set, boundary, no_boundary, null, letter, hexadecimal, unicode, property, no_property, unknown}
+use Rattle.strkw_ecma.specs.Escapes.{escape}
 use Rattle.strkw_ecma.specs.Codes.{null_code}
-use Rattle.strkw_ecma.specs.CodeReading.{Coded, fails, goes, makes, coding_next}
-use Rattle.strkw_ecma.specs.Classes.{ClassToken, closing_bracket, class_backslash, dash, class_character, class_token, class_escape, ClassAtom, class_plain, hyphen, class_escaped, class_control, class_set, backspace, class_coded, class_property, Ranges, no_ranges, item, range, IsClassAtom, is_hyphen, is_caret, MayFollow, AreRanges}
-use Rattle.strkw_ecma.specs.Names.{NameChar, verbatim, by_code, name_char_value, name_value, is_name_part, IsNameChar, AreNameParts, IsName, may_follow, Extension, uncaptured, name_opening, no_extension, extension, NameToken, name_end, name_backslash, name_character, name_token, are_distinct}
-use Rattle.strkw_ecma.specs.Syntax.{Disjunction, Alternative, Token, bar, asterisk, plus, question, caret, dollar, opening as opening_token, closing, point, backslash, bracket, brace, character, other, token, Quantifier, zero_or_more, one_or_more, exactly, at_least, from_to, Group, capturing, plain_group, named, max_nesting}
+use Rattle.strkw_ecma.specs.machine.CodeReading.{Coded, fails, goes, makes, coding_next}
+use Rattle.strkw_ecma.specs.Classes.{ClassToken, closing_bracket, class_escaper, dash, class_char, class_token, class_escape, ClassAtom, class_plain}
+use Rattle.strkw_ecma.specs.Classes.{hyphen, class_escaped, class_control, class_set, backspace, class_coded, class_property, Ranges, no_ranges, item, range}
+use Rattle.strkw_ecma.specs.Classes.{IsClassAtom, is_hyphen, is_caret, MayFollow, AreRanges}
+use Rattle.strkw_ecma.specs.Names.{NameChar, verbatim, by_code, name_char_value, name_value, is_name_part, IsNameChar, AreNameParts, IsName, may_follow}
+use Rattle.strkw_ecma.specs.Names.{Extension, uncaptured, name_opening, no_extension, extension, NameToken, name_end, name_backslash, name_character}
+use Rattle.strkw_ecma.specs.Names.{name_token, are_distinct}
+use Rattle.strkw_ecma.specs.Syntax.{Disjunction, Alternative, Token, bar, asterisk, plus, question, caret, dollar, opening as opening_token, closing, point}
+use Rattle.strkw_ecma.specs.Syntax.{backslash, bracket, brace, character, other, token, Quantifier, zero_or_more, one_or_more, exactly, at_least, from_to}
+use Rattle.strkw_ecma.specs.Syntax.{Group, capturing, plain_group, named, max_nesting}
 use Rattle.strkw_ecma.specs.Properties.{property_of}
-use Rattle.strkw_ecma.specs.PropertyReading.{PropertyRead, no_property_read, property_goes, property_ends, property_next}
+use Rattle.strkw_ecma.specs.machine.PropertyReading.{PropertyRead, no_property_read, property_goes, property_ends, property_next}
 use Rattle.strkw_ecma.proofs.PropertyReadings.{IsPart, IsRead, property_formed}
 use Rattle.strkw_ecma.specs.declared.tree.CharSet.{CharSet}
 use Rattle.strkw_ecma.specs.WellFormed.{IsQuantifier, IsGroup, IsWellFormed, IsAlternative, IsAtom}
@@ -19,21 +27,32 @@ use Rattle.strkw_ecma.specs.Size.{steps, max_term_steps}
 use Rattle.strkw_ecma.specs.Patterns.{atom_pattern, times, copies}
 use Rattle.strkw_ecma.proofs.Digits.{digits_push, is_digit_of}
 use Rattle.strkw_ecma.proofs.CodeReadings.{IsCoding, IsCoded, coding_formed, is_unicode_coding, IsUnicode, coding_unicode}
-use Rattle.strkw_ecma.specs.Reading.{Open, Outer, Level, Last, none, atom, counted, Pending, fresh, one, dashed, Class, Mode, between, escaping, opening, extending, class_opened, Count, low, high, counting, when, with_count, longer, range_read, on_low, on_high, on_count, in_class, class_escaping, coding, class_coding, in_property, in_class_property, is_between, State, with_mode, new_level, ended, joined, level_ended, closed_in, naming, name_escaping, name_coding, with_name_char, name_read, on_naming, on_name_escape, on_name_coding, tree_if, closes, with_quantifier, questioned, opened, on_token, on_group, on_extension, on_escape, took, took_dash, ranged, class_read, within, on_class_token, on_class_escape, on_coding, on_class_coding, on_property, on_class_property, on_class, next_in, next, read_from, initial, read}
+use Rattle.strkw_ecma.specs.machine.Reading.{Open, Outer, Level, Last, none, atom, counted, Pending, fresh, one, dashed, Class, Mode, between, escaping}
+use Rattle.strkw_ecma.specs.machine.Reading.{opening, extending, class_opened, Count, low, high, counting, when, with_count, longer, range_read, on_low}
+use Rattle.strkw_ecma.specs.machine.Reading.{on_high, on_count, in_class, class_escaping, coding, class_coding, in_property, in_class_property, is_between}
+use Rattle.strkw_ecma.specs.machine.Reading.{State, with_mode, new_level, ended, joined, level_ended, closed_in, naming, name_escaping, name_coding}
+use Rattle.strkw_ecma.specs.machine.Reading.{with_name_char, name_read, on_naming, on_name_escape, on_name_coding, tree_if, closes, with_quantifier, questioned}
+use Rattle.strkw_ecma.specs.machine.Reading.{opened, on_token, on_group, on_extension, on_escape, took, took_dash, ranged, class_read, within, on_class_token}
+use Rattle.strkw_ecma.specs.machine.Reading.{on_class_escape, on_coding, on_class_coding, on_property, on_class_property, on_class, next_in, next, read_from}
+use Rattle.strkw_ecma.specs.machine.Reading.{initial, read}
 
 -- of a level within n groups
+-- the alternatives before, where there are any, are well formed
 abbrev pub IsEarlier : ℕ → Option Disjunction → Type 0
 IsEarlier n None = Unit {0}
 IsEarlier n (Some d) = IsWellFormed n d
 
+-- and the last term, with its quantifier where it has one
 abbrev pub IsLast : ℕ → Last → Type 0
 IsLast n none = Unit {0}
 IsLast n (atom a) = IsAtom n a
 IsLast n (counted a q) = IsAtom n a × IsQuantifier q (steps (atom_pattern a))
 
+-- both the alternatives before and the terms of the level are well formed
 abbrev pub IsLevel : ℕ → Level → Type 0
 IsLevel n l = IsEarlier n l.earlier × IsAlternative n l.current
 
+-- each open group is one, is not nested too deep, and stands in a level that is well formed
 abbrev pub AreLevels : List Open → Type 0
 AreLevels [] = Unit {0}
 AreLevels (o ∷ ls) = ((IsEarlier (length ls) o.earlier × IsAlternative (length ls) o.current) × IsGroup o.group × (length ls < max_nesting)) × AreLevels ls
@@ -44,12 +63,15 @@ IsPending A n r fresh = (y : ClassAtom) → A y → MayFollow n r y
 IsPending A n r (one x) = IsClassAtom x × MayFollow n r x
 IsPending A n r (dashed x) = IsClassAtom x × MayFollow n r x
 
+-- any atom
 abbrev Any : ClassAtom → Type 0
 Any y = Unit {0}
 
+-- the atom is no `^` that stands for itself
 abbrev NoCaret : ClassAtom → Type 0
 NoCaret y = is_caret y ≡ false
 
+-- a count has digits alone and no number that is too great, and before a comma there is a number
 abbrev pub IsCount : Count → Type 0
 IsCount (low ds) = (are_digits ds ≡ true) × (number ds ≤ max_count)
 IsCount (high ds es) = IsNumber ds × (are_digits es ≡ true) × (number es ≤ max_count)
@@ -59,6 +81,7 @@ abbrev pub IsNamePart : List NameChar → Type 0
 IsNamePart [] = Unit {0}
 IsNamePart (y ∷ n) = IsName (y ∷ n)
 
+-- what the mode holds is well formed, as far as it is read
 abbrev pub IsMode : Mode → Type 0
 IsMode (in_class k) = AreRanges k.negated k.ranges × IsPending Any k.negated k.ranges k.pending
 IsMode (class_escaping k) = AreRanges k.negated k.ranges × IsPending NoCaret k.negated k.ranges k.pending
@@ -72,47 +95,65 @@ IsMode (name_escaping n) = IsNamePart n
 IsMode (name_coding n k) = IsNamePart n × IsCoding k × (is_unicode_coding k ≡ true)
 IsMode m = Unit {0}
 
+-- all that the state holds is well formed
 abbrev pub IsState : State → Type 0
 IsState s = AreLevels s.outer.groups × IsLevel (length s.outer.groups) s.level × IsLast (length s.outer.groups) s.last × IsMode s.mode
 
+-- the state that was made, where there is one, is well formed
 abbrev pub Makes : Option State → Type 0
 Makes None = Unit {0}
 Makes (Some t) = IsState t
 
+-- well-formed terms to which a well-formed last one is added are well formed
 pub ended_formed : (n : ℕ) (a : Alternative) (x : Last) → IsAlternative n a → IsLast n x → IsAlternative n (ended a x)
 ended_formed n a none h k = h
 ended_formed n a (atom x) h k = (h, k)
 ended_formed n a (counted x q) h k = (h, k)
 
+-- and so are well-formed terms with well-formed alternatives before them
 pub level_formed : (n : ℕ) (e : Option Disjunction) (a : Alternative) → IsEarlier n e → IsAlternative n a → IsWellFormed n (joined e a)
 level_formed n None a h k = k
 level_formed n (Some d) a h k = (h, k)
 
+-- behind a quantifier that suits terms of any size, a well-formed state stays so
 quantifier_formed : (outer : Outer) (l : Level) (x : Last) (q : Quantifier) → ((s : ℕ) → IsQuantifier q s) → AreLevels outer.groups
     → IsLevel (length outer.groups) l → IsLast (length outer.groups) x → Makes (with_quantifier outer l x q)
 quantifier_formed outer l none q w f g h = tt
 quantifier_formed outer l (atom a) q w f g h = (f, g, (h, w (steps (atom_pattern a))), tt)
 quantifier_formed outer l (counted a p) q w f g h = tt
 
+-- and behind a question mark
 question_formed : (outer : Outer) (l : Level) (x : Last) → AreLevels outer.groups → IsLevel (length outer.groups) l
     → IsLast (length outer.groups) x → Makes (questioned outer l x)
 question_formed outer l none f g h = tt
 question_formed outer l (atom a) f g h = (f, g, (h, tt), tt)
 question_formed outer l (counted a q) f g h = (f, (g.0, (g.1, h)), tt, tt)
 
+-- and behind the end of a group with a well-formed tree
 close_formed : (os : List Open) (ns : List (List ℕ)) (d : Disjunction) → AreLevels os → IsWellFormed (length os) d → Makes (closed_in os ns d)
 close_formed [] ns d f h = tt
 close_formed (o ∷ os) ns d f h = (f.1, f.0.0, ((f.0.1, f.0.2), h), tt)
 
+-- and behind the beginning of a group, where it is not nested too deep
 open_formed : (outer : Outer) (l : Level) (x : Last) (k : Group) (b : Bool) → nat_lt (length outer.groups) max_nesting ≡ b → IsGroup k
     → AreLevels outer.groups → IsLevel (length outer.groups) l → IsLast (length outer.groups) x → Makes (opened outer l x k b)
 open_formed outer l x k false e w f g h = tt
 open_formed outer l x k true e w f g h =
     ((((g.0, ended_formed (length outer.groups) l.current x g.1 h), w, ltb-true (length outer.groups) max_nesting e), f), (tt, tt), tt, tt)
 
+-- so a well-formed state stays so behind any character between terms
 token_formed : (outer : Outer) (l : Level) (x : Last) (c : ℕ) (k : Token) → token c ≡ k
     → AreLevels outer.groups → IsLevel (length outer.groups) l → IsLast (length outer.groups) x → Makes (on_token outer l x c k)
-token_formed outer l x c bar e f g h = (f, (level_formed (length outer.groups) l.earlier (ended l.current x) g.0 (ended_formed (length outer.groups) l.current x g.1 h), tt), tt, tt)
+token_formed outer l x c bar e f g h = (
+  f,
+  (
+    level_formed (length outer.groups) l.earlier (ended l.current x) g.0
+        (ended_formed (length outer.groups) l.current x g.1 h),
+    tt,
+  ),
+  tt,
+  tt,
+)
 token_formed outer l x c asterisk e f g h = quantifier_formed outer l x zero_or_more (λ s. tt) f g h
 token_formed outer l x c plus e f g h = quantifier_formed outer l x one_or_more (λ s. tt) f g h
 token_formed outer l x c question e f g h = question_formed outer l x f g h
@@ -120,7 +161,8 @@ token_formed outer l x c caret e f g h = (f, (g.0, (ended_formed (length outer.g
 token_formed outer l x c dollar e f g h = (f, (g.0, (ended_formed (length outer.groups) l.current x g.1 h, tt)), tt, tt)
 token_formed outer l x c opening_token e f g h = (f, g, h, tt)
 token_formed outer l x c closing e f g h =
-    close_formed outer.groups outer.names _ f (level_formed (length outer.groups) l.earlier (ended l.current x) g.0 (ended_formed (length outer.groups) l.current x g.1 h))
+    close_formed outer.groups outer.names _ f (level_formed (length outer.groups) l.earlier (ended l.current x) g.0
+    (ended_formed (length outer.groups) l.current x g.1 h))
 token_formed outer l x c point e f g h = (f, (g.0, ended_formed (length outer.groups) l.current x g.1 h), tt, tt)
 token_formed outer l x c backslash e f g h = (f, g, h, tt)
 token_formed outer l x c bracket e f g h = (f, g, h, tt)
@@ -128,6 +170,7 @@ token_formed outer l x c brace e f g h = (f, g, h, (refl, omega arith))
 token_formed outer l x c character e f g h = (f, (g.0, ended_formed (length outer.groups) l.current x g.1 h), e, tt)
 token_formed outer l x c other e f g h = tt
 
+-- and behind a character that follows a backslash
 escape_formed : (outer : Outer) (l : Level) (x : Last) (c : ℕ) (k : Escape) → escape c ≡ k
     → AreLevels outer.groups → IsLevel (length outer.groups) l → IsLast (length outer.groups) x → Makes (on_escape outer l x c k)
 escape_formed outer l x c itself e f g h = (f, (g.0, ended_formed (length outer.groups) l.current x g.1 h), e, tt)
@@ -143,6 +186,7 @@ escape_formed outer l x c property e f g h = (f, g, h, tt)
 escape_formed outer l x c no_property e f g h = (f, g, h, tt)
 escape_formed outer l x c unknown e f g h = tt
 
+-- and behind a part of an escape by a number, or a whole one
 coded_formed : (outer : Outer) (l : Level) (x : Last) (o : Coded) → IsCoded o
     → AreLevels outer.groups → IsLevel (length outer.groups) l → IsLast (length outer.groups) x → Makes (on_coding outer l x o)
 coded_formed outer l x fails w f g h = tt
@@ -150,10 +194,12 @@ coded_formed outer l x (goes k) w f g h = (f, g, h, w)
 coded_formed outer l x (makes d) w f g h = (f, (g.0, ended_formed (length outer.groups) l.current x g.1 h), w, tt)
 
 -- where a test holds
+-- what is made is well formed, if it is so there
 when_formed : (b : Bool) (o : Option State) → (b ≡ true → Makes o) → Makes (when b o)
 when_formed false o h = tt
 when_formed true o h = h refl
 
+-- a well-formed state stays so behind a part of the escape of a property, or a whole one
 property_read_formed : (outer : Outer) (l : Level) (x : Last) (o : PropertyRead) → IsRead o
     → AreLevels outer.groups → IsLevel (length outer.groups) l → IsLast (length outer.groups) x → Makes (on_property outer l x o)
 property_read_formed outer l x no_property_read w f g h = tt
@@ -161,20 +207,26 @@ property_read_formed outer l x (property_goes k) w f g h = (f, g, h, w)
 property_read_formed outer l x (property_ends n e) w f g h =
     when_formed (is_some (property_of e)) _ (λ some. (f, (g.0, ended_formed (length outer.groups) l.current x g.1 h), (w, some), tt))
 
+-- and behind the first character within a group that captures
 first_formed : (outer : Outer) (l : Level) (x : Last) (c : ℕ) (b : Bool) → nat_lt (length outer.groups) max_nesting ≡ b
     → AreLevels outer.groups → IsLevel (length outer.groups) l → IsLast (length outer.groups) x
     → Makes (option_and_then (λ t. on_token t.outer t.level t.last c (token c)) (opened outer l x capturing b))
 first_formed outer l x c false e f g h = tt
 first_formed outer l x c true e f g h =
     let o : Open = record { group = capturing; earlier = l.earlier; current = ended l.current x } in
-    let inner : AreLevels (o ∷ outer.groups) = (((g.0, ended_formed (length outer.groups) l.current x g.1 h), tt, ltb-true (length outer.groups) max_nesting e), f) in
+    let inner : AreLevels (o ∷ outer.groups) = (
+      ((g.0, ended_formed (length outer.groups) l.current x g.1 h), tt, ltb-true (length outer.groups) max_nesting e),
+      f,
+    ) in
     token_formed (record { groups = o ∷ outer.groups; names = outer.names }) new_level none c (token c) refl inner (tt, tt) tt
 
+-- and behind the character that follows `(`
 group_formed : (outer : Outer) (l : Level) (x : Last) (c : ℕ) (b : Bool) → AreLevels outer.groups → IsLevel (length outer.groups) l
     → IsLast (length outer.groups) x → Makes (on_group outer l x c b)
 group_formed outer l x c false f g h = first_formed outer l x c _ refl f g h
 group_formed outer l x c true f g h = (f, g, h, tt)
 
+-- and behind the one that follows `(?`
 extension_formed : (outer : Outer) (l : Level) (x : Last) (k : Extension) → AreLevels outer.groups → IsLevel (length outer.groups) l
     → IsLast (length outer.groups) x → Makes (on_extension outer l x k)
 extension_formed outer l x uncaptured f g h = open_formed outer l x plain_group _ refl tt f g h
@@ -183,82 +235,99 @@ extension_formed outer l x no_extension f g h = tt
 
 -- counts
 module _ (outer : Outer) (l : Level) (f : AreLevels outer.groups) (g : IsLevel (length outer.groups) l) where
+  -- behind a count that suits what it does not make too large, a well-formed state stays so
   count_formed : (x : Last) (q : Quantifier) → IsLast (length outer.groups) x → ((s : ℕ) → copies (times q) * s ≤ max_term_steps → IsQuantifier q s)
       → Makes (with_count outer l x q)
   count_formed none q h w = tt
   count_formed (atom a) q h w =
-      when_formed (nat_le (copies (times q) * steps (atom_pattern a)) max_term_steps) (with_quantifier outer l (atom a) q) (λ e. (f, g, (h, w (steps (atom_pattern a)) (leb-true (copies (times q) * steps (atom_pattern a)) max_term_steps e)), tt))
+      when_formed (nat_le (copies (times q) * steps (atom_pattern a)) max_term_steps) (with_quantifier outer l (atom a) q)
+      (λ e. (f, g, (h, w (steps (atom_pattern a)) (leb-true (copies (times q) * steps (atom_pattern a)) max_term_steps e)), tt))
   count_formed (counted a p) q h w = tt
 
+  -- and behind one more digit, where the mode with it is well formed
   longer_formed : (x : Last) (m : List ℕ → Mode) (ds : List ℕ) (c : ℕ) (b : Bool) → nat_le (number (ds ++ c ∷ [])) max_count ≡ b
       → IsLast (length outer.groups) x → (number (ds ++ c ∷ []) ≤ max_count → IsMode (m (ds ++ c ∷ [])))
       → Makes (option_map (λ (es : List ℕ). with_mode outer l x (m es)) (longer ds c b))
   longer_formed x m ds c false e h w = tt
   longer_formed x m ds c true e h w = (f, g, h, w (leb-true (number (ds ++ c ∷ [])) max_count e))
 
+  -- and behind a character in the first number
   low_formed : (x : Last) (ds : List ℕ) (c : ℕ) (k : CountToken) → count_token c ≡ k → IsLast (length outer.groups) x → IsCount (low ds)
       → Makes (on_low outer l x ds c k)
   low_formed x ds c digit e h w =
-      longer_formed x (λ es. counting (low es)) ds c (nat_le (number (ds ++ c ∷ [])) max_count) refl h (λ small. (digits_push ds c w.0 (is_digit_of c e), small))
+      longer_formed x (λ es. counting (low es)) ds c (nat_le (number (ds ++ c ∷ [])) max_count) refl h
+      (λ small. (digits_push ds c w.0 (is_digit_of c e), small))
   low_formed x ds c comma e h w =
       when_formed (is_some (number_of ds)) (Some (with_mode outer l x (counting (high ds [])))) (λ some. (f, g, h, ((w.0, some, w.1), refl, omega arith)))
   low_formed x ds c closing_brace e h w =
       when_formed (is_some (number_of ds)) (with_count outer l x (exactly ds)) (λ some. count_formed x (exactly ds) h (λ s small. ((w.0, some, w.1), small)))
   low_formed x ds c no_count e h w = tt
 
+  -- and behind the brace that closes a count with a comma
   range_formed : (x : Last) (ds es : List ℕ) → IsLast (length outer.groups) x → IsCount (high ds es) → Makes (range_read outer l x ds es)
   range_formed x ds [] h w = count_formed x (at_least ds) h (λ s small. (w.0, small))
   range_formed x ds (e ∷ es) h w =
       when_formed (nat_le (number ds) (number (e ∷ es))) (with_count outer l x (from_to ds (e ∷ es))) (λ ordered. count_formed x (from_to ds (e ∷ es)) h
       (λ s small. (w.0, (w.1, refl, w.2), leb-true (number ds) (number (e ∷ es)) ordered, small)))
 
+  -- and behind any character that follows the comma
   high_formed : (x : Last) (ds es : List ℕ) (c : ℕ) (k : CountToken) → count_token c ≡ k → IsLast (length outer.groups) x → IsCount (high ds es)
       → Makes (on_high outer l x ds es c k)
   high_formed x ds es c digit e h w =
-      longer_formed x (λ fs. counting (high ds fs)) es c (nat_le (number (es ++ c ∷ [])) max_count) refl h (λ small. (w.0, digits_push es c w.1 (is_digit_of c e), small))
+      longer_formed x (λ fs. counting (high ds fs)) es c (nat_le (number (es ++ c ∷ [])) max_count) refl h
+      (λ small. (w.0, digits_push es c w.1 (is_digit_of c e), small))
   high_formed x ds es c comma e h w = tt
   high_formed x ds es c closing_brace e h w = range_formed x ds es h w
   high_formed x ds es c no_count e h w = tt
 
+  -- so it stays so behind any character of a count
   counting_formed : (x : Last) (n : Count) (c : ℕ) → IsLast (length outer.groups) x → IsCount n → Makes (on_count outer l x n c)
   counting_formed x (low ds) c h w = low_formed x ds c (count_token c) refl h w
   counting_formed x (high ds es) c h w = high_formed x ds es c (count_token c) refl h w
 
 -- names
+-- characters that may go on with a name, with one more of them, are such
 parts_push : (n : List NameChar) (y : NameChar) → AreNameParts n → IsNameChar is_name_part y → AreNameParts (n ++ y ∷ [])
 parts_push [] y h w = (w, tt)
 parts_push (z ∷ n) y h w = (h.0, parts_push n y h.1 w)
 
+-- the beginning of a name, with a character that may follow it, is the beginning of one
 name_push : (n : List NameChar) (y : NameChar) → IsNamePart n → IsNameChar (may_follow (name_value n)) y → IsNamePart (n ++ y ∷ [])
 name_push [] y h w = (w, tt)
 name_push (z ∷ n) y h w = (h.0, parts_push n y h.1 w)
 
 module _ (outer : Outer) (l : Level) (x : Last) (f : AreLevels outer.groups) (g : IsLevel (length outer.groups) l) (h : IsLast (length outer.groups) x) where
+  -- behind a character that suits a name where it may follow, a well-formed state stays so
   name_char_formed : (n : List NameChar) (y : NameChar) → IsNamePart n
       → (may_follow (name_value n) (name_char_value y) ≡ true → IsNameChar (may_follow (name_value n)) y) → Makes (with_name_char outer l x n y)
   name_char_formed n y w v =
       when_formed (may_follow (name_value n) (name_char_value y)) (Some (with_mode outer l x (naming (n ++ y ∷ []))))
       (λ e. (f, g, h, name_push n y w (v e)))
 
+  -- and behind the end of a name
   name_end_formed : (n : List NameChar) → IsNamePart n → Makes (name_read outer l x n)
   name_end_formed [] w = tt
   name_end_formed (y ∷ n) w = open_formed outer l x (named (y ∷ n)) _ refl w f g h
 
+  -- and behind any character in a name
   naming_formed : (n : List NameChar) (c : ℕ) (k : NameToken) → IsNamePart n → Makes (on_naming outer l x n c k)
   naming_formed n c name_end w = name_end_formed n w
   naming_formed n c name_backslash w = (f, g, h, w)
   naming_formed n c name_character w = name_char_formed n (verbatim c) w (λ e. e)
 
+  -- and behind the one that follows a backslash there
   name_escape_formed : (n : List NameChar) (b : Bool) → IsNamePart n → Makes (on_name_escape outer l x n b)
   name_escape_formed n false w = tt
   name_escape_formed n true w = (f, g, h, (w, tt, refl))
 
+  -- and behind a part of an escape there, or a whole one
   name_coded_formed : (n : List NameChar) (o : Coded) → IsNamePart n → IsCoded o → IsUnicode o → Makes (on_name_coding outer l x n o)
   name_coded_formed n fails w v u = tt
   name_coded_formed n (goes k) w v u = (f, g, h, (w, v, u))
   name_coded_formed n (makes d) w v u = name_char_formed n (by_code d) w (λ e. (u, v, e))
 
 -- classes
+-- the class that was made, where there is one, is well formed
 abbrev MakesClass : Option Class → Type 0
 MakesClass None = Unit {0}
 MakesClass (Some k) = IsMode (in_class k)
@@ -269,28 +338,33 @@ Suits A fresh y = A y
 Suits A (one w) y = is_hyphen y ≡ false
 Suits A (dashed w) y = Unit {0}
 
+-- an atom with A that is no `-` suits whatever is pending
 suits : (A : ClassAtom → Type 0) (p : Pending) (y : ClassAtom) → A y → is_hyphen y ≡ false → Suits A p y
 suits A fresh y h w = h
 suits A (one z) y h w = w
 suits A (dashed z) y h w = tt
 
+-- a well-formed class stays so with a range of two atoms, where these bound one
 ranged_formed : (n : Bool) (r : Ranges) (w y : ClassAtom) (o : Option CharSet) → range (item w) (item y) ≡ o
     → AreRanges n r → IsClassAtom w × MayFollow n r w → IsClassAtom y → MakesClass (ranged n r w y o)
 ranged_formed n r w y None e f g h = tt
 ranged_formed n r w y (Some s) e f g h = ((f, g, h, rw e refl), λ z a. tt)
 
+-- and with one more atom that suits what is pending
 took_formed : (A : ClassAtom → Type 0) (n : Bool) (r : Ranges) (p : Pending) (y : ClassAtom) → AreRanges n r → IsPending A n r p
     → IsClassAtom y → Suits A p y → MakesClass (took n r p y)
 took_formed A n r fresh y f g h w = (f, (h, g y w))
 took_formed A n r (one z) y f g h w = ((f, g.0, g.1), (h, w))
 took_formed A n r (dashed z) y f g h w = ranged_formed n r z y _ refl f g h
 
+-- and with a `-` more, where A holds of it
 dash_formed : (A : ClassAtom → Type 0) (n : Bool) (r : Ranges) (p : Pending) → AreRanges n r → IsPending A n r p → A hyphen
     → MakesClass (took_dash n r p)
 dash_formed A n r fresh f g a = took_formed A n r fresh hyphen f g tt a
 dash_formed A n r (one z) f g a = (f, g)
 dash_formed A n r (dashed z) f g a = took_formed A n r (dashed z) hyphen f g tt tt
 
+-- a well-formed class makes a well-formed atom
 read_class_formed : (A : ClassAtom → Type 0) (m : ℕ) (n : Bool) (r : Ranges) (p : Pending) → AreRanges n r → IsPending A n r p
     → IsAtom m (class_read n r p)
 read_class_formed A m n r fresh f g = (f, tt)
@@ -298,6 +372,7 @@ read_class_formed A m n r (one z) f g = ((f, g.0, g.1), tt)
 read_class_formed A m n r (dashed z) f g = ((f, g.0, g.1), tt)
 
 -- behind a backslash no caret comes
+-- what is pending before atoms with A is pending before those that are no `^`, where A holds of these
 escapes_pending : (A : ClassAtom → Type 0) (n : Bool) (r : Ranges) (p : Pending) → ((y : ClassAtom) → NoCaret y → A y)
     → IsPending A n r p → IsPending NoCaret n r p
 escapes_pending A n r fresh a g = λ y w. g y (a y w)
@@ -305,20 +380,23 @@ escapes_pending A n r (one z) a g = g
 escapes_pending A n r (dashed z) a g = g
 
 module _ (outer : Outer) (l : Level) (x : Last) (f : AreLevels outer.groups) (g : IsLevel (length outer.groups) l) (h : IsLast (length outer.groups) x) where
+  -- the state in a class that was made is well formed, where the class is
   within_formed : (o : Option Class) → MakesClass o → Makes (within outer l x o)
   within_formed None k = tt
   within_formed (Some c) k = (f, g, h, k)
 
+  -- behind a character in a class, where A holds of it as an atom, a well-formed state stays so
   class_token_formed : (A : ClassAtom → Type 0) (n : Bool) (r : Ranges) (p : Pending) (c : ℕ) (k : ClassToken) → class_token c ≡ k
       → AreRanges n r → IsPending A n r p → ((y : ClassAtom) → NoCaret y → A y) → A (class_plain c)
       → Makes (on_class_token outer l x n r p c k)
   class_token_formed A n r p c closing_bracket e u v a w =
       (f, (g.0, ended_formed (length outer.groups) l.current x g.1 h), read_class_formed A (length outer.groups) n r p u v, tt)
-  class_token_formed A n r p c class_backslash e u v a w = (f, g, h, (u, escapes_pending A n r p a v))
+  class_token_formed A n r p c class_escaper e u v a w = (f, g, h, (u, escapes_pending A n r p a v))
   class_token_formed A n r p c dash e u v a w = within_formed _ (dash_formed A n r p u v (a hyphen refl))
-  class_token_formed A n r p c class_character e u v a w =
+  class_token_formed A n r p c class_char e u v a w =
       within_formed _ (took_formed A n r p (class_plain c) u v e (suits A p (class_plain c) w refl))
 
+  -- and behind the one that follows a backslash there
   class_escape_formed : (n : Bool) (r : Ranges) (p : Pending) (c : ℕ) (k : Escape) → class_escape c ≡ k
       → AreRanges n r → IsPending NoCaret n r p → Makes (on_class_escape outer l x n r p c k)
   class_escape_formed n r p c itself e u v =
@@ -339,6 +417,7 @@ module _ (outer : Outer) (l : Level) (x : Last) (f : AreLevels outer.groups) (g 
   class_escape_formed n r p c no_property e u v = (f, g, h, ((u, v), tt))
   class_escape_formed n r p c unknown e u v = tt
 
+  -- and behind a part of an escape by a number there, or a whole one
   class_coded_formed : (n : Bool) (r : Ranges) (p : Pending) (o : Coded) → IsCoded o → AreRanges n r → IsPending NoCaret n r p
       → Makes (on_class_coding outer l x n r p o)
   class_coded_formed n r p fails w u v = tt
@@ -346,6 +425,7 @@ module _ (outer : Outer) (l : Level) (x : Last) (f : AreLevels outer.groups) (g 
   class_coded_formed n r p (makes d) w u v =
       within_formed _ (took_formed NoCaret n r p (class_coded d) u v w (suits NoCaret p (class_coded d) refl refl))
 
+  -- and behind a part of the escape of a property there, or a whole one
   class_property_formed : (n : Bool) (r : Ranges) (p : Pending) (o : PropertyRead) → IsRead o → AreRanges n r → IsPending NoCaret n r p
       → Makes (on_class_property outer l x n r p o)
   class_property_formed n r p no_property_read w u v = tt
@@ -354,10 +434,12 @@ module _ (outer : Outer) (l : Level) (x : Last) (f : AreLevels outer.groups) (g 
       when_formed (is_some (property_of e)) _ (λ some. within_formed _
       (took_formed NoCaret n r p (class_property b e) u v (w, some) (suits NoCaret p (class_property b e) refl refl)))
 
+  -- and behind the character that follows `[`
   bracket_formed : (c : ℕ) (b : Bool) → (c == byte "^") ≡ b → Makes (on_class outer l x c b)
   bracket_formed c false e = class_token_formed NoCaret false no_ranges fresh c (class_token c) refl tt (λ y w. w) (λ y w. w) e
   bracket_formed c true e = (f, g, h, (tt, λ y w. tt))
 
+  -- so a well-formed state stays so behind the next character, in each mode
   pub next_formed : (m : Mode) (c : ℕ) → IsMode m → Makes (next_in outer l x m c)
   next_formed between c k = token_formed outer l x c _ refl f g h
   next_formed escaping c k = escape_formed outer l x c _ refl f g h
@@ -378,26 +460,32 @@ module _ (outer : Outer) (l : Level) (x : Last) (f : AreLevels outer.groups) (g 
   next_formed (name_coding n d) c k =
       name_coded_formed outer l x f g h n (coding_next d c) k.0 (coding_formed d c k.1) (coding_unicode d c k.2)
 
+-- the tree that was read, where there is one, is well formed
 abbrev pub IsFormed : Option Disjunction → Type 0
 IsFormed None = Unit {0}
 IsFormed (Some d) = IsWellFormed 0 d
 
+-- a well-formed tree is well formed under a test too
 if_formed : (b : Bool) (d : Disjunction) → IsWellFormed 0 d → IsFormed (tree_if b d)
 if_formed false d h = tt
 if_formed true d h = h
 
+-- at the end the tree of a well-formed level is well formed
 close_all : (os : List Open) (l : Level) (x : Last) (e : Bool) → IsLevel (length os) l → IsLast (length os) x → IsFormed (closes os l x e)
 close_all [] l x e g h = if_formed e (level_ended l x) (level_formed 0 l.earlier (ended l.current x) g.0 (ended_formed 0 l.current x g.1 h))
 close_all (o ∷ os) l x e g h = tt
 
+-- if the rest gives a well-formed tree behind each well-formed state, it does behind one that may be missing
 one_more : (cs : List ℕ) → ((t : State) → IsState t → IsFormed (read_from t cs)) → (o : Option State) → Makes o
     → IsFormed (option_and_then (λ t. read_from t cs) o)
 one_more cs ih None h = tt
 one_more cs ih (Some t) h = ih t h
 
+-- so the rest of a text gives a well-formed tree behind a well-formed state
 rest_formed : (cs : List ℕ) (s : State) → IsState s → IsFormed (read_from s cs)
 rest_formed [] s h = close_all s.outer.groups s.level s.last (is_between s.mode && are_distinct s.outer.names) h.1 h.2
 rest_formed (c ∷ cs) s h = one_more cs (rest_formed cs) (next s c) (next_formed s.outer s.level s.last h.0 h.1 h.2 s.mode c h.3)
 
+-- and what is read of a text is well formed
 pub read_formed : (text : List ℕ) → IsFormed (read text)
 read_formed text = rest_formed text initial (tt, (tt, tt), tt, tt)

@@ -1,13 +1,15 @@
 -- Walks of the code over its instructions, from one to the next.
-use Rattle.std.proofs.Common.{◌≡◌, ℕ, zero, suc, ◌+◌, ◌<◌, ◌≤◌, nat_lt, Bool, true, false, ◌&&◌, ◌||◌, List, [], ◌∷◌, length, drop, drop-cons, drop_of_length-le, get_or, get_or-set_same, get_or-set_other, set, ne_of_lt, Option, Some, None, slice_get, refl, sym, ap, ◌∙◌, arith}
+use Rattle.std.proofs.Common.{◌≡◌, ℕ, zero, suc, ◌+◌, ◌<◌, ◌≤◌, nat_lt, Bool, true, false, ◌&&◌, ◌||◌, List, [], ◌∷◌, length, drop, drop-cons}
+use Rattle.std.proofs.Common.{drop_of_length-le, get_or, get_or-set_same, get_or-set_other, set, ne_of_lt, Option, Some, None, slice_get, refl, sym, ap, ◌∙◌}
+use Rattle.std.proofs.Common.{arith}
 use Rattle.std.proofs.lemmas.Bool.{ltb-true}
 use Rattle.strkw_ecma.specs.declared.tree.CharSet.{CharSet}
-use Rattle.strkw_ecma.specs.Marks.{reads, classes}
+use Rattle.strkw_ecma.specs.machine.Marks.{reads, classes}
 use Rattle.strkw_ecma.specs.Program.{Instruction, read, read_count}
 use Rattle.strkw_ecma.specs.Size.{max_steps}
-use Rattle.strkw_ecma.specs.Walk.{top, Asked, back_over, asked, marks_behind, Following, Walked, over, left_by, followed}
-use Rattle.strkw_ecma.specs.Shape.{turned, reading, instructed, instructions, are_within}
-use Rattle.strkw_ecma.specs.Machine.{pattern_of, program_of, class_reads}
+use Rattle.strkw_ecma.specs.machine.Walk.{top, Asked, back_over, asked, marks_behind, Following, Walked, over, left_by, followed}
+use Rattle.strkw_ecma.specs.machine.Shape.{turned, reading, instructed, instructions, are_within}
+use Rattle.strkw_ecma.specs.machine.Machine.{pattern_of, program_of, class_reads}
 use Rattle.strkw_ecma.specs.declared.code.Class.{Class}
 use Rattle.strkw_ecma.specs.declared.code.Turn.{Turn as CodeTurn}
 use Rattle.strkw_ecma.specs.declared.code.Turn.TheVariants as turn
@@ -27,9 +29,11 @@ from_place cs is k d h =
     drop_instructions cs k is ∙ ap (instructions cs) (drop-cons is k d h)
     ∙ ap (λ (js : List Instruction). instructed cs (get_or is k d) ∷ js) (sym (drop_instructions cs (suc k) is))
 
+-- and from the end on nothing stands
 pub from_end : (cs : List Class) (is : List CodeInstruction) (k : ℕ) → length is ≤ k → drop k (instructions cs is) ≡ []
 from_end cs is k h = drop_of_length-le (instructions cs is) {i = k} (omega (arith, instruction_count cs is, h))
 
+-- an instruction at a place is there too in a list that is the same
 pub there : (xs ys : List CodeInstruction) (k : ℕ) (i : CodeInstruction) → xs ≡ ys → get_or xs k (Read 0 false false) ≡ i
     → get_or ys k (Read 0 false false) ≡ i
 there xs ys k i same here = ap (λ (zs : List CodeInstruction). get_or zs k (Read 0 false false)) (sym same) ∙ here
@@ -44,23 +48,28 @@ within_at n is k class again optional d h here within =
     ∙ within_rest n k is within))
 
 -- classes and others
+-- an instruction that reads a class is one more that reads
 pub one_read : (o : Option Class) (again optional : Bool) (is : List Instruction) → read_count (reading again optional o ∷ is) ≡ read_count is + 1
 one_read None again optional is = refl
 one_read (Some c) again optional is = refl
 
+-- and any other changes nothing of how many do
 pub none_read : (t : CodeTurn) (is : List Instruction) → read_count (turned t ∷ is) ≡ read_count is
 none_read turn.Start is = refl
 none_read _ is = refl
 
+-- with one instruction more, no fewer read
 more_reads : (i : Instruction) (is : List Instruction) → read_count is ≤ read_count (i ∷ is)
 more_reads (read again optional n rs) is = omega arith
 more_reads _ is = omega arith
 
+-- from a place on no more instructions read than in all
 pub fewer_reads : (k : ℕ) (is : List Instruction) → read_count (drop k is) ≤ read_count is
 fewer_reads zero is = omega arith
 fewer_reads (suc k) [] = omega arith
 fewer_reads (suc k) (i ∷ is) = omega (arith, fewer_reads k is, more_reads i is)
 
+-- no more instructions read than there are
 pub reads_within : (is : List Instruction) → read_count is ≤ length is
 reads_within [] = omega arith
 reads_within (read again optional n rs ∷ is) = omega (arith, reads_within is)
@@ -70,41 +79,60 @@ reads_within (_ ∷ is) = omega (arith, reads_within is)
 pub marks_are_reads : (p : Program) → p.marks ≡ read_count (program_of p)
 marks_are_reads p = p.counted ∙ sym (reads_are_classes (pattern_of p)) ∙ ap read_count (sym p.right)
 
+-- the pattern of a program has no more classes than a pattern may have steps
 pub few_marks : (p : Program) → classes (pattern_of p) ≤ max_steps
 few_marks p =
     omega (arith, marks_are_reads p, p.counted, reads_within (program_of p), instruction_count p.code.classes.items p.code.instructions.items, p.few)
 
+-- the class of no sets, not negated, reads nothing
 none_reads : (a : Option ℕ) → reads a false [] ≡ false
 none_reads None = refl
 none_reads (Some c) = refl
 
 module _ (p : Program) (k : ℕ) (within : k < length p.code.instructions.items) where
+  -- the program from place k on begins with the instruction that stands there
   from_instruction : (i : CodeInstruction) → get_or p.code.instructions.items k (Read 0 false false) ≡ i
       → drop k (program_of p) ≡ instructed p.code.classes.items i ∷ drop (suc k) (program_of p)
   from_instruction i here =
       from_place p.code.classes.items p.code.instructions.items k (Read 0 false false) within
       ∙ ap (λ (j : CodeInstruction). instructed p.code.classes.items j ∷ drop (suc k) (program_of p)) here
 
+  -- the same where that reads a class
   pub from_class : (class : ℕ) (again optional : Bool) → get_or p.code.instructions.items k (Read 0 false false) ≡ Read class again optional
       → drop k (program_of p) ≡ reading again optional (slice_get p.code.classes.items class) ∷ drop (suc k) (program_of p)
   from_class class again optional here = from_instruction (Read class again optional) here
 
+  -- and where it reads none
   pub from_turn : (t : CodeTurn) → get_or p.code.instructions.items k (Read 0 false false) ≡ Turn t
       → drop k (program_of p) ≡ turned t ∷ drop (suc k) (program_of p)
   from_turn t here = from_instruction (Turn t) here
 
   -- marks are left for what stands from there on
+  -- going backwards, one at least is left where a class is read
   pub one_mark_less : (class : ℕ) (again optional : Bool) → get_or p.code.instructions.items k (Read 0 false false) ≡ Read class again optional
       → (at : ℕ) → at + read_count (drop (suc k) (program_of p)) ≡ p.marks → 1 ≤ at
   one_mark_less class again optional here at counted =
-      omega
-      (arith, counted, marks_are_reads p, fewer_reads k (program_of p), ap read_count (from_class class again optional here), one_read (slice_get p.code.classes.items class) again optional (drop (suc k) (program_of p)))
+      omega (
+        arith,
+        counted,
+        marks_are_reads p,
+        fewer_reads k (program_of p),
+        ap read_count (from_class class again optional here),
+        one_read
+            (slice_get p.code.classes.items class) again optional (drop (suc k) (program_of p)),
+      )
 
+  -- going forwards, a class that is read takes one mark of those that are left
   pub one_mark_more : (class : ℕ) (again optional : Bool) → get_or p.code.instructions.items k (Read 0 false false) ≡ Read class again optional
       → (at : ℕ) → at + read_count (drop k (program_of p)) ≡ p.marks → at + 1 + read_count (drop (suc k) (program_of p)) ≡ p.marks
   one_mark_more class again optional here at counted =
-      omega
-      (arith, counted, ap read_count (from_class class again optional here), one_read (slice_get p.code.classes.items class) again optional (drop (suc k) (program_of p)))
+      omega (
+        arith,
+        counted,
+        ap read_count (from_class class again optional here),
+        one_read (slice_get p.code.classes.items class) again optional
+            (drop (suc k) (program_of p)),
+      )
 
 -- one class more is asked about the next character
 pub one_more_class : (next : Option ℕ) (cs : List Class) (rs : List Bool) (n : ℕ) (answer : Bool) (c : Class) → slice_get cs n ≡ Some c
@@ -130,10 +158,12 @@ module _ (b a : Option ℕ) where
   marks_stay turn.Start ms = refl
   marks_stay _ ms = refl
 
+  -- and adds no mark to what is left of the walk
   nothing_left : (t : CodeTurn) (m : Bool) (s : Following) (w : Walked) → left_by b a (turned t) m s w ≡ w
   nothing_left turn.Start m s w = refl
   nothing_left _ m s w = refl
 
+  -- backwards over any other instruction
   pub asked_turned : (t : CodeTurn) (is : List Instruction) (ms : List Bool) (s u : Asked) → s ≡ asked b a is ms
       → ((m : Bool) → u ≡ back_over b a (turned t) m s) → u ≡ asked b a (turned t ∷ is) ms
   asked_turned t is ms s u e h =
@@ -148,6 +178,7 @@ module _ (b a : Option ℕ) where
       ∙ ap (λ (y : Bool). with_marks b a (y ∷ []) (followed b a is t ms))
       (ap (λ (y : Bool). (s.enters || (again && m)) && y) (sym e) ∙ sym f)
 
+  -- the same over a class of the code, which may be missing
   pub followed_reading : (o : Option Class) (again optional m reads_it behind : Bool) (is : List Instruction) (ms : List Bool) (s t : Following)
       → ((n : Bool) (rs : List CharSet) → t ≡ over b a (read again optional n rs) m s)
       → reads_it ≡ class_reads a o → behind ≡ ((s.enters || (again && m)) && reads_it)
@@ -157,6 +188,7 @@ module _ (b a : Option ℕ) where
   followed_reading (Some c) again optional m reads_it behind is ms s t h e f =
       followed_read again optional c.negated m reads_it behind c.sets.items is ms s t (h c.negated c.sets.items) e f
 
+  -- forwards over any other instruction
   pub followed_turned : (t : CodeTurn) (is : List Instruction) (ms : List Bool) (s u : Following)
       → ((m : Bool) → u ≡ over b a (turned t) m s) → followed b a (turned t ∷ is) s ms ≡ followed b a is u ms
   followed_turned t is ms s u h =

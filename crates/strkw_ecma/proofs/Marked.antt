@@ -1,17 +1,19 @@
 -- Marks that stand beside a pattern, as a list.
-use Rattle.std.proofs.Common.{◌≡◌, ◌⊎◌, ℕ, zero, suc, ◌+◌, ◌<◌, ◌≤◌, Bool, true, false, ◌||◌, List, [], ◌∷◌, ◌++◌, length, drop, drop_at, drop-drop, replicate, Option, get_or, get_or-drop, length-append, length-drop, inl, inr, refl, sym, ap, ◌∙◌, true≢false, arith}
+use Rattle.std.proofs.Common.{◌≡◌, ◌⊎◌, ℕ, zero, suc, ◌+◌, ◌<◌, ◌≤◌, Bool, true, false, ◌||◌, List, [], ◌∷◌, ◌++◌, length, drop, drop_at, drop-drop, replicate}
+use Rattle.std.proofs.Common.{Option, get_or, get_or-drop, length-append, length-drop, inl, inr, refl, sym, ap, ◌∙◌, true≢false, arith}
 use Rattle.std.specs.Cmp.Lexicographic.{pointwise}
 use Rattle.std.proofs.Math.Bool.{beq}
 use Rattle.std.specs.List.{list_any}
 use Rattle.std.proofs.lemmas.List.{append_assoc, get_or_past, get_or-replicate, length-replicate}
 use Rattle.strkw_ecma.specs.declared.tree.CharSet.{CharSet}
 use Rattle.strkw_ecma.specs.Tree.{Pattern, empty, class, look, cat, alt, star, plus}
-use Rattle.strkw_ecma.specs.Marks.{leaves, step, classes, marked, marks_of, is_clean}
+use Rattle.strkw_ecma.specs.machine.Marks.{leaves, step, classes, marked, marks_of, is_clean}
 use Rattle.strkw_ecma.specs.Program.{Instruction, fork, other, join, star_begin, star_end, plus_begin, plus_end, if_class, if_option, program, alternatives}
-use Rattle.strkw_ecma.specs.Walk.{walked}
+use Rattle.strkw_ecma.specs.machine.Walk.{walked}
 use Rattle.strkw_ecma.proofs.Programs.{walked_is}
 use Rattle.strkw_ecma.proofs.Steps.{and_left, and_right}
 
+-- a list in which no mark is set has none from any place on
 none_behind : (ms : List Bool) (n : ℕ) → ((k : ℕ) → get_or ms k false ≡ false) → (k : ℕ) → get_or (drop n ms) k false ≡ false
 none_behind ms n none k = get_or-drop n ms k false ∙ none (n + k)
 
@@ -40,6 +42,7 @@ same_classes ms (alt p q) = omega (arith, same_classes ms p, same_classes (drop 
 same_classes ms (star p) = same_classes ms p
 same_classes ms (plus p) = same_classes ms p
 
+-- what is chosen by whether a pattern is a class is the same with other marks
 same_if_class : {A : Type 0} (ms : List Bool) (p : Pattern) (f : Bool → List CharSet → A) (x : A) → if_class (marked ms p) f x ≡ if_class p f x
 same_if_class ms empty f x = refl
 same_if_class ms (class m n rs) f x = refl
@@ -49,6 +52,7 @@ same_if_class ms (alt p q) f x = refl
 same_if_class ms (star p) f x = refl
 same_if_class ms (plus p) f x = refl
 
+-- and what is chosen by whether two alternatives are nothing and a class
 same_if_option : {A : Type 0} (ms ns : List Bool) (p q : Pattern) (f : Bool → List CharSet → A) (x : A)
     → if_option (marked ms p) (marked ns q) f x ≡ if_option p q f x
 same_if_option ms ns empty q f x = same_if_class ns q f x
@@ -59,14 +63,17 @@ same_if_option ms ns (alt p r) q f x = refl
 same_if_option ms ns (star p) q f x = refl
 same_if_option ms ns (plus p) q f x = refl
 
+-- with these marks a pattern has the same program, by itself and among alternatives
 IsSame : List Bool → Pattern → Type 0
 IsSame ms p = (program (marked ms p) ≡ program p) × (alternatives (marked ms p) ≡ alternatives p)
 
+-- the program of a loop is the same with other marks, where that of its body is
 loop_is_same : (ms : List Bool) (p : Pattern) (begin end : Instruction) (f : Bool → List CharSet → List Instruction) → program (marked ms p) ≡ program p
     → if_class (marked ms p) f (begin ∷ (program (marked ms p) ++ (end ∷ []))) ≡ if_class p f (begin ∷ (program p ++ (end ∷ [])))
 loop_is_same ms p begin end f e =
     same_if_class ms p f _ ∙ ap (λ (is : List Instruction). if_class p f (begin ∷ (is ++ (end ∷ [])))) e
 
+-- and that of two alternatives, where those of both are
 choice_is_same : (ms ns : List Bool) (p q : Pattern) (f : Bool → List CharSet → List Instruction)
     → alternatives (marked ms p) ≡ alternatives p → program (marked ns q) ≡ program q
     → if_option (marked ms p) (marked ns q) f (fork ∷ (alternatives (marked ms p) ++ (other ∷ (program (marked ns q) ++ (join ∷ [])))))
@@ -76,11 +83,13 @@ choice_is_same ms ns p q f e g =
     ∙ ap (λ (is : List Instruction). if_option p q f (fork ∷ (is ++ (other ∷ (program (marked ns q) ++ (join ∷ [])))))) e
     ∙ ap (λ (is : List Instruction). if_option p q f (fork ∷ (alternatives p ++ (other ∷ (is ++ (join ∷ [])))))) g
 
+-- and that of two patterns one behind the other
 cat_is_same : (ms : List Bool) (p q : Pattern) → program (marked ms p) ≡ program p → program (marked (drop (classes p) ms) q) ≡ program q
     → program (marked ms (cat p q)) ≡ program (cat p q)
 cat_is_same ms p q e f =
     ap (λ (is : List Instruction). is ++ program (marked (drop (classes p) ms) q)) e ∙ ap (λ (is : List Instruction). program p ++ is) f
 
+-- with any marks a pattern has the same program, by itself and among alternatives
 both_are_same : (ms : List Bool) (p : Pattern) → IsSame ms p
 unfolding IsSame
 both_are_same ms empty = (refl, refl)
@@ -98,6 +107,7 @@ both_are_same ms (alt p q) =
 both_are_same ms (star p) = let e = loop_is_same ms p star_begin star_end _ (both_are_same ms p).0 in (e, e)
 both_are_same ms (plus p) = let e = loop_is_same ms p plus_begin plus_end _ (both_are_same ms p).0 in (e, e)
 
+-- marks change nothing of the program of a pattern
 pub same_program : (ms : List Bool) (p : Pattern) → program (marked ms p) ≡ program p
 unfolding IsSame
 same_program ms p = (both_are_same ms p).0
@@ -118,6 +128,7 @@ marked_again ms ns (alt p q) =
 marked_again ms ns (star p) = ap star (marked_again ms ns p)
 marked_again ms ns (plus p) = ap plus (marked_again ms ns p)
 
+-- a pattern has as many marks as classes
 pub marks_count : (p : Pattern) → length (marks_of p) ≡ classes p
 marks_count empty = refl
 marks_count (class m n rs) = refl
@@ -142,12 +153,14 @@ own_marks (star p) ms = ap star (own_marks p ms)
 own_marks (plus p) ms = ap plus (own_marks p ms)
 
 -- as many marks as there are classes become its own, and the others stay
+-- where a list begins with a first list, and goes on with a second, it begins with both
 both_taken : (ms : List Bool) (n m : ℕ) (xs ys : List Bool) → xs ++ drop n ms ≡ ms → ys ++ drop m (drop n ms) ≡ drop n ms
     → (xs ++ ys) ++ drop (n + m) ms ≡ ms
 both_taken ms n m xs ys e f =
     append_assoc xs ys (drop (n + m) ms) ∙ ap (λ (zs : List Bool). xs ++ (ys ++ zs)) (sym (drop-drop m n ms))
     ∙ ap (λ (zs : List Bool). xs ++ zs) f ∙ e
 
+-- the marks that a pattern takes from a list long enough, and those left, are the list
 pub marks_taken : (ms : List Bool) (p : Pattern) → classes p ≤ length ms → marks_of (marked ms p) ++ drop (classes p) ms ≡ ms
 marks_taken ms empty h = refl
 marks_taken [] (class m n rs) h = absurd (omega (arith, h))
@@ -163,6 +176,7 @@ marks_taken ms (star p) h = marks_taken ms p h
 marks_taken ms (plus p) h = marks_taken ms p h
 
 module _ (b a : Option ℕ) where
+  -- after a step a pattern has as many classes as before
   step_classes : (p : Pattern) (x : Bool) → classes (step b a p x) ≡ classes p
   step_classes empty x = refl
   step_classes (class m n rs) x = refl
@@ -193,13 +207,14 @@ module _ (b a : Option ℕ) where
   step_program p x =
       sym (same_program [] (step b a p x)) ∙ ap program (step_marked [] p x) ∙ same_program [] p
 
-  -- What a walk over the program comes to, with the marks in a list: the answer of the pattern, and its marks behind the
-  -- character.
+  -- What a walk over the program comes to, with the marks in a list: the answer of the pattern, and its marks behind
+  -- the character.
   pub record IsStepOf (p : Pattern) (ms ns : List Bool) (left : Bool) : Type 0 where
     pub leaves_is : left ≡ leaves b a (marked ms p) true
     pub marks_are : marked ns p ≡ step b a (marked ms p) true
     pub lengths : length ns ≡ length ms
 
+  -- a walk over the program comes to that, where the list has a mark for each class
   pub walk_steps : (p : Pattern) (ms : List Bool) → classes p ≤ length ms
       → IsStepOf p ms (walked b a (program p) ms).marks (walked b a (program p) ms).leaves
   walk_steps p ms h =
@@ -221,22 +236,27 @@ module _ (b a : Option ℕ) where
             ∙ omega (arith, marks_count stepped, step_classes q true, same_classes ms p, length-drop (classes p) ms, h);
       }
 
+-- a number is less than another, or is at least that
 below_or_past : (k n : ℕ) → (k < n) ⊎ (n ≤ k)
 below_or_past k n = grind arith
 
+-- in a list of marks none of which is set, none is at any place
 pub none_marked : (n k : ℕ) → get_or (replicate n false) k false ≡ false
 none_marked n k = by (below_or_past k n)
   where
+    -- the same by whether the place lies in the list or behind it
     by : (k < n) ⊎ (n ≤ k) → get_or (replicate n false) k false ≡ false
     by (inl h) = get_or-replicate n k false false h
     by (inr h) = get_or_past (replicate n false) k false (omega (arith, length-replicate n false))
 
+-- two answers that compare as equal are the same
 same_bool : (x y : Bool) → beq x y ≡ true → x ≡ y
 same_bool true true e = refl
 same_bool true false e = sym e
 same_bool false true e = e
 same_bool false false e = refl
 
+-- and so are two lists of them, compared place by place
 pub same_list : (ms ns : List Bool) → pointwise beq ms ns ≡ true → ms ≡ ns
 same_list [] [] h = refl
 same_list [] (n ∷ ns) h = absurd (true≢false (sym h))
@@ -246,6 +266,7 @@ same_list (m ∷ ms) (n ∷ ns) h =
     let rest : ms ≡ ns = same_list ms ns (and_right (beq m n) _ h) in
     cc
 
+-- where none of some marks is set, none is at any place
 pub none_among : (ms : List Bool) → list_any (λ m. beq m true) ms ≡ false → (k : ℕ) → get_or ms k false ≡ false
 none_among [] h k = refl
 none_among (true ∷ ms) h k = absurd (true≢false h)

@@ -1,5 +1,6 @@
 -- The reading of patterns: each tree of the syntax is read from its spelling, and what is read is spelled so.
-use Rattle.std.proofs.Common.{◌≡◌, ℕ, false, List, [], ◌∷◌, ◌++◌, Option, Some, None, refl, sym, ap, subst, ◌∙◌, append_assoc, length, ◌<◌, Bool, true, true≢false, if◌then◌else◌}
+use Rattle.std.proofs.Common.{◌≡◌, ℕ, false, List, [], ◌∷◌, ◌++◌, Option, Some, None, refl, sym, ap, subst, ◌∙◌, append_assoc, length, ◌<◌, Bool, true}
+use Rattle.std.proofs.Common.{true≢false, if◌then◌else◌}
 use Rattle.std.specs.Prelude.{option_and_then, ◌==◌, ◌*◌, ◌≤◌, is_some}
 use Rattle.std.proofs.lemmas.List.{append-nil}
 use Rattle.std.proofs.lemmas.Bool.{lt-ltb, le-leb}
@@ -7,51 +8,69 @@ use Rattle.std.specs.Str.{byte}
 use Rattle.strkw_ecma.proofs.Letters.{same_char, is_not}
 use Rattle.strkw_ecma.specs.Escapes.{Escape, itself, control, set, escape}
 use Rattle.strkw_ecma.specs.Codes.{Code, null_code, letter_code, byte_code, unit_code, pair_code, point_code, code_spelling, IsCode}
-use Rattle.strkw_ecma.specs.CodeReading.{Coding, Coded, fails, goes, makes, coding_next}
+use Rattle.strkw_ecma.specs.machine.CodeReading.{Coding, Coded, fails, goes, makes, coding_next}
 use Rattle.strkw_ecma.specs.Properties.{Expression, expression_spelling, property_letter, IsExpression}
-use Rattle.strkw_ecma.specs.PropertyReading.{PropertyPart, brace_awaited, PropertyRead, no_property_read, property_goes, property_ends, property_next}
+use Rattle.strkw_ecma.specs.machine.PropertyReading.{PropertyPart, brace_awaited, PropertyRead, no_property_read, property_goes, property_ends, property_next}
 use Rattle.ucd_derived.proofs.Computing.{ucd_derived}
-use Rattle.strkw_ecma.specs.Names.{NameChar, verbatim, by_code, name_char_spelling, name_spelling, name_char_value, name_value, is_unicode, is_name_start, is_name_part, IsNameChar, AreNameParts, IsName, may_follow, are_distinct, NameToken, name_end, name_backslash, name_character, name_token}
-use Rattle.strkw_ecma.specs.Syntax.{Disjunction, only, either, Alternative, nothing, more, Term, at_start, at_end, at_boundary, at_no_boundary, once, quantified, Quantifier, zero_or_more, one_or_more, zero_or_one, exactly, at_least, from_to, greedy, lazy, Atom, plain, escaped, control_escape, set_escape, coded, property_escape, dot, bracketed, group, Group, capturing, plain_group, named, with_name, with_names, with_alternative_names, with_term_names, with_atom_names, names, Token, character, token, quantifier_spelling, group_spelling, greed_spelling, spelling, alternative_spelling, term_spelling, atom_spelling, max_nesting}
+use Rattle.strkw_ecma.specs.Names.{NameChar, verbatim, by_code, name_char_spelling, name_spelling, name_char_value, name_value, is_unicode, is_name_start}
+use Rattle.strkw_ecma.specs.Names.{is_name_part, IsNameChar, AreNameParts, IsName, may_follow, are_distinct, NameToken, name_end, name_backslash}
+use Rattle.strkw_ecma.specs.Names.{name_character, name_token}
+use Rattle.strkw_ecma.specs.Syntax.{Disjunction, only, either, Alternative, nothing, more, Term, at_start, at_end, at_boundary, at_no_boundary, once}
+use Rattle.strkw_ecma.specs.Syntax.{quantified, Quantifier, zero_or_more, one_or_more, zero_or_one, exactly, at_least, from_to, greedy, lazy, Atom, plain}
+use Rattle.strkw_ecma.specs.Syntax.{escaped, control_escape, set_escape, coded, property_escape, dot, bracketed, group, Group, capturing, plain_group, named}
+use Rattle.strkw_ecma.specs.Syntax.{with_name, with_names, with_alternative_names, with_term_names, with_atom_names, names, Token, character, token}
+use Rattle.strkw_ecma.specs.Syntax.{quantifier_spelling, group_spelling, greed_spelling, spelling, alternative_spelling, term_spelling, atom_spelling}
+use Rattle.strkw_ecma.specs.Syntax.{max_nesting}
 use Rattle.strkw_ecma.specs.WellFormed.{IsQuantifier, IsGroup, IsWellFormed, IsAlternative, IsTerm, IsAtom}
 use Rattle.strkw_ecma.specs.Numbers.{number, number_of, IsNumber}
 use Rattle.strkw_ecma.specs.Size.{steps, max_term_steps}
 use Rattle.strkw_ecma.specs.Patterns.{atom_pattern, times, copies}
 use Rattle.strkw_ecma.proofs.Digits.{reads_digits}
-use Rattle.strkw_ecma.specs.Reading.{Open, Outer, Level, Last, none, atom, counted, State, between, opening, low, high, counting, with_mode, with_quantifier, with_count, range_read, on_low, on_high, when, ended, joined, with_atom, naming, name_coding, with_name_char, on_naming, on_name_coding, closes, tree_if, opened_within, opened, on_token, on_group, on_escape, coding, on_coding, in_property, on_property, next, read_from, read}
+use Rattle.strkw_ecma.specs.machine.Reading.{Open, Outer, Level, Last, none, atom, counted, State, between, opening, low, high, counting, with_mode}
+use Rattle.strkw_ecma.specs.machine.Reading.{with_quantifier, with_count, range_read, on_low, on_high, when, ended, joined, with_atom, naming, name_coding}
+use Rattle.strkw_ecma.specs.machine.Reading.{with_name_char, on_naming, on_name_coding, closes, tree_if, opened_within, opened, on_token, on_group, on_escape}
+use Rattle.strkw_ecma.specs.machine.Reading.{coding, on_coding, in_property, on_property, next, read_from, read}
 use Rattle.strkw_ecma.proofs.ClassReadings.{reads_class}
 use Rattle.strkw_ecma.proofs.CodeReadings.{follow, code_tail, begun, reads_code}
 use Rattle.strkw_ecma.proofs.PropertyReadings.{follow_property, reads_property}
 
+-- the state between terms, with these groups, alternatives and terms, and this last term
 abbrev state : Outer → Option Disjunction → Alternative → Last → State
 state outer e a x = record { outer = outer; level = record { earlier = e; current = a }; last = x; mode = between }
 
 -- a character that begins an atom, and the atom
+-- behind a character that stands for itself, the state has its atom as the last term
 plain_next : (outer : Outer) (e : Option Disjunction) (a : Alternative) (x : Last) (c : ℕ) → token c ≡ character
     → next (state outer e a x) c ≡ Some (with_atom outer (record { earlier = e; current = a }) x (plain c))
 plain_next outer e a x c h = ap (on_token outer (record { earlier = e; current = a }) x c) h
 
+-- behind a backslash, a character of a kind is taken as one of that kind
 escape_next : (outer : Outer) (l : Level) (x : Last) (c : ℕ) (k : Escape) → escape c ≡ k
     → on_escape outer l x c (escape c) ≡ on_escape outer l x c k
 escape_next outer l x c k h = ap (on_escape outer l x c) h
 
+-- of four texts, one behind the other, the brackets may be moved to the end
 regroup : (a b c cs : List ℕ) → ((a ++ b) ++ c) ++ cs ≡ a ++ (b ++ (c ++ cs))
 regroup a b c cs = append_assoc (a ++ b) c cs ∙ append_assoc a b (c ++ cs)
 
 -- an escape by a number
 module _ (outer : Outer) (e : Option Disjunction) (a : Alternative) (x : Last) where
+  -- the tree of the whole, where the rest stands behind a part of such an escape
   abbrev behind_part : Coding → List ℕ → Option Disjunction
   behind_part k cs = read_from (with_mode outer (record { earlier = e; current = a }) x (coding k)) cs
 
+  -- and where it stands behind a whole one
   abbrev behind_whole : Code → List ℕ → Option Disjunction
   behind_whole d cs = read_from (with_atom outer (record { earlier = e; current = a }) x (coded d)) cs
 
+  -- behind what comes of one more character, the rest is read as behind that part or that whole
   follows : (o : Coded) (cs : List ℕ)
       → option_and_then (λ t. read_from t cs) (on_coding outer (record { earlier = e; current = a }) x o) ≡ follow behind_part behind_whole o cs
   follows fails cs = refl
   follows (goes k) cs = refl
   follows (makes d) cs = refl
 
+  -- an escape by a number is read, behind its backslash and letter, as `begun` says
   code_begins : (d : Code) (cs : List ℕ)
       → read_from (state outer e a x) (byte "\\" ∷ (code_spelling d ++ cs)) ≡ begun behind_part behind_whole d (code_tail d ++ cs)
   code_begins null_code cs = refl
@@ -61,18 +80,22 @@ module _ (outer : Outer) (e : Option Disjunction) (a : Alternative) (x : Last) w
   code_begins (pair_code ds es) cs = refl
   code_begins (point_code ds) cs = refl
 
+  -- an escape by a number is read from its spelling
   reads_coded : (d : Code) → IsCode d → (cs : List ℕ)
       → read_from (state outer e a x) (atom_spelling (coded d) ++ cs) ≡ behind_whole d cs
   reads_coded d h cs = code_begins d cs ∙ reads_code behind_part behind_whole (λ k c cs. follows (coding_next k c) cs) d h cs
 
   -- a property
+  -- the tree of the whole, where the rest stands behind a part of its escape
   abbrev behind_property_part : PropertyPart → List ℕ → Option Disjunction
   behind_property_part k cs = read_from (with_mode outer (record { earlier = e; current = a }) x (in_property k)) cs
 
+  -- and where it stands behind a whole one, whose expression may be of no property
   abbrev behind_property : Bool → Expression → List ℕ → Option Disjunction
   behind_property n f cs =
       option_and_then (λ t. read_from t cs) (on_property outer (record { earlier = e; current = a }) x (property_ends n f))
 
+  -- behind what comes of one more character, the rest is read as behind that part or that whole
   property_follows : (o : PropertyRead) (cs : List ℕ)
       → option_and_then (λ t. read_from t cs) (on_property outer (record { earlier = e; current = a }) x o)
       ≡ follow_property behind_property_part behind_property o cs
@@ -80,11 +103,13 @@ module _ (outer : Outer) (e : Option Disjunction) (a : Alternative) (x : Last) w
   property_follows (property_goes k) cs = refl
   property_follows (property_ends n f) cs = refl
 
+  -- behind the backslash and the letter of a property, a brace is awaited
   property_begins : (n : Bool) (cs : List ℕ)
       → read_from (state outer e a x) (byte "\\" ∷ property_letter n ∷ cs) ≡ behind_property_part (brace_awaited n) cs
   property_begins false cs = refl
   property_begins true cs = refl
 
+  -- the escape of a property is read from its spelling
   reads_property_escape : (n : Bool) (f : Expression) → IsExpression f → (cs : List ℕ)
       → read_from (state outer e a x) (atom_spelling (property_escape n f) ++ cs)
       ≡ read_from (with_atom outer (record { earlier = e; current = a }) x (property_escape n f)) cs
@@ -95,34 +120,40 @@ module _ (outer : Outer) (e : Option Disjunction) (a : Alternative) (x : Last) w
       (when b (Some (with_atom outer (record { earlier = e; current = a }) x (property_escape n f))))) h.1
 
 -- a count that is whole
+-- is taken as a quantifier, where it does not make the term too large
 counts : (outer : Outer) (l : Level) (p : Atom) (q : Quantifier) (cs : List ℕ) → copies (times q) * steps (atom_pattern p) ≤ max_term_steps
     → option_and_then (λ t. read_from t cs) (with_count outer l (atom p) q)
     ≡ option_and_then (λ t. read_from t cs) (with_quantifier outer l (atom p) q)
 counts outer l p q cs h =
     ap (λ (b : Bool). option_and_then (λ t. read_from t cs) (when b (with_quantifier outer l (atom p) q))) (le-leb _ max_term_steps h)
 
+-- behind the opening brace, a number is read from its digits
 reads_first : (outer : Outer) (l : Level) (p : Atom) (ds : List ℕ) → IsNumber ds → (cs : List ℕ)
     → read_from (with_mode outer l (atom p) (counting (low []))) (ds ++ cs) ≡ read_from (with_mode outer l (atom p) (counting (low ds))) cs
 reads_first outer l p ds h cs =
     reads_digits outer l (atom p) (λ es. counting (low es)) (λ es c e. ap (on_low outer l (atom p) es c) e) [] ds h.0 h.2 cs
 
+-- and behind the comma, the second number
 reads_second : (outer : Outer) (l : Level) (p : Atom) (ds es : List ℕ) → IsNumber es → (cs : List ℕ)
     → read_from (with_mode outer l (atom p) (counting (high ds []))) (es ++ cs) ≡ read_from (with_mode outer l (atom p) (counting (high ds es))) cs
 reads_second outer l p ds es h cs =
     reads_digits outer l (atom p) (λ fs. counting (high ds fs)) (λ fs c e. ap (on_high outer l (atom p) ds fs c) e) [] es h.0 h.2 cs
 
+-- behind the first number, a comma is read
 reads_comma : (outer : Outer) (l : Level) (p : Atom) (ds : List ℕ) → IsNumber ds → (cs : List ℕ)
     → read_from (with_mode outer l (atom p) (counting (low ds))) (byte "," ∷ cs)
     ≡ read_from (with_mode outer l (atom p) (counting (high ds []))) cs
 reads_comma outer l p ds h cs =
     ap (λ (b : Bool). option_and_then (λ t. read_from t cs) (when b (Some (with_mode outer l (atom p) (counting (high ds [])))))) h.1
 
+-- and a closing brace, which makes an exact count
 reads_exact : (outer : Outer) (l : Level) (p : Atom) (ds : List ℕ) → IsNumber ds → (cs : List ℕ)
     → read_from (with_mode outer l (atom p) (counting (low ds))) (byte "}" ∷ cs)
     ≡ option_and_then (λ t. read_from t cs) (with_count outer l (atom p) (exactly ds))
 reads_exact outer l p ds h cs =
     ap (λ (b : Bool). option_and_then (λ t. read_from t cs) (when b (with_count outer l (atom p) (exactly ds)))) h.1
 
+-- a second number that is no smaller than the first makes a count of both
 reads_range : (outer : Outer) (l : Level) (p : Atom) (ds es : List ℕ) → is_some (number_of es) ≡ true → number ds ≤ number es → (cs : List ℕ)
     → option_and_then (λ t. read_from t cs) (range_read outer l (atom p) ds es)
     ≡ option_and_then (λ t. read_from t cs) (with_count outer l (atom p) (from_to ds es))
@@ -131,6 +162,7 @@ reads_range outer l p ds (e ∷ es) h w cs =
     ap (λ (b : Bool). option_and_then (λ t. read_from t cs) (when b (with_count outer l (atom p) (from_to ds (e ∷ es)))))
     (le-leb (number ds) (number (e ∷ es)) w)
 
+-- behind an atom, a quantifier is read from its spelling
 reads_quantifier : (outer : Outer) (e : Option Disjunction) (a : Alternative) (p : Atom) (q : Quantifier)
     → IsQuantifier q (steps (atom_pattern p)) → (cs : List ℕ)
     → read_from (state outer e a (atom p)) (quantifier_spelling q ++ cs) ≡ read_from (state outer e a (counted p q)) cs
@@ -157,14 +189,17 @@ reads_quantifier outer e a p (from_to ds es) h cs =
     ∙ counts outer l p (from_to ds es) cs h.3
 
 -- no alternative begins with a question mark, so that behind `(` one is none of its
+-- the text does not begin with a question mark
 abbrev IsNoQuestion : List ℕ → Type 0
 IsNoQuestion [] = Unit {0}
 IsNoQuestion (c ∷ cs) = (c == byte "?") ≡ false
 
+-- whether the token is that of a character that stands for itself
 is_character : Token → Bool
 is_character character = true
 is_character t = false
 
+-- a character that stands for itself is no question mark
 no_question : (c : ℕ) (b : Bool) → (c == byte "?") ≡ b → token c ≡ character → b ≡ false
 unfolding is_character
 no_question c false e h = refl
@@ -172,12 +207,14 @@ no_question c true e h =
     absurd (true≢false (sym (ap is_character h) ∙ ap (λ (z : ℕ). is_character (token z)) (sym (same_char c (byte "?") e))))
 
 mutual
+  -- well-formed alternatives do not begin with one, where what follows them does not
   begins_disjunction : (d : Disjunction) (n : ℕ) → IsWellFormed n d → (cs : List ℕ) → IsNoQuestion cs → IsNoQuestion (spelling d ++ cs)
   begins_disjunction (only a) n h cs w = begins_alternative a n h cs w
   begins_disjunction (either d a) n h cs w =
       subst IsNoQuestion (sym (append_assoc (spelling d) (byte "|" ∷ alternative_spelling a) cs))
       (begins_disjunction d n h.0 (byte "|" ∷ (alternative_spelling a ++ cs)) refl)
 
+  -- and so it is with terms, one behind the other
   begins_alternative : (a : Alternative) (n : ℕ) → IsAlternative n a → (cs : List ℕ) → IsNoQuestion cs
       → IsNoQuestion (alternative_spelling a ++ cs)
   begins_alternative nothing n h cs w = w
@@ -185,6 +222,7 @@ mutual
       subst IsNoQuestion (sym (append_assoc (alternative_spelling a) (term_spelling t) cs))
       (begins_alternative a n h.0 (term_spelling t ++ cs) (begins_term t n h.1 cs))
 
+  -- a term does not begin with one, whatever follows
   begins_term : (t : Term) (n : ℕ) → IsTerm n t → (cs : List ℕ) → IsNoQuestion (term_spelling t ++ cs)
   begins_term at_start n h cs = refl
   begins_term at_end n h cs = refl
@@ -194,6 +232,7 @@ mutual
   begins_term (quantified p q g) n h cs =
       subst IsNoQuestion (sym (regroup (atom_spelling p) (quantifier_spelling q) (greed_spelling g) cs)) (begins_atom p n h.0 _)
 
+  -- nor does an atom
   begins_atom : (p : Atom) (n : ℕ) → IsAtom n p → (cs : List ℕ) → IsNoQuestion (atom_spelling p ++ cs)
   begins_atom (plain c) n h cs = no_question c (c == byte "?") refl h
   begins_atom (escaped c) n h cs = refl
@@ -208,10 +247,12 @@ mutual
   begins_atom (group plain_group d) n h cs = refl
   begins_atom (group (named m) d) n h cs = refl
 
+-- at the end there is no tree where the test fails
 not_closed : (os : List Open) (l : Level) (x : Last) → closes os l x false ≡ None
 not_closed [] l x = refl
 not_closed (o ∷ os) l x = refl
 
+-- the state at the beginning of a group that has been opened
 abbrev inside : Outer → Option Disjunction → Alternative → Last → Group → State
 inside outer e a x g = state (record {
   groups = record { group = g; earlier = e; current = ended a x } ∷ outer.groups;
@@ -223,18 +264,22 @@ inside outer e a x g = state (record {
 IsApart : (ℕ → Bool) → Type 0
 IsApart f = (f (byte ">") ≡ false) × (f (byte "\\") ≡ false)
 
+-- so it is with the characters that may begin a name
 start_apart : IsApart is_name_start
 unfolding IsApart ucd_derived
 start_apart = (refl, refl)
 
+-- and with those that may go on with it
 part_apart : IsApart is_name_part
 unfolding IsApart ucd_derived
 part_apart = (refl, refl)
 
+-- so it is with those that may follow this much of a name
 follow_apart : (ds : List ℕ) → IsApart (may_follow ds)
 follow_apart [] = start_apart
 follow_apart (d ∷ ds) = part_apart
 
+-- a character of a name is taken as one of its characters
 token_of_name : (f : ℕ → Bool) → IsApart f → (c : ℕ) → f c ≡ true → name_token c ≡ name_character
 unfolding IsApart
 token_of_name f a c h =
@@ -242,22 +287,27 @@ token_of_name f a c h =
     ∙ ap (λ (b : Bool). if b then name_backslash else name_character) (is_not f c (byte "\\") _ refl h a.1)
 
 module _ (outer : Outer) (l : Level) (x : Last) where
+  -- the tree of the whole, where the rest stands behind this much of a name
   abbrev in_name : List NameChar → List ℕ → Option Disjunction
   in_name n cs = read_from (with_mode outer l x (naming n)) cs
 
   module _ (n : List NameChar) where
+    -- the same behind a part of an escape in a name
     abbrev name_behind_part : Coding → List ℕ → Option Disjunction
     name_behind_part k cs = read_from (with_mode outer l x (name_coding n k)) cs
 
+    -- and behind a whole one, whose character may follow or not
     abbrev name_behind_whole : Code → List ℕ → Option Disjunction
     name_behind_whole d cs = option_and_then (λ t. read_from t cs) (with_name_char outer l x n (by_code d))
 
+    -- behind what comes of one more character, the rest is read as behind that part or that whole
     name_follows : (o : Coded) (cs : List ℕ)
         → option_and_then (λ t. read_from t cs) (on_name_coding outer l x n o) ≡ follow name_behind_part name_behind_whole o cs
     name_follows fails cs = refl
     name_follows (goes k) cs = refl
     name_follows (makes d) cs = refl
 
+    -- an escape that a name may have is read, behind its backslash and letter, as `begun` says
     name_code_begins : (d : Code) → is_unicode d ≡ true → (cs : List ℕ)
         → in_name n (byte "\\" ∷ (code_spelling d ++ cs)) ≡ begun name_behind_part name_behind_whole d (code_tail d ++ cs)
     name_code_begins null_code h cs = absurd (true≢false (sym h))
@@ -267,11 +317,13 @@ module _ (outer : Outer) (l : Level) (x : Last) where
     name_code_begins (pair_code ds es) h cs = refl
     name_code_begins (point_code ds) h cs = refl
 
+    -- a character that may follow this much of a name is taken into it
     name_char_taken : (y : NameChar) → may_follow (name_value n) (name_char_value y) ≡ true → (cs : List ℕ)
         → option_and_then (λ t. read_from t cs) (with_name_char outer l x n y) ≡ in_name (n ++ y ∷ []) cs
     name_char_taken y h cs =
         ap (λ (b : Bool). option_and_then (λ t. read_from t cs) (when b (Some (with_mode outer l x (naming (n ++ y ∷ [])))))) h
 
+    -- and it is read from its spelling
     reads_name_char : (y : NameChar) → IsNameChar (may_follow (name_value n)) y → (cs : List ℕ)
         → in_name n (name_char_spelling y ++ cs) ≡ in_name (n ++ y ∷ []) cs
     reads_name_char (verbatim c) h cs =
@@ -283,6 +335,7 @@ module _ (outer : Outer) (l : Level) (x : Last) where
         ∙ reads_code name_behind_part name_behind_whole (λ k c cs. name_follows (coding_next k c) cs) d h.1 cs
         ∙ name_char_taken (by_code d) h.2 cs
 
+  -- behind the first character of a name, the others are read from their spelling
   reads_name_parts : (y : NameChar) (m n : List NameChar) → AreNameParts n → (cs : List ℕ)
       → in_name (y ∷ m) (name_spelling n ++ cs) ≡ in_name (y ∷ (m ++ n)) cs
   reads_name_parts y m [] h cs = ap (λ (z : List NameChar). in_name (y ∷ z) cs) (sym (append-nil m))
@@ -291,6 +344,7 @@ module _ (outer : Outer) (l : Level) (x : Last) where
       ∙ reads_name_char (y ∷ m) z h.0 (name_spelling n ++ cs) ∙ reads_name_parts y (m ++ z ∷ []) n h.1 cs
       ∙ ap (λ (w : List NameChar). in_name (y ∷ w) cs) (append_assoc m (z ∷ []) n)
 
+  -- so a name is read from its spelling
   reads_name : (n : List NameChar) → IsName n → (cs : List ℕ)
       → in_name [] (name_spelling n ++ cs) ≡ in_name n cs
   reads_name [] h cs = absurd h
@@ -298,21 +352,25 @@ module _ (outer : Outer) (l : Level) (x : Last) where
       ap (in_name []) (append_assoc (name_char_spelling y) (name_spelling n) cs)
       ∙ reads_name_char [] y h.0 (name_spelling n ++ cs) ∙ reads_name_parts y [] n h.1 cs
 
+  -- and `>` behind it opens the group, where that is not nested too deep
   ends_name : (n : List NameChar) → IsName n → (cs : List ℕ)
       → in_name n (byte ">" ∷ cs) ≡ option_and_then (λ t. read_from t cs) (opened_within outer l x (named n))
   ends_name [] h cs = absurd h
   ends_name (y ∷ n) h cs = refl
 
 -- behind `(`
+-- a group that captures is entered, where no question mark follows and it is not nested too deep
 enters : (outer : Outer) (e : Option Disjunction) (a : Alternative) (x : Last) (cs : List ℕ) → length outer.groups < max_nesting → IsNoQuestion cs
     → read_from (with_mode outer (record { earlier = e; current = a }) x opening) cs ≡ read_from (inside outer e a x capturing) cs
 enters outer e a x [] h w = not_closed outer.groups (record { earlier = e; current = a }) x
 enters outer e a x (c ∷ cs) h w =
     let l : Level = record { earlier = e; current = a } in
     ap (λ (b : Bool). option_and_then (λ t. read_from t cs) (on_group outer l x c b)) w
-    ∙ ap (λ (b : Bool). option_and_then (λ t. read_from t cs) (option_and_then (λ t. on_token t.outer t.level t.last c (token c)) (opened outer l x capturing b)))
+    ∙ ap (λ (b : Bool). option_and_then (λ t. read_from t cs)
+    (option_and_then (λ t. on_token t.outer t.level t.last c (token c)) (opened outer l x capturing b)))
     (lt-ltb (length outer.groups) max_nesting h)
 
+-- so the beginning of any group is read from its spelling, and the group is entered
 opens : (outer : Outer) (e : Option Disjunction) (a : Alternative) (x : Last) (g : Group) (cs : List ℕ) → length outer.groups < max_nesting
     → IsGroup g → IsNoQuestion cs → read_from (state outer e a x) (group_spelling g ++ cs) ≡ read_from (inside outer e a x g) cs
 opens outer e a x capturing cs h v w = enters outer e a x cs h w
@@ -325,6 +383,7 @@ opens outer e a x (named n) cs h v w =
     ∙ reads_name outer l x n v (byte ">" ∷ cs) ∙ ends_name outer l x n v cs
     ∙ ap (λ (b : Bool). option_and_then (λ t. read_from t cs) (opened outer l x (named n) b)) (lt-ltb (length outer.groups) max_nesting h)
 
+-- the open groups, and the names so far
 abbrev around : List Open → List (List ℕ) → Outer
 around os ns = record { groups = os; names = ns }
 
@@ -347,6 +406,7 @@ mutual
             ∙ front.4 ∙ ap (λ z. read_from (state (around os behind) (Some z) nothing none) (alternative_spelling a ++ cs)) front.3 ∙ back.3,
       )
 
+  -- the same of terms, one behind the other
   reads_alternative : (a : Alternative) (os : List Open) (ns : List (List ℕ)) → IsAlternative (length os) a → (e : Option Disjunction) (cs : List ℕ)
       → ((b : Alternative) × (x : Last) × (ended b x ≡ a)
       × (read_from (state (around os ns) e nothing none) (alternative_spelling a ++ cs)
@@ -361,6 +421,7 @@ mutual
         ap (read_from (state (around os ns) e nothing none)) (append_assoc (alternative_spelling a) (term_spelling t) cs) ∙ front.3 ∙ back.3,
       )
 
+  -- and of a term
   reads_term : (t : Term) (os : List Open) (ns : List (List ℕ)) → IsTerm (length os) t
       → (e : Option Disjunction) (a : Alternative) (x : Last) (cs : List ℕ)
       → ((b : Alternative) × (y : Last) × (ended b y ≡ more (ended a x) t)
@@ -387,6 +448,7 @@ mutual
         ∙ reads_quantifier (around os (with_atom_names ns p)) e (ended a x) p q h.1 (byte "?" ∷ cs),
   )
 
+  -- and of an atom, which is then the last term
   reads_atom : (p : Atom) (os : List Open) (ns : List (List ℕ)) → IsAtom (length os) p
       → (e : Option Disjunction) (a : Alternative) (x : Last) (cs : List ℕ)
       → read_from (state (around os ns) e a x) (atom_spelling p ++ cs)

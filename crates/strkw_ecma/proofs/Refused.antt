@@ -1,36 +1,47 @@
 -- What is told of a character that the reader refuses is so.
-use Rattle.std.proofs.Common.{◌≡◌, inl, inr, ℕ, suc, ◌<◌, ◌≤◌, ◌==◌, ◌++◌, Bool, true, false, List, [], ◌∷◌, map, length, drop, get_or, Option, Some, None, if◌then◌else◌, option_map, nat_lt, nat_le, refl, sym, ap, subst, ◌∙◌, true≢false, append_assoc}
+use Rattle.std.proofs.Common.{◌≡◌, inl, inr, ℕ, suc, ◌<◌, ◌≤◌, ◌==◌, ◌++◌, Bool, true, false, List, [], ◌∷◌, map, length, drop, get_or, Option, Some, None}
+use Rattle.std.proofs.Common.{if◌then◌else◌, option_map, nat_lt, nat_le, refl, sym, ap, subst, ◌∙◌, true≢false, append_assoc}
 use Rattle.std.specs.Prelude.{is_some}
 use Rattle.std.proofs.lemmas.List.{length-map}
 use Rattle.std.proofs.lemmas.Bool.{le-leb, leb-false, ltb-false}
 use Rattle.std.specs.Str.{byte}
-use Rattle.strkw_ecma.specs.Syntax.{Disjunction, spelling, Group, capturing, plain_group, named, group_spelling, atom_spelling, Quantifier, exactly, at_least, from_to, quantifier_spelling, max_nesting, max_length}
+use Rattle.strkw_ecma.specs.Syntax.{Disjunction, spelling, Group, capturing, plain_group, named, group_spelling, atom_spelling, Quantifier, exactly, at_least}
+use Rattle.strkw_ecma.specs.Syntax.{from_to, quantifier_spelling, max_nesting, max_length}
 use Rattle.strkw_ecma.specs.WellFormed.{IsWellFormed, IsGroup}
 use Rattle.strkw_ecma.specs.Patterns.{pattern}
 use Rattle.strkw_ecma.specs.Size.{steps, max_steps}
 use Rattle.strkw_ecma.specs.Numbers.{number, number_of, CountToken, digit, comma, closing_brace, no_count, count_token}
-use Rattle.strkw_ecma.specs.Names.{NameChar, name_value, Extension, uncaptured, name_opening, no_extension, extension, NameToken, name_end, name_backslash, name_character, name_token}
-use Rattle.strkw_ecma.specs.PropertyReading.{PropertyPart, brace_awaited, in_braces}
-use Rattle.strkw_ecma.specs.Reading.{Open, Outer, Level, State, Last, none, atom, counted, Class, Count, low, high, Mode, between, escaping, opening, extending, class_opened, counting, coding, in_class, class_escaping, class_coding, in_property, in_class_property, naming, name_escaping, name_coding, initial, level_ended, joined, ended, with_mode, opened_within, opened, with_count, with_quantifier, when, with_digit, longer, range_read, on_low, on_high, on_count, on_extension, on_naming, name_read, next_in, read, read_short, read_pattern, small_tree, tree_if}
+use Rattle.strkw_ecma.specs.Names.{NameChar, name_value, Extension, uncaptured, name_opening, no_extension, extension, NameToken, name_end, name_backslash}
+use Rattle.strkw_ecma.specs.Names.{name_character, name_token}
+use Rattle.strkw_ecma.specs.machine.PropertyReading.{PropertyPart, brace_awaited, in_braces}
+use Rattle.strkw_ecma.specs.machine.Reading.{Open, Outer, Level, State, Last, none, atom, counted, Class, Count, low, high, Mode, between, escaping, opening}
+use Rattle.strkw_ecma.specs.machine.Reading.{extending, class_opened, counting, coding, in_class, class_escaping, class_coding, in_property, in_class_property}
+use Rattle.strkw_ecma.specs.machine.Reading.{naming, name_escaping, name_coding, initial, level_ended, joined, ended, with_mode, opened_within, opened}
+use Rattle.strkw_ecma.specs.machine.Reading.{with_count, with_quantifier, when, with_digit, longer, range_read, on_low, on_high, on_count, on_extension}
+use Rattle.strkw_ecma.specs.machine.Reading.{on_naming, name_read, next_in, read, read_short, read_pattern, small_tree, tree_if}
 use Rattle.strkw_ecma.specs.Lookahead.{is_apart}
-use Rattle.strkw_ecma.specs.Outcomes.{takes_pattern}
+use Rattle.strkw_ecma.specs.machine.Outcomes.{takes_pattern}
 use Rattle.strkw_ecma.specs.Refusals.{IsBeginning, Has, HasTermWithin, is_unknown, IsReason}
-use Rattle.strkw_ecma.specs.RefusalParts.{told_if, one_deeper, extension_refusal, name_refusal, term_refusal, range_refusal, count_refusal, part_refusal, refusal_at}
+use Rattle.strkw_ecma.specs.machine.RefusalParts.{told_if, one_deeper, extension_refusal, name_refusal, term_refusal, range_refusal, count_refusal}
+use Rattle.strkw_ecma.specs.machine.RefusalParts.{part_refusal, refusal_at}
 use Rattle.strkw_ecma.specs.declared.refusals.PatternRefusal.{PatternRefusal}
 use Rattle.strkw_ecma.specs.declared.refusals.PatternRefusal.TheVariants.{LookAhead, LookBehind, BackReference, Property, TooDeep, TooLarge}
-use Rattle.strkw_ecma.specs.Parts as parts
-use Rattle.strkw_ecma.specs.Reading as reading
-use Rattle.strkw_ecma.specs.Parts.{Parts, after_char}
+use Rattle.strkw_ecma.specs.machine.Parts as parts
+use Rattle.strkw_ecma.specs.machine.Reading as reading
+use Rattle.strkw_ecma.specs.machine.Parts.{Parts, after_char}
 use Rattle.strkw_ecma.proofs.Steps.{and_left, and_right}
-use Rattle.strkw_ecma.proofs.Letters.{same_char, char_of_extension, char_of_extension_token, char_of_name, char_of_name_token, char_of_count, char_of_count_token}
+use Rattle.strkw_ecma.proofs.Letters.{same_char, char_of_extension, char_of_extension_token, char_of_name, char_of_name_token, char_of_count}
+use Rattle.strkw_ecma.proofs.Letters.{char_of_count_token}
 use Rattle.strkw_ecma.proofs.Digits.{digits_push, is_digit_of}
 use Rattle.strkw_ecma.proofs.PropertyReadings.{part_spelling, IsPart}
 use Rattle.strkw_ecma.proofs.ClassSpelled.{level_spelling, outer_spelling, class_text, name_text, spelled, joined_spelling, before, HasRead}
 use Rattle.strkw_ecma.proofs.Spelled.{level_whole, next_read, IsSpelled, sound}
-use Rattle.strkw_ecma.proofs.Formed.{IsLevel, IsLast, AreLevels, IsCount, IsNamePart, IsMode, IsState, Makes, ended_formed, level_formed, next_formed, IsFormed, read_formed}
+use Rattle.strkw_ecma.proofs.Formed.{IsLevel, IsLast, AreLevels, IsCount, IsNamePart, IsMode, IsState, Makes, ended_formed, level_formed, next_formed, IsFormed}
+use Rattle.strkw_ecma.proofs.Formed.{read_formed}
 use Rattle.strkw_ecma.proofs.Parts.{image, last_image, around, next_image}
 use Rattle.strkw_ecma.proofs.Walks.{at_place}
 
+-- well-formed open groups, and a well-formed tree within them, are spelled as what a pattern may begin with
 beginning : (os : List Open) (d : Disjunction) → AreLevels os → IsWellFormed (length os) d → IsBeginning (length os) (outer_spelling os ++ spelling d)
 beginning [] d f w = (d, w, refl)
 beginning (o ∷ os) d f w = (
@@ -45,24 +56,30 @@ beginning (o ∷ os) d f w = (
 )
 
 -- what stands there before the text's rest
+-- a text of a front, a part and a rest is the front, and behind it the part with the rest
 regroup : (a part rest text : List ℕ) → (a ++ part) ++ rest ≡ text → a ++ (part ++ rest) ≡ text
 regroup a part rest text e = sym (append_assoc a part rest) ∙ e
 
+-- the same where the first character of the rest is put to the part
 one_behind : (a m : List ℕ) (c : ℕ) (rest text : List ℕ) → (a ++ m) ++ c ∷ rest ≡ text → a ++ ((m ++ c ∷ []) ++ rest) ≡ text
 one_behind a m c rest text e = ap (λ z. a ++ z) (append_assoc m (c ∷ []) rest) ∙ sym (append_assoc a m (c ∷ rest)) ∙ e
 
+-- a refusal told only under a test is a reason, if it is one where the test holds
 told_so : (text : List ℕ) (r : PatternRefusal) (b : Bool) → (b ≡ true → IsReason text r) → IsReason text (told_if b r)
 told_so text r false f = tt
 told_so text r true f = f refl
 
+-- `Some` of anything is not `None`
 not_some : {T : Type 0} (t : T) → Some t ≡ None → ⊥
 not_some t e = true≢false (ap is_some e)
 
+-- where a test leaves out a state that is there, it does not hold
 when_none : (b : Bool) (t : State) → when b (Some t) ≡ None → b ≡ false
 when_none false t e = refl
 when_none true t e = absurd (not_some t e)
 
 -- a count of which too many nodes would come
+-- where a count is refused behind the last term, what is told of it is so
 term_told : (outer : Outer) (l : Level) (x : Last) → AreLevels outer.groups → IsLevel (length outer.groups) l → IsLast (length outer.groups) x
     → (q : Quantifier) (rest text : List ℕ) → with_count outer l x q ≡ None → (before outer l x ++ quantifier_spelling q) ++ rest ≡ text
     → IsReason text (term_refusal (last_image x))
@@ -85,39 +102,47 @@ term_told outer l (atom a) f g h q rest text refused e =
       ),
     )
 
+-- where one more digit is refused, the test does not hold
 longer_none : {T : Type 0} (m : List ℕ → T) (ds : List ℕ) (c : ℕ) (b : Bool) → option_map m (longer ds c b) ≡ None → b ≡ false
 longer_none m ds c false e = refl
 longer_none m ds c true e = absurd (not_some _ e)
 
 module _ (outer : Outer) (l : Level) (x : Last) (f : AreLevels outer.groups) (g : IsLevel (length outer.groups) l) (h : IsLast (length outer.groups) x)
     (c : ℕ) (rest text : List ℕ) where
+  -- what is read up to the end of the last term is what a pattern may begin with
   begins : IsBeginning (length outer.groups) (before outer l x)
   begins =
       subst (IsBeginning (length outer.groups)) (level_whole outer l x)
       (beginning outer.groups (level_ended l x) f
       (level_formed (length outer.groups) l.earlier (ended l.current x) g.0 (ended_formed (length outer.groups) l.current x g.1 h)))
 
+  -- what is read behind the last term, with the next character, stands where a term may
   term_behind : (m : List ℕ) → (before outer l x ++ m) ++ c ∷ rest ≡ text → HasTermWithin (length outer.groups) (m ++ c ∷ []) text
   term_behind m e = (before outer l x, rest, begins, one_behind (before outer l x) m c rest text e)
 
+  -- a group that opens within as many as may be open makes `TooDeep` a reason
   too_deep : (k : Group) → IsGroup k → HasTermWithin (length outer.groups) (group_spelling k) text
       → nat_lt (length outer.groups) max_nesting ≡ false → IsReason text TooDeep
   too_deep k w t e = (length outer.groups, k, ltb-false _ _ e, w, t)
 
+  -- where a group is not opened, the test does not hold
   not_opened : (k : Group) (b : Bool) → opened outer l x k b ≡ None → b ≡ false
   not_opened k false e = refl
   not_opened k true e = absurd (not_some _ e)
 
+  -- what is told of the depth behind an opening parenthesis is so
   depth_told : (before outer l x ++ byte "(" ∷ []) ++ c ∷ rest ≡ text
       → IsReason text (one_deeper (nat_lt (length (map around outer.groups)) max_nesting))
   depth_told e =
       subst (λ n. IsReason text (one_deeper (nat_lt n max_nesting))) (sym (length-map outer.groups around)) (by_depth _ refl)
     where
+      -- the same by whether one group more may be open
       by_depth : (b : Bool) → nat_lt (length outer.groups) max_nesting ≡ b → IsReason text (one_deeper b)
       by_depth true is = tt
       by_depth false is =
           too_deep capturing tt (before outer l x, c ∷ rest, begins, regroup (before outer l x) (byte "(" ∷ []) (c ∷ rest) text e) is
 
+  -- what is told of a character that is refused behind `(?` is so
   extension_told : (k : Extension) → char_of_extension k c ≡ c → on_extension outer l x k ≡ None
       → (before outer l x ++ byte "(" ∷ byte "?" ∷ []) ++ c ∷ rest ≡ text → IsReason text (extension_refusal c k)
   extension_told uncaptured is refused e =
@@ -128,6 +153,7 @@ module _ (outer : Outer) (l : Level) (x : Last) (f : AreLevels outer.groups) (g 
   extension_told no_extension is refused e =
       told_so text LookAhead _ (λ look. (c, look, (length outer.groups, term_behind (byte "(" ∷ byte "?" ∷ []) e)))
 
+  -- what is told of a character that is refused behind `(?<` and a part of a name is so
   name_told : (n : List NameChar) (k : NameToken) → char_of_name k c ≡ c → IsNamePart n → on_naming outer l x n c k ≡ None
       → (before outer l x ++ name_text n) ++ c ∷ rest ≡ text → IsReason text (name_refusal (name_value n) c k)
   name_told [] name_end is w refused e = tt
@@ -142,12 +168,14 @@ module _ (outer : Outer) (l : Level) (x : Last) (f : AreLevels outer.groups) (g 
   name_told (y ∷ n) name_character is w refused e = tt
 
   -- behind the brace that ends a count
+  -- where the next character is that brace, the text is what is read with it, and the rest
   ended_by : (m : List ℕ) → byte "}" ≡ c → (before outer l x ++ m) ++ c ∷ rest ≡ text
       → (before outer l x ++ (m ++ byte "}" ∷ [])) ++ rest ≡ text
   ended_by m is e =
       append_assoc (before outer l x) (m ++ byte "}" ∷ []) rest ∙ ap (λ z. before outer l x ++ ((m ++ z ∷ []) ++ rest)) is
       ∙ one_behind (before outer l x) m c rest text e
 
+  -- what is told of a character that is refused in the first number of a count is so
   low_told : (ds : List ℕ) (k : CountToken) → count_token c ≡ k → char_of_count k c ≡ c → IsCount (low ds) → on_low outer l x ds c k ≡ None
       → (before outer l x ++ byte "{" ∷ ds) ++ c ∷ rest ≡ text → IsReason text (count_refusal (last_image x) (parts.low (number_of ds)) k)
   low_told ds digit token is w refused e = (
@@ -166,6 +194,7 @@ module _ (outer : Outer) (l : Level) (x : Last) (f : AreLevels outer.groups) (g 
   both_behind : (ds es : List ℕ) (d : ℕ) → byte "{" ∷ ((ds ++ byte "," ∷ es) ++ d ∷ []) ≡ byte "{" ∷ (ds ++ byte "," ∷ (es ++ d ∷ []))
   both_behind ds es d = ap (λ z. byte "{" ∷ z) (append_assoc ds (byte "," ∷ es) (d ∷ []))
 
+  -- what is told where a count of two numbers is refused at the brace that ends it is so
   range_told : (ds es : List ℕ) (b : Bool) → when b (with_count outer l x (from_to ds es)) ≡ None → byte "}" ≡ c
       → (before outer l x ++ byte "{" ∷ (ds ++ byte "," ∷ es)) ++ c ∷ rest ≡ text → IsReason text (range_refusal (last_image x) b)
   range_told ds es false refused is e = tt
@@ -173,6 +202,7 @@ module _ (outer : Outer) (l : Level) (x : Last) (f : AreLevels outer.groups) (g 
       term_told outer l x f g h (from_to ds es) rest text refused
       (ap (λ z. (before outer l x ++ z) ++ rest) (sym (both_behind ds es (byte "}"))) ∙ ended_by (byte "{" ∷ (ds ++ byte "," ∷ es)) is e)
 
+  -- what is told of a character that is refused behind the comma of a count is so
   high_told : (ds es : List ℕ) (k : CountToken) → count_token c ≡ k → char_of_count k c ≡ c → IsCount (high ds es)
       → on_high outer l x ds es c k ≡ None → (before outer l x ++ byte "{" ∷ (ds ++ byte "," ∷ es)) ++ c ∷ rest ≡ text
       → IsReason text (count_refusal (last_image x) (parts.high (number ds) (number_of es)) k)
@@ -197,6 +227,7 @@ module _ (outer : Outer) (l : Level) (x : Last) (f : AreLevels outer.groups) (g 
   high_told ds (d ∷ es) closing_brace token is w refused e = range_told ds (d ∷ es) _ refused is e
   high_told ds es no_count token is w refused e = tt
 
+-- what is told of a character behind a part of a property is so
 part_told : (a : List ℕ) (k : PropertyPart) (c : ℕ) (rest text : List ℕ) → IsPart k → (a ++ byte "\\" ∷ part_spelling k) ++ c ∷ rest ≡ text
     → IsReason text (part_refusal k c)
 part_told a (brace_awaited n) c rest text w e = tt
@@ -210,6 +241,7 @@ part_told a (in_braces n p) c rest text w e =
       subst (λ z. Has (front ++ z ∷ []) text) (sym (same_char c (byte "}") (and_left _ (is_unknown p) told))) (a, rest, one_behind a front c rest text e),
     ))
 
+-- what is told of a character that is refused in a count is so
 counting_told : (outer : Outer) (l : Level) (x : Last) → AreLevels outer.groups → IsLevel (length outer.groups) l → IsLast (length outer.groups) x
     → (n : Count) → IsCount n → (c : ℕ) (rest text : List ℕ) → on_count outer l x n c ≡ None
     → spelled (with_mode outer l x (counting n)) ++ c ∷ rest ≡ text → IsReason text (refusal_at (image (with_mode outer l x (counting n))) c)
@@ -218,6 +250,7 @@ counting_told outer l x f g h (low ds) w c rest text refused e =
 counting_told outer l x f g h (high ds es) w c rest text refused e =
     high_told outer l x f g h c rest text ds es (count_token c) refl (char_of_count_token c) w refused e
 
+-- what is told of a character that the reader refuses is so, in each of its modes
 stops : (outer : Outer) (l : Level) (x : Last) → AreLevels outer.groups → IsLevel (length outer.groups) l → IsLast (length outer.groups) x
     → (m : Mode) → IsMode m → (c : ℕ) (rest text : List ℕ) → next_in outer l x m c ≡ None
     → spelled (with_mode outer l x m) ++ c ∷ rest ≡ text → IsReason text (refusal_at (image (with_mode outer l x m)) c)
@@ -246,38 +279,47 @@ stops outer l x f g h (name_coding n k) w c rest text refused e = tt
 abbrev pub Stands : List ℕ → ℕ → Parts → Type 0
 Stands text k p = (s : State) × (image s ≡ p) × IsState s × (spelled s ++ drop k text ≡ text)
 
+-- at the beginning of a text the code's reader stands with nothing read
 pub starts : (text : List ℕ) → Stands text 0 parts.no_parts
 starts text = (initial, refl, (tt, (tt, tt), tt, tt), refl)
 
+-- the parts that there are, or else the first ones
 parts_or : Parts → Option Parts → Parts
 parts_or d None = d
 parts_or d (Some r) = r
 
+-- parts that are the same as options are the same
 same_parts : (p q : Parts) → Some p ≡ Some q → p ≡ q
 unfolding parts_or
 same_parts p q e = ap (parts_or p) e
 
+-- where an option of a state has no image, it has no state
 none_mapped : (o : Option State) → None ≡ option_map image o → o ≡ None
 none_mapped None e = refl
 none_mapped (Some t) e = absurd (not_some _ (sym e))
 
 module _ (text : List ℕ) (k next c : ℕ) (within : k < length text) (is : c ≡ get_or text k c) (follows : next ≡ suc k) (p : Parts)
     (stands : Stands text k p) where
+  -- the state of the definitions' reader at place k
   abbrev s : State
   s = stands.0
 
+  -- the image of its state behind the character is what the code's reader comes to
   stepped : option_map image (reading.next s c) ≡ after_char p c
   stepped = next_image s.outer s.level s.last s.mode c ∙ ap (λ (r : Parts). after_char r c) stands.1
 
+  -- what it has read, the character and what stands behind are the text
   here : spelled s ++ c ∷ drop next text ≡ text
   here = ap (λ z. spelled s ++ z) (sym (at_place text k next c within is follows)) ∙ stands.3
 
+  -- where the code's reader refuses the character, what is told of it is so
   pub stops_so : None ≡ after_char p c → IsReason text (refusal_at p c)
   stops_so refused =
       subst (λ r. IsReason text (refusal_at r c)) stands.1
       (stops s.outer s.level s.last stands.2.0 stands.2.1 stands.2.2 s.mode stands.2.3 c (drop next text) text
       (none_mapped (reading.next s c) (refused ∙ sym stepped)) here)
 
+  -- the image of a formed state that has read the character too stands at the next place
   goes : (q : Parts) (o : Option State) → Some q ≡ option_map image o → Makes o → HasRead o (spelled s ++ c ∷ []) → Stands text next q
   goes q None e w r = absurd (not_some _ e)
   goes q (Some t) e w r = (
@@ -287,6 +329,7 @@ module _ (text : List ℕ) (k next c : ℕ) (within : k < length text) (is : c �
     ap (λ z. z ++ drop next text) r ∙ append_assoc (spelled s) (c ∷ []) (drop next text) ∙ here,
   )
 
+  -- where the code's reader takes the character, it stands at the next place
   pub goes_so : (q : Parts) → Some q ≡ after_char p c → Stands text next q
   goes_so q e =
       goes q (reading.next s c) (e ∙ sym stepped)
@@ -294,15 +337,18 @@ module _ (text : List ℕ) (k next c : ℕ) (within : k < length text) (is : c �
       (next_read s.outer s.level s.last s.mode c)
 
 -- where all is read that may be, and the pattern is not taken, it is too large
+-- where a tree is left out, the test does not hold
 no_tree : (b : Bool) (d : Disjunction) → is_some (tree_if b d) ≡ false → b ≡ false
 no_tree false d e = refl
 no_tree true d e = absurd (true≢false e)
 
+-- a well-formed tree of a text that is left out for its size makes `TooLarge` a reason
 large_of : (text : List ℕ) (o : Option Disjunction) → IsSpelled o text → IsFormed o → is_some (option_map pattern o) ≡ true
     → is_some (small_tree o) ≡ false → IsReason text TooLarge
 large_of text None w f some refused = absurd (true≢false (sym some))
 large_of text (Some d) w f some refused = (d, f, w, leb-false _ _ (no_tree (nat_le (steps (pattern d)) max_steps) d refused))
 
+-- a text that is short, apart and read as a tree, and is not taken, is too large
 pub too_large : (text : List ℕ) → length text ≤ max_length → is_some (option_map pattern (read_short text)) ≡ true → is_apart text ≡ true
     → takes_pattern text ≡ false → IsReason text TooLarge
 too_large text short some apart refused =

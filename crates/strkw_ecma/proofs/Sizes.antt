@@ -6,7 +6,7 @@ use Rattle.strkw_ecma.specs.Tree.{Pattern, empty, cat, alt, star, plus}
 use Rattle.strkw_ecma.specs.Patterns.{repeated}
 use Rattle.strkw_ecma.specs.Program.{Instruction, other, join, star_end, plus_end, is_class, is_empty, program, alternatives}
 use Rattle.strkw_ecma.specs.Size.{steps_of, steps, max_steps, max_term_steps}
-use Rattle.strkw_ecma.specs.Sizes.{capped}
+use Rattle.strkw_ecma.specs.machine.Sizes.{capped}
 use Rattle.strkw_ecma.proofs.Programs.{by_class, by_option}
 
 -- what is the same of all numbers beyond the most steps
@@ -17,53 +17,66 @@ IsFlat f = (x y : ℕ) → max_steps + 1 ≤ x → max_steps + 1 ≤ y → f x �
 of_capped : {A : Type 0} (f : ℕ → A) → IsFlat f → (n : ℕ) → f (capped n) ≡ f n
 of_capped f flat n = by_order (nat_le n (max_steps + 1)) refl
   where
+    -- the same by whether the number is within the limit
     by_order : (b : Bool) → nat_le n (max_steps + 1) ≡ b → f (capped n) ≡ f n
     by_order true e = ap f (omega (arith, leb-true n (max_steps + 1) e))
     by_order false e =
         let h = leb-false n (max_steps + 1) e in
         flat (capped n) n (omega (arith, h)) (omega (arith, h))
 
+-- a number is at most so many times itself, where that is once or more
 once_least : (n a : ℕ) → a ≤ suc n * a
 once_least n a = omega arith
 
+-- what is the same of all numbers beyond the limit is so of their multiples
 flat_copies : {A : Type 0} (f : ℕ → A) → IsFlat f → (n : ℕ) → IsFlat (λ x. f (n * x))
 flat_copies f flat zero x y h g = ap f (omega arith)
 flat_copies f flat (suc n) x y h g =
     flat (suc n * x) (suc n * y) (omega (arith, h, once_least n x)) (omega (arith, g, once_least n y))
 
+-- what is counted up to the limit is the same of all numbers beyond it
 flat_capped : IsFlat capped
 flat_capped x y h g = omega (arith, h, g)
 
+-- and so is the comparison with a number within the limit
 flat_test : (most : ℕ) → most ≤ max_steps → IsFlat (λ x. nat_le x most)
 flat_test most within x y h g = grind (arith, nat_tests)
 
 -- the limits
+-- a number is small enough for a whole exactly where it is so when counted up to the limit
 pub small_whole : (n : ℕ) → nat_le (capped n) max_steps ≡ nat_le n max_steps
 small_whole n = of_capped (λ x. nat_le x max_steps) (flat_test max_steps (omega arith)) n
 
+-- so many copies are small enough for a term exactly where they are so with one so counted
 pub small_term : (k n : ℕ) → nat_le (k * capped n) max_term_steps ≡ nat_le (k * n) max_term_steps
 small_term k n =
     let flat = flat_test max_term_steps (omega arith) in
     of_capped (λ x. nat_le (k * x) max_term_steps) (flat_copies (λ x. nat_le x max_term_steps) flat k) n
 
 -- sums and products
+-- counted up to the limit, a sum is that of its first two numbers so counted, and the third
 pub sum_capped : (a b c x y : ℕ) → x ≡ capped a → y ≡ capped b → capped (x + y + c) ≡ capped (a + b + c)
 sum_capped a b c x y e f = omega (arith, e, f)
 
+-- the same of one number and a third
 pub more_capped : (a c x : ℕ) → x ≡ capped a → capped (0 + x + c) ≡ capped (a + c)
 more_capped a c x e = omega (arith, e)
 
+-- and of a product, whose second number is so counted
 product_capped : (n a : ℕ) → capped (n * capped a) ≡ capped (n * a)
 product_capped n a = of_capped (λ x. capped (n * x)) (flat_copies capped flat_capped n) a
 
 -- the steps of a pattern by those of its parts
+-- the steps of instructions one behind another add up
 more_steps : (xs ys : List Instruction) → steps_of (xs ++ ys) ≡ steps_of xs + steps_of ys
 more_steps [] ys = omega arith
 more_steps (i ∷ xs) ys = omega (arith, more_steps xs ys)
 
+-- two patterns one behind the other take the steps of both
 pub cat_steps : (p q : Pattern) → steps (cat p q) ≡ steps p + steps q
 cat_steps p q = more_steps (program p) (program q)
 
+-- two alternatives that are not one instruction take three steps more than what stands for both
 pub alt_steps : (p q : Pattern) → (is_empty p && is_class q) ≡ false
     → steps (alt p q) ≡ steps_of (alternatives p) + steps q + 3
 alt_steps p q h =
@@ -71,31 +84,38 @@ alt_steps p q h =
     (λ m n rs e f. absurd (true≢false (rw (e, f) at h)))
     (omega (arith, more_steps (alternatives p) (other ∷ (program q ++ (join ∷ []))), more_steps (program q) (join ∷ [])))
 
+-- what may be missing takes three steps more, where it is no class
 pub option_steps : (p : Pattern) → is_class p ≡ false → steps (alt empty p) ≡ steps p + 3
 option_steps p h = omega (arith, alt_steps empty p h)
 
+-- among alternatives two of them take one step more than what stands for both
 pub beside_steps : (p q : Pattern) → steps_of (alternatives (alt p q)) ≡ steps_of (alternatives p) + steps q + 1
 beside_steps p q = omega (arith, more_steps (alternatives p) (other ∷ program q))
 
+-- a star takes two steps more than its body, where that is no class
 pub star_steps : (p : Pattern) → is_class p ≡ false → steps (star p) ≡ steps p + 2
 star_steps p h =
     by_class (λ is. steps_of is ≡ steps p + 2) p _ _ (λ m n rs e. absurd (true≢false (rw e at h)))
     (omega (arith, more_steps (program p) (star_end ∷ [])))
 
+-- and so does a plus
 pub plus_steps : (p : Pattern) → is_class p ≡ false → steps (plus p) ≡ steps p + 2
 plus_steps p h =
     by_class (λ is. steps_of is ≡ steps p + 2) p _ _ (λ m n rs e. absurd (true≢false (rw e at h)))
     (omega (arith, more_steps (program p) (plus_end ∷ [])))
 
+-- what is repeated takes so many times its steps
 repeated_steps : (n : ℕ) (p : Pattern) → steps (repeated n p) ≡ n * steps p
 repeated_steps zero p = omega arith
 repeated_steps (suc n) p = omega (arith, cat_steps p (repeated n p), repeated_steps n p)
 
 -- and up to the limit
+-- of two patterns one behind the other, from those of each so counted
 pub both_steps : (p q : Pattern) (x y : ℕ) → x ≡ capped (steps p) → y ≡ capped (steps q)
     → capped (x + y + 0) ≡ capped (steps (cat p q))
 both_steps p q x y e f = omega (arith, sum_capped (steps p) (steps q) 0 x y e f, cat_steps p q)
 
+-- and of what is repeated
 pub copies_steps : (n : ℕ) (p : Pattern) (x : ℕ) → x ≡ capped (steps p) → capped (n * x) ≡ capped (steps (repeated n p))
 copies_steps n p x e =
     ap (λ (y : ℕ). capped (n * y)) e ∙ product_capped n (steps p) ∙ ap capped (sym (repeated_steps n p))

@@ -3,62 +3,82 @@ use Rattle.std.proofs.Common.{◌≡◌, ℕ, Bool, true, false, ◌&&◌, List,
 use Rattle.std.specs.Prelude.{option_and_then, option_map, is_some, nat_le, ◌*◌}
 use Rattle.std.proofs.lemmas.List.{append-nil}
 use Rattle.std.specs.Str.{byte}
-use Rattle.strkw_ecma.specs.Escapes.{Escape, itself, control, set, boundary, no_boundary, null, letter, hexadecimal, unicode, property, no_property, unknown, escape}
+use Rattle.strkw_ecma.specs.Escapes.{Escape, itself, control, set, boundary, no_boundary, null, letter, hexadecimal, unicode, property, no_property, unknown}
+use Rattle.strkw_ecma.specs.Escapes.{escape}
 use Rattle.strkw_ecma.specs.Codes.{null_code}
-use Rattle.strkw_ecma.specs.CodeReading.{Coding, Coded, fails, goes, makes, coding_next}
-use Rattle.strkw_ecma.specs.Names.{NameChar, verbatim, by_code, name_char_spelling, name_spelling, name_char_value, name_value, may_follow, Extension, uncaptured, name_opening, no_extension, extension, NameToken, name_end, name_backslash, name_character, name_token, are_distinct}
+use Rattle.strkw_ecma.specs.machine.CodeReading.{Coding, Coded, fails, goes, makes, coding_next}
+use Rattle.strkw_ecma.specs.Names.{NameChar, verbatim, by_code, name_char_spelling, name_spelling, name_char_value, name_value, may_follow, Extension}
+use Rattle.strkw_ecma.specs.Names.{uncaptured, name_opening, no_extension, extension, NameToken, name_end, name_backslash, name_character, name_token}
+use Rattle.strkw_ecma.specs.Names.{are_distinct}
 use Rattle.strkw_ecma.specs.Classes.{class_token, class_escape, no_ranges}
-use Rattle.strkw_ecma.specs.Syntax.{Disjunction, Term, at_start, at_end, at_boundary, at_no_boundary, quantified, Quantifier, zero_or_more, one_or_more, zero_or_one, exactly, at_least, from_to, lazy, Group, capturing, plain_group, named, plain, escaped, control_escape, set_escape, coded, property_escape, dot, group, Token, bar, asterisk, plus, question, caret, dollar, opening as opening_token, closing, point, backslash, bracket, brace, character, other, token, quantifier_spelling, group_spelling, spelling, term_spelling, atom_spelling}
-use Rattle.strkw_ecma.specs.Reading.{Open, Outer, Level, Last, none, atom, counted, fresh, Mode, between, escaping, opening, extending, class_opened, Count, low, high, counting, with_count, longer, on_low, on_high, on_count, range_read, in_class, class_escaping, coding, class_coding, in_property, in_class_property, naming, name_escaping, name_coding, with_name_char, name_read, on_naming, on_name_escape, on_name_coding, on_coding, on_property, tree_if, closes, is_between, State, ended, level_ended, new_level, with_atom, with_term, with_mode, closed_in, closed, with_quantifier, questioned, opened, opened_within, on_token, on_group, on_extension, on_escape, on_class, next, next_in, read_from, initial, read}
+use Rattle.strkw_ecma.specs.Syntax.{Disjunction, Term, at_start, at_end, at_boundary, at_no_boundary, quantified, Quantifier, zero_or_more, one_or_more}
+use Rattle.strkw_ecma.specs.Syntax.{zero_or_one, exactly, at_least, from_to, lazy, Group, capturing, plain_group, named, plain, escaped, control_escape}
+use Rattle.strkw_ecma.specs.Syntax.{set_escape, coded, property_escape, dot, group, Token, bar, asterisk, plus, question, caret, dollar}
+use Rattle.strkw_ecma.specs.Syntax.{opening as opening_token, closing, point, backslash, bracket, brace, character, other, token, quantifier_spelling}
+use Rattle.strkw_ecma.specs.Syntax.{group_spelling, spelling, term_spelling, atom_spelling}
+use Rattle.strkw_ecma.specs.machine.Reading.{Open, Outer, Level, Last, none, atom, counted, fresh, Mode, between, escaping, opening, extending, class_opened}
+use Rattle.strkw_ecma.specs.machine.Reading.{Count, low, high, counting, with_count, longer, on_low, on_high, on_count, range_read, in_class, class_escaping}
+use Rattle.strkw_ecma.specs.machine.Reading.{coding, class_coding, in_property, in_class_property, naming, name_escaping, name_coding, with_name_char}
+use Rattle.strkw_ecma.specs.machine.Reading.{name_read, on_naming, on_name_escape, on_name_coding, on_coding, on_property, tree_if, closes, is_between, State}
+use Rattle.strkw_ecma.specs.machine.Reading.{ended, level_ended, new_level, with_atom, with_term, with_mode, closed_in, closed, with_quantifier, questioned}
+use Rattle.strkw_ecma.specs.machine.Reading.{opened, opened_within, on_token, on_group, on_extension, on_escape, on_class, next, next_in, read_from, initial}
+use Rattle.strkw_ecma.specs.machine.Reading.{read}
 use Rattle.strkw_ecma.specs.Numbers.{number, number_of, max_count, CountToken, digit, comma, closing_brace, no_count, count_token}
 use Rattle.strkw_ecma.specs.Size.{steps, max_term_steps}
 use Rattle.strkw_ecma.specs.Patterns.{atom_pattern, times, copies}
-use Rattle.strkw_ecma.proofs.Letters.{char_of_count, char_of_count_token, same_char, char_of_extension, char_of_extension_token, char_of_name, char_of_name_token, char_of, char_of_token, char_of_letter, char_of_escape, char_of_class_token, char_of_class_escape}
-use Rattle.strkw_ecma.proofs.ClassSpelled.{level_spelling, last_spelling, outer_spelling, name_text, spelled, HasRead, when_read, joined_spelling, more_spelling, before, whole, atom_read, class_token_read, class_escape_read, class_coding_read, class_property_read}
+use Rattle.strkw_ecma.proofs.Letters.{char_of_count, char_of_count_token, same_char, char_of_extension, char_of_extension_token, char_of_name}
+use Rattle.strkw_ecma.proofs.Letters.{char_of_name_token, char_of, char_of_token, char_of_letter, char_of_escape, char_of_class_token, char_of_class_escape}
+use Rattle.strkw_ecma.proofs.ClassSpelled.{level_spelling, last_spelling, outer_spelling, name_text, spelled, HasRead, when_read, joined_spelling}
+use Rattle.strkw_ecma.proofs.ClassSpelled.{more_spelling, before, whole, atom_read, class_token_read, class_escape_read, class_coding_read, class_property_read}
 use Rattle.strkw_ecma.proofs.CodeReadings.{coding_spelling, IsCodedAs, coding_as}
-use Rattle.strkw_ecma.specs.PropertyReading.{PropertyPart, PropertyRead, no_property_read, property_goes, property_ends, property_next}
+use Rattle.strkw_ecma.specs.machine.PropertyReading.{PropertyPart, PropertyRead, no_property_read, property_goes, property_ends, property_next}
 use Rattle.strkw_ecma.proofs.PropertyReadings.{part_spelling, IsReadAs, property_as}
 
 module _ (outer : Outer) (l : Level) where
+  -- what is read before the last term
   abbrev level_text : List ℕ
   level_text = outer_spelling outer.groups ++ level_spelling l.earlier l.current
 
+  -- a state behind a term has read what was before it, and the term
   term_read : (x : Last) (t : Term) → spelled (with_term outer l x t) ≡ before outer l x ++ term_spelling t
   term_read x t =
       append-nil _ ∙ append-nil _ ∙ ap (λ z. outer_spelling outer.groups ++ z) (more_spelling l.earlier (ended l.current x) t)
       ∙ sym (append_assoc (outer_spelling outer.groups) (level_spelling l.earlier (ended l.current x)) (term_spelling t))
       ∙ ap (λ z. z ++ term_spelling t) (whole outer l x)
 
-  -- behind what stands before the last term
-  before_last : (x : Last) (y : List ℕ) → before outer l x ++ y ≡ level_text ++ (last_spelling x ++ y)
-  before_last x y = append_assoc level_text (last_spelling x) y
-
+  -- where no last term is before it, a term is read behind the level
   term_alone : (t : Term) → spelled (with_term outer l none t) ≡ level_text ++ term_spelling t
   term_alone t = term_read none t ∙ ap (λ z. z ++ term_spelling t) (append-nil level_text)
 
+  -- the groups and the tree of the whole level are spelled as what is read
   pub level_whole : (x : Last) → outer_spelling outer.groups ++ spelling (level_ended l x) ≡ before outer l x
   level_whole x = ap (λ z. outer_spelling outer.groups ++ z) (joined_spelling l.earlier (ended l.current x)) ∙ whole outer l x
 
+  -- a state behind a quantifier has read what was before it, and the quantifier
   quantifier_read : (x : Last) (q : Quantifier) → HasRead (with_quantifier outer l x q) (before outer l x ++ quantifier_spelling q)
   quantifier_read none q = tt
   quantifier_read (atom a) q = append-nil _ ∙ sym (append_assoc level_text (atom_spelling a) (quantifier_spelling q))
   quantifier_read (counted a p) q = tt
 
+  -- and so has one behind a question mark
   question_read : (x : Last) → HasRead (questioned outer l x) (before outer l x ++ byte "?" ∷ [])
   question_read none = tt
   question_read (atom a) = quantifier_read (atom a) zero_or_one
   question_read (counted a q) =
       term_alone (quantified a q lazy) ∙ sym (append_assoc level_text (atom_spelling a ++ quantifier_spelling q) (byte "?" ∷ []))
 
+  -- and one behind `|`
   bar_read : (x : Last) → HasRead (on_token outer l x (byte "|") bar) (before outer l x ++ byte "|" ∷ [])
   bar_read x =
       append-nil _ ∙ append-nil _ ∙ sym (append_assoc (outer_spelling outer.groups) (spelling (level_ended l x)) (byte "|" ∷ []))
       ∙ ap (λ z. z ++ byte "|" ∷ []) (level_whole x)
 
+  -- and one behind the beginning of a group
   open_read : (x : Last) (g : Group) (b : Bool) → HasRead (opened outer l x g b) (before outer l x ++ group_spelling g)
   open_read x g false = tt
   open_read x g true = append-nil _ ∙ append-nil _ ∙ append-nil _ ∙ ap (λ z. z ++ group_spelling g) (whole outer l x)
 
+-- and one behind the bracket that closes a group
 close_in_read : (os : List Open) (ns : List (List ℕ)) (l : Level) (x : Last)
     → HasRead (closed_in os ns (level_ended l x)) (before (record { groups = os; names = ns }) l x ++ byte ")" ∷ [])
 close_in_read [] ns l x = tt
@@ -71,15 +91,18 @@ close_in_read (o ∷ os) ns l x =
     ∙ regroup front (group_spelling o.group) (spelling (level_ended l x)) (before outer around none) (append-nil _)
     ∙ ap (λ z. z ++ byte ")" ∷ []) (level_whole inner l x)
   where
+    -- of four texts, one behind the other, the brackets may be moved to the front
     regroup : (front kind inner b : List ℕ) → b ≡ front → b ++ ((kind ++ inner) ++ byte ")" ∷ []) ≡ ((front ++ kind) ++ inner) ++ byte ")" ∷ []
     regroup front kind inner b e =
         ap (λ z. z ++ ((kind ++ inner) ++ byte ")" ∷ [])) e
         ∙ sym (append_assoc front (kind ++ inner) (byte ")" ∷ []))
         ∙ ap (λ z. z ++ byte ")" ∷ []) (sym (append_assoc front kind inner))
 
+-- the same by all groups that are open
 close_read : (outer : Outer) (l : Level) (x : Last) → HasRead (closed outer (level_ended l x)) (before outer l x ++ byte ")" ∷ [])
 close_read outer l x = close_in_read outer.groups outer.names l x
 
+-- a state behind a character between terms has read what was before it, and the character
 token_read : (outer : Outer) (l : Level) (x : Last) (c : ℕ) (k : Token) → char_of k c ≡ c
     → HasRead (on_token outer l x c k) (before outer l x ++ c ∷ [])
 token_read outer l x c bar e = subst (λ z. HasRead (on_token outer l x c bar) (before outer l x ++ z ∷ [])) e (bar_read outer l x)
@@ -99,6 +122,7 @@ token_read outer l x c brace e = ap (λ z. before outer l x ++ z ∷ []) e
 token_read outer l x c character e = atom_read outer l x (plain c)
 token_read outer l x c other e = tt
 
+-- behind a character that follows a backslash, that is read too
 escape_read : (outer : Outer) (l : Level) (x : Last) (c : ℕ) (k : Escape) → char_of_letter k c ≡ c
     → HasRead (on_escape outer l x c k) ((before outer l x ++ byte "\\" ∷ []) ++ c ∷ [])
 escape_read outer l x c itself e = atom_read outer l x (escaped c) ∙ sym (append_assoc (before outer l x) (byte "\\" ∷ []) (c ∷ []))
@@ -126,6 +150,7 @@ escape_read outer l x c no_property e =
     sym (append_assoc (before outer l x) (byte "\\" ∷ []) (byte "P" ∷ [])) ∙ ap (λ z. (before outer l x ++ byte "\\" ∷ []) ++ z ∷ []) e
 escape_read outer l x c unknown e = tt
 
+-- and behind one more character of an escape by a number
 coding_read : (outer : Outer) (l : Level) (x : Last) (k : Coding) (c : ℕ) (o : Coded) → IsCodedAs o (coding_spelling k ++ c ∷ [])
     → HasRead (on_coding outer l x o) ((before outer l x ++ byte "\\" ∷ coding_spelling k) ++ c ∷ [])
 coding_read outer l x k c fails h = tt
@@ -135,6 +160,7 @@ coding_read outer l x k c (makes d) h =
     atom_read outer l x (coded d) ∙ ap (λ z. before outer l x ++ byte "\\" ∷ z) h
     ∙ sym (append_assoc (before outer l x) (byte "\\" ∷ coding_spelling k) (c ∷ []))
 
+-- and behind one more character of the escape of a property
 property_read : (outer : Outer) (l : Level) (x : Last) (k : PropertyPart) (c : ℕ) (o : PropertyRead) → IsReadAs o (part_spelling k ++ c ∷ [])
     → HasRead (on_property outer l x o) ((before outer l x ++ byte "\\" ∷ part_spelling k) ++ c ∷ [])
 property_read outer l x k c no_property_read h = tt
@@ -156,12 +182,14 @@ first_read outer l x c true =
     subst (λ z. HasRead (on_token inner new_level none c (token c)) (z ++ c ∷ []))
     (append-nil _ ∙ append-nil _ ∙ ap (λ z. z ++ byte "(" ∷ []) (whole outer l x)) (token_read inner new_level none c (token c) (char_of_token c))
 
+-- behind the character that follows `(`, that is read too
 group_read : (outer : Outer) (l : Level) (x : Last) (c : ℕ) (b : Bool) → (c == byte "?") ≡ b
     → HasRead (on_group outer l x c b) ((before outer l x ++ byte "(" ∷ []) ++ c ∷ [])
 group_read outer l x c false e = first_read outer l x c _
 group_read outer l x c true e =
     ap (λ z. before outer l x ++ byte "(" ∷ z ∷ []) (same_char c (byte "?") e) ∙ sym (append_assoc (before outer l x) (byte "(" ∷ []) (c ∷ []))
 
+-- and behind the one that follows `(?`
 extension_read : (outer : Outer) (l : Level) (x : Last) (c : ℕ) (k : Extension) → char_of_extension k c ≡ c
     → HasRead (on_extension outer l x k) ((before outer l x ++ byte "(" ∷ byte "?" ∷ []) ++ c ∷ [])
 extension_read outer l x c uncaptured e =
@@ -172,6 +200,7 @@ extension_read outer l x c name_opening e =
     ap (λ z. before outer l x ++ byte "(" ∷ byte "?" ∷ z ∷ []) e ∙ sym (append_assoc (before outer l x) (byte "(" ∷ byte "?" ∷ []) (c ∷ []))
 extension_read outer l x c no_extension e = tt
 
+-- and behind the one that follows `[`
 bracket_read : (outer : Outer) (l : Level) (x : Last) (c : ℕ) (b : Bool) → (c == byte "^") ≡ b
     → HasRead (on_class outer l x c b) ((before outer l x ++ byte "[" ∷ []) ++ c ∷ [])
 bracket_read outer l x c false e = class_token_read outer l x false no_ranges fresh c (class_token c) (char_of_class_token c)
@@ -180,6 +209,7 @@ bracket_read outer l x c true e =
 
 -- counts
 module _ (outer : Outer) (l : Level) where
+  -- a state behind a count has read what was before it, and the count
   count_read : (x : Last) (q : Quantifier) → HasRead (with_count outer l x q) (before outer l x ++ quantifier_spelling q)
   count_read none q = tt
   count_read (atom a) q =
@@ -187,40 +217,48 @@ module _ (outer : Outer) (l : Level) where
       (before outer l (atom a) ++ quantifier_spelling q) (quantifier_read outer l (atom a) q)
   count_read (counted a p) q = tt
 
+  -- a state with one more digit has read this, where it is spelled so
   longer_read : (x : Last) (m : List ℕ → Mode) (text : List ℕ) (ds : List ℕ) (c : ℕ) (b : Bool)
       → spelled (with_mode outer l x (m (ds ++ c ∷ []))) ≡ text
       → HasRead (option_map (λ (es : List ℕ). with_mode outer l x (m es)) (longer ds c b)) text
   longer_read x m text ds c false h = tt
   longer_read x m text ds c true h = h
 
+  -- behind a character in the first number of a count, that is read too
   low_read : (x : Last) (ds : List ℕ) (c : ℕ) (k : CountToken) → char_of_count k c ≡ c
       → HasRead (on_low outer l x ds c k) ((before outer l x ++ byte "{" ∷ ds) ++ c ∷ [])
   low_read x ds c digit e =
-      longer_read x (λ es. counting (low es)) ((before outer l x ++ byte "{" ∷ ds) ++ c ∷ []) ds c (nat_le (number (ds ++ c ∷ [])) max_count) (sym (append_assoc (before outer l x) (byte "{" ∷ ds) (c ∷ [])))
+      longer_read x (λ es. counting (low es)) ((before outer l x ++ byte "{" ∷ ds) ++ c ∷ []) ds c (nat_le (number (ds ++ c ∷ [])) max_count)
+      (sym (append_assoc (before outer l x) (byte "{" ∷ ds) (c ∷ [])))
   low_read x ds c comma e =
       when_read (is_some (number_of ds)) (Some (with_mode outer l x (counting (high ds [])))) ((before outer l x ++ byte "{" ∷ ds) ++ c ∷ [])
       (sym (append_assoc (before outer l x) (byte "{" ∷ ds) (byte "," ∷ []))
       ∙ ap (λ z. (before outer l x ++ byte "{" ∷ ds) ++ z ∷ []) e)
   low_read x ds c closing_brace e =
-      when_read (is_some (number_of ds)) (with_count outer l x (exactly ds)) ((before outer l x ++ byte "{" ∷ ds) ++ c ∷ []) (subst (HasRead (with_count outer l x (exactly ds)))
+      when_read (is_some (number_of ds)) (with_count outer l x (exactly ds)) ((before outer l x ++ byte "{" ∷ ds) ++ c ∷ [])
+      (subst (HasRead (with_count outer l x (exactly ds)))
       (sym (append_assoc (before outer l x) (byte "{" ∷ ds) (byte "}" ∷ [])) ∙ ap (λ z. (before outer l x ++ byte "{" ∷ ds) ++ z ∷ []) e)
       (count_read x (exactly ds)))
   low_read x ds c no_count e = tt
 
   -- behind both numbers, and a character after them
+  -- the brackets may be moved to the front
   regroup : (a ds es cs : List ℕ) → a ++ (byte "{" ∷ (ds ++ byte "," ∷ (es ++ cs))) ≡ (a ++ (byte "{" ∷ (ds ++ byte "," ∷ es))) ++ cs
   regroup a ds es cs =
       ap (λ z. a ++ byte "{" ∷ z) (sym (append_assoc ds (byte "," ∷ es) cs)) ∙ sym (append_assoc a (byte "{" ∷ (ds ++ byte "," ∷ es)) cs)
 
+  -- behind the brace that closes a count with a comma, that is read too
   range_count_read : (x : Last) (ds es : List ℕ)
       → HasRead (range_read outer l x ds es) ((before outer l x ++ (byte "{" ∷ (ds ++ byte "," ∷ es))) ++ byte "}" ∷ [])
   range_count_read x ds [] =
       subst (HasRead (with_count outer l x (at_least ds))) (regroup (before outer l x) ds [] (byte "}" ∷ [])) (count_read x (at_least ds))
   range_count_read x ds (e ∷ es) =
       when_read (nat_le (number ds) (number (e ∷ es))) (with_count outer l x (from_to ds (e ∷ es)))
-      ((before outer l x ++ (byte "{" ∷ (ds ++ byte "," ∷ (e ∷ es)))) ++ byte "}" ∷ []) (subst (HasRead (with_count outer l x (from_to ds (e ∷ es)))) (regroup (before outer l x) ds (e ∷ es) (byte "}" ∷ []))
+      ((before outer l x ++ (byte "{" ∷ (ds ++ byte "," ∷ (e ∷ es)))) ++ byte "}" ∷ [])
+      (subst (HasRead (with_count outer l x (from_to ds (e ∷ es)))) (regroup (before outer l x) ds (e ∷ es) (byte "}" ∷ []))
       (count_read x (from_to ds (e ∷ es))))
 
+  -- and behind any character that follows the comma
   high_read : (x : Last) (ds es : List ℕ) (c : ℕ) (k : CountToken) → char_of_count k c ≡ c
       → HasRead (on_high outer l x ds es c k) ((before outer l x ++ (byte "{" ∷ (ds ++ byte "," ∷ es))) ++ c ∷ [])
   high_read x ds es c digit e =
@@ -232,31 +270,32 @@ module _ (outer : Outer) (l : Level) where
       (range_count_read x ds es)
   high_read x ds es c no_count e = tt
 
+  -- so behind any character of a count, that is read too
   counting_read : (x : Last) (n : Count) (c : ℕ) → HasRead (on_count outer l x n c) (spelled (with_mode outer l x (counting n)) ++ c ∷ [])
   counting_read x (low ds) c = low_read x ds c (count_token c) (char_of_count_token c)
   counting_read x (high ds es) c = high_read x ds es c (count_token c) (char_of_count_token c)
 
 -- names
+-- a name with one more character is spelled with that behind it
 name_push : (n : List NameChar) (y : NameChar) → name_spelling (n ++ y ∷ []) ≡ name_spelling n ++ name_char_spelling y
 name_push [] y = append-nil _
 name_push (z ∷ n) y =
     ap (λ z'. name_char_spelling z ++ z') (name_push n y) ∙ sym (append_assoc (name_char_spelling z) (name_spelling n) (name_char_spelling y))
 
 module _ (outer : Outer) (l : Level) (x : Last) (n : List NameChar) where
-  -- behind this much of a name
-  abbrev in_name : List ℕ
-  in_name = before outer l x ++ name_text n
-
+  -- a state behind a character of a name, whose spelling is s and c, has read that too
   name_char_read : (y : NameChar) (s : List ℕ) (c : ℕ) → name_char_spelling y ≡ s ++ c ∷ []
       → HasRead (with_name_char outer l x n y) ((before outer l x ++ (name_text n ++ s)) ++ c ∷ [])
   name_char_read y s c e =
-      when_read (may_follow (name_value n) (name_char_value y)) (Some (with_mode outer l x (naming (n ++ y ∷ [])))) ((before outer l x ++ (name_text n ++ s)) ++ c ∷ [])
+      when_read (may_follow (name_value n) (name_char_value y)) (Some (with_mode outer l x (naming (n ++ y ∷ []))))
+      ((before outer l x ++ (name_text n ++ s)) ++ c ∷ [])
       (ap (λ z. before outer l x ++ byte "(" ∷ byte "?" ∷ byte "<" ∷ z) (name_push n y)
       ∙ ap (λ z. before outer l x ++ (name_text n ++ z)) e
       ∙ ap (λ z. before outer l x ++ z) (sym (append_assoc (name_text n) s (c ∷ [])))
       ∙ sym (append_assoc (before outer l x) (name_text n ++ s) (c ∷ [])))
 
   -- behind s, and a character that ends t
+  -- the brackets may be moved so that the character is last
   name_behind : (s : List ℕ) (c : ℕ) (t : List ℕ) → t ≡ s ++ c ∷ []
       → before outer l x ++ (name_text n ++ t) ≡ (before outer l x ++ (name_text n ++ s)) ++ c ∷ []
   name_behind s c t e =
@@ -264,12 +303,14 @@ module _ (outer : Outer) (l : Level) (x : Last) (n : List NameChar) where
       ∙ ap (λ z. before outer l x ++ z) (sym (append_assoc (name_text n) s (c ∷ [])))
       ∙ sym (append_assoc (before outer l x) (name_text n ++ s) (c ∷ []))
 
+  -- behind the character that follows a backslash in a name, that is read too
   name_escape_read : (c : ℕ) (b : Bool) → (c == byte "u") ≡ b
       → HasRead (on_name_escape outer l x n b) ((before outer l x ++ (name_text n ++ byte "\\" ∷ [])) ++ c ∷ [])
   name_escape_read c false e = tt
   name_escape_read c true e =
       name_behind (byte "\\" ∷ []) c (byte "\\" ∷ byte "u" ∷ []) (ap (λ z. byte "\\" ∷ z ∷ []) (same_char c (byte "u") e))
 
+  -- and behind one more character of an escape there
   name_coding_read : (k : Coding) (c : ℕ) (o : Coded) → IsCodedAs o (coding_spelling k ++ c ∷ [])
       → HasRead (on_name_coding outer l x n o) ((before outer l x ++ (name_text n ++ byte "\\" ∷ coding_spelling k)) ++ c ∷ [])
   name_coding_read k c fails h = tt
@@ -277,6 +318,7 @@ module _ (outer : Outer) (l : Level) (x : Last) (n : List NameChar) where
       name_behind (byte "\\" ∷ coding_spelling k) c (byte "\\" ∷ coding_spelling m) (ap (λ z. byte "\\" ∷ z) h)
   name_coding_read k c (makes d) h = name_char_read (by_code d) (byte "\\" ∷ coding_spelling k) c (ap (λ z. byte "\\" ∷ z) h)
 
+-- a state behind the end of a name has read the name, and `>`
 name_end_read : (outer : Outer) (l : Level) (x : Last) (n : List NameChar)
     → HasRead (name_read outer l x n) ((before outer l x ++ name_text n) ++ byte ">" ∷ [])
 name_end_read outer l x [] = tt
@@ -284,6 +326,7 @@ name_end_read outer l x (y ∷ n) =
     subst (HasRead (opened_within outer l x (named (y ∷ n)))) (sym (append_assoc (before outer l x) (name_text (y ∷ n)) (byte ">" ∷ [])))
     (open_read outer l x (named (y ∷ n)) _)
 
+-- behind any character in a name, that is read too
 naming_read : (outer : Outer) (l : Level) (x : Last) (n : List NameChar) (c : ℕ) (k : NameToken) → char_of_name k c ≡ c
     → HasRead (on_naming outer l x n c k) ((before outer l x ++ name_text n) ++ c ∷ [])
 naming_read outer l x n c name_end e =
@@ -294,6 +337,7 @@ naming_read outer l x n c name_character e =
     subst (λ z. HasRead (with_name_char outer l x n (verbatim c)) ((before outer l x ++ z) ++ c ∷ [])) (append-nil (name_text n))
     (name_char_read outer l x n (verbatim c) [] c refl)
 
+-- so in each mode a state behind the next character has read what was before it, and the character
 pub next_read : (outer : Outer) (l : Level) (x : Last) (m : Mode) (c : ℕ)
     → HasRead (next_in outer l x m c) (spelled (with_mode outer l x m) ++ c ∷ [])
 next_read outer l x between c =
@@ -322,10 +366,12 @@ abbrev pub IsSpelled : Option Disjunction → List ℕ → Type 0
 IsSpelled None text = Unit {0}
 IsSpelled (Some d) text = spelling d ≡ text
 
+-- a tree that is spelled so is spelled so under a test too
 if_read : (b : Bool) (d : Disjunction) (text : List ℕ) → spelling d ≡ text → IsSpelled (tree_if b d) text
 if_read false d text h = tt
 if_read true d text h = h
 
+-- at the end the tree is spelled as what the state has read
 at_close_read : (os : List Open) (ns : List (List ℕ)) (l : Level) (x : Last) (m : Mode) (b : Bool)
     → IsSpelled (closes os l x (is_between m && b)) (spelled (with_mode (record { groups = os; names = ns }) l x m) ++ [])
 at_close_read [] ns l x between b =
@@ -346,12 +392,14 @@ at_close_read [] ns l x (name_escaping n) b = tt
 at_close_read [] ns l x (name_coding n k) b = tt
 at_close_read (o ∷ os) ns l x m b = tt
 
+-- if the tree of the rest is spelled so behind each state, it is behind one that may be missing
 one_more : (s : State) (c : ℕ) (cs : List ℕ) → ((t : State) → IsSpelled (read_from t cs) (spelled t ++ cs))
     → (o : Option State) → HasRead o (spelled s ++ c ∷ []) → IsSpelled (option_and_then (λ t. read_from t cs) o) (spelled s ++ c ∷ cs)
 one_more s c cs ih None h = tt
 one_more s c cs ih (Some t) h =
     subst (IsSpelled (read_from t cs)) (ap (λ z. z ++ cs) h ∙ append_assoc (spelled s) (c ∷ []) cs) (ih t)
 
+-- a tree that is read is spelled as what the state has read, and the rest
 rest_read : (cs : List ℕ) (s : State) → IsSpelled (read_from s cs) (spelled s ++ cs)
 rest_read [] s = at_close_read s.outer.groups s.outer.names s.level s.last s.mode (are_distinct s.outer.names)
 rest_read (c ∷ cs) s = one_more s c cs (rest_read cs) (next s c) (next_read s.outer s.level s.last s.mode c)

@@ -1,9 +1,10 @@
 -- The law of the marks: a step leads from the ways through a pattern at a place to those at the next.
-use Rattle.std.proofs.Common.{◌≡◌, ◌⊎◌, ℕ, ◌+◌, Bool, true, false, ◌&&◌, ◌||◌, List, Option, Some, None, slice_get, refl, sym, ap, subst, ◌∙◌, inl, inr, ⊎_elim, true≢false}
+use Rattle.std.proofs.Common.{◌≡◌, ◌⊎◌, ℕ, ◌+◌, Bool, true, false, ◌&&◌, ◌||◌, List, Option, Some, None, slice_get, refl, sym, ap, subst, ◌∙◌, inl, inr, ⊎_elim}
+use Rattle.std.proofs.Common.{true≢false}
 use Rattle.strkw_ecma.specs.declared.tree.CharSet.{CharSet}
 use Rattle.strkw_ecma.specs.Tree.{Pattern, empty, class, look, cat, alt, star, plus, is_member}
 use Rattle.strkw_ecma.specs.Meaning.{Rounds, no_round, a_round, before, Matches}
-use Rattle.strkw_ecma.specs.Marks.{reads, leaves, step, Rest}
+use Rattle.strkw_ecma.specs.machine.Marks.{reads, leaves, step, Rest}
 
 -- marks mean nothing for what a pattern matches
 pub same_meaning : (text : List ℕ) (b a : Option ℕ) (p : Pattern) (x : Bool) → Matches text (step b a p x) ≡ Matches text p
@@ -21,30 +22,37 @@ same_meaning text b a (star p) x =
 same_meaning text b a (plus p) x =
     ap (λ (R : ℕ → ℕ → Type 0). λ (i j : ℕ). (l : ℕ) × R i l × Rounds R j l) (same_meaning text b a p (x || leaves b a p false))
 
+-- both of two hold where each does
 pub and_true : (x y : Bool) → x ≡ true → y ≡ true → (x && y) ≡ true
 and_true true y u v = v
 and_true false y u v = absurd (true≢false (sym u))
 
+-- where both of two hold, the first does
 pub and_left : (x y : Bool) → (x && y) ≡ true → x ≡ true
 and_left true y h = refl
 and_left false y h = h
 
+-- and the second does
 pub and_right : (x y : Bool) → (x && y) ≡ true → y ≡ true
 and_right true y h = h
 and_right false y h = absurd (true≢false (sym h))
 
+-- where one of two holds, it is the first or the second
 pub or_case : (x y : Bool) → (x || y) ≡ true → (x ≡ true) ⊎ (y ≡ true)
 or_case true y h = inl refl
 or_case false y h = inr h
 
+-- one of two holds where the first does
 pub or_left : (x y : Bool) → x ≡ true → (x || y) ≡ true
 or_left true y h = refl
 or_left false y h = absurd (true≢false (sym h))
 
+-- and where the second does
 pub or_right : (x y : Bool) → y ≡ true → (x || y) ≡ true
 or_right true y h = refl
 or_right false y h = h
 
+-- two answers are the same where each is true if the other is
 same_bool : (x y : Bool) → (x ≡ true → y ≡ true) → (y ≡ true → x ≡ true) → x ≡ y
 same_bool true y f g = sym (f refl)
 same_bool false true f g = g refl
@@ -52,6 +60,7 @@ same_bool false false f g = refl
 
 -- what enters more leaves more, and a way that has ended once in a plus may end there again
 module _ (b a : Option ℕ) where
+  -- a pattern that is left is left too with more entering
   more_leaves : (p : Pattern) (x y : Bool) → (x ≡ true → y ≡ true) → leaves b a p x ≡ true → leaves b a p y ≡ true
   more_leaves empty x y f h = f h
   more_leaves (class m n rs) x y f h = h
@@ -65,26 +74,26 @@ module _ (b a : Option ℕ) where
       more_leaves p (x || leaves b a p false) (y || leaves b a p false)
       (λ e. ⊎_elim (λ one. or_left _ _ (f one)) (λ other. or_right y _ other) (or_case x (leaves b a p false) e)) h
 
+  -- a pattern is left after what left it enters again only where it was left before
   once_more : (p : Pattern) (z : Bool) → leaves b a p false ≡ z → leaves b a p z ≡ true → leaves b a p false ≡ true
   once_more p true e h = e
   once_more p false e h = h
 
+  -- where it is left with x and what left it entering, it is left with x alone
   no_more : (p : Pattern) (x : Bool) → leaves b a p (x || leaves b a p false) ≡ true → leaves b a p x ≡ true
   no_more p true h = h
   no_more p false h = once_more p (leaves b a p false) refl h
 
+  -- it is left alike with x entering alone and with x and what left it
   pub plus_leaves : (p : Pattern) (x : Bool) → leaves b a p x ≡ leaves b a p (x || leaves b a p false)
   plus_leaves p x = same_bool _ _ (more_leaves p x (x || leaves b a p false) (or_left x _)) (no_more p x)
-
--- from one place, by more rounds
-pub more_rounds : (R : ℕ → ℕ → Type 0) (i l j : ℕ) → R i l → Rounds R j l → Rounds R j i
-more_rounds R i l j m s = a_round i l m s
 
 module _ (text : List ℕ) (i : ℕ) where
   -- the marks after the character at i, and whether a way ends here
   abbrev pub left : Pattern → Bool → Bool
   left = leaves (before text i) (slice_get text i)
 
+  -- the pattern with the marks after that character
   abbrev pub stepped : Pattern → Bool → Pattern
   stepped = step (before text i) (slice_get text i)
 
@@ -100,12 +109,15 @@ module _ (text : List ℕ) (i : ℕ) where
   to_stepped : (q : Pattern) (y : Bool) (l j : ℕ) → Matches text q l j → Matches text (stepped q y) l j
   to_stepped q y l j m = subst (λ (R : ℕ → ℕ → Type 0). R l j) (sym (same_meaning text (before text i) (slice_get text i) q y)) m
 
+  -- and back
   from_stepped : (q : Pattern) (y : Bool) (l j : ℕ) → Matches text (stepped q y) l j → Matches text q l j
   from_stepped q y l j m = subst (λ (R : ℕ → ℕ → Type 0). R l j) (same_meaning text (before text i) (slice_get text i) q y) m
 
+  -- the same of rounds of it
   rounds_to_stepped : (q : Pattern) (y : Bool) (l j : ℕ) → Rounds (Matches text q) j l → Rounds (Matches text (stepped q y)) j l
   rounds_to_stepped q y l j m = subst (λ (R : ℕ → ℕ → Type 0). Rounds R j l) (sym (same_meaning text (before text i) (slice_get text i) q y)) m
 
+  -- and back
   rounds_from_stepped : (q : Pattern) (y : Bool) (l j : ℕ) → Rounds (Matches text (stepped q y)) j l → Rounds (Matches text q) j l
   rounds_from_stepped q y l j m = subst (λ (R : ℕ → ℕ → Type 0). Rounds R j l) (same_meaning text (before text i) (slice_get text i) q y) m
 
@@ -114,10 +126,12 @@ module _ (text : List ℕ) (i : ℕ) where
       → ((x && reads (slice_get text i) n rs) ≡ true) × (i + 1 ≡ j)
   class_went n rs x c j xt at member e = (and_true _ _ xt (rw at member), sym e)
 
+  -- a class reads only where there is a character and the class has it
   reads_some : (n : Bool) (rs : List CharSet) (o : Option ℕ) → reads o n rs ≡ true → (c : ℕ) × (o ≡ Some c) × (is_member n rs c ≡ true)
   reads_some n rs None h = absurd (true≢false (sym h))
   reads_some n rs (Some c) h = (c, refl, h)
 
+  -- a class that a step marks was entered, and matches the character here
   class_goes : (n : Bool) (rs : List CharSet) (x : Bool) (j : ℕ) → (x && reads (slice_get text i) n rs) ≡ true → i + 1 ≡ j
       → (x ≡ true) × ((c : ℕ) × (slice_get text i ≡ Some c) × (is_member n rs c ≡ true) × (j ≡ i + 1))
   class_goes n rs x j h e =
@@ -125,6 +139,7 @@ module _ (text : List ℕ) (i : ℕ) where
       (and_left x _ h, (found.0, found.1, found.2, sym e))
 
   -- where rounds begin at this place
+  -- they end here, or go on in the body from a mark at the next place, with rounds behind
   rounds_go : (p : Pattern) (y : Bool) (j : ℕ) → ((l : ℕ) → Goes p y l → Went p y l) → y ≡ true → (k : ℕ) → k ≡ i
       → Rounds (Matches text p) j k
       → ((y ≡ true) × (i ≡ j)) ⊎ ((l : ℕ) × Rest text (stepped p y) (i + 1) l × Rounds (Matches text p) j l)
@@ -138,33 +153,39 @@ module _ (text : List ℕ) (i : ℕ) where
   entered p x true e h = refl
   entered p x false e h = e ∙ or_right x _ h
 
+  -- rounds behind a mark in a loop's body may be of the body after a step
   star_went : (p : Pattern) (y : Bool) (j : ℕ)
       → ((y ≡ true) × (i ≡ j)) ⊎ ((l : ℕ) × Rest text (stepped p y) (i + 1) l × Rounds (Matches text p) j l)
       → ((y ≡ true) × (i ≡ j)) ⊎ ((l : ℕ) × Rest text (stepped p y) (i + 1) l × Rounds (Matches text (stepped p y)) j l)
   star_went p y j (inl here) = inl here
   star_went p y j (inr (l, r, s)) = inr (l, r, rounds_to_stepped p y l j s)
 
+  -- where a way went through the body and rounds follow, they end here or go on from a mark
   star_goes : (p : Pattern) (x y : Bool) (j l : ℕ) → y ≡ (x || left p false) → ((n : ℕ) → Goes p y n → Went p y n)
       → Went p y l → Rounds (Matches text p) j l
       → ((y ≡ true) × (i ≡ j)) ⊎ ((n : ℕ) × Rest text (stepped p y) (i + 1) n × Rounds (Matches text p) j n)
   star_goes p x y j l e ih (inl (h, d)) s = rounds_go p y j ih (entered p x y e h) l (sym d) s
   star_goes p x y j l e ih (inr r) s = inr (l, r, s)
 
+  -- where a way went through the first and the second matches behind it, one went through both
   cat_goes : (p q : Pattern) (x : Bool) (j l : ℕ) → Went p x l → (Goes q (left p x) j → Went q (left p x) j) → Matches text q l j
       → Went (cat p q) x j
   cat_goes p q x j l (inl (h, d)) ih m =
       ⊎_elim (λ here. inl here) (λ rest. inr (inr rest)) (ih (inr (h, subst (λ (z : ℕ). Matches text q z j) (sym d) m)))
   cat_goes p q x j l (inr r) ih m = inr (inl (l, r, to_stepped q (left p x) l j m))
 
+  -- a way that went through the first alternative went through the choice
   alt_left : (p q : Pattern) (x : Bool) (j : ℕ) → Went p x j → Went (alt p q) x j
   alt_left p q x j (inl (h, d)) = inl (or_left _ _ h, d)
   alt_left p q x j (inr r) = inr (inl r)
 
+  -- and one that went through the second
   alt_right : (p q : Pattern) (x : Bool) (j : ℕ) → Went q x j → Went (alt p q) x j
   alt_right p q x j (inl (h, d)) = inl (or_right _ _ h, d)
   alt_right p q x j (inr r) = inr (inr r)
 
   -- the first round of a plus goes to l
+  -- it and the rounds behind it end here, or go on from a mark at the next place
   plus_goes : (p : Pattern) (x y : Bool) (j l : ℕ) → y ≡ (x || left p false) → ((n : ℕ) → Goes p y n → Went p y n)
       → Went p y l → Rounds (Matches text p) j l
       → ((left p y ≡ true) × (i ≡ j)) ⊎ ((n : ℕ) × Rest text (stepped p y) (i + 1) n × Rounds (Matches text p) j n)
@@ -172,6 +193,7 @@ module _ (text : List ℕ) (i : ℕ) where
       ⊎_elim (λ here. inl (h, here.1)) (λ rest. inr rest) (rounds_go p y j ih (entered p x y e h) l (sym d) s)
   plus_goes p x y j l e ih (inr r) s = inr (l, r, s)
 
+  -- rounds behind a mark in the body of a plus may be of the body after a step
   plus_went : (p : Pattern) (y : Bool) (j : ℕ)
       → ((left p y ≡ true) × (i ≡ j)) ⊎ ((l : ℕ) × Rest text (stepped p y) (i + 1) l × Rounds (Matches text p) j l)
       → ((left p y ≡ true) × (i ≡ j)) ⊎ ((l : ℕ) × Rest text (stepped p y) (i + 1) l × Rounds (Matches text (stepped p y)) j l)
@@ -179,6 +201,7 @@ module _ (text : List ℕ) (i : ℕ) where
   plus_went p y j (inr (l, r, s)) = inr (l, r, rounds_to_stepped p y l j s)
 
   -- the law, forwards
+  -- ways through a pattern to a place end here, or go on from its marks after a step
   pub goes_on : (p : Pattern) (x : Bool) (j : ℕ) → Goes p x j → Went p x j
   goes_on empty x j (inl r) = absurd r
   goes_on empty x j (inr m) = inl m
@@ -212,43 +235,52 @@ module _ (text : List ℕ) (i : ℕ) where
   from_body p false back h =
       ⊎_elim (λ r. inr r) (λ none. absurd (true≢false (sym none.0))) (back (inl (h, refl)))
 
+  -- rounds from here go through a star that is entered, or in whose body a way ends here
   star_here : (p : Pattern) (x : Bool) (j : ℕ) → Rounds (Matches text p) j i → (x ≡ true) ⊎ Rest text p i i → Goes (star p) x j
   star_here p x j s (inl xt) = inr (xt, s)
   star_here p x j s (inr r) = inl (i, r, s)
 
+  -- a way through the body of a star, with rounds behind it, goes through the star
   star_back : (p : Pattern) (x : Bool) (j l : ℕ) → (Went p false i → Goes p false i) → Goes p (x || left p false) l
       → Rounds (Matches text p) j l → Goes (star p) x j
   star_back p x j l back (inl r) s = inl (l, r, s)
   star_back p x j l back (inr (yt, m)) s = star_here p x j (a_round i l m s) (from_body p x back yt)
 
+  -- a round and more from here go through a plus that is entered, or in whose body a way ends here
   plus_here : (p : Pattern) (x : Bool) (j l : ℕ) → Matches text p i l → Rounds (Matches text p) j l → (x ≡ true) ⊎ Rest text p i i
       → Goes (plus p) x j
   plus_here p x j l m s (inl xt) = inr (xt, (l, m, s))
   plus_here p x j l m s (inr r) = inl (i, r, a_round i l m s)
 
+  -- a way through the body of a plus, with rounds behind it, goes through the plus
   plus_back : (p : Pattern) (x : Bool) (j l : ℕ) → (Went p false i → Goes p false i) → Goes p (x || left p false) l
       → Rounds (Matches text p) j l → Goes (plus p) x j
   plus_back p x j l back (inl r) s = inl (l, r, s)
   plus_back p x j l back (inr (yt, m)) s = plus_here p x j l m s (from_body p x back yt)
 
+  -- a way through the second, entered by what leaves the first, goes through both
   cat_back : (p q : Pattern) (x : Bool) (j : ℕ) → (Went p x i → Goes p x i) → Goes q (left p x) j → Goes (cat p q) x j
   cat_back p q x j back (inl r) = inl (inr r)
   cat_back p q x j back (inr (h, m)) =
       ⊎_elim (λ r. inl (inl (i, r, m))) (λ found. inr (found.0, (i, found.1, m))) (back (inl (h, refl)))
 
+  -- a way through the first, with a match of the second behind it, goes through both
   cat_forth : (p q : Pattern) (x : Bool) (j l : ℕ) → Goes p x l → Matches text q l j → Goes (cat p q) x j
   cat_forth p q x j l (inl r) m = inl (inl (l, r, m))
   cat_forth p q x j l (inr (xt, n)) m = inr (xt, (l, n, m))
 
+  -- a way through the first alternative goes through the choice
   alt_back_left : (p q : Pattern) (x : Bool) (j : ℕ) → Goes p x j → Goes (alt p q) x j
   alt_back_left p q x j (inl r) = inl (inl r)
   alt_back_left p q x j (inr (xt, m)) = inr (xt, inl m)
 
+  -- and one through the second
   alt_back_right : (p q : Pattern) (x : Bool) (j : ℕ) → Goes q x j → Goes (alt p q) x j
   alt_back_right p q x j (inl r) = inl (inr r)
   alt_back_right p q x j (inr (xt, m)) = inr (xt, inr m)
 
   -- the law, backwards
+  -- what ends here, or goes on from a mark after a step, is a way through the pattern
   pub goes_back : (p : Pattern) (x : Bool) (j : ℕ) → Went p x j → Goes p x j
   goes_back empty x j (inl m) = inr m
   goes_back empty x j (inr r) = absurd r
@@ -277,6 +309,7 @@ module _ (text : List ℕ) (i : ℕ) where
   none_after_end e empty x k j r = r
   none_after_end e (class m n rs) x k j r = no_reading e n rs x r.0
     where
+      -- at the end of the text no class reads
       no_reading : slice_get text i ≡ None → (n : Bool) (rs : List CharSet) (x : Bool) → (x && reads (slice_get text i) n rs) ≡ true → ⊥
       no_reading e n rs x h = true≢false (sym (rw e at (and_right x _ h)))
   none_after_end e (look l) x k j r = r

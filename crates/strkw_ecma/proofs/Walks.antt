@@ -1,20 +1,24 @@
 -- The walk over a table, character by character: what it comes to is what the search does.
-use Rattle.std.proofs.Common.{◌≡◌, ◌⊎◌, ⊎_elim, ◌≤◌, ℕ, suc, ◌+◌, ◌<◌, ◌==◌, Bool, true, false, ◌||◌, List, [], ◌∷◌, length, get_or, drop, drop-cons, Option, Some, None, option_and_then, if◌then◌else◌, refl, sym, ap, ◌∙◌, true≢false, arith}
+use Rattle.std.proofs.Common.{◌≡◌, ◌⊎◌, ⊎_elim, ◌≤◌, ℕ, suc, ◌+◌, ◌<◌, ◌==◌, Bool, true, false, ◌||◌, List, [], ◌∷◌, length, get_or, drop, drop-cons, Option}
+use Rattle.std.proofs.Common.{Some, None, option_and_then, if◌then◌else◌, refl, sym, ap, ◌∙◌, true≢false, arith}
 use Rattle.std.specs.Prelude.{is_some}
 use Rattle.std.proofs.lemmas.Bool.{eq-eqb}
 use Rattle.std.proofs.lemmas.List.{get_or_past}
 use Rattle.strkw_ecma.specs.Tree.{Pattern}
-use Rattle.strkw_ecma.specs.Marks.{leaves, step}
-use Rattle.strkw_ecma.specs.Search.{search_from}
-use Rattle.strkw_ecma.specs.Table.{entry_at, found, next_row, row_after, walk}
+use Rattle.strkw_ecma.specs.machine.Marks.{leaves, step}
+use Rattle.strkw_ecma.specs.machine.Search.{search_from}
+use Rattle.strkw_ecma.specs.machine.Table.{entry_at, found, next_row, row_after, walk}
 
+-- from its place on a text is the character there, and what stands from the next place on
 pub at_place : (text : List ℕ) (k next c : ℕ) → k < length text → c ≡ get_or text k c → next ≡ suc k → drop k text ≡ c ∷ drop next text
 at_place text k next c within is follows =
     drop-cons text k c within ∙ ap (λ (d : ℕ). d ∷ drop (suc k) text) (sym is) ∙ ap (λ (n : ℕ). c ∷ drop n text) (sym follows)
 
+-- a number is less than another, or is at least that
 below_or_past : (i n : ℕ) → (i < n) ⊎ (n ≤ i)
 below_or_past i n = grind arith
 
+-- what is the same as options is the same
 some_is : {A : Type 0} (x y : A) → Some x ≡ Some y → x ≡ y
 some_is x y e = cc
 
@@ -22,9 +26,11 @@ some_is x y e = cc
 module _ (column : ℕ → Option ℕ) (end : ℕ) (entries text rest : List ℕ) (row c k entry : ℕ) (answer : Option Bool)
     (so_far : walk column end entries row text ≡ answer) (begins : text ≡ c ∷ rest) (column_is : column c ≡ Some k)
     (entry_is : entry ≡ entry_at entries row k) where
+  -- what an entry comes to: the pattern is found, or the walk goes on from its row
   Turn : ℕ → Option Bool
   Turn e = if e == found then Some true else walk column end entries (row_after end row e) rest
 
+  -- the entry of the character comes to the answer
   here : Turn entry ≡ answer
   unfolding Turn
   here =
@@ -32,27 +38,34 @@ module _ (column : ℕ → Option ℕ) (end : ℕ) (entries text rest : List ℕ
       ∙ sym (ap (λ (o : Option ℕ). option_and_then (λ (n : ℕ). Turn (entry_at entries row n)) o) column_is)
       ∙ sym (ap (walk column end entries row) begins) ∙ so_far
 
+  -- where it says that the pattern is found, the answer is true
   pub turn_found : entry ≡ found → Some true ≡ answer
   unfolding Turn
   turn_found e = sym (rw (eq-eqb _ _ e) refl) ∙ here
 
+  -- where it does not, the walk from the row that it leads to comes to the answer
   after : (to : ℕ) → to ≡ row_after end row entry → (entry == found) ≡ false → walk column end entries to rest ≡ answer
   unfolding Turn
   after to f e = ap (λ (r : ℕ). walk column end entries r rest) f ∙ sym (rw e refl) ∙ here
 
+  -- the same where that is the row behind its own
   pub turn_next : entry ≡ next_row → (to : ℕ) → to ≡ row + (end + 1) → walk column end entries to rest ≡ answer
   turn_next e to f = after to (f ∙ sym (ap (row_after end row) e)) (ap (λ (x : ℕ). x == found) e)
 
+  -- and where the entry is the row
   pub turn_goes : (entry == next_row) ≡ false → (entry == found) ≡ false → (to : ℕ) → to ≡ entry → walk column end entries to rest ≡ answer
   turn_goes e f to g = after to (rw e g) f
 
 -- a character that has no column
+-- there the walk comes to nothing
 pub walk_stops : (column : ℕ → Option ℕ) (end : ℕ) (entries text rest : List ℕ) (row c : ℕ) (answer : Option Bool)
     → walk column end entries row text ≡ answer → text ≡ c ∷ rest → column c ≡ None → None ≡ answer
 walk_stops column end entries text rest row c answer so_far begins none =
-    sym (ap (λ (o : Option ℕ). option_and_then (λ (n : ℕ). if entry_at entries row n == found then Some true else walk column end entries (row_after end row (entry_at entries row n)) rest) o) none)
+    sym (ap (λ (o : Option ℕ). option_and_then (λ (n : ℕ). if entry_at entries row n == found then Some true
+    else walk column end entries (row_after end row (entry_at entries row n)) rest) o) none)
     ∙ sym (ap (walk column end entries row) begins) ∙ so_far
 
+-- at the end of the text the entry of the last column tells the answer
 pub walk_ends : (column : ℕ → Option ℕ) (end : ℕ) (entries text : List ℕ) (row entry : ℕ) (answer : Option Bool)
     → walk column end entries row text ≡ answer → text ≡ [] → entry ≡ entry_at entries row end → Some (entry == found) ≡ answer
 walk_ends column end entries text row entry answer so_far none is =
@@ -77,11 +90,13 @@ module _ (column : ℕ → Option ℕ) (end : ℕ) (entries : List ℕ) (At : �
   one_turn x true m o answer e f h = sym (some_is true answer (sym (rw e refl) ∙ h))
   one_turn x false m o answer e f h = f refl (sym (rw e refl) ∙ h)
 
+  -- where the walk comes to an answer, the character has a column, and what follows from that holds
   at_column : (c : ℕ) (f : ℕ → Option Bool) (o : Option ℕ) (answer : Bool) (A : Type 0) → column c ≡ o
       → ((k : ℕ) → column c ≡ Some k → f k ≡ Some answer → A) → option_and_then f o ≡ Some answer → A
   at_column c f None answer A is there h = absurd (true≢false (sym (ap is_some h)))
   at_column c f (Some k) answer A is there h = there k is h
 
+  -- from a row that stands for a state, the walk comes to what the search from there does
   pub walks : (text : List ℕ) (row : ℕ) (p : Pattern) (b : Option ℕ) (answer : Bool) → At row p b
       → walk column end entries row text ≡ Some answer → answer ≡ search_from p b text
   walks [] row p b answer at h = sym (some_is _ answer h) ∙ ends row p b at

@@ -1,11 +1,12 @@
 -- Instructions of the code as those of the definitions.
-use Rattle.std.proofs.Common.{◌≡◌, ℕ, zero, suc, ◌+◌, ◌-◌, ◌<◌, nat_lt, Bool, true, List, [], ◌∷◌, ◌++◌, length, length-append, drop, Option, Some, slice_get, refl, sym, ap, ◌∙◌, arith}
+use Rattle.std.proofs.Common.{◌≡◌, ℕ, zero, suc, ◌+◌, ◌-◌, ◌<◌, nat_lt, Bool, true, List, [], ◌∷◌, ◌++◌, length, length-append, drop, Option, Some, slice_get}
+use Rattle.std.proofs.Common.{refl, sym, ap, ◌∙◌, arith}
 use Rattle.std.proofs.Math.Seq.{drop-append_seam}
 use Rattle.std.proofs.lemmas.Bool.{lt-ltb, ltb-true}
 use Rattle.std.proofs.lemmas.List.{append_assoc, append-nil}
 use Rattle.strkw_ecma.specs.Program.{Instruction, copied}
-use Rattle.strkw_ecma.specs.Shape.{turned, reading, instructed, instructions, are_within}
-use Rattle.strkw_ecma.specs.Machine.{written, IsWithin, Writes}
+use Rattle.strkw_ecma.specs.machine.Shape.{turned, reading, instructed, instructions, are_within}
+use Rattle.strkw_ecma.specs.machine.Machine.{written, IsWithin, Writes}
 use Rattle.strkw_ecma.specs.declared.code.Code.{Code}
 use Rattle.strkw_ecma.specs.declared.code.Turn.{Turn as CodeTurn}
 use Rattle.strkw_ecma.specs.declared.code.Class.{Class}
@@ -13,20 +14,24 @@ use Rattle.strkw_ecma.specs.declared.code.Instruction.{Instruction as CodeInstru
 use Rattle.strkw_ecma.specs.declared.code.Instruction.TheVariants.{Read, Turn}
 use Rattle.strkw_ecma.proofs.Steps.{and_true, and_left, and_right}
 
+-- two lists of the code's instructions, one behind the other, stand for those of both
 pub more_instructions : (cs : List Class) (xs ys : List CodeInstruction) → instructions cs (xs ++ ys) ≡ instructions cs xs ++ instructions cs ys
 more_instructions cs [] ys = refl
 more_instructions cs (x ∷ xs) ys = ap (λ (is : List Instruction). instructed cs x ∷ is) (more_instructions cs xs ys)
 
+-- the code's instructions stand for as many of the definitions
 pub instruction_count : (cs : List Class) (xs : List CodeInstruction) → length (instructions cs xs) ≡ length xs
 instruction_count cs [] = refl
 instruction_count cs (x ∷ xs) = ap suc (instruction_count cs xs)
 
+-- two lists that read only from so many classes do so together
 pub within_more : (n : ℕ) (xs ys : List CodeInstruction) → are_within n xs ≡ true → are_within n ys ≡ true → are_within n (xs ++ ys) ≡ true
 within_more n [] ys h g = g
 within_more n (Read k again optional ∷ xs) ys h g =
     and_true _ _ (and_left (nat_lt k n) _ h) (within_more n xs ys (and_right (nat_lt k n) _ h) g)
 within_more n (Turn t ∷ xs) ys h g = within_more n xs ys h g
 
+-- instructions that read only from so many classes read only from those and one more
 pub within_one_more : (n : ℕ) (xs : List CodeInstruction) → are_within n xs ≡ true → are_within (suc n) xs ≡ true
 within_one_more n [] h = refl
 within_one_more n (Read k again optional ∷ xs) h =
@@ -39,10 +44,12 @@ same_class [] ds k h = absurd (omega (arith, h))
 same_class (c ∷ cs) ds zero h = refl
 same_class (c ∷ cs) ds (suc k) h = same_class cs ds k (omega (arith, h))
 
+-- and the number of a class that is added is how many were there
 pub last_class : (cs : List Class) (c : Class) → slice_get (cs ++ c ∷ []) (length cs) ≡ Some c
 last_class [] c = refl
 last_class (d ∷ cs) c = last_class cs c
 
+-- classes that are added change no instructions that read from those before
 pub same_instructions : (cs ds : List Class) (xs : List CodeInstruction) → are_within (length cs) xs ≡ true
     → instructions (cs ++ ds) xs ≡ instructions cs xs
 same_instructions cs ds [] h = refl
@@ -52,14 +59,7 @@ same_instructions cs ds (Read k again optional ∷ xs) h =
     ∙ ap (λ (is : List Instruction). reading again optional (slice_get cs k) ∷ is) (same_instructions cs ds xs (and_right (nat_lt k (length cs)) _ h))
 same_instructions cs ds (Turn t ∷ xs) h = ap (λ (is : List Instruction). turned t ∷ is) (same_instructions cs ds xs h)
 
-pub nothing_written : (code : Code) → Writes code code []
-nothing_written code = record {
-  within = λ h. h;
-  written_is = λ h. sym (append-nil (written code));
-  classes = omega arith;
-  grows = omega arith;
-}
-
+-- what is written in two turns is that of the first, and behind it that of the second
 pub both_written : (old mid new : Code) (is js : List Instruction) → Writes old mid is → Writes mid new js → Writes old new (is ++ js)
 both_written old mid new is js one two = record {
   within = λ h. two.within (one.within h);
@@ -75,6 +75,7 @@ behind old is =
     ap (λ (n : ℕ). drop n (written old ++ is)) (sym (instruction_count old.classes.items old.instructions.items))
     ∙ drop-append_seam (written old) is
 
+-- a list that is the same as what is written is written too
 pub as_written : (old new : Code) (is js : List Instruction) → (IsWithin old → is ≡ js)
     → Writes old new is → Writes old new js
 as_written old new is js same known = record {
@@ -98,6 +99,7 @@ repeats_written old mid new is from count begins some one more =
     ∙ ap (λ (n : ℕ). copied n is) counted)
     (both_written old mid new is _ one more)
 
+-- an instruction that reads no class, put behind the others, is what is written
 pub turn_written : (old new : Code) (t : CodeTurn) → new.classes ≡ old.classes
     → new.instructions.items ≡ old.instructions.items ++ Turn t ∷ [] → Writes old new (turned t ∷ [])
 turn_written old new t same items =
@@ -111,6 +113,7 @@ turn_written old new t same items =
       grows = omega (arith, longer);
     }
 
+-- the same of one that reads a class, which is put behind the other classes
 pub read_written : (old new : Code) (c : Class) (again optional : Bool) → new.classes.items ≡ old.classes.items ++ c ∷ []
     → new.instructions.items ≡ old.instructions.items ++ Read (length old.classes.items) again optional ∷ []
     → Writes old new (reading again optional (Some c) ∷ [])
@@ -138,26 +141,31 @@ pub one_more_copy : {A : Type 0} (n : ℕ) (xs : List A) → copied n xs ++ xs �
 one_more_copy zero xs = sym (append-nil xs)
 one_more_copy (suc n) xs = append_assoc xs (copied n xs) xs ∙ ap (λ ys. xs ++ ys) (one_more_copy n xs)
 
+-- the instructions from a place on are those that the code has from there on
 pub drop_instructions : (cs : List Class) (n : ℕ) (xs : List CodeInstruction) → drop n (instructions cs xs) ≡ instructions cs (drop n xs)
 drop_instructions cs zero xs = refl
 drop_instructions cs (suc n) [] = refl
 drop_instructions cs (suc n) (x ∷ xs) = drop_instructions cs n xs
 
+-- copies of the code's instructions stand for copies of those that these stand for
 pub copied_instructions : (cs : List Class) (n : ℕ) (xs : List CodeInstruction) → instructions cs (copied n xs) ≡ copied n (instructions cs xs)
 copied_instructions cs zero xs = refl
 copied_instructions cs (suc n) xs =
     more_instructions cs xs (copied n xs) ∙ ap (λ (is : List Instruction). instructions cs xs ++ is) (copied_instructions cs n xs)
 
+-- from each place on a list reads only from so many classes, where all of it does
 pub within_rest : (n k : ℕ) (xs : List CodeInstruction) → are_within n xs ≡ true → are_within n (drop k xs) ≡ true
 within_rest n zero xs h = h
 within_rest n (suc k) [] h = h
 within_rest n (suc k) (Read j again optional ∷ xs) h = within_rest n k xs (and_right (nat_lt j n) _ h)
 within_rest n (suc k) (Turn t ∷ xs) h = within_rest n k xs h
 
+-- and so do copies of it
 within_copies : (n k : ℕ) (xs : List CodeInstruction) → are_within n xs ≡ true → are_within n (copied k xs) ≡ true
 within_copies n zero xs h = refl
 within_copies n (suc k) xs h = within_more n xs (copied k xs) h (within_copies n k xs h)
 
+-- copies of what stands from a place on, put behind all, are what is written
 pub copies_written : (old new : Code) (from times : ℕ) → new.classes ≡ old.classes
     → new.instructions.items ≡ old.instructions.items ++ copied times (drop from old.instructions.items)
     → Writes old new (copied times (drop from (written old)))

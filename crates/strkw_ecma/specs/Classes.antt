@@ -1,7 +1,9 @@
--- Classes of characters, after `CharacterClass` of ECMA-262 2024, section 22.2.1, in Unicode mode. The standard gives their
--- contents from the last item on (`NonemptyClassRanges`), these trees from the first: a `-` stands for itself at the beginning,
--- behind a range, and before the closing bracket.
-use Rattle.std.specs.Prelude.{◌≡◌, ℕ, nat_le, Bool, true, false, List, [], ◌∷◌, ◌++◌, Option, Some, None, is_some, if◌then◌else◌, ◌==◌}
+-- Classes of characters, after `CharacterClass` of ECMA-262 2024, section 22.2.1, in Unicode mode.
+-- The standard gives their contents from the last item on (`NonemptyClassRanges`), these trees from
+-- the first: a `-` stands for itself at the beginning, behind a range, and before the closing
+-- bracket.
+use Rattle.std.specs.Prelude.{◌≡◌, ℕ, nat_le, Bool, true, false, List, [], ◌∷◌, ◌++◌, Option, Some}
+use Rattle.std.specs.Prelude.{None, is_some, if◌then◌else◌, ◌==◌}
 use Rattle.std.specs.Str.{byte}
 use Rattle.strkw_ecma.specs.Escapes.{Escape, itself, control, set, escape}
 use Rattle.strkw_ecma.specs.Properties.{Expression, property_of, property_spelling, IsExpression}
@@ -10,17 +12,21 @@ use Rattle.strkw_ecma.specs.declared.tree.CharSet.TheVariants.{Range, Property a
 use Rattle.strkw_ecma.specs.declared.properties.Property.{Property}
 use Rattle.strkw_ecma.specs.Codes.{Code, code_spelling, code_value, IsCode}
 use Rattle.strkw_ecma.specs.Sets.{control_char, set_ranges}
+pub use Rattle.strkw_ecma.specs.declared.tokens.ClassToken.{ClassToken}
+pub use Rattle.strkw_ecma.specs.declared.tokens.ClassToken.TheVariants.{Closing as closing_bracket}
+pub use Rattle.strkw_ecma.specs.declared.tokens.ClassToken.TheVariants.{Backslash as class_escaper}
+pub use Rattle.strkw_ecma.specs.declared.tokens.ClassToken.TheVariants.{Dash as dash}
+pub use Rattle.strkw_ecma.specs.declared.tokens.ClassToken.TheVariants.{Character as class_char}
 
 -- what a character is in a class
-pub data ClassToken : Type 0 where
-  closing_bracket class_backslash dash class_character : ClassToken
-
 abbrev pub class_token : ℕ → ClassToken
 class_token c =
-    if c == byte "]" then closing_bracket else if c == byte "\\" then class_backslash else if c == byte "-" then dash
-    else class_character
+    if c == byte "]" then closing_bracket else if c == byte "\\" then class_escaper
+    else if c == byte "-" then dash
+    else class_char
 
--- what a character is behind a backslash in a class: ClassEscape takes `-` too, and `b` is the backspace
+-- what a character is behind a backslash in a class: ClassEscape takes `-` too, and `b` is the
+-- backspace
 abbrev pub class_escape : ℕ → Escape
 class_escape c = if c == byte "-" then itself else escape c
 
@@ -99,7 +105,8 @@ class_atom_spelling (class_property n e) = byte "\\" ∷ property_spelling n e
 abbrev pub ranges_spelling : Ranges → List ℕ
 ranges_spelling no_ranges = []
 ranges_spelling (with_one r x) = ranges_spelling r ++ class_atom_spelling x
-ranges_spelling (with_range r x y) = (ranges_spelling r ++ class_atom_spelling x) ++ byte "-" ∷ class_atom_spelling y
+ranges_spelling (with_range r x y) =
+    (ranges_spelling r ++ class_atom_spelling x) ++ byte "-" ∷ class_atom_spelling y
 
 abbrev pub negation_spelling : Bool → List ℕ
 negation_spelling false = byte "[" ∷ []
@@ -110,7 +117,7 @@ ending_spelling false = byte "]" ∷ []
 ending_spelling true = byte "-" ∷ byte "]" ∷ []
 
 abbrev pub IsClassAtom : ClassAtom → Type 0
-IsClassAtom (class_plain c) = class_token c ≡ class_character
+IsClassAtom (class_plain c) = class_token c ≡ class_char
 IsClassAtom hyphen = Unit {0}
 IsClassAtom (class_escaped c) = class_escape c ≡ itself
 IsClassAtom (class_control c) = class_escape c ≡ control
@@ -149,4 +156,5 @@ abbrev pub AreRanges : Bool → Ranges → Type 0
 AreRanges n no_ranges = Unit {0}
 AreRanges n (with_one r x) = AreRanges n r × IsClassAtom x × MayFollow n r x
 AreRanges n (with_range r x y) =
-    AreRanges n r × (IsClassAtom x × MayFollow n r x) × IsClassAtom y × (is_some (range (item x) (item y)) ≡ true)
+    AreRanges n r × (IsClassAtom x × MayFollow n r x) × IsClassAtom y
+    × (is_some (range (item x) (item y)) ≡ true)

@@ -1,6 +1,7 @@
--- Escapes that give a character by a number: CharacterEscape of ECMA-262 2024, section 22.2.1, in Unicode mode, with neither
--- ControlEscape nor IdentityEscape.
-use Rattle.std.specs.Prelude.{◌≡◌, ℕ, ◌+◌, ◌*◌, ◌-◌, ◌%◌, nat_lt, nat_le, Bool, true, ◌&&◌, ◌||◌, List, [], ◌∷◌, ◌++◌, false, length}
+-- Escapes that give a character by a number: CharacterEscape of ECMA-262 2024, section 22.2.1, in
+-- Unicode mode, with neither ControlEscape nor IdentityEscape.
+use Rattle.std.specs.Prelude.{◌≡◌, ℕ, ◌+◌, ◌*◌, ◌-◌, ◌%◌, nat_lt, nat_le, Bool, true, ◌&&◌, ◌||◌}
+use Rattle.std.specs.Prelude.{List, [], ◌∷◌, ◌++◌, false, length}
 use Rattle.std.specs.Char.{digit_value, is_ascii_alphabetic}
 use Rattle.std.specs.Str.{byte}
 
@@ -22,7 +23,8 @@ hex_number = hex_number_from 0
 abbrev pub max_code_point : ℕ
 max_code_point = 0x10FFFF
 
--- HexLeadSurrogate and HexTrailSurrogate; and a code point that a text can have, which is none of these
+-- HexLeadSurrogate and HexTrailSurrogate; and a code point that a text can have, which is none of
+-- these
 abbrev pub is_lead : ℕ → Bool
 is_lead n = nat_le 0xD800 n && nat_le n 0xDBFF
 
@@ -75,7 +77,8 @@ AreCodeDigits null_code = Unit {0}
 AreCodeDigits (letter_code c) = is_ascii_alphabetic c ≡ true
 AreCodeDigits (byte_code ds) = AreDigits 2 ds
 AreCodeDigits (unit_code ds) = AreDigits 4 ds
-AreCodeDigits (pair_code ds es) = (AreDigits 4 ds × (is_lead (hex_number ds) ≡ true)) × AreDigits 4 es × (is_trail (hex_number es) ≡ true)
+AreCodeDigits (pair_code ds es) = (AreDigits 4 ds × (is_lead (hex_number ds) ≡ true))
+    × AreDigits 4 es × (is_trail (hex_number es) ≡ true)
 AreCodeDigits (point_code ds) = (are_hex_digits ds ≡ true) × (has_digits ds ≡ true)
 
 -- it gives a character that a text can have: a surrogate alone is not taken

@@ -11,7 +11,7 @@ use Rattle.strkw_ecma.specs.Lookahead.{is_apart}
 use Rattle.strkw_ecma.specs.Size.{steps, max_steps}
 use Rattle.strkw_ecma.specs.Meaning.{Found}
 use Rattle.strkw_ecma.specs.Patterns.{pattern}
-use Rattle.strkw_ecma.specs.Outcomes.{takes_pattern, pattern_outcome}
+use Rattle.strkw_ecma.specs.machine.Outcomes.{takes_pattern, pattern_outcome}
 
 -- each character is in one of the two
 abbrev pub AreComplements : List CharSet → List CharSet → Type 0
@@ -28,11 +28,13 @@ pub record IsPattern (source : List ℕ) (d : Disjunction) : Type 0 where
   pub distinct : are_distinct (names d) ≡ true
   pub small : steps (pattern d) ≤ max_steps
 
--- what is taken is a pattern, each pattern is taken, it has one tree, and it comes to a match exactly where that is found, and
--- to none elsewhere
+-- what is taken is a pattern, each pattern is taken, it has one tree, and it comes to a match
+-- exactly where that is found, and to none elsewhere
 pub record IsExact (source : List ℕ) : Type 0 where
   pub derived : IsTrue (takes_pattern source) → (d : Disjunction) × IsPattern source d
   pub taken : (d : Disjunction) → IsPattern source d → IsTrue (takes_pattern source)
   pub one_tree : (d e : Disjunction) → IsPattern source d → IsPattern source e → d ≡ e
-  pub decided : (text : List ℕ) → (pattern_outcome source text ≡ Match) ⊎ (pattern_outcome source text ≡ NoMatch)
-  pub meant : (d : Disjunction) → IsPattern source d → (text : List ℕ) → (pattern_outcome source text ≡ Match) ↔ Found (pattern d) text
+  pub decided : (text : List ℕ) → (pattern_outcome source text ≡ Match)
+      ⊎ (pattern_outcome source text ≡ NoMatch)
+  pub meant : (d : Disjunction) → IsPattern source d → (text : List ℕ)
+      → (pattern_outcome source text ≡ Match) ↔ Found (pattern d) text

@@ -1,35 +1,21 @@
+-- What a pattern is and what it means: the grammar of its text, its meaning, which patterns are
+-- taken and why one is not.
 pub mod Properties
 pub mod Tree
 pub mod Sets
 pub mod Meaning
-pub mod Marks
-pub mod Shape
 pub mod Numbers
 pub mod Program
-pub mod Walk
 pub mod Size
-pub mod Machine
-pub mod Sizes
 pub mod Escapes
 pub mod Lookahead
 pub mod Codes
 pub mod Classes
 pub mod Names
 pub mod Syntax
-pub mod CodeReading
-pub mod PropertyReading
-pub mod CodeParts
-pub mod Reading
 pub mod Patterns
 pub mod WellFormed
-pub mod Search
-pub mod Counted
-pub mod Outcomes
-pub mod Engine
 pub mod Laws
-pub mod Parts
 pub mod Refusals
-pub mod RefusalParts
-pub mod Columns
-pub mod Table
-pub mod Searches
+-- How the code reads and searches: the laws say that it comes to the same.
+pub mod machine

@@ -1,11 +1,13 @@
--- `\0` is an escape only where no decimal digit follows it (CharacterEscape of ECMA-262 2024, section 22.2.1).
+-- `\0` is an escape only where no decimal digit follows it (CharacterEscape of ECMA-262 2024,
+-- section 22.2.1).
 use Rattle.std.specs.Prelude.{ℕ, Bool, true, ◌&&◌, not, List, [], ◌∷◌, if◌then◌else◌, ◌==◌}
 use Rattle.std.specs.Str.{byte}
 use Rattle.strkw_ecma.specs.Numbers.{is_digit}
-
 -- what stands before a character: a backslash that begins an escape, `\0`, or neither
-pub data Front : Type 0 where
-  neither backslash null : Front
+pub use Rattle.strkw_ecma.specs.declared.lookahead.Front.{Front}
+pub use Rattle.strkw_ecma.specs.declared.lookahead.Front.TheVariants.{Neither as neither}
+pub use Rattle.strkw_ecma.specs.declared.lookahead.Front.TheVariants.{Backslash as backslash}
+pub use Rattle.strkw_ecma.specs.declared.lookahead.Front.TheVariants.{Null as null}
 
 abbrev pub after_plain : ℕ → Front
 after_plain c = if c == byte "\\" then backslash else neither

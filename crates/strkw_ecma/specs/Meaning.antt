@@ -1,7 +1,10 @@
--- What a pattern means (ECMA-262 2024, section 22.2.2): it matches a text from place i to place j. A place is the number of
--- characters before it. The standard's RepeatMatcher refuses a round that reads nothing, which changes no answer.
-use Rattle.std.specs.Prelude.{◌≡◌, ℕ, ◌+◌, ◌-◌, ◌≤◌, ◌==◌, Bool, true, false, not, ◌⊎◌, List, length, Option, Some, None, if◌then◌else◌, slice_get}
-use Rattle.strkw_ecma.specs.Tree.{Look, start, end, boundary, no_boundary, Pattern, empty, class, look, cat, alt, star, plus, in_sets, differ, is_member}
+-- What a pattern means (ECMA-262 2024, section 22.2.2): it matches a text from place i to place j.
+-- A place is the number of characters before it. The standard's RepeatMatcher refuses a round that
+-- reads nothing, which changes no answer.
+use Rattle.std.specs.Prelude.{◌≡◌, ℕ, ◌+◌, ◌-◌, ◌≤◌, ◌==◌, Bool, true, false, not, ◌⊎◌, List}
+use Rattle.std.specs.Prelude.{length, Option, Some, None, if◌then◌else◌, slice_get}
+use Rattle.strkw_ecma.specs.Tree.{Look, start, end, boundary, no_boundary, Pattern, empty, class}
+use Rattle.strkw_ecma.specs.Tree.{look, cat, alt, star, plus, in_sets, differ, is_member}
 use Rattle.strkw_ecma.specs.Sets.{word_characters}
 
 -- so many rounds of R as it takes, none among them, lead from the last number to j
@@ -31,13 +34,15 @@ holds no_boundary b a = not (differ (is_word b) (is_word a))
 
 abbrev pub Matches : List ℕ → Pattern → ℕ → ℕ → Type 0
 Matches text empty i j = i ≡ j
-Matches text (class m n rs) i j = (c : ℕ) × (slice_get text i ≡ Some c) × (is_member n rs c ≡ true) × (j ≡ i + 1)
+Matches text (class m n rs) i j = (c : ℕ) × (slice_get text i ≡ Some c) × (is_member n rs c ≡ true)
+    × (j ≡ i + 1)
 Matches text (look l) i j = (holds l (before text i) (slice_get text i) ≡ true) × (i ≡ j)
 Matches text (cat p q) i j = (l : ℕ) × Matches text p i l × Matches text q l j
 Matches text (alt p q) i j = Matches text p i j ⊎ Matches text q i j
 Matches text (star p) i j = Rounds (Matches text p) j i
 Matches text (plus p) i j = (l : ℕ) × Matches text p i l × Rounds (Matches text p) j l
 
--- the pattern is found somewhere in the text. Beyond its end no place is one: there both assertions would hold
+-- the pattern is found somewhere in the text. Beyond its end no place is one: there both assertions
+-- would hold
 abbrev pub Found : Pattern → List ℕ → Type 0
 Found p text = (i j : ℕ) × (i ≤ length text) × Matches text p i j

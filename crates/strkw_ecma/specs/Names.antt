@@ -1,10 +1,20 @@
 -- Names of groups: GroupName of ECMA-262 2024, section 22.2.1, in Unicode mode.
-use Rattle.std.specs.Prelude.{◌≡◌, ℕ, Bool, true, false, not, ◌&&◌, ◌||◌, ◌==◌, nat_eq, List, [], ◌∷◌, ◌++◌, map, if◌then◌else◌}
+use Rattle.std.specs.Prelude.{◌≡◌, ℕ, Bool, true, false, not, ◌&&◌, ◌||◌, ◌==◌, nat_eq, List, []}
+use Rattle.std.specs.Prelude.{◌∷◌, ◌++◌, map, if◌then◌else◌}
 use Rattle.std.specs.Cmp.Lexicographic.{pointwise}
 use Rattle.std.specs.List.{list_any}
 use Rattle.std.specs.Str.{byte}
 use Rattle.ucd_derived.specs.Binary.{is_id_start, is_id_continue}
-use Rattle.strkw_ecma.specs.Codes.{Code, null_code, letter_code, byte_code, unit_code, pair_code, point_code, code_spelling, code_value, IsCode}
+use Rattle.strkw_ecma.specs.Codes.{Code, null_code, letter_code, byte_code, unit_code, pair_code}
+use Rattle.strkw_ecma.specs.Codes.{point_code, code_spelling, code_value, IsCode}
+pub use Rattle.strkw_ecma.specs.declared.tokens.Extension.{Extension}
+pub use Rattle.strkw_ecma.specs.declared.tokens.Extension.TheVariants.{Uncaptured as uncaptured}
+pub use Rattle.strkw_ecma.specs.declared.tokens.Extension.TheVariants.{NameOpening as name_opening}
+pub use Rattle.strkw_ecma.specs.declared.tokens.Extension.TheVariants.{Unknown as no_extension}
+pub use Rattle.strkw_ecma.specs.declared.tokens.NameToken.{NameToken}
+pub use Rattle.strkw_ecma.specs.declared.tokens.NameToken.TheVariants.{End as name_end}
+pub use Rattle.strkw_ecma.specs.declared.tokens.NameToken.TheVariants.{Backslash as name_backslash}
+pub use Rattle.strkw_ecma.specs.declared.tokens.NameToken.TheVariants.{Character as name_character}
 
 -- IdentifierStartChar and IdentifierPartChar (section 12.7); `_` is one of ID_Continue
 abbrev pub is_name_start : ℕ → Bool
@@ -26,7 +36,8 @@ abbrev pub name_spelling : List NameChar → List ℕ
 name_spelling [] = []
 name_spelling (x ∷ xs) = name_char_spelling x ++ name_spelling xs
 
--- RegExpIdentifierCodePoint, and CapturingGroupName: escapes give the characters that they stand for
+-- RegExpIdentifierCodePoint, and CapturingGroupName: escapes give the characters that they stand
+-- for
 abbrev pub name_char_value : NameChar → ℕ
 name_char_value (verbatim c) = c
 name_char_value (by_code k) = code_value k
@@ -71,15 +82,11 @@ are_distinct [] = true
 are_distinct (n ∷ ns) = not (list_any (λ m. same_name m n) ns) && are_distinct ns
 
 -- what a character is behind `(?`
-pub data Extension : Type 0 where
-  uncaptured name_opening no_extension : Extension
-
 abbrev pub extension : ℕ → Extension
-extension c = if c == byte ":" then uncaptured else if c == byte "<" then name_opening else no_extension
+extension c = if c == byte ":" then uncaptured else if c == byte "<" then name_opening
+    else no_extension
 
 -- and in a name
-pub data NameToken : Type 0 where
-  name_end name_backslash name_character : NameToken
-
 abbrev pub name_token : ℕ → NameToken
-name_token c = if c == byte ">" then name_end else if c == byte "\\" then name_backslash else name_character
+name_token c = if c == byte ">" then name_end else if c == byte "\\" then name_backslash
+    else name_character

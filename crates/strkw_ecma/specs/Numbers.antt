@@ -1,6 +1,13 @@
--- Counts of a quantifier: DecimalDigits and their value (ECMA-262 2024, sections 22.2.1 and 22.2.2.7).
-use Rattle.std.specs.Prelude.{◌≡◌, ℕ, ◌+◌, ◌*◌, ◌-◌, ◌≤◌, nat_le, ◌==◌, Bool, true, ◌&&◌, List, [], ◌∷◌, Option, Some, None, is_some, if◌then◌else◌}
+-- Counts of a quantifier: DecimalDigits and their value (ECMA-262 2024, sections 22.2.1 and
+-- 22.2.2.7).
+use Rattle.std.specs.Prelude.{◌≡◌, ℕ, ◌+◌, ◌*◌, ◌-◌, ◌≤◌, nat_le, ◌==◌, Bool, true, ◌&&◌, List, []}
+use Rattle.std.specs.Prelude.{◌∷◌, Option, Some, None, is_some, if◌then◌else◌}
 use Rattle.std.specs.Str.{byte}
+pub use Rattle.strkw_ecma.specs.declared.tokens.CountToken.{CountToken}
+pub use Rattle.strkw_ecma.specs.declared.tokens.CountToken.TheVariants.{Digit as digit}
+pub use Rattle.strkw_ecma.specs.declared.tokens.CountToken.TheVariants.{Comma as comma}
+pub use Rattle.strkw_ecma.specs.declared.tokens.CountToken.TheVariants.{Closing as closing_brace}
+pub use Rattle.strkw_ecma.specs.declared.tokens.CountToken.TheVariants.{Other as no_count}
 
 -- no count is greater
 abbrev pub max_count : ℕ
@@ -29,9 +36,7 @@ abbrev pub IsNumber : List ℕ → Type 0
 IsNumber ds = (are_digits ds ≡ true) × (is_some (number_of ds) ≡ true) × (number ds ≤ max_count)
 
 -- what a character is in a count
-pub data CountToken : Type 0 where
-  digit comma closing_brace no_count : CountToken
-
 abbrev pub count_token : ℕ → CountToken
 count_token c =
-    if is_digit c then digit else if c == byte "," then comma else if c == byte "}" then closing_brace else no_count
+    if is_digit c then digit else if c == byte "," then comma
+    else if c == byte "}" then closing_brace else no_count

@@ -1,14 +1,19 @@
--- The pattern that a tree of the syntax stands for. Whether a quantifier is lazy matters for which match is found first, and
--- not for whether one is.
+-- The pattern that a tree of the syntax stands for. Whether a quantifier is lazy matters for which
+-- match is found first, and not for whether one is.
 use Rattle.std.specs.Prelude.{ℕ, zero, suc, ◌+◌, ◌-◌, true, false, [], ◌∷◌}
 use Rattle.strkw_ecma.specs.Numbers.{number}
-use Rattle.strkw_ecma.specs.Tree.{Pattern, empty, class, look, cat, alt, star, plus, start, end, boundary, no_boundary}
+use Rattle.strkw_ecma.specs.Tree.{Pattern, empty, class, look, cat, alt, star, plus, start, end}
+use Rattle.strkw_ecma.specs.Tree.{boundary, no_boundary}
 use Rattle.strkw_ecma.specs.Sets.{line_ends, set_of, is_negative, control_char}
 use Rattle.strkw_ecma.specs.Codes.{code_value}
 use Rattle.strkw_ecma.specs.Properties.{property_of}
 use Rattle.strkw_ecma.specs.Classes.{contents, property_set}
 use Rattle.strkw_ecma.specs.declared.tree.CharSet.TheVariants.{Range}
-use Rattle.strkw_ecma.specs.Syntax.{Disjunction, only, either, Alternative, nothing, more, Term, at_start, at_end, at_boundary, at_no_boundary, once, quantified, Quantifier, zero_or_more, one_or_more, zero_or_one, exactly, at_least, from_to, Atom, plain, escaped, control_escape, set_escape, coded, property_escape, dot, bracketed, group}
+use Rattle.strkw_ecma.specs.Syntax.{Disjunction, only, either, Alternative, nothing, more, Term}
+use Rattle.strkw_ecma.specs.Syntax.{at_start, at_end, at_boundary, at_no_boundary, once, quantified}
+use Rattle.strkw_ecma.specs.Syntax.{Quantifier, zero_or_more, one_or_more, zero_or_one, exactly}
+use Rattle.strkw_ecma.specs.Syntax.{at_least, from_to, Atom, plain, escaped, control_escape}
+use Rattle.strkw_ecma.specs.Syntax.{set_escape, coded, property_escape, dot, bracketed, group}
 
 abbrev pub one_char : ℕ → Pattern
 one_char c = class false false (Range c c ∷ [])

@@ -1,10 +1,12 @@
 -- The program of a pattern: instructions one behind another, with no tree in them.
 use Rattle.std.specs.Prelude.{ℕ, zero, suc, ◌+◌, Bool, true, false, ◌||◌, List, [], ◌∷◌, ◌++◌}
 use Rattle.strkw_ecma.specs.declared.tree.CharSet.{CharSet}
-use Rattle.strkw_ecma.specs.Tree.{Look, start, end, boundary, no_boundary, Pattern, empty, class, look, cat, alt, star, plus}
+use Rattle.strkw_ecma.specs.Tree.{Look, start, end, boundary, no_boundary, Pattern, empty, class}
+use Rattle.strkw_ecma.specs.Tree.{look, cat, alt, star, plus}
 
 pub data Instruction : Type 0 where
-  -- One character of a class, which is negated or not. Where the first holds, once or more; where the second holds, or none.
+  -- One character of a class, which is negated or not. Where the first holds, once or more; where
+  -- the second holds, or none.
   read : Bool → Bool → Bool → List CharSet → Instruction
   assert : Look → Instruction
   -- before the first of some alternatives, between two of them, and behind the last
@@ -52,9 +54,12 @@ abbrev mutual
   program (look l) = assert l ∷ []
   program (cat p q) = program p ++ program q
   program (alt p q) =
-      if_option p q (λ n rs. read false true n rs ∷ []) (fork ∷ (alternatives p ++ (other ∷ (program q ++ (join ∷ [])))))
-  program (star p) = if_class p (λ n rs. read true true n rs ∷ []) (star_begin ∷ (program p ++ (star_end ∷ [])))
-  program (plus p) = if_class p (λ n rs. read true false n rs ∷ []) (plus_begin ∷ (program p ++ (plus_end ∷ [])))
+      if_option p q (λ n rs. read false true n rs ∷ [])
+      (fork ∷ (alternatives p ++ (other ∷ (program q ++ (join ∷ [])))))
+  program (star p) = if_class p (λ n rs. read true true n rs ∷ [])
+      (star_begin ∷ (program p ++ (star_end ∷ [])))
+  program (plus p) = if_class p (λ n rs. read true false n rs ∷ [])
+      (plus_begin ∷ (program p ++ (plus_end ∷ [])))
 
   -- the alternatives of more than two stand side by side
   pub alternatives : Pattern → List Instruction
@@ -63,8 +68,10 @@ abbrev mutual
   alternatives (class m n rs) = read false false n rs ∷ []
   alternatives (look l) = assert l ∷ []
   alternatives (cat p q) = program p ++ program q
-  alternatives (star p) = if_class p (λ n rs. read true true n rs ∷ []) (star_begin ∷ (program p ++ (star_end ∷ [])))
-  alternatives (plus p) = if_class p (λ n rs. read true false n rs ∷ []) (plus_begin ∷ (program p ++ (plus_end ∷ [])))
+  alternatives (star p) = if_class p (λ n rs. read true true n rs ∷ [])
+      (star_begin ∷ (program p ++ (star_end ∷ [])))
+  alternatives (plus p) = if_class p (λ n rs. read true false n rs ∷ [])
+      (plus_begin ∷ (program p ++ (plus_end ∷ [])))
 
 -- so many times
 abbrev pub copied : {A : Type 0} → ℕ → List A → List A

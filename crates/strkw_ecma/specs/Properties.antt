@@ -1,6 +1,8 @@
--- Properties of characters in a pattern: `p{ }` and `P{ }` of CharacterClassEscape (ECMA-262 2024, section 22.2.1), for the
--- properties General_Category and Script.
-use Rattle.std.specs.Prelude.{◌≡◌, ℕ, Bool, true, false, ◌&&◌, ◌||◌, ◌==◌, List, [], ◌∷◌, ◌++◌, map, filter_map, bytes_eq, codes, Option, Some, None, option_map, is_some, if◌then◌else◌}
+-- Properties of characters in a pattern: `p{ }` and `P{ }` of CharacterClassEscape (ECMA-262 2024,
+-- section 22.2.1), for the properties General_Category and Script.
+use Rattle.std.specs.Prelude.{◌≡◌, ℕ, Bool, true, false, ◌&&◌, ◌||◌, ◌==◌, List, [], ◌∷◌, ◌++◌, map}
+use Rattle.std.specs.Prelude.{filter_map, bytes_eq, codes, Option, Some, None, option_map, is_some}
+use Rattle.std.specs.Prelude.{if◌then◌else◌}
 use Rattle.std.specs.Char.{is_ascii_alphanumeric}
 use Rattle.std.specs.Str.{byte}
 use Prim.Native.String.{String}
@@ -33,18 +35,22 @@ category_row row = option_map (λ p. (codes row.0, p)) (category_of row.1)
 abbrev pub script_row : String × ScriptValue → List ℕ × ScriptValue
 script_row row = (codes row.0, row.1)
 
--- UnicodeMatchPropertyValue (section 22.2.2.9.2): the value with exactly this name in PropertyValueAliases.txt
+-- UnicodeMatchPropertyValue (section 22.2.2.9.2): the value with exactly this name in
+-- PropertyValueAliases.txt
 unfoldable pub category_named : List ℕ → Option Property
 category_named = value_named (filter_map category_row category_names)
 
 unfoldable pub script_value_named : List ℕ → Option ScriptValue
 script_value_named = value_named (map script_row script_names)
 
--- UnicodeMatchProperty (section 22.2.2.9.1), of the two properties: by their names in PropertyAliases.txt
+-- UnicodeMatchProperty (section 22.2.2.9.1), of the two properties: by their names in
+-- PropertyAliases.txt
 abbrev pub value_of : List ℕ → List ℕ → Option Property
 value_of name value =
-    if bytes_eq name (codes "General_Category") || bytes_eq name (codes "gc") then category_named value
-    else if bytes_eq name (codes "Script") || bytes_eq name (codes "sc") then option_map Script (script_value_named value)
+    if bytes_eq name (codes "General_Category")
+    || bytes_eq name (codes "gc") then category_named value
+    else if bytes_eq name (codes "Script")
+    || bytes_eq name (codes "sc") then option_map Script (script_value_named value)
     else None
 
 -- UnicodePropertyValueExpression: LoneUnicodePropertyNameOrValue, or a property's name and a value

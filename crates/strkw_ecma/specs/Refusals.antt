@@ -1,18 +1,27 @@
 -- Why a pattern is not taken, said over its text.
-use Rattle.std.specs.Prelude.{◌≡◌, ◌⊎◌, ℕ, zero, suc, ◌*◌, ◌<◌, ◌≤◌, Bool, true, false, is_none, ◌&&◌, not, List, [], ◌∷◌, ◌++◌, length, codes}
+use Rattle.std.specs.Prelude.{◌≡◌, ◌⊎◌, ℕ, zero, suc, ◌*◌, ◌<◌, ◌≤◌, Bool, true, false, is_none}
+use Rattle.std.specs.Prelude.{◌&&◌, not, List, [], ◌∷◌, ◌++◌, length, codes}
 use Rattle.std.specs.Str.{byte}
 use Rattle.strkw_text.specs.Characters.{is_one_of}
 use Rattle.strkw_ecma.specs.Numbers.{number, are_digits, IsNumber, max_count}
-use Rattle.strkw_ecma.specs.Properties.{Expression, alone, valued, property_of, has_property_chars, property_spelling}
+use Rattle.strkw_ecma.specs.Properties.{Expression, alone, valued, property_of, has_property_chars}
+use Rattle.strkw_ecma.specs.Properties.{property_spelling}
 use Rattle.strkw_ecma.specs.Size.{steps, max_term_steps, max_steps}
 use Rattle.strkw_ecma.specs.Patterns.{pattern, atom_pattern, times, copies}
-use Rattle.strkw_ecma.specs.Syntax.{Disjunction, spelling, Group, group_spelling, Atom, atom_spelling, Quantifier, quantifier_spelling, max_nesting, max_length}
+use Rattle.strkw_ecma.specs.Syntax.{Disjunction, spelling, Group, group_spelling, Atom}
+use Rattle.strkw_ecma.specs.Syntax.{atom_spelling, Quantifier, quantifier_spelling, max_nesting}
+use Rattle.strkw_ecma.specs.Syntax.{max_length}
 use Rattle.strkw_ecma.specs.WellFormed.{IsWellFormed, IsGroup, IsAtom}
 use Rattle.strkw_ecma.specs.declared.refusals.PatternRefusal.{PatternRefusal}
-use Rattle.strkw_ecma.specs.declared.refusals.PatternRefusal.TheVariants.{LookAhead, LookBehind, BackReference, Property, TooLong, TooDeep, CountTooGreat, TermTooLarge, TooLarge, NotTaken}
+use Rattle.strkw_ecma.specs.declared.refusals.PatternRefusal.TheVariants.{LookAhead, LookBehind}
+use Rattle.strkw_ecma.specs.declared.refusals.PatternRefusal.TheVariants.{BackReference, Property}
+use Rattle.strkw_ecma.specs.declared.refusals.PatternRefusal.TheVariants.{TooLong, TooDeep}
+use Rattle.strkw_ecma.specs.declared.refusals.PatternRefusal.TheVariants.{CountTooGreat}
+use Rattle.strkw_ecma.specs.declared.refusals.PatternRefusal.TheVariants.{TermTooLarge, TooLarge}
+use Rattle.strkw_ecma.specs.declared.refusals.PatternRefusal.TheVariants.{NotTaken}
 
--- what a pattern may begin with, up to where a term may stand: n groups are open, one in another, with
--- alternatives before each and behind the last
+-- what a pattern may begin with, up to where a term may stand: n groups are open, one in another,
+-- with alternatives before each and behind the last
 abbrev pub IsBeginning : ℕ → List ℕ → Type 0
 IsBeginning zero text = (d : Disjunction) × IsWellFormed 0 d × (spelling d ≡ text)
 IsBeginning (suc n) text =
@@ -32,7 +41,8 @@ HasTermWithin n part text =
 abbrev pub HasTerm : List ℕ → List ℕ → Type 0
 HasTerm part text = (n : ℕ) × HasTermWithin n part text
 
--- behind `(?` or `(?<`: a lookahead or a lookbehind begins (Assertion of ECMA-262 2024, section 22.2.1)
+-- behind `(?` or `(?<`: a lookahead or a lookbehind begins (Assertion of ECMA-262 2024, section
+-- 22.2.1)
 abbrev pub is_look : ℕ → Bool
 is_look = is_one_of (codes "=!")
 

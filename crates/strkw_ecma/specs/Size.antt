@@ -1,10 +1,12 @@
--- How large a pattern is: the steps of its program, each of which takes one of a search, backwards and forwards, for each
--- character. A step is an instruction, and of a class one more for each eight ranges and for each property.
+-- How large a pattern is: the steps of its program, each of which takes one of a search, backwards
+-- and forwards, for each character. A step is an instruction, and of a class one more for each
+-- eight ranges and for each property.
 use Rattle.std.specs.Prelude.{ℕ, ◌+◌, ◌/◌, List, [], ◌∷◌}
 use Rattle.strkw_ecma.specs.declared.tree.CharSet.{CharSet}
 use Rattle.strkw_ecma.specs.declared.tree.CharSet.TheVariants.{Range, Property}
 use Rattle.strkw_ecma.specs.Tree.{Pattern}
-use Rattle.strkw_ecma.specs.Program.{Instruction, read, assert, fork, other, join, star_begin, star_end, plus_begin, plus_end, program}
+use Rattle.strkw_ecma.specs.Program.{Instruction, read, assert, fork, other, join, star_begin}
+use Rattle.strkw_ecma.specs.Program.{star_end, plus_begin, plus_end, program}
 
 -- of a counted term, its copies each with the steps of what is repeated
 abbrev pub max_term_steps : ℕ

@@ -1,6 +1,7 @@
--- The syntax, after `Pattern` of ECMA-262 2024, section 22.2.1, in Unicode mode: the part of it with alternatives, terms one
--- after another, `^`, `$`, `\b`, `\B`, quantifiers, groups, classes, the dot, characters, and escapes of one
--- letter, by a number, or of a property. A pattern is a tree of its rules, and a text is a pattern where some tree is spelled so.
+-- The syntax, after `Pattern` of ECMA-262 2024, section 22.2.1, in Unicode mode: the part of it
+-- with alternatives, terms one after another, `^`, `$`, `\b`, `\B`, quantifiers, groups, classes,
+-- the dot, characters, and escapes of one letter, by a number, or of a property. A pattern is a
+-- tree of its rules, and a text is a pattern where some tree is spelled so.
 use Rattle.std.specs.Prelude.{ℕ, Bool, List, [], ◌∷◌, ◌++◌, codes, if◌then◌else◌, ◌==◌}
 use Rattle.std.specs.Str.{byte}
 use Rattle.strkw_text.specs.Characters.{is_one_of}
@@ -8,25 +9,35 @@ use Rattle.strkw_ecma.specs.Codes.{Code, code_spelling}
 use Rattle.strkw_ecma.specs.Properties.{Expression, property_spelling}
 use Rattle.strkw_ecma.specs.Names.{NameChar, name_spelling, name_value}
 use Rattle.strkw_ecma.specs.Classes.{Ranges, ranges_spelling, negation_spelling, ending_spelling}
+-- what a character of a pattern is: `character` a PatternCharacter, `other` a SyntaxCharacter that
+-- is not taken here
+pub use Rattle.strkw_ecma.specs.declared.tokens.Token.{Token}
+pub use Rattle.strkw_ecma.specs.declared.tokens.Token.TheVariants.{Bar as bar, Asterisk as asterisk}
+pub use Rattle.strkw_ecma.specs.declared.tokens.Token.TheVariants.{Plus as plus}
+pub use Rattle.strkw_ecma.specs.declared.tokens.Token.TheVariants.{Question as question}
+pub use Rattle.strkw_ecma.specs.declared.tokens.Token.TheVariants.{Caret as caret, Dollar as dollar}
+pub use Rattle.strkw_ecma.specs.declared.tokens.Token.TheVariants.{Opening as opening}
+pub use Rattle.strkw_ecma.specs.declared.tokens.Token.TheVariants.{Closing as closing}
+pub use Rattle.strkw_ecma.specs.declared.tokens.Token.TheVariants.{Point as point}
+pub use Rattle.strkw_ecma.specs.declared.tokens.Token.TheVariants.{Backslash as backslash}
+pub use Rattle.strkw_ecma.specs.declared.tokens.Token.TheVariants.{Bracket as bracket}
+pub use Rattle.strkw_ecma.specs.declared.tokens.Token.TheVariants.{Brace as brace}
+pub use Rattle.strkw_ecma.specs.declared.tokens.Token.TheVariants.{Character as character}
+pub use Rattle.strkw_ecma.specs.declared.tokens.Token.TheVariants.{Other as other}
 
 -- what a character is in a pattern
-pub data Token : Type 0 where
-  bar asterisk plus question caret dollar opening closing point backslash bracket brace : Token
-  -- a PatternCharacter
-  character : Token
-  -- a SyntaxCharacter that is not taken here
-  other : Token
-
 abbrev pub token : ℕ → Token
 token c =
     if c == byte "|" then bar else if c == byte "*" then asterisk else if c == byte "+" then plus
     else if c == byte "?" then question else if c == byte "^" then caret
-    else if c == byte "$" then dollar else if c == byte "(" then opening else if c == byte ")" then closing
+    else if c == byte "$" then dollar else if c == byte "(" then opening
+    else if c == byte ")" then closing
     else if c == byte "." then point else if c == byte "\\" then backslash
     else if c == byte "[" then bracket else if c == byte "{" then brace
     else if is_one_of (codes "]}") c then other else character
 
--- Quantifier: `*`, `+`, `?`, `{n}`, `{n,}`, `{n,m}`, with the digits of the counts; and whether a `?` behind it makes it lazy
+-- Quantifier: `*`, `+`, `?`, `{n}`, `{n,}`, `{n,m}`, with the digits of the counts; and whether a
+-- `?` behind it makes it lazy
 pub data Quantifier : Type 0 where
   zero_or_more one_or_more zero_or_one : Quantifier
   exactly : List ℕ → Quantifier
@@ -36,7 +47,8 @@ pub data Quantifier : Type 0 where
 pub data Greed : Type 0 where
   greedy lazy : Greed
 
--- a group that captures, `(?: )`, or `(?<name> )`, which all mean the same here: there are no back references
+-- a group that captures, `(?: )`, or `(?<name> )`, which all mean the same here: there are no back
+-- references
 pub data Group : Type 0 where
   capturing plain_group : Group
   named : List NameChar → Group

@@ -1,4 +1,5 @@
--- Patterns as trees. Each class of characters bears a mark, which means nothing for what the pattern matches.
+-- Patterns as trees. Each class of characters bears a mark, which means nothing for what the
+-- pattern matches.
 use Rattle.std.specs.Prelude.{ℕ, Bool, true, false, not, ◌&&◌, ◌||◌, nat_le, List, [], ◌∷◌}
 use Rattle.strkw_ecma.specs.Properties.{has_property}
 use Rattle.strkw_ecma.specs.declared.tree.CharSet.{CharSet}
@@ -23,7 +24,8 @@ abbrev pub differ : Bool → Bool → Bool
 differ true b = not b
 differ false b = b
 
--- the character lies in the range, both ends included; or it has the property, or where the first holds, has it not
+-- the character lies in the range, both ends included; or it has the property, or where the first
+-- holds, has it not
 abbrev pub in_set : CharSet → ℕ → Bool
 in_set (Range low high) c = nat_le low c && nat_le c high
 in_set (Property lacked p) c = differ lacked (has_property p c)

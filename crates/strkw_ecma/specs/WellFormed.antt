@@ -1,4 +1,5 @@
--- Which trees of the syntax are patterns: each character stands where it may, and what repeats is not too large.
+-- Which trees of the syntax are patterns: each character stands where it may, and what repeats is
+-- not too large.
 use Rattle.std.specs.Prelude.{◌≡◌, ℕ, suc, ◌+◌, ◌*◌, ◌<◌, ◌≤◌}
 use Rattle.strkw_ecma.specs.Escapes.{itself, control, set, escape}
 use Rattle.strkw_ecma.specs.Codes.{IsCode}
@@ -8,16 +9,24 @@ use Rattle.strkw_ecma.specs.Classes.{AreRanges, MayEnd}
 use Rattle.strkw_ecma.specs.Numbers.{number, IsNumber}
 use Rattle.strkw_ecma.specs.Size.{steps, max_term_steps}
 use Rattle.strkw_ecma.specs.Patterns.{atom_pattern}
-use Rattle.strkw_ecma.specs.Syntax.{Disjunction, only, either, Alternative, nothing, more, Term, at_start, at_end, at_boundary, at_no_boundary, once, quantified, Quantifier, zero_or_more, one_or_more, zero_or_one, exactly, at_least, from_to, Group, capturing, plain_group, named, Atom, plain, escaped, control_escape, set_escape, coded, property_escape, dot, bracketed, group, token, character, max_nesting}
+use Rattle.strkw_ecma.specs.Syntax.{Disjunction, only, either, Alternative, nothing, more, Term}
+use Rattle.strkw_ecma.specs.Syntax.{at_start, at_end, at_boundary, at_no_boundary, once, quantified}
+use Rattle.strkw_ecma.specs.Syntax.{Quantifier, zero_or_more, one_or_more, zero_or_one, exactly}
+use Rattle.strkw_ecma.specs.Syntax.{at_least, from_to, Group, capturing, plain_group, named, Atom}
+use Rattle.strkw_ecma.specs.Syntax.{plain, escaped, control_escape, set_escape, coded}
+use Rattle.strkw_ecma.specs.Syntax.{property_escape, dot, bracketed, group, token, character}
+use Rattle.strkw_ecma.specs.Syntax.{max_nesting}
 
--- of what takes so many steps. The counts do not fall, and a counted term takes no more than so many
+-- of what takes so many steps. The counts do not fall, and a counted term takes no more than so
+-- many
 abbrev pub IsQuantifier : Quantifier → ℕ → Type 0
 IsQuantifier zero_or_more s = Unit {0}
 IsQuantifier one_or_more s = Unit {0}
 IsQuantifier zero_or_one s = Unit {0}
 IsQuantifier (exactly ds) s = IsNumber ds × (number ds * s ≤ max_term_steps)
 IsQuantifier (at_least ds) s = IsNumber ds × ((number ds + 1) * s ≤ max_term_steps)
-IsQuantifier (from_to ds es) s = IsNumber ds × IsNumber es × (number ds ≤ number es) × (number es * s ≤ max_term_steps)
+IsQuantifier (from_to ds es) s = IsNumber ds × IsNumber es × (number ds ≤ number es)
+    × (number es * s ≤ max_term_steps)
 
 abbrev pub IsGroup : Group → Type 0
 IsGroup capturing = Unit {0}

@@ -2,8 +2,8 @@
 
 ghost use Rattle.std.specs.Prelude.{◌≡◌, ◌++◌, IfOk, OnOk, option_map};
 ghost use Rattle.strkw_ecma.specs.Classes.{item_sets, range};
-ghost use Rattle.strkw_ecma.specs.Shape.{outlined};
-ghost use Rattle.strkw_ecma.specs.Parts.{item_of, class_of, took, took_dash, class_read, new_class};
+ghost use Rattle.strkw_ecma.specs.machine.Shape.{outlined};
+ghost use Rattle.strkw_ecma.specs.machine.Parts.{item_of, class_of, took, took_dash, class_read, new_class};
 
 use crate::outline::Outline;
 use crate::properties::Property;
@@ -126,7 +126,7 @@ impl ClassReader {
     }
 
     // The whole class, where the closing bracket stands here.
-    pub(crate) fn closed(self) -> Result<Outline, AllocError>
+    pub(crate) fn close(self) -> Result<Outline, AllocError>
         ensures { let k = class_of self in
             IfOk result (λ t. outlined t ≡ class_read k.negated k.sets k.pending) }
     {

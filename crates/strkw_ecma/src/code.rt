@@ -2,7 +2,7 @@
 
 ghost use Rattle.std.specs.Prelude.{◌≡◌, ◌≤◌, ◌+◌, ◌-◌, ◌++◌, [], ◌∷◌, length, take, drop, IfOk};
 ghost use Rattle.strkw_ecma.specs.Program.{read, copied, read_count as spec_read_count, has_loop, asks_boundary};
-ghost use Rattle.strkw_ecma.specs.Shape.{turned};
+ghost use Rattle.strkw_ecma.specs.machine.Shape.{turned};
 
 use crate::tree::CharSet;
 use std::alloc::{AllocError, Global};
@@ -52,7 +52,7 @@ pub(crate) struct Code {
 }
 
 impl Code {
-    ghost use Rattle.strkw_ecma.specs.Machine.{written, IsWithin, Writes};
+    ghost use Rattle.strkw_ecma.specs.machine.Machine.{written, IsWithin, Writes};
 
     pub(crate) fn new(alloc: Global) -> Code
         ensures nothing { written result ≡ [] }

@@ -1,8 +1,8 @@
 //! The columns of a table: characters about which the classes of a pattern give the same answers share one.
 
 ghost use Rattle.std.specs.Prelude.{◌≡◌, ◌≤◌, ◌<◌, length, IsTrue, IfSome};
-ghost use Rattle.strkw_ecma.specs.Columns.{answers as spec_answers, place_of as spec_place_of, column_of, AreColumns, TellsSets, Tells};
-ghost use Rattle.strkw_ecma.specs.Machine.{pattern_of};
+ghost use Rattle.strkw_ecma.specs.machine.Columns.{answers as spec_answers, place_of as spec_place_of, column_of, AreColumns, TellsSets, Tells};
+ghost use Rattle.strkw_ecma.specs.machine.Machine.{pattern_of};
 
 use crate::marks::contains;
 use crate::program::Program;

@@ -1,7 +1,7 @@
 //! The numbers of a count.
 
 ghost use Rattle.std.specs.Prelude.{◌≡◌};
-ghost use Rattle.strkw_ecma.specs.Parts.{with_digit as spec_with_digit};
+ghost use Rattle.strkw_ecma.specs.machine.Parts.{with_digit as spec_with_digit};
 
 // The greatest count.
 pub(crate) const MAX_COUNT: u32 = 1000;

@@ -2,11 +2,11 @@
 
 ghost use Rattle.std.specs.Prelude.{◌≡◌, true, Some, IsOk};
 ghost use Rattle.std.specs.Str.{chars};
-ghost use Rattle.strkw_ecma.specs.Searches.{IsSearchedBy};
+ghost use Rattle.strkw_ecma.specs.machine.Searches.{IsSearchedBy};
 ghost use Rattle.strkw_ecma.specs.declared.table.Table.{Table};
-ghost use Rattle.strkw_ecma.specs.Marks.{is_clean};
-ghost use Rattle.strkw_ecma.specs.Machine.{pattern_of};
-ghost use Rattle.strkw_ecma.specs.Outcomes.{takes_pattern, pattern_outcome};
+ghost use Rattle.strkw_ecma.specs.machine.Marks.{is_clean};
+ghost use Rattle.strkw_ecma.specs.machine.Machine.{pattern_of};
+ghost use Rattle.strkw_ecma.specs.machine.Outcomes.{takes_pattern, pattern_outcome};
 
 use crate::finding::is_found;
 use crate::making::table_of;
@@ -26,7 +26,7 @@ pub struct EcmaMatcher {
 }
 
 impl EcmaMatcher {
-    ghost use Rattle.strkw_ecma.specs.Engine.{has_table as spec_has_table};
+    ghost use Rattle.strkw_ecma.specs.machine.Engine.{has_table as spec_has_table};
 
     /// Whether matches are read off a table, as long as the characters of the text have columns of it.
     pub fn has_table(&self) -> bool
@@ -38,7 +38,7 @@ impl EcmaMatcher {
 
 impl RegexEngine for EcmaMatcher {
     ghost use Rattle.strkw_pattern.specs.Engine.{IsAnswer};
-    ghost use Rattle.strkw_ecma.specs.Engine.{engine_outcome};
+    ghost use Rattle.strkw_ecma.specs.machine.Engine.{engine_outcome};
 
     ghost outcome = { engine_outcome };
 
@@ -58,7 +58,7 @@ impl RegexEngine for EcmaMatcher {
 }
 
 /// Builds engines of patterns of ECMA-262 2024 in Unicode mode (`Pattern`, section 22.2.1), of this part of its syntax:
-/// - alternatives with `|`, and groups with `( )` and `(?: )`;
+/// - alternatives with `|`, and groups with `( )`, `(?: )` and `(?<name> )`, whose names are read and told nowhere;
 /// - the assertions `^`, `$`, `\b`, `\B`;
 /// - behind an atom `*`, `+`, `?`, `{n}`, `{n,}` or `{n,m}`, and a `?` behind that, which changes no answer;
 /// - `.`; a character that is none of `^ $ \ . * + ? ( ) [ ] { } |`; `\` before one of those or `/`; `\f \n \r \t \v`;
@@ -90,7 +90,7 @@ impl EngineBuilder for EcmaPatterns {
     ghost outcome = { λ _ source. pattern_outcome source };
 
     /// The engine of a pattern, `BuildRefusal::Pattern` exactly where the text is not taken, and
-    /// `BuildRefusal::Memory` where a growth was refused.
+    /// `BuildRefusal::Memory` where it is out of memory.
     #[tactic(auto, using(crate::proofs::Exact::clean_of, crate::proofs::Exact::outcome_of_it, crate::proofs::Exact::some_of, crate::proofs::Exact::none_of))]
     fn build(&self, alloc: Global, pattern: &str) -> Result<EcmaMatcher, BuildRefusal> {
         match read(alloc, pattern) {

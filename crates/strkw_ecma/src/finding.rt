@@ -3,9 +3,9 @@
 ghost use Rattle.std.specs.Prelude.{◌≡◌, ◌↔◌, true, IsTrue, None};
 ghost use Rattle.std.specs.Str.{chars};
 ghost use Rattle.strkw_ecma.specs.Meaning.{Found};
-ghost use Rattle.strkw_ecma.specs.Marks.{is_clean};
-ghost use Rattle.strkw_ecma.specs.Search.{search_from};
-ghost use Rattle.strkw_ecma.specs.Machine.{pattern_of};
+ghost use Rattle.strkw_ecma.specs.machine.Marks.{is_clean};
+ghost use Rattle.strkw_ecma.specs.machine.Search.{search_from};
+ghost use Rattle.strkw_ecma.specs.machine.Machine.{pattern_of};
 
 use crate::program::{MOST_INSTRUCTIONS, Program, Room};
 

@@ -4,7 +4,7 @@ ghost use Rattle.std.specs.Prelude.{ℕ, ◌*◌, List};
 ghost use Rattle.strkw_ecma.specs.Laws.{AreComplements, IsExact, IsPattern};
 ghost use Rattle.strkw_ecma.specs.Syntax.{Disjunction};
 ghost use Rattle.strkw_ecma.specs.Size.{max_steps};
-ghost use Rattle.strkw_ecma.specs.Counted.{IsSearchedWithin};
+ghost use Rattle.strkw_ecma.specs.machine.Counted.{IsSearchedWithin};
 ghost use Rattle.strkw_ecma.specs.Patterns.{pattern};
 ghost use Rattle.strkw_ecma.specs.Sets.{digits, non_digits, white_space, non_white_space, word_characters, non_word_characters};
 

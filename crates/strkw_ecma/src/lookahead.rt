@@ -3,7 +3,6 @@
 ghost use Rattle.std.specs.Prelude.{◌≡◌};
 ghost use Rattle.std.specs.Str.{chars};
 ghost use Rattle.strkw_ecma.specs.Lookahead.{after as spec_after, may_precede as spec_may_precede, is_apart as spec_is_apart};
-ghost use Rattle.strkw_ecma.specs.Parts.{front_of};
 
 // What stands before a character: a backslash that begins an escape, `\0`, or neither.
 #[derive(Clone, Copy)]
@@ -15,7 +14,7 @@ enum Front {
 
 impl Front {
     fn after(self, c: char) -> Front
-        ensures { front_of result ≡ spec_after (front_of self) c }
+        ensures { result ≡ spec_after self c }
     {
         match self {
             Front::Backslash if c == '0' => Front::Null,
@@ -26,7 +25,7 @@ impl Front {
     }
 
     fn may_precede(self, c: char) -> bool
-        ensures { result ≡ spec_may_precede (front_of self) c }
+        ensures { result ≡ spec_may_precede self c }
     {
         match self {
             Front::Null => !matches!(c, '0'..='9'),

@@ -1,10 +1,10 @@
 //! How the table of a pattern is made: from the state at the beginning of a text on, by each column.
 
 ghost use Rattle.std.specs.Prelude.{◌≡◌, ◌≤◌, ◌<◌, true, length, IfOk, MatchOption};
-ghost use Rattle.strkw_ecma.specs.Columns.{AreColumns};
-ghost use Rattle.strkw_ecma.specs.Marks.{classes as spec_classes, is_clean};
-ghost use Rattle.strkw_ecma.specs.Machine.{pattern_of};
-ghost use Rattle.strkw_ecma.specs.Searches.{IsSearchedBy};
+ghost use Rattle.strkw_ecma.specs.machine.Columns.{AreColumns};
+ghost use Rattle.strkw_ecma.specs.machine.Marks.{classes as spec_classes, is_clean};
+ghost use Rattle.strkw_ecma.specs.machine.Machine.{pattern_of};
+ghost use Rattle.strkw_ecma.specs.machine.Searches.{IsSearchedBy};
 
 use crate::columns::{Columns, answers, place_of};
 use crate::program::{Program, Room};

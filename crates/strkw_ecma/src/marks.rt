@@ -3,7 +3,7 @@
 ghost use Rattle.std.specs.Prelude.{◌≡◌, ℕ, get_or, false, IsTrue};
 ghost use Rattle.strkw_ecma.specs.Tree.{in_set, in_sets, boundary};
 ghost use Rattle.strkw_ecma.specs.Meaning.{is_edge as spec_is_edge, is_word as spec_is_word, holds};
-ghost use Rattle.strkw_ecma.specs.Marks.{reads};
+ghost use Rattle.strkw_ecma.specs.machine.Marks.{reads};
 
 use crate::tree::CharSet;
 

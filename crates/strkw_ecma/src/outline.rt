@@ -4,7 +4,7 @@ ghost use Rattle.std.specs.Prelude.{◌≡◌, false, IfOk, MatchOption};
 ghost use Rattle.strkw_ecma.specs.Tree.{class as spec_class, cat, alt};
 ghost use Rattle.strkw_ecma.specs.Patterns.{quantified_pattern};
 ghost use Rattle.strkw_ecma.specs.Program.{is_class, is_empty};
-ghost use Rattle.strkw_ecma.specs.Shape.{outlined, quantifier_of};
+ghost use Rattle.strkw_ecma.specs.machine.Shape.{outlined, quantifier_of};
 
 use crate::tree::CharSet;
 use std::alloc::{AllocError, Global};
@@ -46,11 +46,7 @@ impl Outline {
         Ok(Outline::Or(Box::new(alloc, self)?, Box::new(alloc, other)?))
     }
 
-    pub(crate) fn repeated(
-        self,
-        alloc: Global,
-        quantifier: Quantifier,
-    ) -> Result<Outline, AllocError>
+    pub(crate) fn repeat(self, alloc: Global, quantifier: Quantifier) -> Result<Outline, AllocError>
         ensures { IfOk result (λ t. outlined t
             ≡ quantified_pattern (quantifier_of quantifier) (outlined self)) }
     {

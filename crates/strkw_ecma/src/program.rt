@@ -1,12 +1,12 @@
 //! The program of a pattern, and a step of a search over it.
 
 ghost use Rattle.std.specs.Prelude.{◌≡◌, ◌≤◌, true, false, [], length, IfOk};
-ghost use Rattle.strkw_ecma.specs.Columns.{has_boundary as spec_has_boundary};
-ghost use Rattle.strkw_ecma.specs.Marks.{leaves, step, marked, classes as spec_classes};
+ghost use Rattle.strkw_ecma.specs.machine.Columns.{has_boundary as spec_has_boundary};
+ghost use Rattle.strkw_ecma.specs.machine.Marks.{leaves, step, marked, classes as spec_classes};
 ghost use Rattle.strkw_ecma.specs.Program.{program, has_loop};
-ghost use Rattle.strkw_ecma.specs.Shape.{outlined, instructions, are_within};
+ghost use Rattle.strkw_ecma.specs.machine.Shape.{outlined, instructions, are_within};
 ghost use Rattle.strkw_ecma.specs.Size.{steps, max_steps};
-ghost use Rattle.strkw_ecma.specs.Walk.{asked, followed, begun};
+ghost use Rattle.strkw_ecma.specs.machine.Walk.{asked, followed, begun};
 
 use crate::code::{Class, Code, Instruction};
 use crate::marks::reads_class;
@@ -46,7 +46,7 @@ pub(crate) struct Room {
 }
 
 impl Room {
-    ghost use Rattle.strkw_ecma.specs.Machine.{AreReads};
+    ghost use Rattle.strkw_ecma.specs.machine.Machine.{AreReads};
 
     pub(crate) fn new() -> Room {
         Room {
@@ -67,7 +67,7 @@ impl Room {
 }
 
 impl Program {
-    ghost use Rattle.strkw_ecma.specs.Machine.{pattern_of, program_of, answers_of, AreReads};
+    ghost use Rattle.strkw_ecma.specs.machine.Machine.{pattern_of, program_of, answers_of, AreReads};
 
     /// The program of what was read.
     pub(crate) fn of(alloc: Global, outline: Outline) -> Result<Program, AllocError>

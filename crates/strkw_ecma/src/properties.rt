@@ -3,9 +3,9 @@
 ghost use Rattle.std.specs.Prelude.{◌≡◌, true, map, IfOk};
 ghost use Rattle.ucd_sets.specs.Loose.{value_named as spec_value_named};
 ghost use Rattle.strkw_ecma.specs.Properties.{has_property, category_named as spec_category_named, script_value_named, value_of as spec_value_of, property_of, is_property_char as spec_is_property_char};
-ghost use Rattle.strkw_ecma.specs.PropertyReading.{property_next, on_equals, with_char};
+ghost use Rattle.strkw_ecma.specs.machine.PropertyReading.{property_next, on_equals, with_char};
 ghost use Rattle.strkw_ecma.specs.Refusals.{is_written as spec_is_written, is_unknown as spec_is_unknown};
-ghost use Rattle.strkw_ecma.specs.Parts.{expression_of, part_of, property_read_of};
+ghost use Rattle.strkw_ecma.specs.machine.Parts.{expression_of, part_of, property_read_of};
 
 use crate::values::{CATEGORIES, SCRIPTS};
 use std::alloc::{AllocError, Global};
@@ -126,7 +126,7 @@ impl Expression {
     }
 
     // Behind an equals sign.
-    fn parted(self, alloc: Global, lacked: bool) -> PropertyRead
+    fn take_equals(self, alloc: Global, lacked: bool) -> PropertyRead
         ensures { property_read_of result ≡ on_equals lacked (expression_of self) }
     {
         match self {
@@ -176,7 +176,7 @@ impl PropertyPart {
                 Ok(PropertyRead::Ends(lacked, expression))
             }
             PropertyPart::InBraces(lacked, expression) if c == '=' => {
-                Ok(expression.parted(alloc, lacked))
+                Ok(expression.take_equals(alloc, lacked))
             }
             PropertyPart::InBraces(lacked, expression) if is_property_char(c) => {
                 let longer = expression.with_char(c)?;

@@ -3,13 +3,13 @@
 ghost use Rattle.std.specs.Prelude.{◌≡◌, false, IfOk, is_some, option_map, nat_lt, length, ◌==◌};
 ghost use Rattle.std.specs.Str.{chars, byte};
 ghost use Rattle.strkw_ecma.specs.Patterns.{pattern, one_char as spec_one_char};
-ghost use Rattle.strkw_ecma.specs.Shape.{outlined, quantifier_of};
-ghost use Rattle.strkw_ecma.specs.Machine.{pattern_of};
+ghost use Rattle.strkw_ecma.specs.machine.Shape.{outlined, quantifier_of};
+ghost use Rattle.strkw_ecma.specs.machine.Machine.{pattern_of};
 ghost use Rattle.strkw_ecma.specs.Syntax.{token as spec_token};
 ghost use Rattle.strkw_ecma.specs.Names.{extension as spec_extension};
 ghost use Rattle.strkw_ecma.specs.Escapes.{escape as spec_escape};
-ghost use Rattle.strkw_ecma.specs.Reading.{read_pattern, read_short as spec_read_short};
-ghost use Rattle.strkw_ecma.specs.Parts.{parts_of, last_of, mode_of, ended as spec_ended, joined as spec_joined, level_ended, side_of, after_atom, after_term, after_bar, opened_within, after_closing, after_quantifier, after_question, after_escape, after_token, after_group, after_extension, after_in, after_char, with_mode, at_close, no_parts, is_between};
+ghost use Rattle.strkw_ecma.specs.machine.Reading.{read_pattern, read_short as spec_read_short};
+ghost use Rattle.strkw_ecma.specs.machine.Parts.{parts_of, last_of, mode_of, ended, joined, level_ended, side_of, after_atom, after_term, after_bar, opened_within, after_closing, after_quantifier, after_question, after_escape, after_token, after_group, after_extension, after_in, after_char, with_mode, at_close, no_parts, is_between};
 
 mod classing;
 mod coding;
@@ -99,8 +99,8 @@ struct Reader {
     mode: Mode,
 }
 
-fn ended(alloc: Global, current: Outline, last: Last) -> Result<Outline, AllocError>
-    ensures { IfOk result (λ t. outlined t ≡ spec_ended (outlined current) (last_of last)) }
+fn end_sequence(alloc: Global, current: Outline, last: Last) -> Result<Outline, AllocError>
+    ensures { IfOk result (λ t. outlined t ≡ ended (outlined current) (last_of last)) }
 {
     match last {
         Last::None => Ok(current),
@@ -109,9 +109,13 @@ fn ended(alloc: Global, current: Outline, last: Last) -> Result<Outline, AllocEr
     }
 }
 
-fn joined(alloc: Global, earlier: Option<Outline>, current: Outline) -> Result<Outline, AllocError>
+fn join_alternatives(
+    alloc: Global,
+    earlier: Option<Outline>,
+    current: Outline,
+) -> Result<Outline, AllocError>
     ensures { IfOk result (λ t. outlined t
-        ≡ spec_joined (option_map outlined earlier) (outlined current)) }
+        ≡ joined (option_map outlined earlier) (outlined current)) }
 {
     match earlier {
         None => Ok(current),
@@ -147,7 +151,7 @@ impl Reader {
             ..
         } = self;
         let Level { earlier, current } = level;
-        let current = ended(alloc, current, last)?;
+        let current = end_sequence(alloc, current, last)?;
         Ok(Reader {
             outer,
             level: Level { earlier, current },
@@ -172,7 +176,7 @@ impl Reader {
             ..
         } = self;
         let Level { earlier, current } = level;
-        let before = ended(alloc, current, last)?;
+        let before = end_sequence(alloc, current, last)?;
         let current = before.then(alloc, term)?;
         Ok(Reader {
             outer,
@@ -192,8 +196,8 @@ impl Reader {
             ..
         } = self;
         let Level { earlier, current } = level;
-        let before = ended(alloc, current, last)?;
-        let earlier = joined(alloc, earlier, before)?;
+        let before = end_sequence(alloc, current, last)?;
+        let earlier = join_alternatives(alloc, earlier, before)?;
         Ok(Reader {
             outer,
             level: Level {
@@ -222,7 +226,7 @@ impl Reader {
         let Last::Atom(atom) = last else {
             return Ok(None);
         };
-        let term = atom.repeated(alloc, quantifier)?;
+        let term = atom.repeat(alloc, quantifier)?;
         Ok(Some(Reader {
             outer,
             level,
@@ -232,7 +236,7 @@ impl Reader {
     }
 
     // Behind a quantifier it makes that one lazy, which changes no answer.
-    fn questioned(self, alloc: Global) -> Result<Option<Reader>, AllocError>
+    fn take_question(self, alloc: Global) -> Result<Option<Reader>, AllocError>
         ensures { IfOk result (λ r. option_map parts_of r
             ≡ after_question (parts_of self) (last_of self.last)) }
     {
@@ -245,7 +249,7 @@ impl Reader {
         match last {
             Last::None => Ok(None),
             Last::Atom(atom) => {
-                let term = atom.repeated(alloc, Quantifier::ZeroOrOne)?;
+                let term = atom.repeat(alloc, Quantifier::ZeroOrOne)?;
                 Ok(Some(Reader {
                     outer,
                     level,
@@ -266,7 +270,7 @@ impl Reader {
         }
     }
 
-    fn opened(self, alloc: Global) -> Result<Option<Reader>, AllocError>
+    fn open_group(self, alloc: Global) -> Result<Option<Reader>, AllocError>
         ensures { IfOk result (λ r. option_map parts_of r ≡ opened_within (parts_of self)) }
     {
         let Reader {
@@ -280,7 +284,7 @@ impl Reader {
             return Ok(None);
         }
         let Level { earlier, current } = level;
-        let current = ended(alloc, current, last)?;
+        let current = end_sequence(alloc, current, last)?;
         groups.push(Level { earlier, current })?;
         Ok(Some(Reader {
             outer: Outer { groups, names },
@@ -293,7 +297,7 @@ impl Reader {
         }))
     }
 
-    fn closed(self, alloc: Global) -> Result<Option<Reader>, AllocError>
+    fn close(self, alloc: Global) -> Result<Option<Reader>, AllocError>
         ensures { IfOk result (λ r. option_map parts_of r
             ≡ after_closing (parts_of self).outer (level_ended (side_of self.level)
             (last_of self.last))) }
@@ -306,8 +310,8 @@ impl Reader {
         } = self;
         let Outer { mut groups, names } = outer;
         let Level { earlier, current } = level;
-        let before = ended(alloc, current, last)?;
-        let group = joined(alloc, earlier, before)?;
+        let before = end_sequence(alloc, current, last)?;
+        let group = join_alternatives(alloc, earlier, before)?;
         match groups.pop() {
             None => Ok(None),
             Some(level) => Ok(Some(Reader {
@@ -319,7 +323,7 @@ impl Reader {
         }
     }
 
-    fn escaped(self, alloc: Global, c: char) -> Result<Option<Reader>, AllocError>
+    fn take_escape(self, alloc: Global, c: char) -> Result<Option<Reader>, AllocError>
         ensures { IfOk result (λ r. option_map parts_of r
             ≡ after_escape (parts_of self) c (spec_escape c)) }
     {
@@ -373,10 +377,10 @@ impl Reader {
             Token::Bar => return Ok(Some(self.with_alternative(alloc)?)),
             Token::Asterisk => return self.with_quantifier(alloc, Quantifier::ZeroOrMore),
             Token::Plus => return self.with_quantifier(alloc, Quantifier::OneOrMore),
-            Token::Question => return self.questioned(alloc),
+            Token::Question => return self.take_question(alloc),
             Token::Caret => return Ok(Some(self.with_term(alloc, Outline::Start)?)),
             Token::Dollar => return Ok(Some(self.with_term(alloc, Outline::End)?)),
-            Token::Closing => return self.closed(alloc),
+            Token::Closing => return self.close(alloc),
             Token::Opening => return Ok(Some(self.with_mode(Mode::Opening))),
             Token::Backslash => return Ok(Some(self.with_mode(Mode::Escaping))),
             Token::Brace => return Ok(Some(self.with_mode(Mode::Counting(Count::Low(None))))),
@@ -396,19 +400,19 @@ impl Reader {
         if c == '?' {
             return Ok(Some(self.with_mode(Mode::Extending)));
         }
-        match self.opened(alloc)? {
+        match self.open_group(alloc)? {
             Some(inner) => inner.plain(alloc, c),
             None => Ok(None),
         }
     }
 
     // Behind `(?`.
-    fn extended(self, alloc: Global, c: char) -> Result<Option<Reader>, AllocError>
+    fn take_extension(self, alloc: Global, c: char) -> Result<Option<Reader>, AllocError>
         ensures { IfOk result (λ r. option_map parts_of r
             ≡ after_extension (parts_of self) (spec_extension c)) }
     {
         match Extension::of(c) {
-            Extension::Uncaptured => self.opened(alloc),
+            Extension::Uncaptured => self.open_group(alloc),
             Extension::NameOpening => Ok(Some(self.with_mode(Mode::Naming(Vec::new(alloc))))),
             Extension::Unknown => Ok(None),
         }
@@ -432,15 +436,15 @@ impl Reader {
         };
         match mode {
             Mode::Between => so_far.plain(alloc, c),
-            Mode::Escaping => so_far.escaped(alloc, c),
+            Mode::Escaping => so_far.take_escape(alloc, c),
             Mode::Opening => so_far.in_group(alloc, c),
-            Mode::Extending => so_far.extended(alloc, c),
+            Mode::Extending => so_far.take_extension(alloc, c),
             Mode::Counting(Count::Low(first)) => so_far.in_count(alloc, first, c),
             Mode::Counting(Count::High(first, second)) => so_far.in_range(alloc, first, second, c),
             Mode::ClassOpened => so_far.in_bracket(alloc, c),
             Mode::Class(class) => so_far.class_plain(alloc, class, c),
             Mode::ClassEscaping(class) => so_far.class_escaped(class, c),
-            Mode::Coding(coding) => so_far.coded(alloc, coding.next(c)),
+            Mode::Coding(coding) => so_far.take_code(alloc, coding.next(c)),
             Mode::ClassCoding(class, coding) => so_far.class_coded(class, coding.next(c)),
             Mode::Property(part) => so_far.in_property(alloc, part, c),
             Mode::ClassProperty(class, part) => so_far.in_class_property(alloc, class, part, c),
@@ -469,8 +473,8 @@ impl Reader {
         }
         let Reader { level, last, .. } = self;
         let Level { earlier, current } = level;
-        let before = ended(alloc, current, last)?;
-        Ok(Some(joined(alloc, earlier, before)?))
+        let before = end_sequence(alloc, current, last)?;
+        Ok(Some(join_alternatives(alloc, earlier, before)?))
     }
 }
 

@@ -3,7 +3,7 @@
 ghost use Rattle.std.specs.Prelude.{◌≡◌, ◌↔◌, ◌≤◌, IsTrue, Some, IfOk, IfSome, is_none, length};
 ghost use Rattle.std.specs.Str.{chars};
 ghost use Rattle.strkw_ecma.specs.Syntax.{max_length};
-ghost use Rattle.strkw_ecma.specs.Outcomes.{takes_pattern};
+ghost use Rattle.strkw_ecma.specs.machine.Outcomes.{takes_pattern};
 ghost use Rattle.strkw_ecma.specs.Refusals.{IsTooLong, IsReason};
 
 use crate::counts::MAX_COUNT;

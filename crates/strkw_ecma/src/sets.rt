@@ -4,7 +4,7 @@ ghost use Rattle.std.specs.Prelude.{◌≡◌, true, false, [], ◌∷◌, IfOk}
 ghost use Rattle.strkw_ecma.specs.Tree.{class};
 ghost use Rattle.strkw_ecma.specs.Patterns.{one_char as spec_one_char};
 ghost use Rattle.strkw_ecma.specs.Sets.{line_ends, set_of as spec_set_of, set_ranges as spec_set_ranges, is_negative as spec_is_negative, control_char as spec_control_char};
-ghost use Rattle.strkw_ecma.specs.Shape.{outlined};
+ghost use Rattle.strkw_ecma.specs.machine.Shape.{outlined};
 ghost use Rattle.strkw_ecma.specs.declared.tree.CharSet.TheVariants.{Property as PropertySet};
 
 use crate::outline::Outline;

@@ -4,10 +4,10 @@ ghost use Rattle.std.specs.Prelude.{◌≡◌, ◌+◌, ◌*◌, nat_le, option_
 ghost use Rattle.strkw_ecma.specs.Tree.{empty, alt, star, plus};
 ghost use Rattle.strkw_ecma.specs.Patterns.{quantified_pattern, copies};
 ghost use Rattle.strkw_ecma.specs.Program.{alternatives};
-ghost use Rattle.strkw_ecma.specs.Shape.{outlined, quantifier_of};
+ghost use Rattle.strkw_ecma.specs.machine.Shape.{outlined, quantifier_of};
 ghost use Rattle.strkw_ecma.specs.Size.{steps, steps_of, max_term_steps, set_cost, class_steps as spec_class_steps};
-ghost use Rattle.strkw_ecma.specs.Parts.{small_pattern};
-ghost use Rattle.strkw_ecma.specs.Sizes.{capped as spec_capped};
+ghost use Rattle.strkw_ecma.specs.machine.Parts.{small_pattern};
+ghost use Rattle.strkw_ecma.specs.machine.Sizes.{capped};
 
 use crate::outline::{Outline, Quantifier};
 use crate::tree::CharSet;
@@ -30,17 +30,17 @@ const STEPS_OF_A_LOOP: u32 = 2;
 const STEPS_BETWEEN: u32 = 1;
 
 // A number of steps, up to one more than the most.
-fn capped(steps: u64) -> u32
-    ensures { result ≡ spec_capped steps }
+fn cap(steps: u64) -> u32
+    ensures { result ≡ capped steps }
 {
     steps.min(u64::from(TOO_MANY)) as u32
 }
 
 // Of both, and a few more.
 fn together(one: u32, other: u32, more: u32) -> u32
-    ensures { result ≡ spec_capped (one + other + more) }
+    ensures { result ≡ capped (one + other + more) }
 {
-    capped(u64::from(one) + u64::from(other) + u64::from(more))
+    cap(u64::from(one) + u64::from(other) + u64::from(more))
 }
 
 impl CharSet {
@@ -56,7 +56,7 @@ impl CharSet {
 
 /// Of a class of these sets, up to one more than a pattern may have.
 pub(crate) fn class_steps(sets: &[CharSet]) -> u32
-    ensures { result ≡ spec_capped (spec_class_steps sets.now) }
+    ensures { result ≡ capped (spec_class_steps sets.now) }
 {
     let mut cost = 0;
     for set in sets {
@@ -95,7 +95,7 @@ impl Outline {
     // Of its program.
     #[cycle(steps)]
     fn steps(&self) -> u32
-        ensures { result ≡ spec_capped (steps (outlined self.now)) }
+        ensures { result ≡ capped (steps (outlined self.now)) }
     {
         match self {
             Outline::Empty => 0,
@@ -116,7 +116,7 @@ impl Outline {
     // The same, among alternatives.
     #[cycle(steps)]
     fn steps_beside(&self) -> u32
-        ensures { result ≡ spec_capped (steps_of (alternatives (outlined self.now))) }
+        ensures { result ≡ capped (steps_of (alternatives (outlined self.now))) }
     {
         match self {
             Outline::Or(one, other) => together(one.steps_beside(), other.steps(), STEPS_BETWEEN),
@@ -136,8 +136,8 @@ impl Outline {
 
     // Where it may be missing, by its own steps.
     fn option_steps(&self, own: u32) -> u32
-        requires { own ≡ spec_capped (steps (outlined self.now)) }
-        ensures { result ≡ spec_capped (steps (alt empty (outlined self.now))) }
+        requires { own ≡ capped (steps (outlined self.now)) }
+        ensures { result ≡ capped (steps (alt empty (outlined self.now))) }
     {
         match self.class() {
             Some(_) => own,
@@ -147,9 +147,9 @@ impl Outline {
 
     // Where it is repeated without end, by its own steps.
     fn loop_steps(&self, own: u32) -> u32
-        requires { own ≡ spec_capped (steps (outlined self.now)) }
-        ensures star { result ≡ spec_capped (steps (star (outlined self.now))) }
-        ensures plus { result ≡ spec_capped (steps (plus (outlined self.now))) }
+        requires { own ≡ capped (steps (outlined self.now)) }
+        ensures star { result ≡ capped (steps (star (outlined self.now))) }
+        ensures plus { result ≡ capped (steps (plus (outlined self.now))) }
     {
         match self.class() {
             Some(_) => own,
@@ -158,9 +158,9 @@ impl Outline {
     }
 
     fn repeated_steps(&self, quantifier: Quantifier, own: u32) -> u32
-        requires { own ≡ spec_capped (steps (outlined self.now)) }
+        requires { own ≡ capped (steps (outlined self.now)) }
         ensures { result
-            ≡ spec_capped (steps (quantified_pattern (quantifier_of quantifier)
+            ≡ capped (steps (quantified_pattern (quantifier_of quantifier)
             (outlined self.now))) }
     {
         match quantifier {
@@ -178,9 +178,9 @@ impl Outline {
 
 // Of so many copies.
 fn times(count: u32, steps: u32) -> u32
-    ensures { result ≡ spec_capped (count * steps) }
+    ensures { result ≡ capped (count * steps) }
 {
-    capped(u64::from(count) * u64::from(steps))
+    cap(u64::from(count) * u64::from(steps))
 }
 
 // The outline, where a search for it takes no more steps than may be.

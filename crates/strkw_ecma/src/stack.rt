@@ -1,7 +1,7 @@
 //! A stack of answers, in an array of its own, so that it takes no memory.
 
 ghost use Rattle.std.specs.Prelude.{◌≡◌, ◌≤◌, ◌+◌, [], ◌∷◌, length};
-ghost use Rattle.strkw_ecma.specs.Walk.{top, below as spec_below};
+ghost use Rattle.strkw_ecma.specs.machine.Walk.{top, below as spec_below};
 
 // Two for each instruction that a program may have.
 const ROOM: usize = 5200;
@@ -15,7 +15,7 @@ pub(crate) struct Stack {
 }
 
 impl Stack {
-    ghost use Rattle.strkw_ecma.specs.Machine.{answers_of};
+    ghost use Rattle.strkw_ecma.specs.machine.Machine.{answers_of};
 
     pub(crate) fn new() -> Stack
         ensures empty { answers_of result ≡ [] }

@@ -2,11 +2,11 @@
 
 ghost use Rattle.std.specs.Prelude.{◌≡◌, ◌^◌, ◌==◌, ◌≤◌, ◌<◌};
 ghost use Rattle.std.specs.Prelude.{ℕ, suc, List, length, true, false, IsTrue, IfOk, None, Some, get_or, slice_get};
-ghost use Rattle.strkw_ecma.specs.Marks.{classes as spec_classes};
+ghost use Rattle.strkw_ecma.specs.machine.Marks.{classes as spec_classes};
 ghost use Rattle.strkw_ecma.specs.Meaning.{is_word as spec_is_word, is_edge as spec_is_edge};
-ghost use Rattle.strkw_ecma.specs.Machine.{pattern_of};
-ghost use Rattle.strkw_ecma.specs.Columns.{has_boundary as spec_has_boundary, answers as spec_answers};
-ghost use Rattle.strkw_ecma.specs.Table.{row_after as spec_row_after, found, IsRowOf, IsBehind, IsEntry, IsRow, IsTable};
+ghost use Rattle.strkw_ecma.specs.machine.Machine.{pattern_of};
+ghost use Rattle.strkw_ecma.specs.machine.Columns.{has_boundary as spec_has_boundary, answers as spec_answers};
+ghost use Rattle.strkw_ecma.specs.machine.Table.{row_after as spec_row_after, found, IsRowOf, IsBehind, IsEntry, IsRow, IsTable};
 
 use crate::columns::{MOST_CLASSES, MOST_COLUMNS, answers, tells};
 use crate::marks::{are_same_marks, are_unmarked, is_word};

@@ -2,8 +2,8 @@
 
 ghost use Rattle.std.specs.Prelude.{◌≡◌, ◌^◌, ◌+◌, ◌≤◌, ◌<◌, length};
 ghost use Rattle.std.specs.Str.{chars};
-ghost use Rattle.strkw_ecma.specs.Columns.{column_of};
-ghost use Rattle.strkw_ecma.specs.Table.{entry_at as spec_entry_at, walk};
+ghost use Rattle.strkw_ecma.specs.machine.Columns.{column_of};
+ghost use Rattle.strkw_ecma.specs.machine.Table.{entry_at as spec_entry_at, walk};
 
 use crate::columns::Columns;
 
@@ -35,8 +35,8 @@ pub(crate) fn entry_at(entries: &[u16], row: usize, column: usize) -> usize
 }
 
 impl Table {
-    /// Whether the pattern is found in the text; none where a character of it has no column. Inlined, its loop would lie
-    /// across a border of 32 bytes in some callers, where each turn takes twice as long.
+    /// Whether the pattern is found in the text; none where a character of it has no column. Inlined, its loop would
+    /// lie across a border of 32 bytes in some callers, where each turn takes twice as long.
     #[inline(never)]
     pub(crate) fn is_found(&self, text: &str) -> Option<bool>
         ensures { result

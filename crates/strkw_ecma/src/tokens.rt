@@ -6,7 +6,6 @@ ghost use Rattle.strkw_ecma.specs.Escapes.{escape as spec_escape};
 ghost use Rattle.strkw_ecma.specs.Names.{extension as spec_extension, name_token as spec_name_token};
 ghost use Rattle.strkw_ecma.specs.Classes.{class_token as spec_class_token, class_escape as spec_class_escape};
 ghost use Rattle.strkw_ecma.specs.Numbers.{count_token as spec_count_token};
-ghost use Rattle.strkw_ecma.specs.Parts.{token_of, escape_of, class_token_of, extension_of, name_token_of, count_token_of};
 
 // What a character is in a pattern.
 #[derive(Clone, Copy)]
@@ -29,7 +28,7 @@ pub(crate) enum Token {
 
 impl Token {
     pub(crate) fn of(c: char) -> Token
-        ensures { token_of result ≡ spec_token c }
+        ensures { result ≡ spec_token c }
     {
         match c {
             '|' => Token::Bar,
@@ -69,7 +68,7 @@ pub(crate) enum Escape {
 
 impl Escape {
     pub(crate) fn of(c: char) -> Escape
-        ensures { escape_of result ≡ spec_escape c }
+        ensures { result ≡ spec_escape c }
     {
         match c {
             'b' => Escape::Boundary,
@@ -103,7 +102,7 @@ impl Escape {
 
     // The same in a class, where a `-` may stand there too.
     pub(crate) fn of_class(c: char) -> Escape
-        ensures { escape_of result ≡ spec_class_escape c }
+        ensures { result ≡ spec_class_escape c }
     {
         if c == '-' {
             Escape::Itself
@@ -124,7 +123,7 @@ pub(crate) enum ClassToken {
 
 impl ClassToken {
     pub(crate) fn of(c: char) -> ClassToken
-        ensures { class_token_of result ≡ spec_class_token c }
+        ensures { result ≡ spec_class_token c }
     {
         match c {
             ']' => ClassToken::Closing,
@@ -145,7 +144,7 @@ pub(crate) enum Extension {
 
 impl Extension {
     pub(crate) fn of(c: char) -> Extension
-        ensures { extension_of result ≡ spec_extension c }
+        ensures { result ≡ spec_extension c }
     {
         match c {
             ':' => Extension::Uncaptured,
@@ -165,7 +164,7 @@ pub(crate) enum NameToken {
 
 impl NameToken {
     pub(crate) fn of(c: char) -> NameToken
-        ensures { name_token_of result ≡ spec_name_token c }
+        ensures { result ≡ spec_name_token c }
     {
         match c {
             '>' => NameToken::End,
@@ -186,7 +185,7 @@ pub(crate) enum CountToken {
 
 impl CountToken {
     pub(crate) fn of(c: char) -> CountToken
-        ensures { count_token_of result ≡ spec_count_token c }
+        ensures { result ≡ spec_count_token c }
     {
         match c {
             '0'..='9' => CountToken::Digit,

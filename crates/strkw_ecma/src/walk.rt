@@ -2,17 +2,17 @@
 
 ghost use Rattle.std.specs.Prelude.{◌≡◌, ◌≤◌, ◌+◌, [], true, false, ℕ, Bool, List, Option, ◌&&◌, ◌||◌};
 ghost use Rattle.strkw_ecma.specs.Program.{read as spec_read};
-ghost use Rattle.strkw_ecma.specs.Shape.{turned};
-ghost use Rattle.strkw_ecma.specs.Machine.{asked_of, following_of, answers_of};
-ghost use Rattle.strkw_ecma.specs.Walk.{back_over as spec_back_over, over as spec_over};
+ghost use Rattle.strkw_ecma.specs.machine.Shape.{turned};
+ghost use Rattle.strkw_ecma.specs.machine.Machine.{asked_of, following_of, answers_of};
+ghost use Rattle.strkw_ecma.specs.machine.Walk.{back_over as spec_back_over, over as spec_over};
 ghost use Rattle.strkw_ecma.specs.declared.tree.CharSet.{CharSet};
 
 use crate::code::Turn;
 use crate::marks::{is_boundary, is_edge};
 use crate::stack::Stack;
 
-/// What is known before an instruction by those behind it. A walk has it by value, so that it stays in registers from one
-/// class to the next.
+/// What is known before an instruction by those behind it. A walk has it by value, so that it stays in registers from
+/// one class to the next.
 #[derive(Clone, Copy)]
 pub(crate) struct Ahead {
     // Whether a way that comes here ends behind what stands around.
@@ -167,8 +167,8 @@ impl Walk {
         self.around.clear();
     }
 
-    /// Forwards over an instruction that reads no character, to which a way has come or not: whether one has come to the
-    /// next.
+    /// Forwards over an instruction that reads no character, to which a way has come or not: whether one has come to
+    /// the next.
     pub(crate) fn over(
         &mut self,
         turn: Turn,

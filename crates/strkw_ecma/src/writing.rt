@@ -4,8 +4,8 @@ ghost use Rattle.std.specs.Prelude.{◌≡◌, ◌≤◌, ◌+◌, ◌++◌, len
 ghost use Rattle.strkw_ecma.specs.Tree.{empty, alt, star, plus};
 ghost use Rattle.strkw_ecma.specs.Patterns.{quantified_pattern, repeated};
 ghost use Rattle.strkw_ecma.specs.Program.{program, alternatives};
-ghost use Rattle.strkw_ecma.specs.Shape.{outlined, quantifier_of};
-ghost use Rattle.strkw_ecma.specs.Machine.{Writes};
+ghost use Rattle.strkw_ecma.specs.machine.Shape.{outlined, quantifier_of};
+ghost use Rattle.strkw_ecma.specs.machine.Machine.{Writes};
 
 use crate::code::{Code, Turn};
 use crate::outline::{Outline, Quantifier};

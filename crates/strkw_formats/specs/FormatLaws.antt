@@ -24,9 +24,11 @@ AreBoth R None (Some b) = ⊥
 
 -- a text of least length, and one of greatest exactly where that end is closed
 abbrev pub AreTextsAtEnds : BuiltinFormat → Window → List ℕ × Option (List ℕ) → Type 0
-AreTextsAtEnds f w (shortest, longest) = IsOfLength f w.least shortest × AreBoth (IsOfLength f) w.greatest longest
+AreTextsAtEnds f w (shortest, longest) = IsOfLength f w.least shortest
+    × AreBoth (IsOfLength f) w.greatest longest
 
--- the built-in format of a name is the one that has the name and that the draft has: the order of the list is no matter
+-- the built-in format of a name is the one that has the name and that the draft has: the order of
+-- the list is no matter
 abbrev pub BuiltinFormatOfName : Type 0
 BuiltinFormatOfName = (draft : Draft) (name : List ℕ) (f : BuiltinFormat)
     → (builtin_named draft name ≡ Some f) ↔ ((format_name f ≡ name) × (is_known f draft ≡ true))

@@ -1,8 +1,11 @@
--- The built-in formats: the grammars of their texts, and a row of what else is told of each. Names and texts are ASCII.
-use Rattle.std.specs.Prelude.{ℕ, ◌-◌, ◌^◌, List, [], ◌∷◌, Bool, ◌&&◌, nat_le, Option, Some, None, unwrap_or, find, codes}
+-- The built-in formats: the grammars of their texts, and a row of what else is told of each. Names
+-- and texts are ASCII.
+use Rattle.std.specs.Prelude.{ℕ, ◌-◌, ◌^◌, List, [], ◌∷◌, ◌++◌, Bool, ◌&&◌, nat_le, Option, Some}
+use Rattle.std.specs.Prelude.{None, unwrap_or, find, codes}
 use Rattle.std.specs.Str.{bytes_eq}
 use Rattle.strkw_report.specs.declared.draft.Draft.{Draft}
-use Rattle.strkw_report.specs.declared.draft.Draft.TheVariants.{Draft4, Draft6, Draft7, Draft201909, Draft202012}
+use Rattle.strkw_report.specs.declared.draft.Draft.TheVariants.{Draft4, Draft6, Draft7, Draft201909}
+use Rattle.strkw_report.specs.declared.draft.Draft.TheVariants.{Draft202012}
 use Rattle.strkw_report.specs.Drafts.{number_of}
 use Rattle.strkw_time.specs.Time.{IsFullDate, IsFullTime, IsDateTime}
 use Rattle.strkw_time.specs.Duration.{IsDuration}
@@ -14,11 +17,19 @@ use Rattle.strkw_uri.specs.Pointer.{IsJsonPointer, IsRelativeJsonPointer}
 use Rattle.strkw_uri.specs.Template.{IsUriTemplate}
 use Rattle.strkw_uri.specs.Uri.{IsUri, IsUriReference, IsIri, IsIriReference}
 use Rattle.strkw_formats.specs.declared.builtin.BuiltinFormat.{BuiltinFormat}
-use Rattle.strkw_formats.specs.declared.builtin.BuiltinFormat.TheVariants.{Date, DateTime, Duration, Hostname, HostnameDraft4, Ipv4, Ipv6, Iri, IriReference, JsonPointer, RelativeJsonPointer, Time, Uri, UriReference, UriTemplate, Uuid}
+use Rattle.strkw_formats.specs.declared.builtin.BuiltinFormat.TheVariants.{Date, DateTime, Duration}
+use Rattle.strkw_formats.specs.declared.builtin.BuiltinFormat.TheVariants.{Hostname, HostnameDraft4}
+use Rattle.strkw_formats.specs.declared.builtin.BuiltinFormat.TheVariants.{Ipv4, Ipv6, Iri}
+use Rattle.strkw_formats.specs.declared.builtin.BuiltinFormat.TheVariants.{IriReference}
+use Rattle.strkw_formats.specs.declared.builtin.BuiltinFormat.TheVariants.{JsonPointer}
+use Rattle.strkw_formats.specs.declared.builtin.BuiltinFormat.TheVariants.{RelativeJsonPointer}
+use Rattle.strkw_formats.specs.declared.builtin.BuiltinFormat.TheVariants.{Time, Uri, UriReference}
+use Rattle.strkw_formats.specs.declared.builtin.BuiltinFormat.TheVariants.{UriTemplate, Uuid}
 
 -- each format once, in order
 abbrev pub formats : List BuiltinFormat
-formats = Date ∷ DateTime ∷ Duration ∷ Hostname ∷ HostnameDraft4 ∷ Ipv4 ∷ Ipv6 ∷ Iri ∷ IriReference ∷ JsonPointer ∷ RelativeJsonPointer ∷ Time
+formats = Date ∷ DateTime ∷ Duration ∷ Hostname ∷ HostnameDraft4 ∷ Ipv4 ∷ Ipv6 ∷ Iri ∷ IriReference
+    ∷ JsonPointer ∷ RelativeJsonPointer ∷ Time
     ∷ Uri ∷ UriReference ∷ UriTemplate ∷ Uuid ∷ []
 
 -- how many formats stand before it
@@ -74,13 +85,18 @@ open_above least = Some (record { least = least; greatest = None })
 abbrev pub bounds : Window → ℕ × ℕ
 bounds w = (w.least, unwrap_or w.greatest (2 ^ 64 - 1))
 
+abbrev pub label_of_63 : List ℕ
+label_of_63 = codes "aaaaaaaaaaaaaaaaaaaaaaaaaaaaaaaaaaaaaaaaaaaaaaaaaaaaaaaaaaaaaaa"
+
 -- labels of 63, 63, 63 and 61 letters
 abbrev pub longest_host_name : List ℕ
-longest_host_name = codes "aaaaaaaaaaaaaaaaaaaaaaaaaaaaaaaaaaaaaaaaaaaaaaaaaaaaaaaaaaaaaaa.aaaaaaaaaaaaaaaaaaaaaaaaaaaaaaaaaaaaaaaaaaaaaaaaaaaaaaaaaaaaaaa.aaaaaaaaaaaaaaaaaaaaaaaaaaaaaaaaaaaaaaaaaaaaaaaaaaaaaaaaaaaaaaa.aaaaaaaaaaaaaaaaaaaaaaaaaaaaaaaaaaaaaaaaaaaaaaaaaaaaaaaaaaaaa"
+longest_host_name =
+    (label_of_63 ++ codes ".") ++ (label_of_63 ++ codes ".") ++ (label_of_63 ++ codes ".")
+    ++ codes "aaaaaaaaaaaaaaaaaaaaaaaaaaaaaaaaaaaaaaaaaaaaaaaaaaaaaaaaaaaaa"
 
--- What is told of a format beside its grammar: its name in a schema, the first draft that has it and the last, a text of it, and,
--- for the formats that tell them, how long its texts are, with a text of least length, and one of greatest where that end is
--- closed.
+-- What is told of a format beside its grammar: its name in a schema, the first draft that has it
+-- and the last, a text of it, and, for the formats that tell them, how long its texts are, with a
+-- text of least length, and one of greatest where that end is closed.
 pub record FormatRow : Type 0 where
   pub name : List ℕ
   pub first : Draft
@@ -216,7 +232,11 @@ format_row Uuid = record {
   last = Draft202012;
   example = codes "00000000-0000-4000-8000-000000000000";
   window = closed 36 36;
-  window_texts = Some (codes "00000000-0000-4000-8000-000000000000", Some (codes "00000000-0000-4000-8000-000000000000"));
+  window_texts = Some (
+    codes "00000000-0000-4000-8000-000000000000",
+    Some
+        (codes "00000000-0000-4000-8000-000000000000"),
+  );
 }
 
 -- by columns

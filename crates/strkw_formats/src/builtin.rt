@@ -131,7 +131,8 @@ impl BuiltinFormat {
     ///
     /// `None` for the formats without such a window.
     pub fn window_texts(self) -> Option<(&'static str, Option<&'static str>)>
-        ensures { option_map (λ (shortest, longest). (shortest.now, option_map (λ it. it.now) longest)) result
+        ensures { option_map (λ (shortest, longest).
+            (shortest.now, option_map (λ it. it.now) longest)) result
             ≡ window_texts_of self }
     {
         self.row().window_texts
@@ -175,26 +176,30 @@ impl BuiltinFormat {
         ensures last { result.last ≡ (format_row self).last }
         ensures example { result.example.now ≡ example_of self }
         ensures window { result.window ≡ option_map bounds (window_of self) }
-        ensures window_texts { option_map (λ (shortest, longest). (shortest.now, option_map (λ it. it.now) longest))
+        ensures window_texts { option_map (λ (shortest, longest).
+            (shortest.now, option_map (λ it. it.now) longest))
             result.window_texts ≡ window_texts_of self }
     {
         match self {
             Self::Date => since(Draft::Draft4, "2020-01-01").exactly(10),
             Self::DateTime => since(Draft::Draft4, "2020-01-01T00:00:00Z").open(20),
             Self::Duration => since(Draft::Draft201909, "P1D").open(3),
-            Self::Hostname => since(Draft::Draft7, "example.com").closed(
+            Self::Hostname => since(Draft::Draft7, "example.com").with_window(
                 (1, "a"),
                 (253, LONGEST_HOST_NAME),
             ),
             Self::HostnameDraft4 => FormatRow {
                 last: Draft::Draft6,
-                ..since(Draft::Draft4, "example.com").closed((1, "a"), (253, LONGEST_HOST_NAME))
+                ..since(Draft::Draft4, "example.com").with_window(
+                    (1, "a"),
+                    (253, LONGEST_HOST_NAME),
+                )
             },
-            Self::Ipv4 => since(Draft::Draft4, "127.0.0.1").closed(
+            Self::Ipv4 => since(Draft::Draft4, "127.0.0.1").with_window(
                 (7, "0.0.0.0"),
                 (15, "255.255.255.255"),
             ),
-            Self::Ipv6 => since(Draft::Draft4, "::1").closed(
+            Self::Ipv6 => since(Draft::Draft4, "::1").with_window(
                 (2, "::"),
                 (45, "0000:0000:0000:0000:0000:0000:255.255.255.255"),
             ),
@@ -215,7 +220,7 @@ impl BuiltinFormat {
 
 impl FormatRow {
     // The row with a window of lengths, whose ends are a length with a text of it.
-    fn closed(self, least: (u64, &'static str), greatest: (u64, &'static str)) -> FormatRow
+    fn with_window(self, least: (u64, &'static str), greatest: (u64, &'static str)) -> FormatRow
         ensures { result ≡ record {
           first = self.first;
           last = self.last;
@@ -241,7 +246,7 @@ impl FormatRow {
           window_texts = Some (self.example, Some self.example);
         } }
     {
-        self.closed((length, self.example), (length, self.example))
+        self.with_window((length, self.example), (length, self.example))
     }
 
     // The row with a window of lengths whose upper end is open, and whose least length the example has.

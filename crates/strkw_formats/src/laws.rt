@@ -1,4 +1,5 @@
-//! Laws over the definitions that the calls of this crate name. A function here does nothing, and its clauses are the law.
+//! Laws over the definitions that the calls of this crate name. A function here does nothing, and its clauses are the
+//! law.
 ghost use Rattle.std.specs.Prelude.{◌≡◌, ◌↔◌, ℕ, List, IsTrue, IfSome, Some, length};
 ghost use Rattle.std.specs.Str.{chars};
 ghost use Rattle.std.specs.Ordering.{nat_cmp};
@@ -22,18 +23,21 @@ pub fn formats_equal_by_variant()
 
 /// Formats are ordered by their places in the list.
 pub fn formats_ordered_as_listed()
-    ensures { (a b : BuiltinFormat) → ⟦<BuiltinFormat as Ord>⟧.cmp a b ≡ nat_cmp (format_place a) (format_place b) }
+    ensures { (a b : BuiltinFormat) → ⟦<BuiltinFormat as Ord>⟧.cmp a b
+        ≡ nat_cmp (format_place a) (format_place b) }
 {}
 
 /// `<`, `<=`, `>` and `>=` go by the same order.
 pub fn formats_compared_as_listed()
     ensures { (a b : BuiltinFormat) →
-        ⟦<BuiltinFormat as PartialOrd>⟧.partial_cmp a b ≡ Some (nat_cmp (format_place a) (format_place b)) }
+        ⟦<BuiltinFormat as PartialOrd>⟧.partial_cmp a b
+        ≡ Some (nat_cmp (format_place a) (format_place b)) }
 {}
 
 /// A format is hashed as its place in the list, fed as a `u64`.
 pub fn formats_hashed_by_place()
-    ensures { (f : BuiltinFormat) → ⟦<BuiltinFormat as Hash>⟧.hash_input f ≡ fed.u64 (format_place f) }
+    ensures { (f : BuiltinFormat) → ⟦<BuiltinFormat as Hash>⟧.hash_input f
+        ≡ fed.u64 (format_place f) }
 {}
 
 /// A text of a format with a window of lengths has its number of characters inside it.
@@ -82,8 +86,8 @@ pub fn window_texts_are_at_the_ends()
     strkw_label::laws::ends_of_the_length_window_are_host_names();
 }
 
-/// A name has a built-in format in a draft exactly where that format has the name and the draft has the format, whatever
-/// the order of the list.
+/// A name has a built-in format in a draft exactly where that format has the name and the draft has the format,
+/// whatever the order of the list.
 pub fn builtin_format_of_name()
     ensures { BuiltinFormatOfName }
 {}

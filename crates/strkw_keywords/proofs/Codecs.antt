@@ -19,7 +19,9 @@ use Rattle.strkw_keywords.specs.Object.{codec_named}
 abbrev pub IsByName : Option Codec → List ℕ → Type 0
 IsByName r name = (c : Codec) → (r ≡ Some c) ↔ (name ≡ codec_name c)
 
-none_named : (r : Option Codec) → (r ≡ Some Base64 → ⊥) → (r ≡ Some Base64Url → ⊥) → (r ≡ Some Base32 → ⊥) → (r ≡ Some Base32Hex → ⊥) → (r ≡ Some Base16 → ⊥) → r ≡ None
+-- an answer that is none of the five codecs is that there is none
+none_named : (r : Option Codec) → (r ≡ Some Base64 → ⊥) → (r ≡ Some Base64Url → ⊥) → (r ≡ Some Base32 → ⊥) → (r ≡ Some Base32Hex → ⊥) → (r ≡ Some Base16 → ⊥)
+    → r ≡ None
 none_named None a b c d e = refl
 none_named (Some Base64) a b c d e = absurd (a refl)
 none_named (Some Base64Url) a b c d e = absurd (b refl)
@@ -27,10 +29,13 @@ none_named (Some Base32) a b c d e = absurd (c refl)
 none_named (Some Base32Hex) a b c d e = absurd (d refl)
 none_named (Some Base16) a b c d e = absurd (e refl)
 
-named_or : (t : Bool) (c : Codec) (r other : Option Codec) (P : Type 0) → Decides t P → (r ≡ Some c) ↔ P → ((r ≡ Some c → ⊥) → r ≡ other) → r ≡ (if t then Some c else other)
+-- a codec exactly where P holds, and else another answer, is chosen by a test of P
+named_or : (t : Bool) (c : Codec) (r other : Option Codec) (P : Type 0) → Decides t P → (r ≡ Some c) ↔ P → ((r ≡ Some c → ⊥) → r ≡ other)
+    → r ≡ (if t then Some c else other)
 named_or true c r other P d h k = h.1 (d.0 refl)
 named_or false c r other P d h k = k (λ is. not_from_Decides false d refl (h.0 is))
 
+-- an answer that is each codec exactly by its name is the one that `codec_named` gives
 pub named_codec : (r : Option Codec) (name : List ℕ) → IsByName r name → r ≡ codec_named name
 named_codec r name h =
     named_or _ Base64 r _ _ (bytes_eq-Decides name (codec_name Base64)) (h Base64) (λ a.
@@ -41,7 +46,8 @@ named_codec r name h =
     none_named r a b c d e)))))
 
 -- what a built-in codec answers is what a text decodes to
-pub decodes : (c : Codec) (text : List ℕ) (r : Result (Option (String Global)) DecodeError) → IfOk r (IsTextOf c text) → IfOk r (λ o. CodecDecodes c text (decoded_of o))
+pub decodes : (c : Codec) (text : List ℕ) (r : Result (Option (String Global)) DecodeError) → IfOk r (IsTextOf c text)
+    → IfOk r (λ o. CodecDecodes c text (decoded_of o))
 decodes c text (Ok None) h = h
 decodes c text (Ok (Some s)) h = (h, IsUtf8-string_bytes s)
 decodes c text (Err e) h = tt

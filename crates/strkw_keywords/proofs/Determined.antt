@@ -7,6 +7,7 @@ use Rattle.strkw_keywords.specs.Laws.{ErrorsAreDetermined}
 use Rattle.strkw_keywords.proofs.Entries.{AreEntries-unique}
 use Rattle.strkw_keywords.proofs.InTurn.{reports_determined}
 
+-- by `EncodesOnce`, a node has one list of errors at most by a schema object
 pub errors_determined : EncodesOnce → ErrorsAreDetermined
 errors_determined once s ms lists site node rs others (es, are, h) (fs, too, k) =
     let same = subst (λ l. NodeReports (asserted s.place l) lists site node others) (AreEntries-unique s ms fs es too are) k in

@@ -28,7 +28,9 @@ text_entry : (s : Settings) (d : Data) (p : List ℕ) (e : Entry) → Some p ≡
 text_entry s d p e is h = subst (λ o. MatchOption o (e ≡ malformed Pattern (no_string d)) (λ q. IsPatternEntry s q e)) is h
 
 -- what an engine matches stands for a pattern that is no literal and that the builder takes
-pub engine_stands : {E : Type 0} (outcome : E → List ℕ → Outcome) (s : Settings) (d : Data) (p : List ℕ) (v : Validator E) → Some p ≡ as_str d → (IsLiteral (chars p) → ⊥) → s.takes (chars p) ≡ true → assertions_of outcome v ≡ placed s.place (matches p (s.outcome (chars p)) ∷ []) → remark_made v ≡ None → place_of v ≡ s.place → IsPatternBuilt outcome s d (Ok (Some v))
+pub engine_stands : {E : Type 0} (outcome : E → List ℕ → Outcome) (s : Settings) (d : Data) (p : List ℕ) (v : Validator E) → Some p ≡ as_str d
+    → (IsLiteral (chars p) → ⊥) → s.takes (chars p) ≡ true → assertions_of outcome v ≡ placed s.place (matches p (s.outcome (chars p)) ∷ [])
+    → remark_made v ≡ None → place_of v ≡ s.place → IsPatternBuilt outcome s d (Ok (Some v))
 engine_stands outcome s d p v is unspelled taken asserts quiet stands =
     record {
       entry = engine_entry s p true;
@@ -37,7 +39,9 @@ engine_stands outcome s d p v is unspelled taken asserts quiet stands =
     }
 
 -- what compares stands for a literal whose search it answers
-pub literal_stands : {E : Type 0} (outcome : E → List ℕ → Outcome) (s : Settings) (d : Data) (p : List ℕ) (o : List ℕ → Outcome) (v : Validator E) → Some p ≡ as_str d → ((l : Literal) × IsWellFormed l × (chars p ≡ spelling l) × IsSearch l o) → assertions_of outcome v ≡ placed s.place (compares p o ∷ []) → remark_made v ≡ None → place_of v ≡ s.place → IsPatternBuilt outcome s d (Ok (Some v))
+pub literal_stands : {E : Type 0} (outcome : E → List ℕ → Outcome) (s : Settings) (d : Data) (p : List ℕ) (o : List ℕ → Outcome) (v : Validator E)
+    → Some p ≡ as_str d → ((l : Literal) × IsWellFormed l × (chars p ≡ spelling l) × IsSearch l o)
+    → assertions_of outcome v ≡ placed s.place (compares p o ∷ []) → remark_made v ≡ None → place_of v ≡ s.place → IsPatternBuilt outcome s d (Ok (Some v))
 literal_stands outcome s d p o v is h asserts quiet stands =
     record {
       entry = gives (compares p o ∷ []) None;
@@ -51,17 +55,21 @@ memory_refused outcome s d r e = let p = pattern_exists s (Some d) in record { e
 
 -- a value that is no string
 pub string_refused : {E : Type 0} (outcome : E → List ℕ → Outcome) (s : Settings) (d : Data) (r : Refused) → None ≡ as_str d
-    → (r ≡ Memory) ⊎ ((place : Place) → refused_at place r ≡ record { reason = no_string d; location = below place.schema (keyword_name Pattern) }) → IsPatternBuilt outcome s d (Err r)
+    → (r ≡ Memory) ⊎ ((place : Place) → refused_at place r ≡ record { reason = no_string d; location = below place.schema (keyword_name Pattern) })
+    → IsPatternBuilt outcome s d (Err r)
 string_refused outcome s d r is h =
     record {
       entry = malformed Pattern (no_string d);
-      is_entry = subst (λ o. MatchOption o (malformed Pattern (no_string d) ≡ malformed Pattern (no_string d)) (λ q. IsPatternEntry s q (malformed Pattern (no_string d)))) is refl;
+      is_entry = subst (λ o. MatchOption o (malformed Pattern (no_string d) ≡ malformed Pattern (no_string d))
+          (λ q. IsPatternEntry s q (malformed Pattern (no_string d)))) is refl;
       answer = refused_value outcome s.place Pattern Pattern (malformed Pattern (no_string d)) (no_string d) r refl h;
     }
 
 -- a pattern that the builder does not take
-pub regex_refused : {E : Type 0} (outcome : E → List ℕ → Outcome) (s : Settings) (d : Data) (p : List ℕ) (r : Refused) → Some p ≡ as_str d → (IsLiteral (chars p) → ⊥) → s.takes (chars p) ≡ false
-    → ((place : Place) → refused_at place r ≡ record { reason = regex p; location = below place.schema (keyword_name Pattern) }) → IsPatternBuilt outcome s d (Err r)
+pub regex_refused : {E : Type 0} (outcome : E → List ℕ → Outcome) (s : Settings) (d : Data) (p : List ℕ) (r : Refused) → Some p ≡ as_str d
+    → (IsLiteral (chars p) → ⊥) → s.takes (chars p) ≡ false
+    → ((place : Place) → refused_at place r ≡ record { reason = regex p; location = below place.schema (keyword_name Pattern) })
+    → IsPatternBuilt outcome s d (Err r)
 regex_refused outcome s d p r is unspelled refused h =
     record {
       entry = engine_entry s p false;

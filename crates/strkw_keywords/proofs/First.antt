@@ -18,7 +18,8 @@ use Rattle.strkw_keywords.proofs.Reports.{found_reports, none_found, HasFinding-
 use Rattle.strkw_keywords.proofs.InTurn.{in_turn, text_of_both, text_determined, nothing_split, quiet_within}
 
 -- one silent assertion in front
-behind_silent : (a : Assertion) (others : List Assertion) (lists : Lists) (site : Site) (text : List ℕ) (r : Report) → HasFinding a.demand lists text None → FailsFirst others lists site text r → FailsFirst (a ∷ others) lists site text r
+behind_silent : (a : Assertion) (others : List Assertion) (lists : Lists) (site : Site) (text : List ℕ) (r : Report) → HasFinding a.demand lists text None
+    → FailsFirst others lists site text r → FailsFirst (a ∷ others) lists site text r
 behind_silent a others lists site text r silent f = record {
   before = a ∷ f.before;
   failed = f.failed;
@@ -31,11 +32,13 @@ behind_silent a others lists site text r silent f = record {
 }
 
 -- by the findings of the demands, by what the first of them finds
-by_found : (place : Place) (d : Demand) (ds : List Demand) (lists : Lists) (site : Site) (text : List ℕ) (found : Option Finding) (rest : List Finding) (f : Finding) (r : Report)
+by_found : (place : Place) (d : Demand) (ds : List Demand) (lists : Lists) (site : Site) (text : List ℕ) (found : Option Finding) (rest : List Finding)
+    (f : Finding) (r : Report)
     → HasFinding d lists text found → first_of (listed found ++ rest) ≡ Some f → reported (standing place site) text (Some f) ≡ r ∷ []
     → (first_of rest ≡ Some f → FailsFirst (placed place ds) lists site text r)
     → FailsFirst (placed place (d ∷ ds)) lists site text r
-by_found place d ds lists site text None rest f r has e tells later = behind_silent (record { place = place; demand = d }) (placed place ds) lists site text r has (later e)
+by_found place d ds lists site text None rest f r has e tells later =
+    behind_silent (record { place = place; demand = d }) (placed place ds) lists site text r has (later e)
 by_found place d ds lists site text (Some g) rest f r has e tells later = record {
   before = [];
   failed = record { place = place; demand = d };
@@ -48,10 +51,12 @@ by_found place d ds lists site text (Some g) rest f r has e tells later = record
 }
 
 -- a text fails by the first of its findings
-pub fails_by_first : (place : Place) (ds : List Demand) (lists : Lists) (site : Site) (text : List ℕ) (fs : List Finding) (f : Finding) (r : Report) → Finds ds lists text fs → first_of fs ≡ Some f → reported (standing place site) text (Some f) ≡ r ∷ [] → FailsFirst (placed place ds) lists site text r
+pub fails_by_first : (place : Place) (ds : List Demand) (lists : Lists) (site : Site) (text : List ℕ) (fs : List Finding) (f : Finding) (r : Report)
+    → Finds ds lists text fs → first_of fs ≡ Some f → reported (standing place site) text (Some f) ≡ r ∷ [] → FailsFirst (placed place ds) lists site text r
 fails_by_first place [] lists site text fs f r h e tells = absurd (none-some f (ap first_of (sym h) ∙ e))
 fails_by_first place (d ∷ ds) lists site text fs f r (found, rest, has, joined, others) e tells =
-    by_found place d ds lists site text found rest f r has (ap first_of (sym joined) ∙ e) tells (λ e2. fails_by_first place ds lists site text rest f r others e2 tells)
+    by_found place d ds lists site text found rest f r has (ap first_of (sym joined) ∙ e) tells
+    (λ e2. fails_by_first place ds lists site text rest f r others e2 tells)
 
 -- without a first finding there is none
 none_first : (fs : List Finding) → first_of fs ≡ None → fs ≡ []
@@ -59,7 +64,8 @@ none_first [] e = refl
 none_first (f ∷ fs) e = absurd (cc)
 
 -- and the text has no errors
-pub valid_without_first : (place : Place) (ds : List Demand) (lists : Lists) (site : Site) (text : List ℕ) (fs : List Finding) → Finds ds lists text fs → first_of fs ≡ None → AllReport (placed place ds) lists site text []
+pub valid_without_first : (place : Place) (ds : List Demand) (lists : Lists) (site : Site) (text : List ℕ) (fs : List Finding) → Finds ds lists text fs
+    → first_of fs ≡ None → AllReport (placed place ds) lists site text []
 valid_without_first place ds lists site text fs h e =
     found_reports place ds lists site text [] (subst (Finds ds lists text) (none_first fs e) h)
 
@@ -74,12 +80,15 @@ memory_verdict place ds lists site text fault is h =
     (λ calm. h (subst (λ l. all_quiet l ≡ true) (demands_of_placed place ds) calm))
 
 -- a text of which something is found has an error
-pub found_is_error : EncodesOnce → (place : Place) (ds : List Demand) (lists : Lists) (site : Site) (text : List ℕ) (fs : List Finding) (f : Finding) → Finds ds lists text fs → first_of fs ≡ Some f → NodeReports (placed place ds) lists site (Some text) [] → ⊥
+pub found_is_error : EncodesOnce → (place : Place) (ds : List Demand) (lists : Lists) (site : Site) (text : List ℕ) (fs : List Finding) (f : Finding)
+    → Finds ds lists text fs → first_of fs ≡ Some f → NodeReports (placed place ds) lists site (Some text) [] → ⊥
 found_is_error once place ds lists site text fs f h e none = none-some f (sym (ap first_of (none_found once place ds lists site text fs h none)) ∙ e)
 
 -- ---- several lists of assertions
 
-fails_within : (front mid back : List Assertion) (lists : Lists) (site : Site) (text : List ℕ) (r : Report) → AllReport front lists site text [] → FailsFirst mid lists site text r → FailsFirst (front ++ (mid ++ back)) lists site text r
+-- the first error of a part, in front of which nothing is reported, is that of the whole
+fails_within : (front mid back : List Assertion) (lists : Lists) (site : Site) (text : List ℕ) (r : Report) → AllReport front lists site text []
+    → FailsFirst mid lists site text r → FailsFirst (front ++ (mid ++ back)) lists site text r
 fails_within front mid back lists site text r quiet f = record {
   before = front ++ f.before;
   failed = f.failed;
@@ -94,7 +103,8 @@ fails_within front mid back lists site text r quiet f = record {
 }
 
 -- the fault of a part, in front of which nothing is reported, is that of the whole
-pub fault_within : (front mid back : List Assertion) (lists : Lists) (site : Site) (node : Option (List ℕ)) (fault : Fault) → NodeReports front lists site node [] → IsVerdict mid lists site node (Err fault) → IsVerdict (front ++ (mid ++ back)) lists site node (Err fault)
+pub fault_within : (front mid back : List Assertion) (lists : Lists) (site : Site) (node : Option (List ℕ)) (fault : Fault)
+    → NodeReports front lists site node [] → IsVerdict mid lists site node (Err fault) → IsVerdict (front ++ (mid ++ back)) lists site node (Err fault)
 fault_within front mid back lists site None (Invalid e) quiet v = v
 fault_within front mid back lists site (Some text) (Invalid e) quiet v = fails_within front mid back lists site text e quiet v
 fault_within front mid back lists site there Memory quiet v = λ calm none.
@@ -102,8 +112,11 @@ fault_within front mid back lists site there Memory quiet v = λ calm none.
 
 -- ---- the first error, and all errors
 
-head_of : EncodesOnce → (before : List Assertion) (failed : Assertion) (later : List Assertion) (lists : Lists) (site : Site) (text : List ℕ) (found : Finding) (error : Report) (rs : List Report) → AllReport before lists site text [] → HasFinding failed.demand lists text (Some found)
-    → reported (standing failed.place site) text (Some found) ≡ error ∷ [] → AllReport (before ++ failed ∷ later) lists site text rs → (others : List Report) × (rs ≡ error ∷ others)
+-- by `EncodesOnce`, the error of an assertion behind silent ones is the first of all
+head_of : EncodesOnce → (before : List Assertion) (failed : Assertion) (later : List Assertion) (lists : Lists) (site : Site) (text : List ℕ) (found : Finding)
+    (error : Report) (rs : List Report) → AllReport before lists site text [] → HasFinding failed.demand lists text (Some found)
+    → reported (standing failed.place site) text (Some found) ≡ error ∷ [] → AllReport (before ++ failed ∷ later) lists site text rs → (others : List Report)
+    × (rs ≡ error ∷ others)
 head_of once before failed later lists site text found error rs silent fails tells h =
     let turn = (in_turn before (failed ∷ later) lists site (Some text) rs).0 h in
     let none = text_determined once before lists site text turn.early [] turn.of_first silent in
@@ -114,6 +127,7 @@ head_of once before failed later lists site text found error rs silent fails tel
           ∙ ap (λ l. l ++ turn.of_others.1) tells,
     )
 
+-- by `EncodesOnce`, the error that a node fails by first is the first of all its errors
 pub first_is_head : EncodesOnce → FirstErrorIsHead
 first_is_head once assertions lists site None error rs f h = absurd f
 first_is_head once assertions lists site (Some text) error rs f h =

@@ -31,7 +31,8 @@ past k w None ms differ = refl
 past k w (Some d) ms differ = passed_over (names k w) (get_member (keyword_name k) ms) (Some d) differ
 
 -- and found at its own
-found : (k : Keyword) (o : Option Data) (ms : Members) → names k k ≡ Equal → None ≡ get_member (keyword_name k) ms → o ≡ get_member (keyword_name k) (with_value k o ms)
+found : (k : Keyword) (o : Option Data) (ms : Members) → names k k ≡ Equal → None ≡ get_member (keyword_name k) ms
+    → o ≡ get_member (keyword_name k) (with_value k o ms)
 found k None ms same none = none
 found k (Some d) ms same none = rw same refl
 
@@ -49,14 +50,22 @@ held_at values k (w ∷ ws) after same (differ, more) later =
 
 -- what is held for a keyword is the value there of the object that the values make
 pub held_is_member : (values : Values) (k : Keyword) → held values k ≡ get_member (keyword_name k) (members_of values)
-held_is_member values ContentMediaType = held_at values ContentMediaType [] (ContentEncoding ∷ ContentSchema ∷ Format ∷ MinLength ∷ MaxLength ∷ Pattern ∷ []) refl (search rules) (search rules)
-held_is_member values ContentEncoding = held_at values ContentEncoding (ContentMediaType ∷ []) (ContentSchema ∷ Format ∷ MinLength ∷ MaxLength ∷ Pattern ∷ []) refl (search rules) (search rules)
-held_is_member values ContentSchema = held_at values ContentSchema (ContentMediaType ∷ ContentEncoding ∷ []) (Format ∷ MinLength ∷ MaxLength ∷ Pattern ∷ []) refl (search rules) (search rules)
-held_is_member values Format = held_at values Format (ContentMediaType ∷ ContentEncoding ∷ ContentSchema ∷ []) (MinLength ∷ MaxLength ∷ Pattern ∷ []) refl (search rules) (search rules)
-held_is_member values MinLength = held_at values MinLength (ContentMediaType ∷ ContentEncoding ∷ ContentSchema ∷ Format ∷ []) (MaxLength ∷ Pattern ∷ []) refl (search rules) (search rules)
-held_is_member values MaxLength = held_at values MaxLength (ContentMediaType ∷ ContentEncoding ∷ ContentSchema ∷ Format ∷ MinLength ∷ []) (Pattern ∷ []) refl (search rules) (search rules)
-held_is_member values Pattern = held_at values Pattern (ContentMediaType ∷ ContentEncoding ∷ ContentSchema ∷ Format ∷ MinLength ∷ MaxLength ∷ []) [] refl (search rules) (search rules)
+held_is_member values ContentMediaType = held_at values ContentMediaType [] (ContentEncoding ∷ ContentSchema ∷ Format ∷ MinLength ∷ MaxLength ∷ Pattern ∷ [])
+    refl (search rules) (search rules)
+held_is_member values ContentEncoding = held_at values ContentEncoding (ContentMediaType ∷ []) (ContentSchema ∷ Format ∷ MinLength ∷ MaxLength ∷ Pattern ∷ [])
+    refl (search rules) (search rules)
+held_is_member values ContentSchema = held_at values ContentSchema (ContentMediaType ∷ ContentEncoding ∷ []) (Format ∷ MinLength ∷ MaxLength ∷ Pattern ∷ [])
+    refl (search rules) (search rules)
+held_is_member values Format = held_at values Format (ContentMediaType ∷ ContentEncoding ∷ ContentSchema ∷ []) (MinLength ∷ MaxLength ∷ Pattern ∷ []) refl
+    (search rules) (search rules)
+held_is_member values MinLength = held_at values MinLength (ContentMediaType ∷ ContentEncoding ∷ ContentSchema ∷ Format ∷ []) (MaxLength ∷ Pattern ∷ []) refl
+    (search rules) (search rules)
+held_is_member values MaxLength = held_at values MaxLength (ContentMediaType ∷ ContentEncoding ∷ ContentSchema ∷ Format ∷ MinLength ∷ []) (Pattern ∷ []) refl
+    (search rules) (search rules)
+held_is_member values Pattern = held_at values Pattern (ContentMediaType ∷ ContentEncoding ∷ ContentSchema ∷ Format ∷ MinLength ∷ MaxLength ∷ []) [] refl
+    (search rules) (search rules)
 
 -- and so that of each object that has the values
-pub same_members : (values : Values) (ms : Members) → AreValuesOf ms values → (k : Keyword) → get_member (keyword_name k) (members_of values) ≡ get_member (keyword_name k) ms
+pub same_members : (values : Values) (ms : Members) → AreValuesOf ms values → (k : Keyword)
+    → get_member (keyword_name k) (members_of values) ≡ get_member (keyword_name k) ms
 same_members values ms are k = sym (held_is_member values k) ∙ are.same k

@@ -18,7 +18,9 @@ use Rattle.strkw_keywords.proofs.Reports.{HasFinding-unique}
 
 -- ---- joined
 
-text_in_turn : (first others : List Assertion) (lists : Lists) (site : Site) (text : List ℕ) (rs : List Report) → AllReport (first ++ others) lists site text rs → ReportInTurn first others lists site (Some text) rs
+-- the errors of a text by joined assertions are those by each part in turn
+text_in_turn : (first others : List Assertion) (lists : Lists) (site : Site) (text : List ℕ) (rs : List Report) → AllReport (first ++ others) lists site text rs
+    → ReportInTurn first others lists site (Some text) rs
 text_in_turn [] others lists site text rs h = record { early = []; late = rs; of_first = refl; of_others = h; joined = refl }
 text_in_turn (a ∷ first) others lists site text rs h =
     let later = text_in_turn first others lists site text h.1 h.4 in
@@ -31,7 +33,9 @@ text_in_turn (a ∷ first) others lists site text rs h =
       joined = h.3 ∙ ap (λ l. mine ++ l) later.joined ∙ sym (append_assoc mine later.early later.late);
     }
 
-pub text_of_both : (first others : List Assertion) (lists : Lists) (site : Site) (text : List ℕ) (early late : List Report) → AllReport first lists site text early → AllReport others lists site text late → AllReport (first ++ others) lists site text (early ++ late)
+-- and those by each part in turn are its errors by joined assertions
+pub text_of_both : (first others : List Assertion) (lists : Lists) (site : Site) (text : List ℕ) (early late : List Report)
+    → AllReport first lists site text early → AllReport others lists site text late → AllReport (first ++ others) lists site text (early ++ late)
 text_of_both [] others lists site text early late h k = rw h k
 text_of_both (a ∷ first) others lists site text early late h k = (
   h.0,
@@ -41,6 +45,7 @@ text_of_both (a ∷ first) others lists site text early late h k = (
   text_of_both first others lists site text h.1 late h.4 k,
 )
 
+-- the errors of a node by joined assertions are exactly those by each part in turn
 pub in_turn : AssertionsReportInTurn
 in_turn first others lists site None rs = (
   (λ h. record { early = []; late = []; of_first = refl; of_others = refl; joined = h }),
@@ -51,6 +56,7 @@ in_turn first others lists site (Some text) rs = (
   (λ r. rw r.joined (text_of_both first others lists site text r.early r.late r.of_first r.of_others)),
 )
 
+-- both limits at once report what each reports alone, the least length first
 pub fused : FusedLengthsReportBoth
 fused place low high lists site node rs = in_turn (placed place (at_least low ∷ [])) (placed place (at_most high ∷ [])) lists site node rs
 
@@ -59,14 +65,18 @@ no_part : (P Q : List Report → Type 0) (early late : List Report) → [] ≡ e
 no_part P Q [] late joined p q = (p, subst Q (sym joined) q)
 no_part P Q (r ∷ early) late joined p q = absurd (cc)
 
-pub nothing_split : (front back : List Assertion) (lists : Lists) (site : Site) (at : Option (List ℕ)) → NodeReports (front ++ back) lists site at [] → NodeReports front lists site at [] × NodeReports back lists site at []
+-- where joined assertions report nothing, neither part reports anything
+pub nothing_split : (front back : List Assertion) (lists : Lists) (site : Site) (at : Option (List ℕ)) → NodeReports (front ++ back) lists site at []
+    → NodeReports front lists site at [] × NodeReports back lists site at []
 nothing_split front back lists site at a =
     let turn = (in_turn front back lists site at []).0 a in
     no_part (NodeReports front lists site at) (NodeReports back lists site at) turn.early turn.late turn.joined turn.of_first turn.of_others
 
 -- ---- one error
 
-one_error : (place : Place) (pattern : List ℕ) (outcome_on : List ℕ → Outcome) (lists : Lists) (site : Site) (text : List ℕ) (rs : List Report) (f : Finding) → found_by_outcome pattern (outcome_on (chars text)) ≡ Some f
+-- where the outcome of an engine is a finding, its error alone is reported of the text
+one_error : (place : Place) (pattern : List ℕ) (outcome_on : List ℕ → Outcome) (lists : Lists) (site : Site) (text : List ℕ) (rs : List Report) (f : Finding)
+    → found_by_outcome pattern (outcome_on (chars text)) ≡ Some f
     → NodeReports (placed place (matches pattern outcome_on ∷ [])) lists site (Some text) rs
     ↔ (rs ≡ report_at (standing place site) (keyword_name f.keyword) f.kind text ∷ [])
 one_error place pattern outcome_on lists site text rs f e = (
@@ -74,10 +84,13 @@ one_error place pattern outcome_on lists site text rs f e = (
   (λ r. (Some f, [], sym e, r, refl)),
 )
 
+-- an engine that fails, or gives up, makes the text invalid by one error of its own kind
 pub failures : EngineFailuresAreErrors
 failures = record {
-  failed = λ place p o lists site text rs e. one_error place p o lists site text rs (record { keyword = Pattern; kind = regex_engine_failure p }) (ap (found_by_outcome p) e);
-  gave_up = λ place p o lists site text rs e. one_error place p o lists site text rs (record { keyword = Pattern; kind = backtrack_limit_exceeded p }) (ap (found_by_outcome p) e);
+  failed = λ place p o lists site text rs e. one_error place p o lists site text rs (record { keyword = Pattern; kind = regex_engine_failure p })
+      (ap (found_by_outcome p) e);
+  gave_up = λ place p o lists site text rs e. one_error place p o lists site text rs (record { keyword = Pattern; kind = backtrack_limit_exceeded p })
+      (ap (found_by_outcome p) e);
 }
 
 -- ---- determined
@@ -92,30 +105,37 @@ same_reports once (a ∷ first) xs ys lists site text same rs others h k =
     let rest = same_reports once first xs ys lists site text same h.1 k.1 h.4 k.4 in
     h.3 ∙ ap (λ o. reported (standing a.place site) text o ++ h.1) found ∙ ap (λ l. reported (standing a.place site) text k.0 ++ l) rest ∙ sym k.3
 
-pub text_determined : EncodesOnce → (assertions : List Assertion) (lists : Lists) (site : Site) (text : List ℕ) (rs others : List Report) → AllReport assertions lists site text rs → AllReport assertions lists site text others → rs ≡ others
+-- by `EncodesOnce`, a text has one list of errors at most by some assertions
+pub text_determined : EncodesOnce → (assertions : List Assertion) (lists : Lists) (site : Site) (text : List ℕ) (rs others : List Report)
+    → AllReport assertions lists site text rs → AllReport assertions lists site text others → rs ≡ others
 text_determined once [] lists site text rs others h k = h ∙ sym k
 text_determined once (a ∷ rest) lists site text rs others h k =
     same_reports once (a ∷ []) rest rest lists site text (text_determined once rest lists site text) rs others h k
 
+-- by `EncodesOnce`, a node has one list of errors at most by some assertions
 pub reports_determined : EncodesOnce → ReportsAreDetermined
 reports_determined once assertions lists site None rs others h k = h ∙ sym k
 reports_determined once assertions lists site (Some text) rs others h k = text_determined once assertions lists site text rs others h k
 
 -- ---- memory
 
+-- of three conditions it is no matter which two are joined first
 and_assoc : (a b c : Bool) → (a && (b && c)) ≡ ((a && b) && c)
 and_assoc true b c = refl
 and_assoc false b c = refl
 
+-- joined demands are quiet exactly where both parts are
 pub quiet-append : (front back : List Demand) → all_quiet (front ++ back) ≡ (all_quiet front && all_quiet back)
 quiet-append [] back = refl
 quiet-append (d ∷ front) back = ap (λ b. is_quiet d && b) (quiet-append front back) ∙ and_assoc (is_quiet d) (all_quiet front) (all_quiet back)
 
+-- what joined assertions demand is quiet exactly where what both parts demand is
 asserted-quiet-append : (front back : List Assertion)
     → all_quiet (demands_asserted (front ++ back)) ≡ (all_quiet (demands_asserted front) && all_quiet (demands_asserted back))
 asserted-quiet-append front back =
     ap all_quiet (demands_of_joined front back) ∙ quiet-append (demands_asserted front) (demands_asserted back)
 
+-- where two conditions hold together, each of them holds
 and_true : (a b : Bool) → (a && b) ≡ true → (a ≡ true) × (b ≡ true)
 and_true true b e = (refl, e)
 and_true false b e = absurd (cc)

@@ -1,5 +1,6 @@
 -- On an object whose value at `contentSchema` was taken out.
-use Rattle.std.proofs.Common.{◌≡◌, ℕ, List, [], ◌∷◌, Bool, true, false, if◌then◌else◌, Option, Some, None, option_map, Result, String, Global, BTreeMap, string_bytes, string_cmp, nat_cmp, refl, sym, ap, ◌∙◌, subst, MatchOption}
+use Rattle.std.proofs.Common.{◌≡◌, ℕ, List, [], ◌∷◌, Bool, true, false, if◌then◌else◌, Option, Some, None, option_map, Result, String, Global, BTreeMap}
+use Rattle.std.proofs.Common.{string_bytes, string_cmp, nat_cmp, refl, sym, ap, ◌∙◌, subst, MatchOption}
 use Rattle.std.proofs.Math.Path.{fun_ext}
 use Rattle.std.proofs.lemmas.Map.Text.{btree_map_updates_text}
 use Rattle.std.specs.BTreeMap.{get_by, UpdatesBy}
@@ -21,7 +22,9 @@ use Rattle.strkw_keywords.specs.Keywords.{keyword_name}
 use Rattle.strkw_keywords.specs.Meanings.{Choice}
 use Rattle.strkw_keywords.specs.declared.content_rule.ContentRule.{ContentRule}
 use Rattle.strkw_keywords.specs.declared.content_rule.ContentRule.TheVariants.{Ignored, Checked, Noted}
-use Rattle.strkw_keywords.specs.Object.{Settings, Entry, nothing, Keyed, content_rule, of_text, known_media_type, media_type_beside, media_type_check, media_type_entry, encoding_beside, encoding_entry, schema_entry, schema_beside, is_overridden, value_at, is_fused, share, IsEntryOf, IsEntryAt, AreEntriesOf}
+use Rattle.strkw_keywords.specs.Object.{Settings, Entry, nothing, Keyed, content_rule, of_text, known_media_type, media_type_beside, media_type_check}
+use Rattle.strkw_keywords.specs.Object.{media_type_entry, encoding_beside, encoding_entry, schema_entry, schema_beside, is_overridden, value_at, is_fused}
+use Rattle.strkw_keywords.specs.Object.{share, IsEntryOf, IsEntryAt, AreEntriesOf}
 use Rattle.strkw_keywords.specs.Compiled.{alone, IsCompiled, IsCompiledAt}
 use Rattle.strkw_keywords.specs.Without.{KeepsOthers, IsWithoutSchema}
 use Rattle.strkw_keywords.proofs.EntriesOf.{absent}
@@ -36,7 +39,9 @@ keeps_itself ms = record { kept = λ name apart. refl }
 
 -- ---- the value at a name is removed, and that name is `contentSchema`
 
-module _ (m n : BTreeMap (String Global) Value) (name : List ℕ) (is : name ≡ keyword_name ContentSchema) (updates : UpdatesBy string_cmp (λ k. slice_cmp nat_cmp name (string_bytes k)) m n None) where
+module _ (m n : BTreeMap (String Global) Value) (name : List ℕ) (is : name ≡ keyword_name ContentSchema)
+    (updates : UpdatesBy string_cmp (λ k. slice_cmp nat_cmp name (string_bytes k)) m n None) where
+  -- the object then has no value at `contentSchema`, and keeps its other members
   pub without : IsWithoutSchema (members_view m.entries) (members_view n.entries)
   without = record {
     taken =
@@ -49,12 +54,15 @@ module _ (m n : BTreeMap (String Global) Value) (name : List ℕ) (is : name ≡
     };
   }
 
-  pub was_there : (r : Option Value) → r ≡ get_by (λ k. slice_cmp nat_cmp name (string_bytes k)) m → get_member (keyword_name ContentSchema) (members_view m.entries) ≡ option_map view r
+  -- what is found at the name is the value that the object had at `contentSchema`
+  pub was_there : (r : Option Value) → r ≡ get_by (λ k. slice_cmp nat_cmp name (string_bytes k)) m
+      → get_member (keyword_name ContentSchema) (members_view m.entries) ≡ option_map view r
   was_there r value = rw (← is) (sym (ap (option_map view) value ∙ view-lookup name m.entries))
 
 -- ---- what is compiled of the parts is compiled of the object
 
 module _ {E : Type 0} (outcome : E → List ℕ → Outcome) (s : Settings) (ms : Members) where
+  -- where there is no value, there is none with an override or without
   unless : (b : Bool) (d : Option Data) → None ≡ d → None ≡ (if b then None else d)
   unless true d e = refl
   unless false d e = e
@@ -69,13 +77,15 @@ module _ {E : Type 0} (outcome : E → List ℕ → Outcome) (s : Settings) (ms 
     (media_type : Seen ContentMediaType) (encoding : Seen ContentEncoding) (least : Seen MinLength) (greatest : Seen MaxLength) where
   -- ---- the schema, by what is beside it
 
+  -- a value at `contentSchema` comes to the same in both objects
   same_schema : (rule : ContentRule) (d : Data) → schema_entry rule others d ≡ schema_entry rule ms d
   same_schema Ignored d = refl
   same_schema Checked d = refl
   same_schema Noted d = ap (λ m. schema_beside m d) (same ContentMediaType media_type)
 
   -- what is compiled of the schema beside the others is compiled of the object
-  seen_schema : (v : Value) (r : Option (Result (Validator E) CompileError)) → get_member (keyword_name ContentSchema) ms ≡ Some (view v) → is_overridden s.options ContentSchema ≡ false
+  seen_schema : (v : Value) (r : Option (Result (Validator E) CompileError)) → get_member (keyword_name ContentSchema) ms ≡ Some (view v)
+      → is_overridden s.options ContentSchema ≡ false
       → IsCompiled outcome s.place (alone ContentSchema (schema_entry (content_rule s.draft) others (view v))) r → IsCompiledAt outcome s ms ContentSchema r
   seen_schema v r there looked_at h =
       let e = schema_entry (content_rule s.draft) others (view v) in
@@ -85,23 +95,28 @@ module _ {E : Type 0} (outcome : E → List ℕ → Outcome) (s : Settings) (ms 
 
   -- ---- the other keywords
 
+  -- the value at a keyword that is seen is the same in both objects
   same_value : (k : Keyword) → Seen k → value_at s.options k others ≡ value_at s.options k ms
   same_value k seen = ap (λ v. if is_overridden s.options k then None else v) (same k seen)
 
+  -- a media type that may be known is checked in the same way in both objects
   same_check : (m : Option (Choice BuiltinMediaType)) → media_type_check s others m ≡ media_type_check s ms m
   same_check None = refl
   same_check (Some m) = ap (media_type_beside s m) (same ContentEncoding encoding)
 
+  -- a value at `contentMediaType` comes to the same in both objects
   same_media_type : (rule : ContentRule) (d : Data) → media_type_entry rule s others d ≡ media_type_entry rule s ms d
   same_media_type Ignored d = refl
   same_media_type Checked d = ap (λ entry. of_text entry ContentMediaType d) (fun_ext (λ name. same_check (known_media_type s.lists s.options name)))
   same_media_type Noted d = refl
 
+  -- a value at `contentEncoding` comes to the same in both objects
   same_encoding : (rule : ContentRule) (d : Data) → encoding_entry rule s others d ≡ encoding_entry rule s ms d
   same_encoding Ignored d = refl
   same_encoding Checked d = ap (λ m. encoding_beside s m d) (same ContentMediaType media_type)
   same_encoding Noted d = refl
 
+  -- what a value at a keyword comes to in the others, it comes to in the object
   same_entry : (k : Keyword) (d : Data) (e : Entry) → IsEntryOf s others k d e → IsEntryOf s ms k d e
   same_entry ContentMediaType d e h = h ∙ same_media_type (content_rule s.draft) d
   same_entry ContentEncoding d e h = h ∙ same_encoding (content_rule s.draft) d
@@ -111,17 +126,22 @@ module _ {E : Type 0} (outcome : E → List ℕ → Outcome) (s : Settings) (ms 
   same_entry MaxLength d e h = h
   same_entry Pattern d e h = h
 
-  same_at : (k : Keyword) (v : Option Data) (e : Entry) → MatchOption v (e ≡ nothing) (λ d. IsEntryOf s others k d e) → MatchOption v (e ≡ nothing) (λ d. IsEntryOf s ms k d e)
+  -- the same where there may be no value
+  same_at : (k : Keyword) (v : Option Data) (e : Entry) → MatchOption v (e ≡ nothing) (λ d. IsEntryOf s others k d e)
+      → MatchOption v (e ≡ nothing) (λ d. IsEntryOf s ms k d e)
   same_at k None e h = h
   same_at k (Some d) e h = same_entry k d e h
 
+  -- the entry at a keyword that is seen of the others is that of the object
   entry_at : (k : Keyword) (e : Entry) → Seen k → IsEntryAt s others k e → IsEntryAt s ms k e
   entry_at k e seen h = subst (λ v. MatchOption v (e ≡ nothing) (λ d. IsEntryOf s ms k d e)) (same_value k seen) (same_at k (value_at s.options k others) e h)
 
+  -- and so are the entries of keywords that are all seen
   entries_at : (ks : List Keyword) (es : List Keyed) → AllByRecursion Seen ks → AreEntriesOf s others ks es → AreEntriesOf s ms ks es
   entries_at [] es seen h = h
   entries_at (k ∷ ks) es (seen, more) (e, rest, at, is, are) = (e, rest, entry_at k e seen at, is, entries_at ks rest more are)
 
+  -- all keywords of the share of a keyword that is seen are seen
   share_seen : (fused : Bool) (k : Keyword) → Seen k → AllByRecursion Seen (share fused k)
   share_seen fused ContentMediaType seen = (seen, tt)
   share_seen fused ContentEncoding seen = (seen, tt)
@@ -133,6 +153,7 @@ module _ {E : Type 0} (outcome : E → List ℕ → Outcome) (s : Settings) (ms 
   share_seen false MaxLength seen = (seen, tt)
   share_seen fused Pattern seen = (seen, tt)
 
+  -- the lengths are fused in both objects, or in neither
   same_fused : is_fused s.options others ≡ is_fused s.options ms
   same_fused = rw (same_value MinLength least, same_value MaxLength greatest) refl
 
@@ -147,14 +168,21 @@ module _ {E : Type 0} (outcome : E → List ℕ → Outcome) (s : Settings) (ms 
 
 module _ {E : Type 0} (outcome : E → List ℕ → Outcome) (s : Settings) (ms others : Members) where
   -- all values are the same
-  pub same_compiled : ((k : Keyword) → get_member (keyword_name k) others ≡ get_member (keyword_name k) ms) → (k : Keyword) (r : Option (Result (Validator E) CompileError)) → IsCompiledAt outcome s others k r → IsCompiledAt outcome s ms k r
+  -- so what is compiled of a keyword of the others is compiled of the object
+  pub same_compiled : ((k : Keyword) → get_member (keyword_name k) others ≡ get_member (keyword_name k) ms)
+      → (k : Keyword) (r : Option (Result (Validator E) CompileError)) → IsCompiledAt outcome s others k r → IsCompiledAt outcome s ms k r
   same_compiled same k r h = seen_compiled outcome s ms others (λ w. Unit {0}) (λ w seen. same w) tt tt tt tt k r tt h
 
 module _ {E : Type 0} (outcome : E → List ℕ → Outcome) (s : Settings) (ms others : Members) (keeps : KeepsOthers ms others) where
   -- all but that at `contentSchema`
-  pub schema_compiled : (v : Value) (r : Option (Result (Validator E) CompileError)) → get_member (keyword_name ContentSchema) ms ≡ Some (view v) → is_overridden s.options ContentSchema ≡ false
+  -- what is compiled of the schema beside the others is compiled of the object
+  pub schema_compiled : (v : Value) (r : Option (Result (Validator E) CompileError)) → get_member (keyword_name ContentSchema) ms ≡ Some (view v)
+      → is_overridden s.options ContentSchema ≡ false
       → IsCompiled outcome s.place (alone ContentSchema (schema_entry (content_rule s.draft) others (view v))) r → IsCompiledAt outcome s ms ContentSchema r
-  schema_compiled v r there looked_at h = seen_schema outcome s ms others Apart (λ k apart. keeps.kept (keyword_name k) apart) refl refl refl refl v r there looked_at h
+  schema_compiled v r there looked_at h = seen_schema outcome s ms others Apart (λ k apart. keeps.kept (keyword_name k) apart) refl refl refl refl v r there
+      looked_at h
 
-  pub other_compiled : (k : Keyword) (r : Option (Result (Validator E) CompileError)) → Apart k → IsCompiledAt outcome s others k r → IsCompiledAt outcome s ms k r
+  -- and so is what is compiled of a keyword other than `contentSchema`
+  pub other_compiled : (k : Keyword) (r : Option (Result (Validator E) CompileError)) → Apart k → IsCompiledAt outcome s others k r
+      → IsCompiledAt outcome s ms k r
   other_compiled k r apart h = seen_compiled outcome s ms others Apart (λ w seen. keeps.kept (keyword_name w) seen) refl refl refl refl k r apart h

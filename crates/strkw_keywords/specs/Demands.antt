@@ -1,20 +1,28 @@
 -- What keywords demand of a text, and what a text is found to fail at.
-use Rattle.std.specs.Prelude.{◌≡◌, ◌≤◌, ◌⊎◌, ℕ, List, [], ◌∷◌, ◌++◌, Bool, true, false, ◌&&◌, length, Option, Some, None, IsTrue, MatchOption, slice_get}
+use Rattle.std.specs.Prelude.{◌≡◌, ◌≤◌, ◌⊎◌, ℕ, List, [], ◌∷◌, ◌++◌, Bool, true, false, ◌&&◌}
+use Rattle.std.specs.Prelude.{length, Option, Some, None, IsTrue, MatchOption, slice_get}
 use Rattle.std.specs.List.{AllByRecursion}
 use Rattle.std.specs.Str.{chars, IsUtf8}
-use Rattle.strkw_report.specs.Kinds.{Kind, min_length, max_length, pattern, backtrack_limit_exceeded, regex_engine_failure, format, content_encoding, content_media_type, from_utf8}
+use Rattle.strkw_report.specs.Kinds.{Kind, min_length, max_length, pattern}
+use Rattle.strkw_report.specs.Kinds.{backtrack_limit_exceeded, regex_engine_failure, format}
+use Rattle.strkw_report.specs.Kinds.{content_encoding, content_media_type, from_utf8}
 use Rattle.strkw_coding.specs.declared.codec.Codec.{Codec}
 use Rattle.strkw_coding.specs.declared.media_type.BuiltinMediaType.{BuiltinMediaType}
-use Rattle.strkw_coding.specs.Json.{IsOfMediaType as IsOfBuiltinMediaType}
+use Rattle.strkw_coding.specs.MediaTypes.{IsOfMediaType as IsOfBuiltinMediaType}
 use Rattle.strkw_coding.specs.Rfc4648.{Encodes, IsEncoding, EncodesNoText}
 use Rattle.strkw_pattern.specs.declared.engine.Outcome.{Outcome}
 use Rattle.strkw_pattern.specs.declared.engine.Outcome.TheVariants as outcome
 use Rattle.strkw_keywords.specs.declared.keyword.Keyword.{Keyword}
-use Rattle.strkw_keywords.specs.declared.keyword.Keyword.TheVariants.{ContentMediaType, ContentEncoding, Format, MinLength, MaxLength, Pattern}
+use Rattle.strkw_keywords.specs.declared.keyword.Keyword.TheVariants.{ContentMediaType}
+use Rattle.strkw_keywords.specs.declared.keyword.Keyword.TheVariants.{ContentEncoding, Format}
+use Rattle.strkw_keywords.specs.declared.keyword.Keyword.TheVariants.{MinLength, MaxLength, Pattern}
 use Rattle.strkw_formats.specs.declared.builtin.BuiltinFormat.{BuiltinFormat}
 use Rattle.strkw_formats.specs.Formats.{IsOfBuiltin}
-use Rattle.strkw_keywords.specs.Meanings.{Decoded, no_encoding, no_text, decoded, Row, CodecRow, Lists, Choice, builtin, row, row_names, codec_names, first_named}
-use Rattle.strkw_keywords.specs.Choices.{chosen_format_name, chosen_media_type_name, chosen_codec_name}
+use Rattle.strkw_keywords.specs.Meanings.{Decoded, no_encoding, no_text, decoded, Row, CodecRow}
+use Rattle.strkw_keywords.specs.Meanings.{Lists, Choice, builtin, row, row_names, codec_names}
+use Rattle.strkw_keywords.specs.Meanings.{first_named}
+use Rattle.strkw_keywords.specs.Choices.{chosen_format_name, chosen_media_type_name}
+use Rattle.strkw_keywords.specs.Choices.{chosen_codec_name}
 
 -- what one keyword demands of a text
 pub data Demand : Type 0 where
@@ -60,7 +68,8 @@ CodecDecodes c text no_text = EncodesNoText c text
 CodecDecodes c text (decoded t) = Encodes c text t × IsUtf8 t
 
 abbrev pub RowDecodes : List CodecRow → ℕ → List ℕ → Decoded → Type 0
-RowDecodes rows at text d = MatchOption (slice_get rows at) (d ≡ no_encoding) (λ r. d ≡ r.decode (chars text))
+RowDecodes rows at text d = MatchOption (slice_get rows at) (d ≡ no_encoding)
+    (λ r. d ≡ r.decode (chars text))
 
 -- the text decodes to this
 abbrev pub Decodes : Choice Codec → Lists → List ℕ → Decoded → Type 0
@@ -71,28 +80,47 @@ Decodes (row at name) lists text d = RowDecodes lists.codecs at text d
 
 -- nothing is found where P holds, and this where it does not
 abbrev pub FoundUnless : Type 0 → Keyword → Kind → Option Finding → Type 0
-FoundUnless P keyword kind found = (P × (found ≡ None)) ⊎ ((P → ⊥) × (found ≡ Some (record { keyword = keyword; kind = kind })))
+FoundUnless P keyword kind found = (P × (found ≡ None))
+    ⊎ ((P → ⊥) × (found ≡ Some (record { keyword = keyword; kind = kind })))
 
 -- what is found of a text that is decoded first
-abbrev pub IsContentFinding : Choice Codec → Choice BuiltinMediaType → Lists → Decoded → Option Finding → Type 0
-IsContentFinding c m lists no_encoding found = found ≡ Some (record { keyword = ContentEncoding; kind = content_encoding (chosen_codec_name c) })
-IsContentFinding c m lists no_text found = found ≡ Some (record { keyword = ContentEncoding; kind = from_utf8 })
-IsContentFinding c m lists (decoded t) found = FoundUnless (IsOfMediaType m lists t) ContentMediaType (content_media_type (chosen_media_type_name m)) found
+abbrev pub IsContentFinding : Choice Codec → Choice BuiltinMediaType → Lists → Decoded
+    → Option Finding → Type 0
+IsContentFinding c m lists no_encoding found =
+    found ≡ Some (record {
+      keyword = ContentEncoding;
+      kind = content_encoding (chosen_codec_name c);
+    })
+IsContentFinding c m lists no_text found =
+    found ≡ Some (record { keyword = ContentEncoding; kind = from_utf8 })
+IsContentFinding c m lists (decoded t) found =
+    FoundUnless (IsOfMediaType m lists t) ContentMediaType
+    (content_media_type (chosen_media_type_name m)) found
 
 abbrev pub found_by_outcome : List ℕ → Outcome → Option Finding
 found_by_outcome p outcome.Match = None
 found_by_outcome p outcome.NoMatch = Some (record { keyword = Pattern; kind = pattern p })
-found_by_outcome p outcome.BacktrackLimit = Some (record { keyword = Pattern; kind = backtrack_limit_exceeded p })
-found_by_outcome p outcome.Failed = Some (record { keyword = Pattern; kind = regex_engine_failure p })
+found_by_outcome p outcome.BacktrackLimit =
+    Some (record { keyword = Pattern; kind = backtrack_limit_exceeded p })
+found_by_outcome p outcome.Failed =
+    Some (record { keyword = Pattern; kind = regex_engine_failure p })
 
 -- this is what a text fails at by one demand, or that it fails at nothing
 abbrev pub HasFinding : Demand → Lists → List ℕ → Option Finding → Type 0
-HasFinding (is_media_type m) lists text found = FoundUnless (IsOfMediaType m lists text) ContentMediaType (content_media_type (chosen_media_type_name m)) found
-HasFinding (is_encoded c) lists text found = FoundUnless (IsEncoded c lists text) ContentEncoding (content_encoding (chosen_codec_name c)) found
-HasFinding (encodes_media_type c m) lists text found = (d : Decoded) × Decodes c lists text d × IsContentFinding c m lists d found
-HasFinding (is_format f) lists text found = FoundUnless (IsOfFormat f lists text) Format (format (chosen_format_name f)) found
-HasFinding (at_least n) lists text found = FoundUnless (n ≤ length (chars text)) MinLength (min_length n) found
-HasFinding (at_most n) lists text found = FoundUnless (length (chars text) ≤ n) MaxLength (max_length n) found
+HasFinding (is_media_type m) lists text found =
+    FoundUnless (IsOfMediaType m lists text) ContentMediaType
+    (content_media_type (chosen_media_type_name m)) found
+HasFinding (is_encoded c) lists text found =
+    FoundUnless (IsEncoded c lists text) ContentEncoding (content_encoding (chosen_codec_name c))
+    found
+HasFinding (encodes_media_type c m) lists text found = (d : Decoded) × Decodes c lists text d
+    × IsContentFinding c m lists d found
+HasFinding (is_format f) lists text found =
+    FoundUnless (IsOfFormat f lists text) Format (format (chosen_format_name f)) found
+HasFinding (at_least n) lists text found =
+    FoundUnless (n ≤ length (chars text)) MinLength (min_length n) found
+HasFinding (at_most n) lists text found =
+    FoundUnless (length (chars text) ≤ n) MaxLength (max_length n) found
 HasFinding (compares p outcome) lists text found = found ≡ found_by_outcome p (outcome (chars text))
 HasFinding (matches p outcome) lists text found = found ≡ found_by_outcome p (outcome (chars text))
 
@@ -103,7 +131,8 @@ listed (Some f) = f ∷ []
 -- these are the findings of a text by several demands, in their order
 abbrev pub Finds : List Demand → Lists → List ℕ → List Finding → Type 0
 Finds [] lists text fs = fs ≡ []
-Finds (d ∷ others) lists text fs = (found : Option Finding) × (rest : List Finding) × HasFinding d lists text found × (fs ≡ listed found ++ rest)
+Finds (d ∷ others) lists text fs = (found : Option Finding) × (rest : List Finding)
+    × HasFinding d lists text found × (fs ≡ listed found ++ rest)
     × Finds others lists text rest
 
 -- ---- the rows that demands rest on
@@ -116,7 +145,8 @@ KeepsFirst names (row at name) = first_named name names ≡ Some at
 abbrev pub KeepsRows : Lists → Demand → Type 0
 KeepsRows lists (is_media_type m) = KeepsFirst (row_names lists.media_types) m
 KeepsRows lists (is_encoded c) = KeepsFirst (codec_names lists.codecs) c
-KeepsRows lists (encodes_media_type c m) = KeepsFirst (codec_names lists.codecs) c × KeepsFirst (row_names lists.media_types) m
+KeepsRows lists (encodes_media_type c m) = KeepsFirst (codec_names lists.codecs) c
+    × KeepsFirst (row_names lists.media_types) m
 KeepsRows lists (is_format f) = KeepsFirst (row_names lists.formats) f
 KeepsRows lists (at_least n) = Unit {0}
 KeepsRows lists (at_most n) = Unit {0}

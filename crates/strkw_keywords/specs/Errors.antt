@@ -27,12 +27,15 @@ reported s text (Some f) = report_at s (keyword_name f.keyword) f.kind text ∷ 
 -- these are the errors of a text by several assertions, in their order
 abbrev pub AllReport : List Assertion → Lists → Site → List ℕ → List Report → Type 0
 AllReport [] lists site text rs = rs ≡ []
-AllReport (a ∷ others) lists site text rs = (found : Option Finding) × (rest : List Report) × HasFinding a.demand lists text found
-    × (rs ≡ reported (standing a.place site) text found ++ rest) × AllReport others lists site text rest
+AllReport (a ∷ others) lists site text rs = (found : Option Finding) × (rest : List Report)
+    × HasFinding a.demand lists text found
+    × (rs ≡ reported (standing a.place site) text found ++ rest)
+    × AllReport others lists site text rest
 
 -- the same of a node, which has none where it is no text
 abbrev pub NodeReports : List Assertion → Lists → Site → Option (List ℕ) → List Report → Type 0
-NodeReports assertions lists site node rs = MatchOption node (rs ≡ []) (λ text. AllReport assertions lists site text rs)
+NodeReports assertions lists site node rs =
+    MatchOption node (rs ≡ []) (λ text. AllReport assertions lists site text rs)
 
 -- new is old, and behind it a list that has P
 pub record Appends (P : List Report → Type 0) (old new : List Report) : Type 0 where

@@ -4,7 +4,9 @@ use Rattle.strkw_report.specs.Failures.{kind_failed}
 use Rattle.strkw_report.specs.declared.failure.Failure.{Failure}
 use Rattle.strkw_report.specs.declared.failure.Failure.TheVariants as failed
 use Rattle.strkw_keywords.specs.declared.keyword.Keyword.{Keyword}
-use Rattle.strkw_keywords.specs.declared.keyword.Keyword.TheVariants.{ContentMediaType, ContentEncoding, Format, MinLength, MaxLength, Pattern}
+use Rattle.strkw_keywords.specs.declared.keyword.Keyword.TheVariants.{ContentMediaType}
+use Rattle.strkw_keywords.specs.declared.keyword.Keyword.TheVariants.{ContentEncoding, Format}
+use Rattle.strkw_keywords.specs.declared.keyword.Keyword.TheVariants.{MinLength, MaxLength, Pattern}
 use Rattle.strkw_keywords.specs.Demands.{Finding, listed}
 use Rattle.strkw_keywords.specs.declared.findings.Findings.{Findings}
 

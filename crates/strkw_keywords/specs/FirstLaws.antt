@@ -8,5 +8,7 @@ use Rattle.strkw_keywords.specs.Verdicts.{NodeFailsFirst}
 
 -- the error that `validate` answers is the first of those that `collect_errors` appends
 abbrev pub FirstErrorIsHead : Type 0
-FirstErrorIsHead = (assertions : List Assertion) (lists : Lists) (site : Site) (there : Option (List ℕ)) (error : Report) (rs : List Report)
-    → NodeFailsFirst assertions lists site there error → NodeReports assertions lists site there rs → (others : List Report) × (rs ≡ error ∷ others)
+FirstErrorIsHead = (assertions : List Assertion) (lists : Lists) (site : Site)
+    (there : Option (List ℕ)) (error : Report) (rs : List Report)
+    → NodeFailsFirst assertions lists site there error → NodeReports assertions lists site there rs
+    → (others : List Report) × (rs ≡ error ∷ others)

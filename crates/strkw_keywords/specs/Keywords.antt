@@ -1,7 +1,11 @@
--- The string keywords of JSON Schema Validation: their names, and the order in which entries are looked at.
+-- The string keywords of JSON Schema Validation: their names, and the order in which entries are
+-- looked at.
 use Rattle.std.specs.Prelude.{ℕ, List, codes}
 use Rattle.strkw_keywords.specs.declared.keyword.Keyword.{Keyword}
-use Rattle.strkw_keywords.specs.declared.keyword.Keyword.TheVariants.{ContentMediaType, ContentEncoding, ContentSchema, Format, MinLength, MaxLength, Pattern}
+use Rattle.strkw_keywords.specs.declared.keyword.Keyword.TheVariants.{ContentMediaType}
+use Rattle.strkw_keywords.specs.declared.keyword.Keyword.TheVariants.{ContentEncoding}
+use Rattle.strkw_keywords.specs.declared.keyword.Keyword.TheVariants.{ContentSchema, Format}
+use Rattle.strkw_keywords.specs.declared.keyword.Keyword.TheVariants.{MinLength, MaxLength, Pattern}
 
 abbrev pub keyword_name : Keyword → List ℕ
 keyword_name ContentMediaType = codes "contentMediaType"

@@ -1,5 +1,7 @@
--- How many characters a text may have by what keywords demand of it: limits, and the windows of built-in formats.
-use Rattle.std.specs.Prelude.{◌≡◌, ◌↔◌, ◌<◌, ℕ, List, [], ◌∷◌, Option, Some, None, unwrap_or, min, max, length}
+-- How many characters a text may have by what keywords demand of it: limits, and the windows of
+-- built-in formats.
+use Rattle.std.specs.Prelude.{◌≡◌, ◌↔◌, ◌<◌, ℕ, List, [], ◌∷◌, Option, Some, None, unwrap_or, min}
+use Rattle.std.specs.Prelude.{max, length}
 use Rattle.std.specs.List.{AllByRecursion}
 use Rattle.std.specs.Str.{chars, IsUtf8}
 use Rattle.strkw_report.specs.declared.error.Site.{Site}
@@ -7,7 +9,8 @@ use Rattle.strkw_formats.specs.declared.builtin.BuiltinFormat.{BuiltinFormat}
 use Rattle.strkw_keywords.specs.Meanings.{Lists, Choice, builtin, row}
 use Rattle.strkw_formats.specs.Formats.{Window, window_of}
 use Rattle.strkw_formats.specs.FormatLaws.{IsInside}
-use Rattle.strkw_keywords.specs.Demands.{Demand, is_media_type, is_encoded, encodes_media_type, is_format, at_least, at_most, compares, matches}
+use Rattle.strkw_keywords.specs.Demands.{Demand, is_media_type, is_encoded, encodes_media_type}
+use Rattle.strkw_keywords.specs.Demands.{is_format, at_least, at_most, compares, matches}
 use Rattle.strkw_keywords.specs.Errors.{Assertion, AllReport, demands_asserted}
 
 -- ---- windows
@@ -80,9 +83,11 @@ CommonIsInBoth = (v w : Window) (n : ℕ) → IsInside (common v w) n ↔ (IsIns
 
 -- a window is empty exactly where its upper end is closed, below the lower one
 abbrev pub EmptyByItsEnds : Type 0
-EmptyByItsEnds = (w : Window) → IsEmpty w ↔ ((greatest : ℕ) × (w.greatest ≡ Some greatest) × (greatest < w.least))
+EmptyByItsEnds = (w : Window) → IsEmpty w
+    ↔ ((greatest : ℕ) × (w.greatest ≡ Some greatest) × (greatest < w.least))
 
 -- a text of a length outside the interval has an error
 abbrev pub OutsideIsAnError : Type 0
 OutsideIsAnError = (assertions : List Assertion) (lists : Lists) (site : Site) (text : List ℕ)
-    → (IsInside (interval (demands_asserted assertions)) (length (chars text)) → ⊥) → AllReport assertions lists site text [] → ⊥
+    → (IsInside (interval (demands_asserted assertions)) (length (chars text)) → ⊥)
+    → AllReport assertions lists site text [] → ⊥

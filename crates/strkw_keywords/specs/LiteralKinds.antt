@@ -1,6 +1,8 @@
 -- The four kinds of literal patterns.
 use Rattle.strkw_pattern.specs.declared.matcher.LiteralMatcher.{LiteralMatcher}
-use Rattle.strkw_pattern.specs.declared.matcher.LiteralMatcher.TheVariants.{Prefix, Exact, Alternation, NoWhitespace}
+use Rattle.strkw_pattern.specs.declared.matcher.LiteralMatcher.TheVariants.{Prefix, Exact}
+use Rattle.strkw_pattern.specs.declared.matcher.LiteralMatcher.TheVariants.{Alternation}
+use Rattle.strkw_pattern.specs.declared.matcher.LiteralMatcher.TheVariants.{NoWhitespace}
 
 pub data LiteralKind : Type 0 where
   prefix : LiteralKind

@@ -12,8 +12,10 @@ use Rattle.strkw_keywords.specs.declared.parts.Parts.{Parts}
 -- what is noted by a schema object at this location
 abbrev pub noted_remark : List ℕ → Option Noted → Option Remark
 noted_remark location None = None
-noted_remark location (Some (Text keyword text)) = Some (remark_at location keyword (string text.now))
-noted_remark location (Some (Value keyword value)) = Some (remark_at location keyword (view value.now))
+noted_remark location (Some (Text keyword text)) =
+    Some (remark_at location keyword (string text.now))
+noted_remark location (Some (Value keyword value)) =
+    Some (remark_at location keyword (view value.now))
 
 -- the row is the first of its name, if there is one
 abbrev pub IsFirst : Option RowRef → List (List ℕ) → Type 0
@@ -22,5 +24,6 @@ IsFirst (Some r) names = first_named r.name.now names ≡ Some r.position
 
 -- the rows on which a validator rests are the first of their names
 abbrev pub RowsAreFirst : Parts → Lists → Type 0
-RowsAreFirst parts lists = IsFirst parts.format (row_names lists.formats) × IsFirst parts.media_type (row_names lists.media_types)
+RowsAreFirst parts lists = IsFirst parts.format (row_names lists.formats)
+    × IsFirst parts.media_type (row_names lists.media_types)
     × IsFirst parts.codec (codec_names lists.codecs)

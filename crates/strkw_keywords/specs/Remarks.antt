@@ -16,9 +16,13 @@ remark_of n = record { schema_path = n.schema_path; value = view n.value }
 
 -- what a keyword notes, of a schema object at this location
 abbrev pub remark_at : List ℕ → Keyword → Data → Remark
-remark_at location keyword value = record { schema_path = below location (keyword_name keyword); value = value }
+remark_at location keyword value = record {
+  schema_path = below location (keyword_name keyword);
+  value = value;
+}
 
--- the annotation of a node: what is noted of a text, whatever its errors; a node that is no text has none
+-- the annotation of a node: what is noted of a text, whatever its errors; a node that is no text
+-- has none
 abbrev pub annotation_of : Option Remark → Option (List ℕ) → Option Data
 annotation_of remark None = None
 annotation_of remark (Some text) = option_map (λ r. r.value) remark

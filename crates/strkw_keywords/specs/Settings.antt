@@ -10,13 +10,17 @@ use Rattle.strkw_keywords.specs.Places.{Place}
 use Rattle.strkw_keywords.specs.Object.{Settings}
 
 -- where the schema object of a context stands
-abbrev pub place_in : {B X : Type 0} {F : X → Type 0} {Y : Type 0} {M : Y → Type 0} {Z : Type 0} {C : Z → Type 0} → Context B X Y Z F M C → Place
+abbrev pub place_in : {B X : Type 0} {F : X → Type 0} {Y : Type 0} {M : Y
+    → Type 0} {Z : Type 0} {C : Z → Type 0} → Context B X Y Z F M C → Place
 place_in ctx = record { schema = ctx.location; prefix = option_map string_bytes ctx.absolute }
 
 -- what a context says, by the meanings of its builder and of the boxes that its lists hold
-abbrev pub settings_of : {B X : Type 0} {F : X → Type 0} {Y : Type 0} {M : Y → Type 0} {Z : Type 0} {C : Z → Type 0}
-    → (B → List ℕ → Bool) → (B → List ℕ → List ℕ → Outcome) → (DynBox X Global F → List ℕ → Bool) → (DynBox Y Global M → List ℕ → Bool)
-    → (DynBox Z Global C → List ℕ → Bool) → (DynBox Z Global C → List ℕ → Decoded) → Context B X Y Z F M C → Settings
+abbrev pub settings_of : {B X : Type 0} {F : X → Type 0} {Y : Type 0} {M : Y
+    → Type 0} {Z : Type 0} {C : Z → Type 0}
+    → (B → List ℕ → Bool) → (B → List ℕ → List ℕ → Outcome) → (DynBox X Global F → List ℕ → Bool)
+    → (DynBox Y Global M → List ℕ → Bool)
+    → (DynBox Z Global C → List ℕ → Bool) → (DynBox Z Global C → List ℕ → Decoded)
+    → Context B X Y Z F M C → Settings
 settings_of takes outcome admits accepted encoded decoding ctx = record {
   draft = ctx.draft;
   place = place_in ctx;

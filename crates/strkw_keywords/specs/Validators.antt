@@ -9,14 +9,15 @@ use Rattle.strkw_formats.specs.Formats.{format_name}
 use Rattle.strkw_keywords.specs.Meanings.{builtin, row}
 use Rattle.strkw_keywords.specs.Choices.{choice_of}
 use Rattle.strkw_keywords.specs.Places.{Place}
-use Rattle.strkw_keywords.specs.Demands.{Demand, is_media_type, is_encoded, encodes_media_type, is_format, at_least, at_most, compares, matches}
+use Rattle.strkw_keywords.specs.Demands.{Demand, is_media_type, is_encoded, encodes_media_type}
+use Rattle.strkw_keywords.specs.Demands.{is_format, at_least, at_most, compares, matches}
 use Rattle.strkw_keywords.specs.Errors.{Assertion, placed}
 use Rattle.strkw_keywords.specs.Remarks.{Remark, remark_at}
 use Rattle.strkw_keywords.specs.declared.validator.Validator.{Validator}
 use Rattle.strkw_keywords.specs.declared.validator.Validator.TheVariants as any
 
--- what a validator says: the place of its schema object, what it demands of a text by the meaning of engines, and
--- what it notes of one
+-- what a validator says: the place of its schema object, what it demands of a text by the meaning
+-- of engines, and what it notes of one
 pub record Said (E : Type 0) : Type 0 where
   pub place : Place
   pub demands : (E → List ℕ → Outcome) → List Demand
@@ -84,7 +85,8 @@ demands_in outcome [] = []
 demands_in outcome (v ∷ vs) = demands_of outcome v ++ demands_in outcome vs
 
 -- what several validators assert, in their order
-abbrev pub assertions_in : {E : Type 0} → (E → List ℕ → Outcome) → List (Validator E) → List Assertion
+abbrev pub assertions_in : {E : Type 0} → (E → List ℕ → Outcome) → List (Validator E)
+    → List Assertion
 assertions_in outcome [] = []
 assertions_in outcome (v ∷ others) = assertions_of outcome v ++ assertions_in outcome others
 

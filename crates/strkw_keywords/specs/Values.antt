@@ -4,7 +4,10 @@ use Rattle.serde_json.specs.Data.{Data, Members, no_members, member}
 use Rattle.serde_json.specs.Find.{get_member}
 use Rattle.serde_json.specs.View.{view}
 use Rattle.strkw_keywords.specs.declared.keyword.Keyword.{Keyword}
-use Rattle.strkw_keywords.specs.declared.keyword.Keyword.TheVariants.{ContentMediaType, ContentEncoding, ContentSchema, Format, MinLength, MaxLength, Pattern}
+use Rattle.strkw_keywords.specs.declared.keyword.Keyword.TheVariants.{ContentMediaType}
+use Rattle.strkw_keywords.specs.declared.keyword.Keyword.TheVariants.{ContentEncoding}
+use Rattle.strkw_keywords.specs.declared.keyword.Keyword.TheVariants.{ContentSchema, Format}
+use Rattle.strkw_keywords.specs.declared.keyword.Keyword.TheVariants.{MinLength, MaxLength, Pattern}
 use Rattle.strkw_keywords.specs.declared.values.Values.{Values}
 use Rattle.strkw_keywords.specs.Keywords.{keyword_name}
 use Rattle.strkw_keywords.specs.Object.{keywords}

@@ -8,7 +8,8 @@ use Rattle.strkw_keywords.specs.Keywords.{keyword_name}
 
 -- an object has the members of another one, but for that at `contentSchema`
 pub record KeepsOthers (ms others : Members) : Type 0 where
-  pub kept : (name : List ℕ) → bytes_eq (keyword_name ContentSchema) name ≡ false → get_member name others ≡ get_member name ms
+  pub kept : (name : List ℕ) → bytes_eq (keyword_name ContentSchema) name ≡ false
+      → get_member name others ≡ get_member name ms
 
 -- and has none at `contentSchema`
 pub record IsWithoutSchema (ms others : Members) : Type 0 where

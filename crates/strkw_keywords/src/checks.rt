@@ -57,9 +57,11 @@ pub trait ContentCodec: Drop {
     ///
     /// Errors: `NotUtf8` where it encodes bytes that are not UTF-8, and `Memory`.
     fn decode(&self, alloc: Global, value: &str) -> Result<Option<String>, DecodeError>
-        ensures text { IfOk result (λ o. MatchOption o (decoding self.now (chars value.now) ≡ no_encoding)
+        ensures text { IfOk result (λ o. MatchOption o
+            (decoding self.now (chars value.now) ≡ no_encoding)
             (λ s. decoding self.now (chars value.now) ≡ decoded (string_bytes s))) }
-        ensures not_utf8 { IfErr result (λ e. e ≡ DecodeError.NotUtf8 → decoding self.now (chars value.now) ≡ no_text) };
+        ensures not_utf8 { IfErr result (λ e. e ≡ DecodeError.NotUtf8
+            → decoding self.now (chars value.now) ≡ no_text) };
 }
 
 /// A row of the caller's formats.
@@ -111,7 +113,8 @@ pub(crate) enum Choice<A> {
 impl<A> Choice<A> {
     // The row that it names, if it names one.
     pub(crate) fn row(&self) -> Option<RowRef<'_>>
-        ensures { (names : List (List ℕ)) → IsFirst result names ↔ KeepsFirst names (choice_of self.now) }
+        ensures { (names : List (List ℕ))
+            → IsFirst result names ↔ KeepsFirst names (choice_of self.now) }
     {
         match self {
             Choice::Builtin(_) => None,
@@ -126,7 +129,8 @@ impl<A> Choice<A> {
 impl NamedCodec {
     pub(crate) fn decode(&self, alloc: Global, text: &str) -> Result<Option<String>, DecodeError>
         ensures text { IfOk result (λ o. decoded_of o ≡ decoding self.now.codec (chars text.now)) }
-        ensures not_utf8 { IsErrOf result DecodeError.NotUtf8 → no_text ≡ decoding self.now.codec (chars text.now) }
+        ensures not_utf8 { IsErrOf result DecodeError.NotUtf8
+            → no_text ≡ decoding self.now.codec (chars text.now) }
     {
         self.codec.decode(alloc, text)
     }
@@ -203,7 +207,9 @@ fn first_named<R: Row>(rows: &[R], name: &str) -> Option<usize>
 
 // What the row at a position says of a text; where there is none, nothing is admitted.
 pub(crate) fn ask_row<R: Row>(alloc: Global, rows: &[R], position: usize, text: &str) -> Asked
-    ensures { IfOk result (λ b. IsTrue b ↔ MatchOption (slice_get rows.now position) ⊥ (λ r. IsTrue (R.admitted r (chars text.now)))) }
+    ensures { IfOk result (λ b. IsTrue b
+        ↔ MatchOption (slice_get rows.now position) ⊥
+        (λ r. IsTrue (R.admitted r (chars text.now)))) }
 {
     match rows.get(position) {
         Some(row) => row.ask(alloc, text),
@@ -213,19 +219,22 @@ pub(crate) fn ask_row<R: Row>(alloc: Global, rows: &[R], position: usize, text: 
 
 impl Checks<'_> {
     pub(crate) fn format_named(&self, name: &str) -> Option<usize>
-        ensures { result ≡ first_named name.now (row_names (lists_of admits accepted encoded decoding self.now).formats) }
+        ensures { result ≡ first_named name.now
+            (row_names (lists_of admits accepted encoded decoding self.now).formats) }
     {
         first_named(self.formats, name)
     }
 
     pub(crate) fn media_type_named(&self, name: &str) -> Option<usize>
-        ensures { result ≡ first_named name.now (row_names (lists_of admits accepted encoded decoding self.now).media_types) }
+        ensures { result ≡ first_named name.now
+            (row_names (lists_of admits accepted encoded decoding self.now).media_types) }
     {
         first_named(self.media_types, name)
     }
 
     pub(crate) fn codec_named(&self, name: &str) -> Option<usize>
-        ensures { result ≡ first_named name.now (codec_names (lists_of admits accepted encoded decoding self.now).codecs) }
+        ensures { result ≡ first_named name.now
+            (codec_names (lists_of admits accepted encoded decoding self.now).codecs) }
     {
         first_named(self.codecs, name)
     }

@@ -43,7 +43,8 @@ pub fn compile_entry<B: EngineBuilder>(
     object: &Map<String, Value>,
     keyword: Keyword,
 ) -> Option<Result<Validator<B::Engine>, CompileError>>
-    ensures { IsCompiledAt B.Engine.outcome (settings_of B.takes B.outcome admits accepted encoded decoding ctx.now)
+    ensures { IsCompiledAt B.Engine.outcome
+        (settings_of B.takes B.outcome admits accepted encoded decoding ctx.now)
         (members_view object.now.entries) keyword result }
 {
     let value = value_at(&ctx.options, object, keyword)?;
@@ -58,7 +59,8 @@ pub fn compile_among<B: EngineBuilder>(
     keyword: Keyword,
 ) -> Option<Result<Validator<B::Engine>, CompileError>>
     ensures { (ms : Members) → AreValuesOf ms values.now
-        → IsCompiledAt B.Engine.outcome (settings_of B.takes B.outcome admits accepted encoded decoding ctx.now)
+        → IsCompiledAt B.Engine.outcome (settings_of B.takes B.outcome admits accepted encoded
+        decoding ctx.now)
         ms keyword result }
 {
     let value = value_at(&ctx.options, values, keyword)?;
@@ -74,10 +76,11 @@ pub(crate) fn compile_value<B: EngineBuilder, O: Object>(
     keyword: Keyword,
 ) -> Option<Result<Validator<B::Engine>, CompileError>>
     requires { value_at ctx.now.options keyword (O.members object.now) ≡ Some (view value.now) }
-    ensures { IsCompiledAt B.Engine.outcome (settings_of B.takes B.outcome admits accepted encoded decoding ctx.now)
+    ensures { IsCompiledAt B.Engine.outcome
+        (settings_of B.takes B.outcome admits accepted encoded decoding ctx.now)
         (O.members object.now) keyword result }
 {
-    located(
+    locate(
         alloc,
         &ctx.location,
         build(alloc, ctx, object, value, keyword),
@@ -93,7 +96,8 @@ fn build<B: EngineBuilder, O: Object>(
     keyword: Keyword,
 ) -> Result<Option<Validator<B::Engine>>, Refused>
     requires { value_at ctx.now.options keyword (O.members object.now) ≡ Some (view value.now) }
-    ensures { IsBuiltAt B.Engine.outcome (settings_of B.takes B.outcome admits accepted encoded decoding ctx.now)
+    ensures { IsBuiltAt B.Engine.outcome
+        (settings_of B.takes B.outcome admits accepted encoded decoding ctx.now)
         (O.members object.now) keyword result }
 {
     match keyword {
@@ -143,7 +147,8 @@ impl From<AllocError> for Refused {
 
 /// The value of a key, or `None` where the object has no such key.
 pub fn member<'v>(map: &'v Map<String, Value>, name: &str) -> Option<&'v Value>
-    ensures { option_map (λ x. view x.now) result ≡ get_member name.now (members_view map.now.entries) }
+    ensures { option_map (λ x. view x.now) result
+        ≡ get_member name.now (members_view map.now.entries) }
 {
     map.get(name)
 }
@@ -166,7 +171,10 @@ pub(crate) fn value_at<'v, O: Object>(
 // The refusal of a value that is no string.
 pub(crate) fn no_string(value: &Value, keyword: Keyword) -> Refused
     ensures { (result ≡ Refused.Memory) ⊎ ((place : Place) → refused_at place result
-        ≡ record { reason = no_string (view value.now); location = below place.schema (keyword_name keyword) }) }
+        ≡ record {
+          reason = no_string (view value.now);
+          location = below place.schema (keyword_name keyword);
+        }) }
 {
     if holds_fraction(value) {
         return Refused::Malformed {
@@ -195,12 +203,13 @@ pub(crate) fn origin_of<B>(ctx: &Context<'_, B>) -> Result<Origin, AllocError>
 }
 
 // The answer of a compile function, with the place of a refusal.
-pub(crate) fn located<E: RegexEngine>(
+pub(crate) fn locate<E: RegexEngine>(
     alloc: Global,
     location: &Location,
     built: Result<Option<Validator<E>>, Refused>,
 ) -> Option<Result<Validator<E>, CompileError>>
-    ensures { (place : Place) (es : List Keyed) → place.schema ≡ location.now → IsBuilt E.outcome place es built
+    ensures { (place : Place) (es : List Keyed) → place.schema ≡ location.now
+        → IsBuilt E.outcome place es built
         → IsCompiled E.outcome place es result }
 {
     match built {
@@ -213,7 +222,8 @@ pub(crate) fn located<E: RegexEngine>(
 // The refusal with its place; out of memory stands at the root.
 fn refusal(alloc: Global, location: &Location, refused: Refused) -> CompileError
     ensures { (place : Place) → place.schema ≡ location.now
-        → (refusal_of result ≡ out_of_memory) ⊎ ((refused ≡ Refused.Memory → ⊥) × (refusal_of result ≡ refused_at place refused)) }
+        → (refusal_of result ≡ out_of_memory)
+        ⊎ ((refused ≡ Refused.Memory → ⊥) × (refusal_of result ≡ refused_at place refused)) }
 {
     if let Refused::Malformed { keyword, kind } = refused {
         if let Ok(location) = location.join(keyword.as_str()) {

@@ -39,7 +39,9 @@ fn chosen_media_type(choice: &Choice<BuiltinMediaType>) -> &str
 }
 
 fn accepts(alloc: Global, choice: &Choice<BuiltinMediaType>, checks: &Checks, text: &str) -> Asked
-    ensures { IfOk result (λ b. IsTrue b ↔ IsOfMediaType (choice_of choice.now) (lists_of admits accepted encoded decoding checks.now) text.now) }
+    ensures { IfOk result (λ b. IsTrue b
+        ↔ IsOfMediaType (choice_of choice.now)
+        (lists_of admits accepted encoded decoding checks.now) text.now) }
 {
     match choice {
         Choice::Builtin(media_type) => media_type.accepts(alloc, text),
@@ -57,7 +59,9 @@ fn chosen_codec(choice: &Choice<Codec>) -> &str
 }
 
 fn is_encoding(alloc: Global, choice: &Choice<Codec>, checks: &Checks, text: &str) -> Asked
-    ensures { IfOk result (λ b. IsTrue b ↔ IsEncoded (choice_of choice.now) (lists_of admits accepted encoded decoding checks.now) text.now) }
+    ensures { IfOk result (λ b. IsTrue b
+        ↔ IsEncoded (choice_of choice.now) (lists_of admits accepted encoded decoding checks.now)
+        text.now) }
 {
     match choice {
         Choice::Builtin(codec) => codec.is_encoded(alloc, text),
@@ -72,9 +76,11 @@ fn decode(
     checks: &Checks,
     text: &str,
 ) -> Result<Option<String>, DecodeError>
-    ensures text { IfOk result (λ o. Decodes (choice_of choice.now) (lists_of admits accepted encoded decoding checks.now) text.now (decoded_of o)) }
+    ensures text { IfOk result (λ o. Decodes (choice_of choice.now)
+        (lists_of admits accepted encoded decoding checks.now) text.now (decoded_of o)) }
     ensures not_utf8 { IsErrOf result DecodeError.NotUtf8
-        → Decodes (choice_of choice.now) (lists_of admits accepted encoded decoding checks.now) text.now no_text }
+        → Decodes (choice_of choice.now) (lists_of admits accepted encoded decoding checks.now)
+        text.now no_text }
 {
     match choice {
         Choice::Builtin(codec) => codec.decode(alloc, text),

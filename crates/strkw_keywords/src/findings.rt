@@ -65,7 +65,8 @@ pub(crate) fn error_of(
     text: &str,
     site: &Site,
 ) -> Result<ValidationError, AllocError>
-    ensures { IfOk result (λ e. reported (standing origin.now site.now) text.now (Some (finding_of failure.now)) ≡ e ∷ []) }
+    ensures { IfOk result (λ e. reported (standing origin.now site.now) text.now
+        (Some (finding_of failure.now)) ≡ e ∷ []) }
 {
     error_at(
         alloc,
@@ -86,7 +87,8 @@ fn error_found(
     site: &Site,
     failure: &Option<Failure>,
 ) -> Result<Option<ValidationError>, AllocError>
-    ensures { IfOk result (λ e. reported (standing origin.now site.now) text.now (option_map finding_of failure.now) ≡ option_to_list e) }
+    ensures { IfOk result (λ e. reported (standing origin.now site.now) text.now
+        (option_map finding_of failure.now) ≡ option_to_list e) }
 {
     match failure {
         None => Ok(None),
@@ -94,7 +96,8 @@ fn error_found(
     }
 }
 
-// Adds the errors of what a validator finds: all of them, or none. Each is made, and has its room, before the first is added.
+// Adds the errors of what a validator finds: all of them, or none. Each is made, and has its room, before the first is
+// added.
 pub(crate) fn push_findings(
     alloc: Global,
     origin: &Origin,
@@ -104,8 +107,10 @@ pub(crate) fn push_findings(
     errors: &mut Vec<ValidationError>,
 ) -> Result<(), AllocError>
     ensures ok { OnOk result (errors.new.items ≡ errors.old.items
-        ++ reported (standing origin.now site.now) text.now (option_map finding_of findings.now.first)
-        ++ reported (standing origin.now site.now) text.now (option_map finding_of findings.now.second)) }
+        ++ reported (standing origin.now site.now) text.now
+        (option_map finding_of findings.now.first)
+        ++ reported (standing origin.now site.now) text.now
+        (option_map finding_of findings.now.second)) }
     ensures err { OnErr result (errors.new.items ≡ errors.old.items) }
 {
     if findings.is_empty() {

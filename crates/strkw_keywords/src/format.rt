@@ -40,7 +40,8 @@ pub struct OfBuiltin {
 
 impl OfBuiltin {
     fn finding(&self, text: &str) -> Option<Failure<'static>>
-        ensures { HasFinding (is_format (builtin self.now.format)) no_lists text.now (option_map finding_of result) }
+        ensures { HasFinding (is_format (builtin self.now.format)) no_lists text.now
+            (option_map finding_of result) }
     {
         if self.format.is_valid(text) {
             None
@@ -116,7 +117,8 @@ pub(crate) fn build_format<B: EngineBuilder>(
     value: &Value,
 ) -> Result<Option<Validator<B::Engine>>, Refused>
     ensures { IsBuilt B.Engine.outcome (place_in ctx.now) (alone Keyword.Format
-        (format_entry (settings_of B.takes B.outcome admits accepted encoded decoding ctx.now) (view value.now))) result }
+        (format_entry (settings_of B.takes B.outcome admits accepted encoded decoding ctx.now)
+        (view value.now))) result }
 {
     let Some(name) = value.as_str() else {
         return Err(no_string(value, Keyword::Format));
@@ -176,8 +178,10 @@ pub fn compile<B: EngineBuilder>(
     parent: &Map<String, Value>,
     value: &Value,
 ) -> Option<Result<Validator<B::Engine>, CompileError>>
-    requires { value_at ctx.now.options Keyword.Format (members_view parent.now.entries) ≡ Some (view value.now) }
-    ensures { IsCompiledAt B.Engine.outcome (settings_of B.takes B.outcome admits accepted encoded decoding ctx.now)
+    requires { value_at ctx.now.options Keyword.Format (members_view parent.now.entries)
+        ≡ Some (view value.now) }
+    ensures { IsCompiledAt B.Engine.outcome
+        (settings_of B.takes B.outcome admits accepted encoded decoding ctx.now)
         (members_view parent.now.entries) Keyword.Format result }
 {
     compile_value(alloc, ctx, parent, value, Keyword::Format)

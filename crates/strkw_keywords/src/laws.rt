@@ -1,4 +1,5 @@
-//! Laws over the definitions that the calls of this crate name. A function here does nothing, and its clauses are the law.
+//! Laws over the definitions that the calls of this crate name. A function here does nothing, and its clauses are the
+//! law.
 ghost use Rattle.std.specs.Prelude.{◌≡◌, ℕ, List, None, Option, []};
 ghost use Rattle.serde_json.specs.Data.{Members};
 ghost use Rattle.strkw_report.specs.Kinds.{Report};
@@ -88,7 +89,8 @@ pub fn reports_are_determined()
     encodes_once();
 }
 
-/// It cannot be that a node has no list of errors by some assertions; so with `reports_are_determined` it has exactly one.
+/// It cannot be that a node has no list of errors by some assertions; so with `reports_are_determined` it has exactly
+/// one.
 pub fn reports_are_there()
     ensures { ReportsAreThere }
 {}
@@ -107,7 +109,8 @@ pub fn entries_exist()
 
 /// A schema object has at most one list of entries.
 pub fn entries_are_determined()
-    ensures { (s : Settings) (ms : Members) (a b : List Keyed) → AreEntries s ms a → AreEntries s ms b → a ≡ b }
+    ensures { (s : Settings) (ms : Members) (a b : List Keyed) → AreEntries s ms a
+        → AreEntries s ms b → a ≡ b }
 {}
 
 /// A schema object has a first refusal, or it is settled that it has none.
@@ -117,12 +120,14 @@ pub fn first_refusal_exists()
 
 /// What the first refusal of a schema object is, or that it has none, has at most one answer.
 pub fn first_refusal_is_determined()
-    ensures { (s : Settings) (ms : Members) (a b : Option Refusal) → FirstRefusal s ms a → FirstRefusal s ms b → a ≡ b }
+    ensures { (s : Settings) (ms : Members) (a b : Option Refusal) → FirstRefusal s ms a
+        → FirstRefusal s ms b → a ≡ b }
 {}
 
 /// An instance has a list of notes by a schema object.
 pub fn notes_exist()
-    ensures { (s : Settings) (ms : Members) (instance : Option (List ℕ)) → (remarks : List Remark) × Notes s ms instance remarks }
+    ensures { (s : Settings) (ms : Members) (instance : Option (List ℕ)) → (remarks : List Remark)
+        × Notes s ms instance remarks }
 {}
 
 /// An instance has at most one list of notes by a schema object.
@@ -145,12 +150,14 @@ pub fn errors_are_there()
 
 /// An instance that is no text has no errors.
 pub fn no_text_has_no_errors()
-    ensures { (s : Settings) (ms : Members) (lists : Lists) (site : Site) (rs : List Report) → Errors s ms lists site None rs → rs ≡ [] }
+    ensures { (s : Settings) (ms : Members) (lists : Lists) (site : Site) (rs : List Report)
+        → Errors s ms lists site None rs → rs ≡ [] }
 {}
 
 /// An instance that is no text has no notes.
 pub fn no_text_has_no_notes()
-    ensures { (s : Settings) (ms : Members) (remarks : List Remark) → Notes s ms None remarks → remarks ≡ [] }
+    ensures { (s : Settings) (ms : Members) (remarks : List Remark) → Notes s ms None remarks
+        → remarks ≡ [] }
 {}
 
 /// What is compiled with some lists of checks is in use with them.

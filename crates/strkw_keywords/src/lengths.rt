@@ -205,8 +205,10 @@ pub fn compile_min<B: EngineBuilder>(
     parent: &Map<String, Value>,
     value: &Value,
 ) -> Option<Result<Validator<B::Engine>, CompileError>>
-    requires { value_at ctx.now.options Keyword.MinLength (members_view parent.now.entries) ≡ Some (view value.now) }
-    ensures { IsCompiledAt B.Engine.outcome (settings_of B.takes B.outcome admits accepted encoded decoding ctx.now)
+    requires { value_at ctx.now.options Keyword.MinLength (members_view parent.now.entries)
+        ≡ Some (view value.now) }
+    ensures { IsCompiledAt B.Engine.outcome
+        (settings_of B.takes B.outcome admits accepted encoded decoding ctx.now)
         (members_view parent.now.entries) Keyword.MinLength result }
 {
     compile_value(alloc, ctx, parent, value, Keyword::MinLength)
@@ -224,8 +226,10 @@ pub fn compile_max<B: EngineBuilder>(
     parent: &Map<String, Value>,
     value: &Value,
 ) -> Option<Result<Validator<B::Engine>, CompileError>>
-    requires { value_at ctx.now.options Keyword.MaxLength (members_view parent.now.entries) ≡ Some (view value.now) }
-    ensures { IsCompiledAt B.Engine.outcome (settings_of B.takes B.outcome admits accepted encoded decoding ctx.now)
+    requires { value_at ctx.now.options Keyword.MaxLength (members_view parent.now.entries)
+        ≡ Some (view value.now) }
+    ensures { IsCompiledAt B.Engine.outcome
+        (settings_of B.takes B.outcome admits accepted encoded decoding ctx.now)
         (members_view parent.now.entries) Keyword.MaxLength result }
 {
     compile_value(alloc, ctx, parent, value, Keyword::MaxLength)

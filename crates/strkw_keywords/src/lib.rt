@@ -1,6 +1,7 @@
 //! The string keywords of JSON Schema (drafts 4, 6, 7, 2019-09 and 2020-12): `format`, `minLength`, `maxLength`,
 //! `pattern` and the content keywords. Each keyword's compile function makes one validator of its entry, or refuses it;
-//! a validator reports the errors and the annotation of a text, by built-in checks or by those that the caller hands in.
+//! a validator reports the errors and the annotation of a text, by built-in checks or by those that the caller hands
+//! in.
 #![tactic(auto)]
 
 mod checks;

@@ -28,7 +28,10 @@ impl Model for Origin {
 
     ghost Value = { Place };
 
-    ghost view = { λ o. record { schema = o.location; prefix = option_map string_bytes o.absolute } };
+    ghost view = { λ o. record {
+      schema = o.location;
+      prefix = option_map string_bytes o.absolute;
+    } };
 }
 
 /// What is noted of a text.
@@ -78,7 +81,8 @@ pub struct RowRef<'a> {
 impl Parts<'_> {
     // Whether the rows on which the validator rests are the first of their names.
     pub(crate) fn rows_are_first(&self, checks: &Checks) -> bool
-        ensures { IsTrue result ↔ RowsAreFirst self.now (lists_of admits accepted encoded decoding checks.now) }
+        ensures { IsTrue result ↔ RowsAreFirst self.now
+            (lists_of admits accepted encoded decoding checks.now) }
     {
         let is_format_first = match self.format {
             None => true,
@@ -99,7 +103,14 @@ impl Parts<'_> {
 impl<'a> Parts<'a> {
     // Those of a validator that notes nothing, rests on no row and takes no memory.
     pub(crate) fn plain(origin: &'a Origin) -> Parts<'a>
-        ensures { result ≡ record { origin = origin.entry; noted = None; format = None; media_type = None; codec = None; is_quiet = true } }
+        ensures { result ≡ record {
+          origin = origin.entry;
+          noted = None;
+          format = None;
+          media_type = None;
+          codec = None;
+          is_quiet = true;
+        } }
     {
         Parts {
             origin,
@@ -113,7 +124,14 @@ impl<'a> Parts<'a> {
 
     // Those of a validator that only notes.
     pub(crate) fn noting(origin: &'a Origin, noted: Noted<'a>) -> Parts<'a>
-        ensures { result ≡ record { origin = origin.entry; noted = Some noted.entry; format = None; media_type = None; codec = None; is_quiet = true } }
+        ensures { result ≡ record {
+          origin = origin.entry;
+          noted = Some noted.entry;
+          format = None;
+          media_type = None;
+          codec = None;
+          is_quiet = true;
+        } }
     {
         Parts {
             noted: Some(noted),
@@ -127,7 +145,14 @@ impl<'a> Parts<'a> {
         media_type: Option<RowRef<'a>>,
         codec: Option<RowRef<'a>>,
     ) -> Parts<'a>
-        ensures { result ≡ record { origin = origin.entry; noted = None; format = None; media_type = media_type.entry; codec = codec.entry; is_quiet = false } }
+        ensures { result ≡ record {
+          origin = origin.entry;
+          noted = None;
+          format = None;
+          media_type = media_type.entry;
+          codec = codec.entry;
+          is_quiet = false;
+        } }
     {
         Parts {
             media_type,
@@ -149,7 +174,8 @@ impl Origin {
 
 impl Noted<'_> {
     pub(crate) fn note(self, alloc: Global, location: &Location) -> Result<Note, AllocError>
-        ensures { IfOk result (λ n. Some (remark_of n) ≡ noted_remark location.now (Some self.entry)) }
+        ensures { IfOk result (λ n. Some (remark_of n)
+            ≡ noted_remark location.now (Some self.entry)) }
     {
         let (keyword, value) = match self {
             Noted::Text(keyword, text) => (keyword, Value::try_from_str(alloc, text)?),

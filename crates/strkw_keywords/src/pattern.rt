@@ -123,7 +123,8 @@ fn is_matched(alloc: Global, matcher: &LiteralMatcher, text: &str) -> bool
     }
 }
 
-/// Demands that an engine finds its pattern in a text. An engine that fails, or gives up, makes an error of its own kind.
+/// Demands that an engine finds its pattern in a text. An engine that fails, or gives up, makes an error of its own
+/// kind.
 pub type PatternValidator<E> = Keyed<Matching<E>>;
 
 /// The test of a text by a pattern and its engine. Its only error is out of memory.

@@ -28,7 +28,8 @@ pub trait Test {
         ensures noted { noted_remark origin.now.schema result.noted
             ≡ remark self.now origin.now.schema }
         ensures quiet { result.is_quiet ≡ all_quiet (demands self.now) }
-        ensures rows { (lists : Lists) → RowsAreFirst result lists ↔ IsInUse (demands self.now) lists };
+        ensures rows { (lists : Lists) → RowsAreFirst result lists
+            ↔ IsInUse (demands self.now) lists };
 
     /// What a text fails at, in the order of the errors. The only error is out of memory, and none where `is_quiet` of
     /// its parts is true.

@@ -69,7 +69,8 @@ pub trait Uses {
         ensures origin { result.origin.now ≡ place self.now }
         ensures noted { noted_remark (place self.now).schema result.noted ≡ remark self.now }
         ensures quiet { result.is_quiet ≡ all_quiet (demands self.now) }
-        ensures rows { (lists : Lists) → RowsAreFirst result lists ↔ IsInUse (demands self.now) lists };
+        ensures rows { (lists : Lists) → RowsAreFirst result lists
+            ↔ IsInUse (demands self.now) lists };
 
     /// Where its schema object stands.
     final fn origin(&self) -> &Origin
@@ -102,28 +103,33 @@ pub trait Uses {
     /// kept name, and no earlier row has that name. So it is with the lists that it was compiled with; and with empty
     /// lists, where it keeps no position.
     final fn uses(&self, checks: &Checks) -> bool
-        ensures { IsTrue result ↔ IsInUse (demands self.now) (lists_of admits accepted encoded decoding checks.now) }
+        ensures { IsTrue result ↔ IsInUse (demands self.now)
+            (lists_of admits accepted encoded decoding checks.now) }
     {
         self.parts().rows_are_first(checks)
     }
 }
 
-/// A validator of the nodes of one representation. Its four calls rest on one meaning: the errors that a node has of what
-/// the validator demands. Each asks that `uses` is true of the lists that it is given.
+/// A validator of the nodes of one representation. Its four calls rest on one meaning: the errors that a node has of
+/// what the validator demands. Each asks that `uses` is true of the lists that it is given.
 pub trait Validate<N: Node>: Uses {
     /// What a text fails at, in the order of the errors. The only error is out of memory, and none where
     /// `takes_no_memory` is true.
     fn findings(&self, alloc: Global, text: &TextNode<'_, N>, checks: &Checks) -> Found<'_>
-        requires { IsInUse (Self.demands self.now) (lists_of admits accepted encoded decoding checks.now) }
-        ensures found { IfOk result (λ fs. Finds (Self.demands self.now) (lists_of admits accepted encoded decoding checks.now)
+        requires { IsInUse (Self.demands self.now)
+            (lists_of admits accepted encoded decoding checks.now) }
+        ensures found { IfOk result (λ fs. Finds (Self.demands self.now)
+            (lists_of admits accepted encoded decoding checks.now)
             text.now (findings_of fs)) }
         ensures answers { all_quiet (Self.demands self.now) ≡ true → IsOk result };
 
     /// Whether the node has no errors. The only error is out of memory, and none where `takes_no_memory` is true.
     final fn is_valid(&self, alloc: Global, node: &N, checks: &Checks) -> Result<bool, AllocError>
-        requires { IsInUse (Self.demands self.now) (lists_of admits accepted encoded decoding checks.now) }
+        requires { IsInUse (Self.demands self.now)
+            (lists_of admits accepted encoded decoding checks.now) }
         ensures exact { IfOk result (λ b. (site : Site) → (IsTrue b
-            ↔ NodeReports (placed (Self.place self.now) (Self.demands self.now)) (lists_of admits accepted encoded decoding checks.now) site
+            ↔ NodeReports (placed (Self.place self.now) (Self.demands self.now))
+            (lists_of admits accepted encoded decoding checks.now) site
             (N.text node.now) [])) }
         ensures answers { all_quiet (Self.demands self.now) ≡ true → IsOk result }
     {
@@ -144,9 +150,11 @@ pub trait Validate<N: Node>: Uses {
         checks: &Checks,
         errors: &mut Vec<ValidationError>,
     ) -> Result<(), AllocError>
-        requires { IsInUse (Self.demands self.now) (lists_of admits accepted encoded decoding checks.now) }
+        requires { IsInUse (Self.demands self.now)
+            (lists_of admits accepted encoded decoding checks.now) }
         ensures appended { OnOk result (Appends
-            (NodeReports (placed (Self.place self.now) (Self.demands self.now)) (lists_of admits accepted encoded decoding checks.now)
+            (NodeReports (placed (Self.place self.now) (Self.demands self.now))
+            (lists_of admits accepted encoded decoding checks.now)
             site.now (N.text node.now))
             errors.old.items errors.new.items) }
         ensures kept { OnErr result (errors.new.items ≡ errors.old.items) }
@@ -166,9 +174,11 @@ pub trait Validate<N: Node>: Uses {
         checks: &Checks,
         errors: &mut Vec<ValidationError>,
     ) -> Result<(), AllocError>
-        requires { IsInUse (Self.demands self.now) (lists_of admits accepted encoded decoding checks.now) }
+        requires { IsInUse (Self.demands self.now)
+            (lists_of admits accepted encoded decoding checks.now) }
         ensures appended { OnOk result (Appends
-            (NodeReports (placed (Self.place self.now) (Self.demands self.now)) (lists_of admits accepted encoded decoding checks.now)
+            (NodeReports (placed (Self.place self.now) (Self.demands self.now))
+            (lists_of admits accepted encoded decoding checks.now)
             site.now (Some text.now))
             errors.old.items errors.new.items) }
         ensures kept { OnErr result (errors.new.items ≡ errors.old.items) }
@@ -179,8 +189,8 @@ pub trait Validate<N: Node>: Uses {
 
     /// `Ok` where the node has no errors.
     ///
-    /// Errors: `Invalid` of the first error, and `Memory`, but not where the node has no errors and `takes_no_memory` is
-    /// true.
+    /// Errors: `Invalid` of the first error, and `Memory`, but not where the node has no errors and `takes_no_memory`
+    /// is true.
     final fn validate(
         &self,
         alloc: Global,
@@ -188,8 +198,10 @@ pub trait Validate<N: Node>: Uses {
         site: &Site,
         checks: &Checks,
     ) -> Result<(), Fault>
-        requires { IsInUse (Self.demands self.now) (lists_of admits accepted encoded decoding checks.now) }
-        ensures { IsVerdict (placed (Self.place self.now) (Self.demands self.now)) (lists_of admits accepted encoded decoding checks.now)
+        requires { IsInUse (Self.demands self.now)
+            (lists_of admits accepted encoded decoding checks.now) }
+        ensures { IsVerdict (placed (Self.place self.now) (Self.demands self.now))
+            (lists_of admits accepted encoded decoding checks.now)
             site.now (N.text node.now) result }
     {
         match TextNode::of(node) {
@@ -208,8 +220,10 @@ pub trait Validate<N: Node>: Uses {
         site: &Site,
         checks: &Checks,
     ) -> Result<(), Fault>
-        requires { IsInUse (Self.demands self.now) (lists_of admits accepted encoded decoding checks.now) }
-        ensures { IsVerdict (placed (Self.place self.now) (Self.demands self.now)) (lists_of admits accepted encoded decoding checks.now)
+        requires { IsInUse (Self.demands self.now)
+            (lists_of admits accepted encoded decoding checks.now) }
+        ensures { IsVerdict (placed (Self.place self.now) (Self.demands self.now))
+            (lists_of admits accepted encoded decoding checks.now)
             site.now (Some text.now) result }
     {
         encodes_once();
@@ -232,10 +246,14 @@ pub trait Validate<N: Node>: Uses {
         site: &Site,
         checks: &Checks,
     ) -> Result<EvaluationResult, AllocError>
-        requires { IsInUse (Self.demands self.now) (lists_of admits accepted encoded decoding checks.now) }
-        ensures errors { IfOk result (λ r. NodeReports (placed (Self.place self.now) (Self.demands self.now))
-            (lists_of admits accepted encoded decoding checks.now) site.now (N.text node.now) r.errors.items) }
-        ensures annotation { IfOk result (λ r. option_map view r.annotation ≡ annotation_of (Self.remark self.now) (N.text node.now)) }
+        requires { IsInUse (Self.demands self.now)
+            (lists_of admits accepted encoded decoding checks.now) }
+        ensures errors { IfOk result (λ r. NodeReports
+            (placed (Self.place self.now) (Self.demands self.now))
+            (lists_of admits accepted encoded decoding checks.now) site.now (N.text node.now)
+            r.errors.items) }
+        ensures annotation { IfOk result (λ r. option_map view r.annotation
+            ≡ annotation_of (Self.remark self.now) (N.text node.now)) }
     {
         let mut errors = Vec::new(alloc);
         let mut annotation = None;

@@ -64,9 +64,9 @@ pub enum Validator<E> {
 }
 
 impl<E: RegexEngine> Validator<E> {
-    /// The least and the greatest number of characters that it leaves to a text, both inclusive: by its limits, or by the
-    /// window of its built-in format. An open end is `u64::MAX`, and a validator that bounds no length answers
-    /// `(0, u64::MAX)`. The first is above the second where no length is left.
+    /// The least and the greatest number of characters that it leaves to a text, both inclusive: by its limits, or by
+    /// the window of its built-in format. An open end is `u64::MAX`, and a validator that bounds no length answers `(0,
+    /// u64::MAX)`. The first is above the second where no length is left.
     #[tactic(auto, using(crate::proofs::Intervals::common_any, crate::proofs::Intervals::bounds_unwrapped))]
     pub fn interval(&self) -> (u64, u64)
         ensures { result ≡ bounds (interval (demands_of E.outcome self.now)) }

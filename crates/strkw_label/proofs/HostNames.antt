@@ -7,17 +7,22 @@ use Rattle.strkw_net.specs.HostName.{IsAsciiHostName, IsLabel}
 use Rattle.strkw_net.proofs.HostNameLemmas.{parts, label_without_dot, IsAsciiHostName-ascii}
 use Rattle.strkw_label.specs.HostName.{IsHostName, IsHostNameLabel}
 
+-- each host name is an ASCII host name
 pub ascii_host_name : (text : List ℕ) → IsHostName text → IsAsciiHostName text
 ascii_host_name text w = record { labels = SeparatedBy-weaker 46 IsHostNameLabel IsLabel (λ x l. l.ascii) text w.labels; size = w.size }
 
+-- host names are texts of ASCII characters
 pub IsHostName-ascii : DerivesAscii IsHostName
 IsHostName-ascii text w = IsAsciiHostName-ascii text (ascii_host_name text w)
 
+-- at most 253 bytes whose parts between dots are all host name labels are a host name
 pub IsHostName-from_parts : (bs : List ℕ) → length bs ≤ 253 → AllByRecursion IsHostNameLabel (parts bs) → IsHostName bs
 IsHostName-from_parts bs few h = record { labels = (separated_parts 46 IsHostNameLabel (λ x l. label_without_dot x l.ascii) bs).1 h; size = few }
 
+-- and the parts of a host name between dots are all such labels
 pub host_name_parts : (bs : List ℕ) → IsHostName bs → AllByRecursion IsHostNameLabel (parts bs)
 host_name_parts bs w = (separated_parts 46 IsHostNameLabel (λ x l. label_without_dot x l.ascii) bs).0 w.labels
 
+-- a host name has at least 1 and at most 253 characters
 pub host_name_window : (text : List ℕ) → IsHostName text → (1 ≤ length text) × (length text ≤ 253)
 host_name_window text w = (SeparatedBy-at_least 46 IsHostNameLabel 1 (λ x l. l.ascii.size.0) text w.labels, w.size)

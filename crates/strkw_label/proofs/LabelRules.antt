@@ -18,13 +18,17 @@ StandsWell-ascii text k lt = record {
 
 -- ---- a flag that tells whether one of the first n characters passes
 
+-- the flag is set exactly where one of the first n characters passes
 abbrev pub Tells : Bool → (ℕ → Bool) → ℕ → List ℕ → Type 0
 Tells seen p n text = IsTrue seen ↔ ((k : ℕ) × (k < n) × IsTrue (p (slice_index text k)))
 
+-- a flag that is not set tells it of the first 0 characters
 pub Tells-none : (seen : Bool) (p : ℕ → Bool) (text : List ℕ) → seen ≡ false → Tells seen p 0 text
 Tells-none seen p text e = (λ t. absurd (false≢true (sym e ∙ t)), λ h. absurd (omega (arith, h.1)))
 
-pub Tells-more : (seen now : Bool) (p : ℕ → Bool) (n : ℕ) (text : List ℕ) → Tells seen p n text → now ≡ (seen || p (slice_index text n)) → Tells now p (n + 1) text
+-- set also where the next character passes, it tells it of one character more
+pub Tells-more : (seen now : Bool) (p : ℕ → Bool) (n : ℕ) (text : List ℕ) → Tells seen p n text → now ≡ (seen || p (slice_index text n))
+    → Tells now p (n + 1) text
 Tells-more true now p n text h e = (λ t. let x = h.0 refl in (x.0, omega (arith, x.1), x.2), λ x. e)
 Tells-more false now p n text h e = (
   λ t. (n, omega arith, sym e ∙ t),
@@ -37,5 +41,6 @@ Tells-more false now p n text h e = (
       ],
 )
 
+-- where n is the length, it tells whether the text has a character that passes
 pub Tells-all : (seen : Bool) (p : ℕ → Bool) (n : ℕ) (text : List ℕ) → Tells seen p n text → n ≡ length text → IsTrue seen ↔ Has p text
 Tells-all seen p n text h e = subst (λ m. Tells seen p m text) e h

@@ -1,5 +1,6 @@
 -- What stands before and after the last element that passes a test.
-use Rattle.std.proofs.Common.{◌≡◌, ℕ, ◌+◌, ◌-◌, ◌<◌, Bool, true, not, List, reverse, [], ◌∷◌, ◌++◌, length, All, get_or, take, drop, sym, ap, subst, ◌∙◌, append_assoc, length-append, arith}
+use Rattle.std.proofs.Common.{◌≡◌, ℕ, ◌+◌, ◌-◌, ◌<◌, Bool, true, not, List, reverse, [], ◌∷◌, ◌++◌, length, All, get_or, take, drop, sym, ap, subst, ◌∙◌}
+use Rattle.std.proofs.Common.{append_assoc, length-append, arith}
 use Rattle.std.specs.List.{before_last, after_last, suffix_len}
 use Rattle.std.proofs.lemmas.Bool.{not-false}
 use Rattle.std.proofs.lemmas.List.{length-take, get_or_append_left, get_or-append_right, drop_more, take-append-drop, length-reverse, get_or-reverse}
@@ -18,24 +19,32 @@ tail p front x back passes none =
     let long : length whole ≡ length head + length back = length-append head back in
     let at : suffix_len (λ c. not (p c)) whole ≡ length whole - (length front + 1) =
     suffix_len_is (λ c. not (p c)) whole (length front + 1) 0 (omega (arith, upto, long))
-    (λ k le lt. ap (λ c. not (p c)) (get_or-append_right head back (length front + 1) k 0 upto le) ∙ none (k - (length front + 1)) 0 (omega (arith, upto, long)))
-    (λ some. ap (λ c. not (p c)) (ap (λ i. get_or whole i 0) (let i : length front + 1 - 1 ≡ length front = omega arith in i) ∙ get_or_append_left head back 0 (length front) (omega (arith, upto)) ∙ get_or-append_seam front x [] 0) ∙ ap not passes) in
+    (λ k le lt. ap (λ c. not (p c)) (get_or-append_right head back (length front + 1) k 0 upto le)
+    ∙ none (k - (length front + 1)) 0 (omega (arith, upto, long)))
+    (λ some. ap (λ c. not (p c)) (ap (λ i. get_or whole i 0) (let i : length front + 1 - 1 ≡ length front = omega arith in i)
+    ∙ get_or_append_left head back 0 (length front) (omega (arith, upto)) ∙ get_or-append_seam front x [] 0) ∙ ap not passes) in
     let same : suffix_len (λ c. not (p c)) whole ≡ length back = omega (arith, at, upto, long) in
     subst (λ l. suffix_len (λ c. not (p c)) l ≡ length back) (append_assoc front (x ∷ []) back) same
 
+-- where no element passes, nothing stands before the last that does
 pub before_last_none : (p : ℕ → Bool) (xs : List ℕ) → All (λ c. not (p c) ≡ true) xs → before_last p xs ≡ []
 before_last_none p xs none =
-    let all : suffix_len (λ c. not (p c)) xs ≡ length xs - 0 = suffix_len_is (λ c. not (p c)) xs 0 0 (omega arith) (λ k le lt. none k 0 lt) (λ some. absurd (omega arith)) in
+    let all : suffix_len (λ c. not (p c)) xs ≡ length xs - 0 =
+    suffix_len_is (λ c. not (p c)) xs 0 0 (omega arith) (λ k le lt. none k 0 lt) (λ some. absurd (omega arith)) in
     let zero : length xs - suffix_len (λ c. not (p c)) xs - 1 ≡ 0 = omega (arith, all) in
     ap (λ n. take n xs) zero
 
-pub before_last_at : (p : ℕ → Bool) (front : List ℕ) (x : ℕ) (back : List ℕ) → p x ≡ true → All (λ c. not (p c) ≡ true) back → before_last p (front ++ x ∷ back) ≡ front
+-- what stands before it is the front
+pub before_last_at : (p : ℕ → Bool) (front : List ℕ) (x : ℕ) (back : List ℕ) → p x ≡ true → All (λ c. not (p c) ≡ true) back
+    → before_last p (front ++ x ∷ back) ≡ front
 before_last_at p front x back passes none =
     let at : length (front ++ x ∷ back) - suffix_len (λ c. not (p c)) (front ++ x ∷ back) - 1 ≡ length front =
     omega (arith, tail p front x back passes none, length-append front (x ∷ back)) in
     ap (λ n. take n (front ++ x ∷ back)) at ∙ take-append_seam front (x ∷ back)
 
-pub after_last_at : (p : ℕ → Bool) (front : List ℕ) (x : ℕ) (back : List ℕ) → p x ≡ true → All (λ c. not (p c) ≡ true) back → after_last p (front ++ x ∷ back) ≡ back
+-- and what stands after it is the back
+pub after_last_at : (p : ℕ → Bool) (front : List ℕ) (x : ℕ) (back : List ℕ) → p x ≡ true → All (λ c. not (p c) ≡ true) back
+    → after_last p (front ++ x ∷ back) ≡ back
 after_last_at p front x back passes none =
     let head = front ++ x ∷ [] in
     let at : length (front ++ x ∷ back) - suffix_len (λ c. not (p c)) (front ++ x ∷ back) ≡ length head =
@@ -44,6 +53,7 @@ after_last_at p front x back passes none =
 
 -- ---- where something stands before it
 
+-- the list is what stands before it, an element that passes, and what stands after it
 pub split_at_last : (p : ℕ → Bool) (xs : List ℕ) → 0 < length (before_last p xs) → (x : ℕ) × (p x ≡ true) × (before_last p xs ++ x ∷ after_last p xs ≡ xs)
 split_at_last p xs some =
     let failing = suffix_len (λ c. not (p c)) xs in

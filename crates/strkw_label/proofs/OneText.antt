@@ -11,7 +11,8 @@ use Rattle.strkw_label.proofs.Insertions.{InOrder-first, InOrder-rest, IsMade-te
 use Rattle.strkw_label.proofs.Payloads.{digits_of_text, payload_parts}
 
 -- where the digits of a delta end is settled by the digits themselves
-one_front : (bias j : ℕ) (ds es r s : List ℕ) → EndsBelowThreshold bias j ds → EndsBelowThreshold bias j es → written ds ++ r ≡ written es ++ s → (ds ≡ es) × (r ≡ s)
+one_front : (bias j : ℕ) (ds es r s : List ℕ) → EndsBelowThreshold bias j ds → EndsBelowThreshold bias j es → written ds ++ r ≡ written es ++ s → (ds ≡ es)
+    × (r ≡ s)
 unfolding EndsBelowThreshold
 one_front bias j [] es r s hd he e = absurd hd
 one_front bias j (d ∷ []) [] r s hd he e = absurd he
@@ -32,6 +33,7 @@ one_front bias j (d ∷ c ∷ ds) (d' ∷ c' ∷ es) r s hd he e =
     let more = one_front bias (suc j) (c ∷ ds) (c' ∷ es) r s hd.2 he.2 tail in
     (ap₂ ◌∷◌ (digit_char-injective d d' (omega (arith, hd.1)) (omega (arith, he.1)) first) more.0, more.1)
 
+-- where the digits of two deltas, and rests behind them, make one text, deltas and rests are the same
 one_delta : (bias d e : ℕ) (r s : List ℕ) → written (digits_of bias d) ++ r ≡ written (digits_of bias e) ++ s → (d ≡ e) × (r ≡ s)
 one_delta bias d e r s h =
     let are = AreDigitsOf-digits_of bias d in
@@ -40,20 +42,27 @@ one_delta bias d e r s h =
     (sym are.sum ∙ ap (weighted_sum bias 0) both.0 ∙ too.sum, both.1)
 
 -- and a delta is that of one insertion
-one_list : (n i bias placed : ℕ) (xs ys : List Insertion) → i ≤ placed → InOrder n i placed xs → InOrder n i placed ys → digits_written n i bias placed xs ≡ digits_written n i bias placed ys → xs ≡ ys
+-- so insertions in order that have the same digits are the same
+one_list : (n i bias placed : ℕ) (xs ys : List Insertion) → i ≤ placed → InOrder n i placed xs → InOrder n i placed ys
+    → digits_written n i bias placed xs ≡ digits_written n i bias placed ys → xs ≡ ys
 one_list n i bias placed [] [] le ox oy e = refl
-one_list n i bias placed [] (y ∷ ys) le ox oy e = absurd (some_digits bias (delta_of n i placed y) _ (sym (sym (digits_written-nil n i bias placed) ∙ e ∙ digits_written-cons n i bias placed y ys)))
-one_list n i bias placed (x ∷ xs) [] le ox oy e = absurd (some_digits bias (delta_of n i placed x) _ (sym (digits_written-cons n i bias placed x xs) ∙ e ∙ digits_written-nil n i bias placed))
+one_list n i bias placed [] (y ∷ ys) le ox oy e = absurd
+    (some_digits bias (delta_of n i placed y) _ (sym (sym (digits_written-nil n i bias placed) ∙ e ∙ digits_written-cons n i bias placed y ys)))
+one_list n i bias placed (x ∷ xs) [] le ox oy e = absurd
+    (some_digits bias (delta_of n i placed x) _ (sym (digits_written-cons n i bias placed x xs) ∙ e ∙ digits_written-nil n i bias placed))
 one_list n i bias placed (x ∷ xs) (y ∷ ys) le ox oy e =
     let fx = InOrder-first n i placed x xs ox in
     let fy = InOrder-first n i placed y ys oy in
-    let both = one_delta bias (delta_of n i placed x) (delta_of n i placed y) _ _ (sym (digits_written-cons n i bias placed x xs) ∙ e ∙ digits_written-cons n i bias placed y ys) in
+    let both = one_delta bias (delta_of n i placed x) (delta_of n i placed y) _ _
+    (sym (digits_written-cons n i bias placed x xs) ∙ e ∙ digits_written-cons n i bias placed y ys) in
     let same : x ≡ y = sym (read_at-delta_of n i placed x le fx) ∙ ap (λ d. read_at n (i + d) placed) both.0 ∙ read_at-delta_of n i placed y le fy in
-    let more = one_list x.point (x.place + 1) (adapt (delta_of n i placed x) (placed + 1) (i == 0)) (placed + 1) xs ys (omega (arith, fx.within)) (InOrder-rest n i placed x xs ox)
+    let more = one_list x.point (x.place + 1) (adapt (delta_of n i placed x) (placed + 1) (i == 0)) (placed + 1) xs ys (omega (arith, fx.within))
+    (InOrder-rest n i placed x xs ox)
     (subst (λ z. InOrder z.point (z.place + 1) (placed + 1) ys) (sym same) (InOrder-rest n i placed y ys oy))
     (both.1 ∙ ap (λ z. digits_written z.point (z.place + 1) (adapt (delta_of n i placed z) (placed + 1) (i == 0)) (placed + 1) ys) (sym same)) in
     ap₂ ◌∷◌ same more
 
+-- a payload is, up to letter case, the Punycode of one text at most
 pub one_text : (payload s t : List ℕ) → SameUpToCase payload (punycode s) → SameUpToCase payload (punycode t) → s ≡ t
 unfolding digits_of_text
 one_text payload s t hs ht =

@@ -23,11 +23,13 @@ prefix_and_payload label payload (prefix, low, whole) =
     (ap (map to_ascii_lowercase) front ∙ low, ap₂ drop (sym four) whole ∙ drop-append_seam prefix payload)
 
 -- the two hyphens of the prefix, which have no letter case
+-- stand at the same places of a label that has the prefix
 pub hyphen_of_prefix : (label : List ℕ) (k : ℕ) → k < 4 → get_or (codes "xn--") k 0 ≡ 45 → HasPrefix label → get_or label k 0 ≡ 45
 hyphen_of_prefix label k lt e h =
     no_case (get_or label k 0) (
     ap to_ascii_lowercase (sym (get_or-take 4 label k 0 lt)) ∙ sym (get_or-map to_ascii_lowercase (take 4 label) k 0) ∙ ap (λ l. get_or l k 0) h ∙ e
     )
   where
+    -- only the hyphen is a hyphen in lower case
     no_case : (c : ℕ) → to_ascii_lowercase c ≡ 45 → c ≡ 45
     no_case c low = grind (arith, nat_tests)

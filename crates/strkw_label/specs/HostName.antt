@@ -7,19 +7,25 @@ use Rattle.strkw_net.specs.HostName.{IsLabel}
 use Rattle.strkw_label.specs.Punycode.{punycode, SameUpToCase}
 use Rattle.strkw_label.specs.LabelRules.{IsAdmittedLabel}
 
--- the label is the prefix `xn--` (RFC 5890 section 2.3.2.5), in any letter case as its section 2.3.1 has it, and then the payload
+-- the label is the prefix `xn--` (RFC 5890 section 2.3.2.5), in any letter case as its section
+-- 2.3.1 has it, and then the payload
 abbrev pub IsXnLabel : List ℕ → List ℕ → Type 0
-IsXnLabel label payload = (prefix : List ℕ) × (map to_ascii_lowercase prefix ≡ codes "xn--") × (label ≡ prefix ++ payload)
+IsXnLabel label payload = (prefix : List ℕ) × (map to_ascii_lowercase prefix ≡ codes "xn--")
+    × (label ≡ prefix ++ payload)
 
--- the payload is, up to the letter case of its encoded part, the Punycode of a text that the label rules admit
+-- the payload is, up to the letter case of its encoded part, the Punycode of a text that the label
+-- rules admit
 abbrev pub EncodesAdmitted : List ℕ → Type 0
-EncodesAdmitted payload = (text : List ℕ) × All IsScalar text × SameUpToCase payload (punycode text) × IsAdmittedLabel text
+EncodesAdmitted payload = (text : List ℕ) × All IsScalar text × SameUpToCase payload (punycode text)
+    × IsAdmittedLabel text
 
--- hyphens in third and fourth place are reserved to XN-labels (RFC 5890 section 2.3.1), and the payload of an XN-label encodes
--- an admitted text (section 2.3.2.1). Of that text neither a character past ASCII is asked, nor that its own third and fourth are
--- not both hyphens (RFC 5891 section 4.2.3.1)
+-- hyphens in third and fourth place are reserved to XN-labels (RFC 5890 section 2.3.1), and the
+-- payload of an XN-label encodes an admitted text (section 2.3.2.1). Of that text neither a
+-- character past ASCII is asked, nor that its own third and fourth are not both hyphens (RFC 5891
+-- section 4.2.3.1)
 pub record KeepsXnRules (label : List ℕ) : Type 0 where
-  pub reserved : slice_index label 2 ≡ byte "-" → slice_index label 3 ≡ byte "-" → (payload : List ℕ) × IsXnLabel label payload
+  pub reserved : slice_index label 2 ≡ byte "-" → slice_index label 3 ≡ byte "-"
+      → (payload : List ℕ) × IsXnLabel label payload
   pub encodes : (payload : List ℕ) → IsXnLabel label payload → EncodesAdmitted payload
 
 -- an ASCII label that keeps these rules

@@ -1,12 +1,16 @@
--- Punycode, RFC 3492: what encodes a text. The numbers in parentheses are its sections. The parameters of (5) are written out:
--- base 36, tmin 1, tmax 26, skew 38, damp 700, initial bias 72 and initial code point 128. Numbers have no upper bound here, so
--- nothing overflows (6.4). A text is a list of characters, and an encoding a list of ASCII characters.
-use Rattle.std.specs.Prelude.{◌≡◌, ℕ, zero, suc, ◌+◌, ◌-◌, ◌*◌, ◌/◌, ◌%◌, ◌<◌, ◌≤◌, min, max, Bool, true, false, ◌==◌, nat_lt, nat_le, List, [], ◌∷◌, ◌++◌, length, map, filter, count_by, if◌then◌else◌}
+-- Punycode, RFC 3492: what encodes a text. The numbers in parentheses are its sections. The
+-- parameters of (5) are written out: base 36, tmin 1, tmax 26, skew 38, damp 700, initial bias 72
+-- and initial code point 128. Numbers have no upper bound here, so nothing overflows (6.4). A text
+-- is a list of characters, and an encoding a list of ASCII characters.
+use Rattle.std.specs.Prelude.{◌≡◌, ℕ, zero, suc, ◌+◌, ◌-◌, ◌*◌, ◌/◌, ◌%◌, ◌<◌, ◌≤◌, min, max, Bool}
+use Rattle.std.specs.Prelude.{true, false, ◌==◌, nat_lt, nat_le, List, [], ◌∷◌, ◌++◌, length, map}
+use Rattle.std.specs.Prelude.{filter, count_by, if◌then◌else◌}
 use Rattle.std.specs.Char.{to_ascii_lowercase}
 use Rattle.std.specs.List.{before_last, after_last}
 use Rattle.std.specs.Str.{byte}
 
--- (5) the character that the encoder writes for a digit: a to z for 0 to 25, and 0 to 9 for 26 to 35
+-- (5) the character that the encoder writes for a digit: a to z for 0 to 25, and 0 to 9 for 26 to
+-- 35
 unfoldable pub digit_char : ℕ → ℕ
 digit_char d = if nat_lt d 26 then d + byte "a" else d - 26 + byte "0"
 
@@ -26,11 +30,13 @@ unfoldable pub weighted_sum : ℕ → ℕ → List ℕ → ℕ
 weighted_sum bias j [] = 0
 weighted_sum bias j (d ∷ ds) = d * weight bias j + weighted_sum bias (suc j) ds
 
--- from digit j on: each digit before the last is at least its threshold, and the last is below its own
+-- from digit j on: each digit before the last is at least its threshold, and the last is below its
+-- own
 unfoldable pub EndsBelowThreshold : ℕ → ℕ → List ℕ → Type 0
 EndsBelowThreshold bias j [] = ⊥
 EndsBelowThreshold bias j (d ∷ []) = d < threshold bias (36 * (j + 1))
-EndsBelowThreshold bias j (d ∷ e ∷ ds) = (threshold bias (36 * (j + 1)) ≤ d) × (d ≤ 35) × EndsBelowThreshold bias (suc j) (e ∷ ds)
+EndsBelowThreshold bias j (d ∷ e ∷ ds) = (threshold bias (36 * (j + 1)) ≤ d) × (d ≤ 35)
+    × EndsBelowThreshold bias (suc j) (e ∷ ds)
 
 -- the digits, least significant first, stand for a delta under a bias
 pub record AreDigitsOf (bias delta : ℕ) (digits : List ℕ) : Type 0 where
@@ -51,7 +57,8 @@ digits_of bias delta = digits_from delta bias 36 delta
 
 -- ---- (6.1) bias adaptation
 
--- while above 455 divide by 35 and count k up by 36, in at most `turns` turns; a delta needs at most delta of them
+-- while above 455 divide by 35 and count k up by 36, in at most `turns` turns; a delta needs at
+-- most delta of them
 unfoldable pub scale : ℕ → ℕ → ℕ → ℕ
 scale zero delta k = k + 36 * delta / (delta + 38)
 scale (suc turns) delta k =
@@ -67,7 +74,8 @@ adapt delta count first =
 
 -- ---- (6.3) the encoding of a text
 
--- a character from 128 on, and how many of the characters that are placed before it stand left of it
+-- a character from 128 on, and how many of the characters that are placed before it stand left of
+-- it
 pub record Insertion : Type 0 where
   pub point : ℕ
   pub place : ℕ
@@ -76,13 +84,14 @@ pub record Insertion : Type 0 where
 abbrev pub basic_of : List ℕ → List ℕ
 basic_of text = filter (λ c. nat_lt c 128) text
 
--- (3.2) the insertions of what follows `front`, in order of place: those left of a character that are placed before it
--- are the ones that are not above it
+-- (3.2) the insertions of what follows `front`, in order of place: those left of a character that
+-- are placed before it are the ones that are not above it
 unfoldable pub insertions_after : List ℕ → List ℕ → List Insertion
 insertions_after front [] = []
 insertions_after front (c ∷ rest) =
     let more = insertions_after (front ++ c ∷ []) rest in
-    if nat_lt c 128 then more else record { point = c; place = count_by (λ x. nat_le x c) front } ∷ more
+    if nat_lt c 128 then more else record { point = c; place = count_by (λ x. nat_le x c) front }
+    ∷ more
 
 -- before the first that is not below it
 unfoldable pub put_in_order : Insertion → List Insertion → List Insertion
@@ -98,8 +107,9 @@ in_order (x ∷ xs) = put_in_order x (in_order xs)
 unfoldable pub insertions : List ℕ → List Insertion
 insertions text = in_order (insertions_after [] text)
 
--- (3.2) the deltas, where `placed` characters stand, the last one came at point n, and i is one past its place: each counts the
--- places that a decoder passes from there, placed + 1 for each code point
+-- (3.2) the deltas, where `placed` characters stand, the last one came at point n, and i is one
+-- past its place: each counts the places that a decoder passes from there, placed + 1 for each code
+-- point
 unfoldable pub deltas : ℕ → ℕ → ℕ → List Insertion → List ℕ
 deltas n i placed [] = []
 deltas n i placed (x ∷ xs) =
@@ -120,7 +130,8 @@ delimited (c ∷ basic) = (c ∷ basic) ++ byte "-" ∷ []
 unfoldable pub punycode : List ℕ → List ℕ
 punycode text =
     let basic = basic_of text in
-    delimited basic ++ map digit_char (digits_in_row 72 (length basic) true (deltas 128 0 (length basic) (insertions text)))
+    delimited basic ++ map digit_char (digits_in_row 72 (length basic) true
+    (deltas 128 0 (length basic) (insertions text)))
 
 -- ---- (3.1) the parts of an encoding
 
@@ -130,10 +141,11 @@ basic_part payload = before_last (λ c. c == byte "-") payload
 
 -- what follows the last hyphen, if it stands above place 0, and else all
 abbrev pub encoded_part : List ℕ → List ℕ
-encoded_part payload = if length (basic_part payload) == 0 then payload else after_last (λ c. c == byte "-") payload
+encoded_part payload = if length (basic_part payload) == 0 then payload
+    else after_last (λ c. c == byte "-") payload
 
--- equal but for the case of the letters of the encoded part; a payload has a hyphen above place 0 exactly where
--- its basic part is not empty
+-- equal but for the case of the letters of the encoded part; a payload has a hyphen above place 0
+-- exactly where its basic part is not empty
 pub record SameUpToCase (p q : List ℕ) : Type 0 where
   pub basic : basic_part p ≡ basic_part q
   pub encoded : map to_ascii_lowercase (encoded_part p) ≡ map to_ascii_lowercase (encoded_part q)

@@ -37,7 +37,8 @@ pub fn validate_unicode_label(label: &[char]) -> bool
 
 /// Whether a mark is the first character; no ASCII character is a mark.
 fn begins_with_mark(label: &[char]) -> bool
-    ensures { IsTrue result ↔ ((0 < length label.now) × IsTrue (spec.is_mark (general_category (slice_index label.now 0)))) }
+    ensures { IsTrue result ↔ ((0 < length label.now)
+        × IsTrue (spec.is_mark (general_category (slice_index label.now 0)))) }
 {
     if label.is_empty() {
         return false;
@@ -142,8 +143,10 @@ impl Seen {
     fn and(self, c: char) -> Seen
         ensures katakana_dot { result.katakana_dot ≡ (self.katakana_dot || (c == 0x30FB)) }
         ensures kana_or_han { result.kana_or_han ≡ (self.kana_or_han || spec.is_kana_or_han c) }
-        ensures arabic_indic_digit { result.arabic_indic_digit ≡ (self.arabic_indic_digit || is_in_range 0x660 0x669 c) }
-        ensures extended_digit { result.extended_digit ≡ (self.extended_digit || is_in_range 0x6F0 0x6F9 c) }
+        ensures arabic_indic_digit { result.arabic_indic_digit
+            ≡ (self.arabic_indic_digit || is_in_range 0x660 0x669 c) }
+        ensures extended_digit { result.extended_digit
+            ≡ (self.extended_digit || is_in_range 0x6F0 0x6F9 c) }
     {
         if c < '\u{660}' {
             return self;
@@ -160,7 +163,8 @@ impl Seen {
     /// sets of digits.
     fn may_stand_together(self) -> bool
         ensures katakana_dots { IsTrue result → IsTrue self.katakana_dot → IsTrue self.kana_or_han }
-        ensures one_digit_set { IsTrue result → IsTrue self.arabic_indic_digit → IsTrue self.extended_digit → ⊥ }
+        ensures one_digit_set { IsTrue result → IsTrue self.arabic_indic_digit
+            → IsTrue self.extended_digit → ⊥ }
         ensures both { (IsTrue self.katakana_dot → IsTrue self.kana_or_han)
             → (IsTrue self.arabic_indic_digit → IsTrue self.extended_digit → ⊥) → IsTrue result }
     {

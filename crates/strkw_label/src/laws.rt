@@ -1,4 +1,5 @@
-//! Laws over the definitions that the calls of this crate name. Each function has an empty body, and its clause is the law.
+//! Laws over the definitions that the calls of this crate name. Each function has an empty body, and its clause is the
+//! law.
 ghost use Rattle.std.specs.Prelude.{◌≡◌, ◌≤◌, ◌++◌, ℕ, List, [], ◌∷◌, length, codes};
 ghost use Rattle.strkw_net.specs.HostName.{IsAsciiHostName, letters, longest_name};
 ghost use Rattle.strkw_label.specs.HostName.{IsHostName};
@@ -7,18 +8,21 @@ ghost use Rattle.strkw_label.specs.Punycode.{AreDigitsOf, digits_of, punycode, e
 /// Under each bias exactly one list of digits stands for a delta.
 pub fn digits_are_unique()
     ensures stand { (bias delta : ℕ) → AreDigitsOf bias delta (digits_of bias delta) }
-    ensures only { (bias delta : ℕ) (digits : List ℕ) → AreDigitsOf bias delta digits → digits ≡ digits_of bias delta }
+    ensures only { (bias delta : ℕ) (digits : List ℕ) → AreDigitsOf bias delta digits
+        → digits ≡ digits_of bias delta }
 {}
 
 /// A payload is, up to the letter case of its encoded part, the encoding of one text at most, at any length.
 pub fn one_text_of_a_payload()
-    ensures { (payload s t : List ℕ) → SameUpToCase payload (punycode s) → SameUpToCase payload (punycode t) → s ≡ t }
+    ensures { (payload s t : List ℕ) → SameUpToCase payload (punycode s)
+        → SameUpToCase payload (punycode t) → s ≡ t }
 {}
 
 /// The samples (B), (D), (L) and (S) of RFC 3492 section 7.1 are encoded as they stand there.
 pub fn published_samples()
     ensures chinese { punycode (codes "他们为什么不说中文") ≡ codes "ihqwcrb4cv8a8dqg056pqjye" }
-    ensures czech { punycode (codes "Pročprostěnemluvíčesky") ≡ codes "Proprostnemluvesky-uyb24dma41a" }
+    ensures czech { punycode (codes "Pročprostěnemluvíčesky")
+        ≡ codes "Proprostnemluvesky-uyb24dma41a" }
     ensures japanese { punycode (codes "3年B組金八先生") ≡ codes "3B-ww4c5e180e575a65lsy2b" }
     ensures ascii { punycode (codes "-> $1.00 <-") ≡ codes "-> $1.00 <--" }
 {}

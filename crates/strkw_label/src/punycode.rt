@@ -46,9 +46,11 @@ const INITIAL_POINT: u32 = 128;
 pub fn decode_punycode<const CAP: usize>(input: &str) -> Option<ArrayVec<char, CAP>>
     requires { length input.now ≤ CAP }
     ensures scalar { IfSome result (λ text. All IsScalar text.items) }
-    ensures sound { IfSome result (λ text. SameUpToCase (chars input.now) (spec.punycode text.items)) }
+    ensures sound { IfSome result (λ text. SameUpToCase (chars input.now)
+        (spec.punycode text.items)) }
     ensures complete { (text : List ℕ) → All IsScalar text → length input.now ≤ 59
-        → SameUpToCase (chars input.now) (spec.punycode text) → IsSomeAnd result (λ t. t.items ≡ text) }
+        → SameUpToCase (chars input.now) (spec.punycode text)
+        → IsSomeAnd result (λ t. t.items ≡ text) }
 {
     decode_payload(input.as_bytes())
 }
@@ -100,7 +102,8 @@ fn threshold(bias: u32, k: u32) -> u32
 fn digit_value(byte: u8) -> Option<u32>
     ensures fits { IfSome result (λ digit. digit < 36) }
     ensures value { IfSome result (λ digit. to_ascii_lowercase byte ≡ spec.digit_char digit) }
-    ensures none { MatchOption result ((digit : ℕ) → digit < 36 → to_ascii_lowercase byte ≢ spec.digit_char digit) (λ _. ⊤) }
+    ensures none { MatchOption result ((digit : ℕ) → digit < 36
+        → to_ascii_lowercase byte ≢ spec.digit_char digit) (λ _. ⊤) }
 {
     if byte.is_ascii_lowercase() {
         Some(u32::from(byte - b'a'))
@@ -134,7 +137,8 @@ fn read_delta(digits: &[u8], bias: u32) -> Option<(u32, &[u8])>
     ensures sound { IfSome result (λ r. map to_ascii_lowercase digits.now
         ≡ map spec.digit_char (spec.digits_of bias r.0) ++ map to_ascii_lowercase r.1.now) }
     ensures complete { (delta : ℕ) (rest : List ℕ) → delta < index_bound
-        → map to_ascii_lowercase digits.now ≡ map spec.digit_char (spec.digits_of bias delta) ++ rest
+        → map to_ascii_lowercase digits.now ≡ map spec.digit_char (spec.digits_of bias delta)
+        ++ rest
         → IsSomeAnd result (λ r. (r.0 ≡ delta) × (map to_ascii_lowercase r.1.now ≡ rest)) }
     ensures shorter { IfSome result (λ r. length r.1.now < length digits.now) }
 {
@@ -167,9 +171,11 @@ fn read_insertions<const CAP: usize>(
     requires no_places { places.old.items ≡ [] }
     requires room { basic_length + length encoded.now ≤ CAP }
     ensures paired { length places.new.items ≡ length points.new.items }
-    ensures sound { IfSome result (λ _. IsEncoded basic_length encoded.now (pair_up points.new.items places.new.items)) }
+    ensures sound { IfSome result (λ _. IsEncoded basic_length encoded.now
+        (pair_up points.new.items places.new.items)) }
     ensures fits { basic_length + length points.new.items ≤ CAP }
-    ensures complete { (xs : List Insertion) → IsEncoded basic_length encoded.now xs → basic_length + length xs < 60
+    ensures complete { (xs : List Insertion) → IsEncoded basic_length encoded.now xs
+        → basic_length + length xs < 60
         → IsSomeAnd result (λ _. pair_up points.new.items places.new.items ≡ xs) }
 {
     let mut rest = encoded;

@@ -13,6 +13,7 @@ use Rattle.strkw_text.proofs.Laws.{front_cong, back_cong}
 use Rattle.strkw_net.specs.Uuid.{IsUuid}
 use Rattle.strkw_net.specs.Spellings.{HexOctet, Uuid}
 
+-- an octet of a UUID is two hexadecimal digits
 digits_of_octet : (text : List ℕ) → HexOctet text → AllDigits 16 text × (length text ≡ 2)
 digits_of_octet text h =
     let two : Exactly 2 HexDigit text = record {
@@ -25,10 +26,12 @@ digits_of_octet text h =
     let d = (hexdigits_between 2 2 text).0 two in
     (d.0, omega (arith, d.1))
 
+-- hexadecimal digits behind hexadecimal digits are hexadecimal digits
 digits_append : (xs ys : List ℕ) → AllDigits 16 xs → AllDigits 16 ys → AllDigits 16 (xs ++ ys)
 digits_append [] ys a b = b
 digits_append (x ∷ xs) ys a b = (a.0, digits_append xs ys a.1 b)
 
+-- octets one after another are hexadecimal digits, twice as many as the octets
 digits_of_octets : (parts : List (List ℕ)) → AllByRecursion HexOctet parts → AllDigits 16 (concat parts) × (length (concat parts) ≡ length parts + length parts)
 digits_of_octets [] a = (tt, refl)
 digits_of_octets (part ∷ parts) a =
@@ -36,9 +39,11 @@ digits_of_octets (part ∷ parts) a =
     let r = digits_of_octets parts a.1 in
     (digits_append part (concat parts) d.0 r.0, omega (arith, d.1, r.1, length-append part (concat parts)))
 
+-- a character of a value below 16 is a hexadecimal digit
 one_digit : (c : ℕ) → digit_value c < 16 → HexDigit (c ∷ [])
 one_digit c h = record { character = c; member = grind (arith, nat_tests); is = refl }
 
+-- hexadecimal digits, twice n of them, are n octets
 octets_of_digits : (n : ℕ) (text : List ℕ) → AllDigits 16 text → length text ≡ n + n → Exactly n HexOctet text
 octets_of_digits zero [] d size = record { parts = []; each = tt; joined = refl; at_least = omega arith; at_most = omega arith }
 octets_of_digits zero (c ∷ text) d size = absurd (omega arith)
@@ -55,6 +60,7 @@ octets_of_digits (suc n) (b ∷ c ∷ text) d size =
       at_most = omega (arith, r.at_most);
     }
 
+-- a text is m hexadecimal digits, where m is twice n, exactly where it is n octets
 octets : (n m : ℕ) → m ≡ n + n → (text : List ℕ) → Exactly m HexDigit text ↔ Exactly n HexOctet text
 octets n m twice text =
     let i = hexdigits_between m m text in (
@@ -66,11 +72,14 @@ octets n m twice text =
     )
 
 -- a run, a hyphen and more
-run_then : (A A' B B' : Form) → ((x : List ℕ) → A x ↔ A' x) → ((x : List ℕ) → B x ↔ B' x) → (text : List ℕ) → (A ⨾ Literal (45 ∷ []) ⨾ B) text ↔ (A' ⨾ Literal (45 ∷ []) ⨾ B') text
+-- are the same texts by two forms of each, where the two derive the same
+run_then : (A A' B B' : Form) → ((x : List ℕ) → A x ↔ A' x) → ((x : List ℕ) → B x ↔ B' x) → (text : List ℕ)
+    → (A ⨾ Literal (45 ∷ []) ⨾ B) text ↔ (A' ⨾ Literal (45 ∷ []) ⨾ B') text
 run_then A A' B B' a b text =
     let dash = Literal (45 ∷ []) in
     iff_trans (front_cong A A' (dash ⨾ B) text a) (back_cong A' (dash ⨾ B) (dash ⨾ B') text (λ x. back_cong dash B B' x b))
 
+-- a text is a UUID exactly where RFC 9562 derives it by octets
 pub uuid_by_octets : (text : List ℕ) → IsUuid text ↔ Uuid text
 uuid_by_octets =
     let dash = Literal (45 ∷ []) in
@@ -78,7 +87,8 @@ uuid_by_octets =
     let two = Exactly 2 HexOctet in
     let last = Exactly 12 HexDigit in
     let six = Exactly 6 HexOctet in
-    run_then (Exactly 8 HexDigit) (Exactly 4 HexOctet) (four ⨾ dash ⨾ four ⨾ dash ⨾ four ⨾ dash ⨾ last) (two ⨾ dash ⨾ two ⨾ dash ⨾ two ⨾ dash ⨾ six) (octets 4 8 refl)
+    run_then (Exactly 8 HexDigit) (Exactly 4 HexOctet) (four ⨾ dash ⨾ four ⨾ dash ⨾ four ⨾ dash ⨾ last) (two ⨾ dash ⨾ two ⨾ dash ⨾ two ⨾ dash ⨾ six)
+    (octets 4 8 refl)
     (run_then four two (four ⨾ dash ⨾ four ⨾ dash ⨾ last) (two ⨾ dash ⨾ two ⨾ dash ⨾ six) (octets 2 4 refl)
     (run_then four two (four ⨾ dash ⨾ last) (two ⨾ dash ⨾ six) (octets 2 4 refl)
     (run_then four two last six (octets 2 4 refl) (octets 6 12 refl))))

@@ -6,14 +6,16 @@ use Rattle.strkw_text.specs.Abnf.{Form, ◌⨾◌, ◌∣◌, Literal, Times}
 use Rattle.strkw_text.specs.Characters.{HexDigit}
 use Rattle.strkw_text.specs.Delimiters.{Without}
 
--- IPv4address, RFC 3986 section 3.2.2: four numbers below 256 in decimal, without leading zeros, with "." between them
+-- IPv4address, RFC 3986 section 3.2.2: four numbers below 256 in decimal, without leading zeros,
+-- with "." between them
 pub record IsIpv4 (text : List ℕ) : Type 0 where
   pub a : ℕ
   pub b : ℕ
   pub c : ℕ
   pub d : ℕ
   pub fit : (a < 256) × (b < 256) × (c < 256) × (d < 256)
-  pub spelled : text ≡ join_with_byte (byte ".") (decimal a ∷ decimal b ∷ decimal c ∷ decimal d ∷ [])
+  pub spelled : text ≡ join_with_byte (byte ".")
+      (decimal a ∷ decimal b ∷ decimal c ∷ decimal d ∷ [])
 
 -- What follows is RFC 4291 section 2.2.
 

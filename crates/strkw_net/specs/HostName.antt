@@ -1,5 +1,7 @@
--- ASCII host names, RFC 1034 section 3.5, as RFC 1123 section 2.1 changed it: a label may begin with a digit.
-use Rattle.std.specs.Prelude.{◌≢◌, ℕ, ◌-◌, ◌≤◌, Bool, ◌||◌, ◌==◌, List, ◌∷◌, ◌++◌, length, replicate, slice_index}
+-- ASCII host names, RFC 1034 section 3.5, as RFC 1123 section 2.1 changed it: a label may begin
+-- with a digit.
+use Rattle.std.specs.Prelude.{◌≢◌, ℕ, ◌-◌, ◌≤◌, Bool, ◌||◌, ◌==◌, List, ◌∷◌, ◌++◌, length}
+use Rattle.std.specs.Prelude.{replicate, slice_index}
 use Rattle.std.specs.List.{AllPass}
 use Rattle.std.specs.Str.{byte}
 use Rattle.std.specs.Char.{is_ascii_alphanumeric}
@@ -16,15 +18,18 @@ pub record IsLabel (label : List ℕ) : Type 0 where
   pub first : slice_index label 0 ≢ byte "-"
   pub last : slice_index label (length label - 1) ≢ byte "-"
 
--- label *("." label), of at most 253 characters: 255 octets, a length octet for each label and one for the root among them
--- (RFC 1034 section 3.1). That no host name is a dotted decimal (RFC 1123 section 2.1) is not asked here.
+-- label *("." label), of at most 253 characters: 255 octets, a length octet for each label and one
+-- for the root among them (RFC 1034 section 3.1). That no host name is a dotted decimal (RFC 1123
+-- section 2.1) is not asked here.
 pub record IsAsciiHostName (text : List ℕ) : Type 0 where
   pub labels : SeparatedBy (byte ".") IsLabel text
   pub size : length text ≤ 253
 
--- Examples: so many times the letter a, and labels of 63, 63, 63 and 61 of them, a host name of greatest length.
+-- Examples: so many times the letter a, and labels of 63, 63, 63 and 61 of them, a host name of
+-- greatest length.
 abbrev pub letters : ℕ → List ℕ
 letters n = replicate n (byte "a")
 
 abbrev pub longest_name : List ℕ
-longest_name = letters 63 ++ byte "." ∷ (letters 63 ++ byte "." ∷ (letters 63 ++ byte "." ∷ letters 61))
+longest_name = letters 63 ++ byte "."
+    ∷ (letters 63 ++ byte "." ∷ (letters 63 ++ byte "." ∷ letters 61))

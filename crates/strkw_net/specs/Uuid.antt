@@ -6,5 +6,6 @@ use Rattle.strkw_text.specs.Characters.{HexDigit}
 -- 8HEXDIG "-" 4HEXDIG "-" 4HEXDIG "-" 4HEXDIG "-" 12HEXDIG
 abbrev pub IsUuid : Form
 IsUuid =
-    Exactly 8 HexDigit ⨾ Literal (codes "-") ⨾ Exactly 4 HexDigit ⨾ Literal (codes "-") ⨾ Exactly 4 HexDigit ⨾ Literal (codes "-")
+    Exactly 8 HexDigit ⨾ Literal (codes "-") ⨾ Exactly 4 HexDigit ⨾ Literal (codes "-")
+    ⨾ Exactly 4 HexDigit ⨾ Literal (codes "-")
     ⨾ Exactly 4 HexDigit ⨾ Literal (codes "-") ⨾ Exactly 12 HexDigit

@@ -5,7 +5,8 @@ ghost use Rattle.strkw_net.specs.Addresses.{IsIpv4, IsIpv6};
 
 use std::net::{Ipv4Addr, Ipv6Addr};
 
-/// Whether the text is an IPv4 address: four numbers from 0 to 255 in decimal, without leading zeros, with `.` between them.
+/// Whether the text is an IPv4 address: four numbers from 0 to 255 in decimal, without leading zeros, with `.` between
+/// them.
 ///
 /// This is `IPv4address` of RFC 3986, section 3.2.2, as in `127.0.0.1`.
 pub fn is_valid_ipv4(ip: &str) -> bool

@@ -19,11 +19,12 @@ static LETTERS_DIGITS_HYPHEN: [u8; 256] = *b"\
     ................................\
     ................................";
 
-/// Whether the text is a host name of ASCII characters alone, RFC 1034, section 3.5, as RFC 1123, section 2.1, changed it.
+/// Whether the text is a host name of ASCII characters alone, RFC 1034, section 3.5, as RFC 1123, section 2.1, changed
+/// it.
 ///
-/// It has 1 to 253 characters, and is labels with `.` between them. A label is 1 to 63 letters, digits and hyphens, and no
-/// hyphen is its first or last. Labels with `xn--` are labels as others, and so are labels of digits: the dotted decimal
-/// `127.0.0.1` is a host name here, though RFC 1123, section 2.1, has it that no host name is of this form.
+/// It has 1 to 253 characters, and is labels with `.` between them. A label is 1 to 63 letters, digits and hyphens, and
+/// no hyphen is its first or last. Labels with `xn--` are labels as others, and so are labels of digits: the dotted
+/// decimal `127.0.0.1` is a host name here, though RFC 1123, section 2.1, has it that no host name is of this form.
 pub fn is_valid_hostname_rfc1034(hostname: &str) -> bool
     ensures { IsTrue result ↔ IsAsciiHostName (chars hostname.now) }
 {
@@ -47,10 +48,11 @@ fn is_host_name(bytes: &[u8]) -> bool
     false
 }
 
-/// The label at the front of a host name: its bytes up to the first `.`, or all of them. `None` where these are no label.
+/// The label at the front of a host name: its bytes up to the first `.`, or all of them. `None` where these are no
+/// label.
 ///
-/// A label is 1 to 63 letters, digits and hyphens, and no hyphen is its first or last (RFC 1034, section 3.5, as RFC 1123,
-/// section 2.1, changed it).
+/// A label is 1 to 63 letters, digits and hyphens, and no hyphen is its first or last (RFC 1034, section 3.5, as RFC
+/// 1123, section 2.1, changed it).
 pub fn first_label(bytes: &[u8]) -> Option<&[u8]>
     ensures { let front = before_first (λ c. c == byte ".") bytes.now in
         MatchOption result (IsLabel front → ⊥) (λ label. (label.now ≡ front) × IsLabel label.now) }

@@ -1,4 +1,5 @@
-//! Laws over the definitions that the calls of this crate name. Each function has an empty body, and its clauses are the law.
+//! Laws over the definitions that the calls of this crate name. Each function has an empty body, and its clauses are
+//! the law.
 ghost use Rattle.std.specs.Prelude.{◌↔◌, ◌≤◌, ℕ, List, length, codes};
 ghost use Rattle.strkw_text.specs.Bounds.{DerivesAtLeast, DerivesAtMost, DerivesLength};
 ghost use Rattle.strkw_net.specs.Addresses.{IsIpv4, IsIpv6, HasNoBracket};
@@ -29,8 +30,8 @@ pub fn hostname_length()
     ensures at_most { DerivesAtMost 253 IsAsciiHostName }
 {}
 
-/// A label is what the rule `<label>` of RFC 1034, section 3.5, derives, with `<let-dig>` first as RFC 1123, section 2.1, has
-/// it, and has at most 63 characters.
+/// A label is what the rule `<label>` of RFC 1034, section 3.5, derives, with `<let-dig>` first as RFC 1123, section
+/// 2.1, has it, and has at most 63 characters.
 pub fn label_by_grammar()
     ensures { (text : List ℕ) → IsLabel text ↔ (Label text × (length text ≤ 63)) }
 {}
@@ -65,7 +66,8 @@ pub fn ipv6_texts()
     ensures longest { IsIpv6 (codes "0000:0000:0000:0000:0000:0000:255.255.255.255") }
 {}
 
-/// `example.com` is an ASCII host name, `a` one of least length, and labels of 63, 63, 63 and 61 letters one of greatest.
+/// `example.com` is an ASCII host name, `a` one of least length, and labels of 63, 63, 63 and 61 letters one of
+/// greatest.
 pub fn hostname_texts()
     ensures example { IsAsciiHostName (codes "example.com") }
     ensures shortest { IsAsciiHostName (codes "a") }

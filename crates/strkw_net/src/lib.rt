@@ -1,6 +1,6 @@
-//! IPv4 and IPv6 addresses, ASCII host names and UUIDs.
-//! Each predicate is true exactly where its grammar derives the characters of the text, and takes no memory.
-//! The grammars stand in `specs/Addresses.antt`, `specs/HostName.antt` and `specs/Uuid.antt`, laws about them in [`laws`].
+//! IPv4 and IPv6 addresses, ASCII host names and UUIDs. Each predicate is true exactly where its grammar derives the
+//! characters of the text, and takes no memory. The grammars stand in `specs/Addresses.antt`, `specs/HostName.antt` and
+//! `specs/Uuid.antt`, laws about them in [`laws`].
 #![tactic(auto)]
 
 mod addresses;

@@ -17,6 +17,7 @@ plain_backslash : is_plain 92 ≡ false
 unfolding is_plain
 plain_backslash = refl
 
+-- nothing begins no item
 pub no_item-nil : NoItem []
 no_item-nil (plain c) rest is e = cc e
 no_item-nil (escaped c) rest is e = cc e
@@ -38,6 +39,7 @@ no_item-backslash a rest not_escapable (escaped c) more is e =
     let same : a ≡ c = cc e in
     cc (same, is, not_escapable)
 
+-- and a backslash at the end begins none
 pub no_item-last_backslash : NoItem (92 ∷ [])
 no_item-last_backslash (plain c) more is e =
     let same : 92 ≡ c = cc e in
@@ -77,16 +79,20 @@ same_items (x ∷ xs) (y ∷ ys) r s hx hy nr ns e =
     (rw (h.0, t.0) refl, t.1)
 
 -- one item more
-pub items_step : (xs : List Item) (x : Item) (pattern rest after : List ℕ) → All IsItem xs → IsItem x → pattern ≡ spelling_of xs ++ rest → rest ≡ item_spelling x ++ after
+-- is read with those before it, and its character joins their text
+pub items_step : (xs : List Item) (x : Item) (pattern rest after : List ℕ) → All IsItem xs → IsItem x → pattern ≡ spelling_of xs ++ rest
+    → rest ≡ item_spelling x ++ after
     → All IsItem (xs ++ x ∷ []) × (pattern ≡ spelling_of (xs ++ x ∷ []) ++ after) × (text_of (xs ++ x ∷ []) ≡ text_of xs ++ item_char x ∷ [])
 items_step xs x pattern rest after hxs hx split next =
-    let written : spelling_of (xs ++ x ∷ []) ≡ spelling_of xs ++ item_spelling x = flat_map-append item_spelling xs (x ∷ []) ∙ ap (λ (s : List ℕ). spelling_of xs ++ s) (append-nil (item_spelling x)) in (
+    let written : spelling_of (xs ++ x ∷ []) ≡ spelling_of xs ++ item_spelling x = flat_map-append item_spelling xs (x ∷ [])
+    ∙ ap (λ (s : List ℕ). spelling_of xs ++ s) (append-nil (item_spelling x)) in (
       All-append IsItem xs (x ∷ []) hxs (All-cons IsItem x [] hx (All-nil IsItem)),
       rw (written, append_assoc, ← next) split,
       map-append item_char xs (x ∷ []),
     )
 
 -- one of some numbers below n
+-- is below n
 one_below : (xs : List ℕ) (c n : ℕ) → is_one_of xs c ≡ true → list_all (λ x. nat_lt x n) xs ≡ true → c < n
 one_below [] c n one all = cc one
 one_below (x ∷ xs) c n one all =
@@ -98,9 +104,11 @@ one_below (x ∷ xs) c n one all =
       | inr other ↦ one_below xs c n (rw (ne_eqb c x other) at one) parts.1
     ]
 
+-- a letter or digit of ASCII is below 128
 alphanumeric_below : (c : ℕ) → is_ascii_alphanumeric c ≡ true → c < 128
 alphanumeric_below c h = grind (arith, nat_tests)
 
+-- and so is a character that stands for itself
 plain_below : (c : ℕ) → is_plain c ≡ true → c < 128
 unfolding is_plain
 plain_below c h = elim (cases_Bool (is_ascii_alphanumeric c)) [
@@ -108,6 +116,7 @@ plain_below c h = elim (cases_Bool (is_ascii_alphanumeric c)) [
   | inr other ↦ one_below (codes " -_/:@#%&=,;~!'\"<>") c 128 (rw other at h) refl
 ]
 
+-- and one that may follow a backslash
 escapable_below : (c : ℕ) → is_escapable c ≡ true → c < 128
 unfolding is_escapable
 escapable_below c h = one_below (codes "^$\\.*+?()[]{}|/") c 128 h refl

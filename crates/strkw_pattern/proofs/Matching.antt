@@ -12,6 +12,7 @@ use Rattle.strkw_pattern.specs.Matcher.{outcome_of}
 use Rattle.strkw_pattern.specs.declared.engine.Outcome.{Outcome}
 
 -- two tests that say the same
+-- are the same truth value
 same_tests : (a b : Bool) → (a ≡ true → b ≡ true) → (b ≡ true → a ≡ true) → a ≡ b
 same_tests true b to from = sym (to refl)
 same_tests false true to from = from refl
@@ -21,6 +22,7 @@ same_tests false false to from = refl
 same_chars : (a b : List ℕ) → IsUtf8 a → IsUtf8 b → chars a ≡ chars b → a ≡ b
 same_chars a b ua ub e = sym (encodes-chars a ua) ∙ ap encode_utf8_all e ∙ encodes-chars b ub
 
+-- two texts are the same by bytes exactly where they are by characters
 pub bytes_eq-chars : (a b : List ℕ) → IsUtf8 a → IsUtf8 b → bytes_eq a b ≡ bytes_eq (chars a) (chars b)
 bytes_eq-chars a b ua ub =
     same_tests (bytes_eq a b) (bytes_eq (chars a) (chars b))
@@ -28,13 +30,16 @@ bytes_eq-chars a b ua ub =
     (λ h. (bytes_eq-Decides a b).1 (same_chars a b ua ub ((bytes_eq-Decides (chars a) (chars b)).0 h)))
 
 -- a test of a front, as a fact
+-- a text that begins with another is that, and what is behind it
 pub front_of : (s p : List ℕ) → starts_with nat_eq s p ≡ true → s ≡ p ++ drop (length p) s
 front_of s p h = (starts_is Decides-eqb s p _ refl).0 h
 
+-- and back
 pub starts_with-from : (s p rest : List ℕ) → s ≡ p ++ rest → starts_with nat_eq s p ≡ true
 starts_with-from s p rest e = (starts_is Decides-eqb s p _ refl).1 rest e
 
 -- the front of a text, by bytes and by characters
+-- a text begins with another by bytes exactly where it does by characters
 pub starts_with-chars : (s p : List ℕ) → IsUtf8 s → IsUtf8 p → starts_with nat_eq s p ≡ starts_with nat_eq (chars s) (chars p)
 starts_with-chars s p us up =
     same_tests (starts_with nat_eq s p) (starts_with nat_eq (chars s) (chars p))
@@ -42,9 +47,11 @@ starts_with-chars s p us up =
     (λ h.
     let rest = drop (length (chars p)) (chars s) in
     let bytes : s ≡ p ++ encode_utf8_all rest =
-    sym (encodes-chars s us) ∙ ap encode_utf8_all (front_of (chars s) (chars p) h) ∙ encodes-append (chars p) rest ∙ ap (λ (f : List ℕ). f ++ encode_utf8_all rest) (encodes-chars p up) in
+    sym (encodes-chars s us) ∙ ap encode_utf8_all (front_of (chars s) (chars p) h) ∙ encodes-append (chars p) rest
+    ∙ ap (λ (f : List ℕ). f ++ encode_utf8_all rest) (encodes-chars p up) in
     starts_with-from s p (encode_utf8_all rest) bytes)
 
+-- tests that are each the same are the same joined by `or`
 pub or_same : (a b c d : Bool) → a ≡ b → c ≡ d → (a || c) ≡ (b || d)
 or_same a b c d e f = rw (e, f) refl
 
@@ -55,6 +62,7 @@ any_chars [] t ut = refl
 any_chars (v ∷ vs) t ut = or_same _ _ _ _ (bytes_eq-chars (string_bytes v) t (IsUtf8-string_bytes v) ut) (any_chars vs t ut)
 
 -- the answer of a test
+-- is that of the outcome which the test has
 pub answer_of : (o : Outcome) (b : Bool) → o ≡ outcome_of b → IsAnswer o (Ok b)
 answer_of o true e = e
 answer_of o false e = e

@@ -10,6 +10,7 @@ use Rattle.std.proofs.lemmas.Str.{chars-append, chars-IsAscii, IsUtf8-from_ascii
 use Rattle.std.proofs.lemmas.Str.Ascii.{IsAscii-nil, IsAscii-cons}
 use Rattle.strkw_pattern.specs.Whitespace.{is_ecma_whitespace, is_solid}
 
+-- bytes that are all solid are ASCII
 pub solid_is_ascii : (bytes : List ℕ) → list_all is_solid bytes ≡ true → IsAscii bytes
 solid_is_ascii [] h = IsAscii-nil
 solid_is_ascii (b ∷ bytes) h =
@@ -17,9 +18,11 @@ solid_is_ascii (b ∷ bytes) h =
     let small = ltb-true b 128 (and_parts (nat_lt 32 b) (nat_lt b 128) both.0).1 in
     IsAscii-cons b bytes small (solid_is_ascii bytes both.1)
 
+-- a solid character is no white space
 solid_is_no_space : (c : ℕ) → is_solid c ≡ true → is_ecma_whitespace c ≡ false
 solid_is_no_space c h = grind (arith, nat_tests)
 
+-- so there is none where all are solid
 solid_has_no_space : (bytes : List ℕ) → list_all is_solid bytes ≡ true → list_any is_ecma_whitespace bytes ≡ false
 solid_has_no_space [] h = refl
 solid_has_no_space (b ∷ bytes) h =
@@ -27,7 +30,8 @@ solid_has_no_space (b ∷ bytes) h =
     ap (λ t. t || list_any is_ecma_whitespace bytes) (solid_is_no_space b both.0) ∙ solid_has_no_space bytes both.1
 
 -- what stands behind a solid front decides
-pub behind_solid : (front rest : List ℕ) → list_all is_solid front ≡ true → list_any is_ecma_whitespace (chars (front ++ rest)) ≡ list_any is_ecma_whitespace (chars rest)
+pub behind_solid : (front rest : List ℕ) → list_all is_solid front ≡ true
+    → list_any is_ecma_whitespace (chars (front ++ rest)) ≡ list_any is_ecma_whitespace (chars rest)
 behind_solid front rest h =
     let ascii = solid_is_ascii front h in
     ap (list_any is_ecma_whitespace) (chars-append front rest (IsUtf8-from_ascii front ascii) ∙ ap (λ cs. cs ++ chars rest) (chars-IsAscii front ascii))
@@ -41,5 +45,6 @@ block_ends text utf8 long h =
     IsCharBoundary-after_ascii text 31 utf8 (omega (arith, long)) (omega (arith, same, solid_is_ascii (take 32 text) h 31))
 
 -- and what follows it decides
-pub behind_block : (text : List ℕ) → list_all is_solid (take 32 text) ≡ true → list_any is_ecma_whitespace (chars text) ≡ list_any is_ecma_whitespace (chars (drop 32 text))
+pub behind_block : (text : List ℕ) → list_all is_solid (take 32 text) ≡ true
+    → list_any is_ecma_whitespace (chars text) ≡ list_any is_ecma_whitespace (chars (drop 32 text))
 behind_block text h = ap (λ t. list_any is_ecma_whitespace (chars t)) (sym (take-append-drop 32 text)) ∙ behind_solid (take 32 text) (drop 32 text) h

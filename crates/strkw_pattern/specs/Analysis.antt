@@ -4,9 +4,12 @@ use Rattle.std.specs.List.Sorted.{IsSorted}
 use Rattle.std.specs.Ordering.{nat_cmp}
 use Rattle.std.specs.Cmp.Lexicographic.{slice_cmp}
 use Rattle.std.specs.String.{string_bytes}
-use Rattle.strkw_pattern.specs.Literal.{Item, AreItems, AreAlternatives, text_of, spelling, prefix, exact, alternation, no_whitespace}
+use Rattle.strkw_pattern.specs.Literal.{Item, AreItems, AreAlternatives, text_of, spelling, prefix}
+use Rattle.strkw_pattern.specs.Literal.{exact, alternation, no_whitespace}
 use Rattle.strkw_pattern.specs.declared.literal.PatternOptimization.{PatternOptimization}
-use Rattle.strkw_pattern.specs.declared.literal.PatternOptimization.TheVariants.{Prefix, Exact, Alternation, NoWhitespace}
+use Rattle.strkw_pattern.specs.declared.literal.PatternOptimization.TheVariants.{Prefix, Exact}
+use Rattle.strkw_pattern.specs.declared.literal.PatternOptimization.TheVariants.{Alternation}
+use Rattle.strkw_pattern.specs.declared.literal.PatternOptimization.TheVariants.{NoWhitespace}
 
 -- the same texts, each as often, in the order of their bytes
 pub record IsSortedGroup (texts sorted : List (List ℕ)) : Type 0 where
@@ -15,9 +18,12 @@ pub record IsSortedGroup (texts sorted : List (List ℕ)) : Type 0 where
 
 -- the pattern is literal, and this is its kind and its text
 abbrev pub IsAnalysis : List ℕ → PatternOptimization → Type 0
-IsAnalysis pattern (Prefix s) = (xs : List Item) × AreItems xs × (pattern ≡ spelling (prefix xs)) × (string_bytes s ≡ text_of xs)
-IsAnalysis pattern (Exact s) = (xs : List Item) × AreItems xs × (pattern ≡ spelling (exact xs)) × (string_bytes s ≡ text_of xs)
-IsAnalysis pattern (Alternation v) = (xss : List (List Item)) × AreAlternatives xss × (pattern ≡ spelling (alternation xss))
+IsAnalysis pattern (Prefix s) = (xs : List Item) × AreItems xs × (pattern ≡ spelling (prefix xs))
+    × (string_bytes s ≡ text_of xs)
+IsAnalysis pattern (Exact s) = (xs : List Item) × AreItems xs × (pattern ≡ spelling (exact xs))
+    × (string_bytes s ≡ text_of xs)
+IsAnalysis pattern (Alternation v) = (xss : List (List Item)) × AreAlternatives xss
+    × (pattern ≡ spelling (alternation xss))
     × IsSortedGroup (map text_of xss) (map string_bytes v.items)
 IsAnalysis pattern NoWhitespace = pattern ≡ spelling no_whitespace
 

@@ -1,6 +1,7 @@
--- Literal patterns: regular expressions of ECMA-262 that a plain comparison of texts decides. A literal is a small tree,
--- and a pattern is literal where some tree is spelled so.
-use Rattle.std.specs.Prelude.{◌≡◌, ℕ, ◌<◌, Bool, true, ◌||◌, List, [], ◌∷◌, ◌++◌, map, length, codes, All}
+-- Literal patterns: regular expressions of ECMA-262 that a plain comparison of texts decides. A
+-- literal is a small tree, and a pattern is literal where some tree is spelled so.
+use Rattle.std.specs.Prelude.{◌≡◌, ℕ, ◌<◌, Bool, true, ◌||◌, List, [], ◌∷◌, ◌++◌, map, length}
+use Rattle.std.specs.Prelude.{codes, All}
 use Rattle.std.specs.Char.{is_ascii_alphanumeric}
 use Rattle.std.specs.List.{flat_map, join_with_byte}
 use Rattle.std.specs.Str.{byte}
@@ -67,7 +68,8 @@ IsWellFormed no_whitespace = Unit {0}
 abbrev pub spelling : Literal → List ℕ
 spelling (prefix xs) = codes "^" ++ spelling_of xs
 spelling (exact xs) = codes "^" ++ spelling_of xs ++ codes "$"
-spelling (alternation xss) = codes "^(" ++ join_with_byte (byte "|") (map spelling_of xss) ++ codes ")$"
+spelling (alternation xss) = codes "^(" ++ join_with_byte (byte "|") (map spelling_of xss)
+    ++ codes ")$"
 spelling no_whitespace = codes "^\\S*$"
 
 -- the pattern is literal

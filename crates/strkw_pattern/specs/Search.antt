@@ -1,4 +1,5 @@
--- What a literal pattern means: the search of ECMA-262 (RegExpBuiltinExec, section 22.2.7.2) for its tree in a text.
+-- What a literal pattern means: the search of ECMA-262 (RegExpBuiltinExec, section 22.2.7.2) for
+-- its tree in a text.
 use Rattle.std.specs.Prelude.{◌≡◌, ℕ, Bool, true, false, IsTrue, List, [], ◌++◌, map, All, Contains}
 use Rattle.strkw_pattern.specs.Literal.{Literal, prefix, exact, alternation, no_whitespace, text_of}
 use Rattle.strkw_pattern.specs.Whitespace.{is_ecma_whitespace}

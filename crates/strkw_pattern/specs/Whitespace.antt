@@ -1,5 +1,5 @@
--- White space of ECMA-262: the characters of `\s`, which are those of WhiteSpace (section 12.2) and of LineTerminator
--- (section 12.3). U+0085 and U+180E are none.
+-- White space of ECMA-262: the characters of `\s`, which are those of WhiteSpace (section 12.2) and
+-- of LineTerminator (section 12.3). U+0085 and U+180E are none.
 use Rattle.std.specs.Prelude.{ℕ, Bool, nat_lt, ◌==◌, ◌||◌, ◌&&◌}
 use Rattle.strkw_text.specs.Characters.{is_from_to}
 

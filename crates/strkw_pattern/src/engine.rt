@@ -21,11 +21,11 @@ pub enum Outcome {
 /// Why an engine gave no yes or no.
 #[derive(Debug, Clone, Copy, PartialEq, Eq)]
 pub enum EngineFailure {
-    /// Exactly where the outcome is `Outcome::BacktrackLimit`, memory aside.
+    /// Exactly where the outcome is `Outcome::BacktrackLimit`, out of memory aside.
     BacktrackLimit,
-    /// Exactly where the outcome is `Outcome::Failed`, memory aside.
+    /// Exactly where the outcome is `Outcome::Failed`, out of memory aside.
     Failed,
-    /// A growth was refused.
+    /// Out of memory.
     Memory,
 }
 
@@ -46,9 +46,9 @@ pub trait RegexEngine: Drop {
 /// Why no engine was built of a pattern.
 #[derive(Debug, Clone, Copy, PartialEq, Eq)]
 pub enum BuildRefusal {
-    /// Exactly where the builder does not take the pattern, memory aside.
+    /// Exactly where the builder does not take the pattern, out of memory aside.
     Pattern,
-    /// A growth was refused.
+    /// Out of memory.
     Memory,
 }
 
@@ -67,7 +67,9 @@ pub trait EngineBuilder {
 
     /// The engine of a pattern. It has the builder's outcome for that pattern on every text.
     fn build(&self, alloc: Global, pattern: &str) -> Result<Self::Engine, BuildRefusal>
-        ensures built { IfOk result (λ e. Self.Engine.outcome e ≡ outcome self.now (chars pattern.now)) }
+        ensures built { IfOk result (λ e. Self.Engine.outcome e
+            ≡ outcome self.now (chars pattern.now)) }
         ensures taken { IfOk result (λ _. takes self.now (chars pattern.now) ≡ true) }
-        ensures refused { IfErr result (λ e. e ≡ BuildRefusal.Pattern → takes self.now (chars pattern.now) ≡ false) };
+        ensures refused { IfErr result (λ e. e ≡ BuildRefusal.Pattern
+            → takes self.now (chars pattern.now) ≡ false) };
 }

@@ -1,4 +1,5 @@
-//! Laws over the definitions that the calls of this crate name. Each function has an empty body, and its clause is the law.
+//! Laws over the definitions that the calls of this crate name. Each function has an empty body, and its clause is the
+//! law.
 
 ghost use Rattle.std.specs.Prelude.{◌≡◌, ◌↔◌, ◌⊎◌, ◌||◌, ◌&&◌, ◌==◌, not, ℕ, List, IsTrue};
 ghost use Rattle.std.specs.Str.{byte};
@@ -34,12 +35,14 @@ pub fn outcome_exists()
 /// An analysed pattern is spelled by a literal, and what is made of the analysis answers the search of that literal.
 pub fn matcher_answers_search()
     ensures { (pattern : List ℕ) (o : PatternOptimization) → IsAnalysis pattern o
-        → (l : Literal) × IsWellFormed l × (pattern ≡ spelling l) × IsSearch l (literal_outcome (matcher_of o)) }
+        → (l : Literal) × IsWellFormed l × (pattern ≡ spelling l)
+        × IsSearch l (literal_outcome (matcher_of o)) }
 {}
 
 /// Two analyses are equal by `==` exactly where they are of one kind, with the same texts in the same order.
 pub fn analyses_equal_by_texts()
-    ensures { (a b : PatternOptimization) → IsTrue (⟦<PatternOptimization as PartialEq>⟧.eq a b) ↔ SameAnalysis a b }
+    ensures { (a b : PatternOptimization)
+        → IsTrue (⟦<PatternOptimization as PartialEq>⟧.eq a b) ↔ SameAnalysis a b }
 {}
 
 /// Two outcomes are equal by `==` exactly where they are the same outcome.
@@ -59,7 +62,8 @@ pub fn refusals_equal_by_variant()
 
 /// White space is what the tables of ECMA-262 list: white space, with the category Zs of Unicode, and line terminators.
 pub fn white_space_as_listed()
-    ensures { (c : ℕ) → is_ecma_whitespace c ≡ (is_white_space_code_point c || is_line_terminator_code_point c) }
+    ensures { (c : ℕ) → is_ecma_whitespace c
+        ≡ (is_white_space_code_point c || is_line_terminator_code_point c) }
 {}
 
 /// What may stand after a backslash is what ECMA-262 lets stand there for itself in Unicode mode (`IdentityEscape`):
@@ -71,5 +75,6 @@ pub fn escapes_as_listed()
 /// What stands for itself are the printable characters of ASCII that are no `SyntaxCharacter` of ECMA-262, without the
 /// grave accent.
 pub fn plain_characters_as_listed()
-    ensures { (c : ℕ) → is_plain c ≡ (is_from_to 0x20 0x7E c && not (is_syntax_character c) && not (c == 0x60)) }
+    ensures { (c : ℕ) → is_plain c ≡ (is_from_to 0x20 0x7E c && not (is_syntax_character c)
+        && not (c == 0x60)) }
 {}

@@ -22,7 +22,7 @@ pub enum PatternOptimization {
     NoWhitespace,
 }
 
-/// The kind and the text of a literal pattern, and `None` for any other pattern. The only error is a refused growth.
+/// The kind and the text of a literal pattern, and `None` for any other pattern. The only error is out of memory.
 ///
 /// A literal pattern is one of these, where an item is an ASCII letter, a digit, a space, one of
 /// `- _ / : @ # % & = , ; ~ ! ' " < >`, or a `\` before one of `^ $ \ . * + ? ( ) [ ] { } | /`:
@@ -37,7 +37,8 @@ pub fn analyze_pattern(
     alloc: Global,
     pattern: &str,
 ) -> Result<Option<PatternOptimization>, AllocError>
-    ensures { IfOk result (λ o. MatchOption o (IsLiteral (chars pattern.now) → ⊥) (IsAnalysis (chars pattern.now))) }
+    ensures { IfOk result (λ o. MatchOption o (IsLiteral (chars pattern.now) → ⊥)
+        (IsAnalysis (chars pattern.now))) }
 {
     analyze(alloc, pattern.as_bytes())
 }
@@ -84,7 +85,8 @@ fn split_front(bytes: &[u8]) -> Option<(u8, &[u8])>
 
 // The character that the item at the front stands for, and what follows the item.
 fn first_item(pattern: &[u8]) -> Option<(u8, &[u8])>
-    ensures { MatchOption result (NoItem pattern.now) (λ r. BeginsWithItem pattern.now r.0 r.1.now) }
+    ensures { MatchOption result (NoItem pattern.now)
+        (λ r. BeginsWithItem pattern.now r.0 r.1.now) }
 {
     let (first, after) = split_front(pattern)?;
     if first != b'\\' {
@@ -134,7 +136,8 @@ fn analyze_run(alloc: Global, pattern: &[u8]) -> Result<Option<PatternOptimizati
 
 // The alternatives after the `^(`, in the order in which they are written.
 fn read_alternatives(alloc: Global, pattern: &[u8]) -> Result<Option<Vec<String>>, AllocError>
-    ensures { IfOk result (λ o. MatchOption o (IsNoGroup pattern.now) (λ v. IsGroup pattern.now (map string_bytes v.items))) }
+    ensures { IfOk result (λ o. MatchOption o (IsNoGroup pattern.now)
+        (λ v. IsGroup pattern.now (map string_bytes v.items))) }
 {
     let mut alternatives = Vec::new(alloc);
     let mut rest = pattern;
@@ -163,7 +166,8 @@ fn read_alternatives(alloc: Global, pattern: &[u8]) -> Result<Option<Vec<String>
 
 // The literal that the bytes of a pattern spell.
 fn analyze(alloc: Global, pattern: &[u8]) -> Result<Option<PatternOptimization>, AllocError>
-    ensures { IfOk result (λ o. MatchOption o (IsLiteral pattern.now → ⊥) (IsAnalysis pattern.now)) }
+    ensures { IfOk result (λ o. MatchOption o (IsLiteral pattern.now → ⊥)
+        (IsAnalysis pattern.now)) }
 {
     if pattern == b"^\\S*$".as_slice() {
         return Ok(Some(PatternOptimization::NoWhitespace));

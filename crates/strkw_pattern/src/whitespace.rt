@@ -25,7 +25,8 @@ fn any_whitespace(text: &str) -> bool
 
 // What follows the blocks at the front in which each byte is solid.
 fn after_solid_blocks(text: &str) -> &str
-    ensures { list_any is_ecma_whitespace (chars text.now) ≡ list_any is_ecma_whitespace (chars result.now) }
+    ensures { list_any is_ecma_whitespace (chars text.now)
+        ≡ list_any is_ecma_whitespace (chars result.now) }
 {
     let mut rest = text;
     while rest.len() >= BLOCK && are_solid(&rest.as_bytes()[..BLOCK]) {

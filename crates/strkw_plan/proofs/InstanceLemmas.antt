@@ -8,9 +8,9 @@ use Rattle.serde_json.specs.Find.{as_object}
 use Rattle.strkw_pattern.specs.declared.engine.Outcome.{Outcome}
 use Rattle.strkw_keywords.specs.Errors.{NodeReports}
 use Rattle.strkw_keywords.specs.Object.{Settings}
-use Rattle.strkw_cli.specs.declared.strings.StringKeywords.{StringKeywords}
-use Rattle.strkw_cli.specs.Compiled.{IsCompiledFrom, keywords_assertions}
-use Rattle.strkw_cli.specs.Answer.{root_site}
+use Rattle.strkw_object.specs.declared.strings.StringKeywords.{StringKeywords}
+use Rattle.strkw_object.specs.Compiled.{IsCompiledFrom, keywords_assertions}
+use Rattle.strkw_report.specs.Standings.{root_site}
 use Rattle.strkw_plan.specs.Messages.{AppendsMessages, IsSchema, InstanceMessages, message}
 use Rattle.strkw_plan.specs.Compiled.{IsCompiledFor}
 use Rattle.strkw_plan.proofs.Gathering.{concat-map}
@@ -22,6 +22,7 @@ module _ {E : Type 0} (outcome : E → List ℕ → Outcome) (s : Settings) (k :
   compiled_members None p = absurd p
   compiled_members (Some members) p = (members, refl, p)
 
+  -- a schema for which keywords were compiled is an object of which no entry is malformed
   pub is_schema : (schema : Data) → IsCompiledFor outcome s (as_object schema) (Some k) → (members : Members) × IsSchema s schema members
   is_schema schema p =
       let (members, e, from) = compiled_members (as_object schema) p in
@@ -38,7 +39,11 @@ module _ {E : Type 0} (outcome : E → List ℕ → Outcome) (s : Settings) (k :
         members,
         map (message place) said.reports,
         (e, (from.entries, from.are_entries, from.good)),
-        (said.reports, (from.entries, from.are_entries, subst (λ all. NodeReports all s.lists root_site instance said.reports) from.asserts said.reported), refl),
+        (
+          said.reports,
+          (from.entries, from.are_entries, subst (λ all. NodeReports all s.lists root_site instance said.reports) from.asserts said.reported),
+          refl,
+        ),
         said.counted ∙ sym (length-map said.reports (message place)),
         said.grown ∙ ap (λ l. old ++ l) (sym (concat-map (message place) said.reports)),
       )

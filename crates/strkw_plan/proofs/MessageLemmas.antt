@@ -17,8 +17,8 @@ use Rattle.strkw_keywords.specs.Errors.{Assertion, placed, reported, NodeReports
 use Rattle.strkw_keywords.specs.Validators.{assertions_of, assertions_in}
 use Rattle.strkw_keywords.specs.declared.validator.Validator.{Validator}
 use Rattle.strkw_keywords.proofs.Reports.{errors_of, found_reports}
-use Rattle.strkw_cli.specs.Answer.{root_site}
-use Rattle.strkw_cli.proofs.Many.{nothing_asserted, report_append, in_more}
+use Rattle.strkw_report.specs.Standings.{root_site}
+use Rattle.strkw_object.proofs.Many.{nothing_asserted, report_append, in_more}
 use Rattle.strkw_plan.specs.Messages.{AppendsMessages, message}
 use Rattle.strkw_plan.specs.Shown.{shown}
 
@@ -33,6 +33,7 @@ plain_name MaxLength = refl
 plain_name Pattern = refl
 
 module _ (place : List ℕ) where
+  -- the messages about errors at the place
   abbrev said : List Report → List ℕ
   said reports = flat_map (message place) reports
 
@@ -50,6 +51,7 @@ module _ (place : List ℕ) where
         ∙ ap (λ l. old ++ l) (sym (flat_map-append (message place) a.reports b.reports));
   }
 
+  -- where P holds of an empty list of errors, nothing is appended for it
   nothing : (P : List Report → Type 0) (old : List ℕ) → P [] → AppendsMessages P place 0 old old
   nothing P old none = record { reports = []; reported = none; counted = refl; grown = sym (append-nil old) }
 
@@ -71,6 +73,7 @@ module _ (place : List ℕ) where
       let line : length (message place r) ≡ length front + 1 = length-append front (codes "\n") in
       omega (arith, some_bytes rs, lines, line)
 
+  -- so what was appended has as many bytes as there are messages, or more
   pub no_more_than_bytes : (P : List Report → Type 0) (n : ℕ) (old new : List ℕ) → AppendsMessages P place n old new → length old + n ≤ length new
   no_more_than_bytes P n old new a =
       omega (arith, a.counted, some_bytes a.reports, ap (λ l. length l) a.grown, length-append old (said a.reports))
@@ -88,6 +91,7 @@ module _ (place : List ℕ) where
   abbrev pub Says : ℕ → List Report → List ℕ → List ℕ → Type 0
   Says n reports old new = (n ≡ length reports) × (new ≡ old ++ said reports)
 
+  -- what is said of two findings of a text in turn is said of its errors by demands
   of_two : (at : Place) (ds : List Demand) (lists : Lists) (text : List ℕ) (a b : Option Finding) (n m : ℕ) (old mid new : List ℕ)
       → Finds ds lists text (listed a ++ listed b)
       → Says n (reported (standing at root_site) text a) old mid → Says m (reported (standing at root_site) text b) mid new
@@ -96,7 +100,8 @@ module _ (place : List ℕ) where
       let s = standing at root_site in
       let P = NodeReports (placed at ds) lists root_site (Some text) in
       appended_more (λ rs. rs ≡ reported s text a) (λ rs. rs ≡ reported s text b) P n m old mid new
-      (λ early late e l. subst P (two_errors s text a b ∙ sym (ap₂ (λ x y. x ++ y) e l)) (found_reports at ds lists root_site text (listed a ++ listed b) finds))
+      (λ early late e l. subst P (two_errors s text a b ∙ sym (ap₂ (λ x y. x ++ y) e l))
+      (found_reports at ds lists root_site text (listed a ++ listed b) finds))
       (record { reports = reported s text a; reported = refl; counted = first.0; grown = first.1 })
       (record { reports = reported s text b; reported = refl; counted = second.0; grown = second.1 })
 
@@ -107,8 +112,10 @@ module _ (place : List ℕ) where
       → AppendsMessages (NodeReports (placed at ds) lists root_site (Some text)) place (n + m) old new
   said_of_two here at ds lists this text a b n m old mid new same read finds first second =
       of_two at ds lists text a b n m old mid new finds
-      (subst (λ t. Says n (reported (standing at root_site) t a) old mid) read (subst (λ p. Says n (reported (standing p root_site) this a) old mid) same first))
-      (subst (λ t. Says m (reported (standing at root_site) t b) mid new) read (subst (λ p. Says m (reported (standing p root_site) this b) mid new) same second))
+      (subst (λ t. Says n (reported (standing at root_site) t a) old mid) read
+      (subst (λ p. Says n (reported (standing p root_site) this a) old mid) same first))
+      (subst (λ t. Says m (reported (standing at root_site) t b) mid new) read
+      (subst (λ p. Says m (reported (standing p root_site) this b) mid new) same second))
 
   -- ---- all validators
 

@@ -16,9 +16,11 @@ use Rattle.json.specs.Value.{members_view}
 use Rattle.json.specs.declared.value.Value.{Value}
 use Rattle.strkw_plan.specs.Distinct.{ComesAgain}
 
+-- a name as the code borrows it
 abbrev pub Name : Type 0
 Name = Bor (List ℕ)
 
+-- how two names compare, byte by byte
 abbrev pub name_cmp : Name → Name → Ordering
 name_cmp a b = slice_cmp nat_cmp a.now b.now
 
@@ -26,6 +28,7 @@ name_cmp a b = slice_cmp nat_cmp a.now b.now
 abbrev pub names_of : {A : Type 0} → List (Name × Value A) → List (List ℕ)
 names_of ms = map (λ m. m.0.now) ms
 
+-- the keys that members stand for are their names
 pub keys_are_names : {A : Type 0} (ms : List (Name × Value A)) → keys (members_view ms) ≡ names_of ms
 keys_are_names [] = refl
 keys_are_names (m ∷ ms) = ap (λ names. m.0.now ∷ names) (keys_are_names ms)
@@ -34,15 +37,18 @@ keys_are_names (m ∷ ms) = ap (λ names. m.0.now ∷ names) (keys_are_names ms)
 abbrev pub HasSeen : BTreeSet Name → List (List ℕ) → Type 0
 HasSeen set names = ((name : Name) → contains name_cmp set name ≡ list_any (bytes_eq name.now) names) × AreDistinct names
 
+-- a text compares as equal to itself
 same_text : (a : List ℕ) → bytes_eq a a ≡ true
 same_text a = (bytes_eq-Decides a a).1 refl
 
+-- whether two texts compare as equal is the same either way round
 either_way : (a b : List ℕ) (t u : Bool) → bytes_eq a b ≡ t → bytes_eq b a ≡ u → t ≡ u
 either_way a b true true e f = refl
 either_way a b false false e f = refl
 either_way a b true false e f = absurd (true≢false (sym (same_text a) ∙ ap (λ x. bytes_eq x a) ((bytes_eq-Decides a b).0 e) ∙ f))
 either_way a b false true e f = absurd (true≢false (sym (same_text b) ∙ ap (λ x. bytes_eq x b) ((bytes_eq-Decides b a).0 f) ∙ e))
 
+-- true where the one condition holds, and else the other, is whether either holds
 one_more : (b c : Bool) → cond b true c ≡ (c || (b || false))
 one_more true true = refl
 one_more true false = refl
@@ -55,6 +61,7 @@ apart name names new distinct =
     all_pairs_push (λ a b. a ≢ b) names name distinct
     (λ k d less same. true≢false (sym (list_any_at (bytes_eq name) names k d less (ap (bytes_eq name) same ∙ same_text name)) ∙ new))
 
+-- a set that has seen names, with a new one put in, has seen all of them
 pub one_more_seen : (set more : BTreeSet Name) (name : Name) (names : List (List ℕ)) → HasSeen set names → contains name_cmp set name ≡ false
     → Updates name_cmp set more name true → HasSeen more (names ++ name.now ∷ [])
 one_more_seen set more name names seen new updated = (

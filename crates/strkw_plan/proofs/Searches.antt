@@ -9,6 +9,7 @@ module _ {A B : Type 0} (view : A → B) (test : B → Bool) where
   list_any_map [] = refl
   list_any_map (x ∷ xs) = rw (list_any_map xs)
 
+  -- where both searches agree, they do with one element more in front, whether it passes or not
   by_test : {C : Type 0} (of : B → C) (x : A) (xs : List A) (b : Bool)
       → option_map of (find test (map view xs)) ≡ option_map (λ y. of (view y)) (find (λ y. test (view y)) xs)
       → option_map of (cond b (Some (view x)) (find test (map view xs))) ≡ option_map (λ y. of (view y)) (cond b (Some x) (find (λ y. test (view y)) xs))

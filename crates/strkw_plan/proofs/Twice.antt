@@ -5,6 +5,7 @@ use Rattle.json.specs.Json.{Json, Members, object}
 use Rattle.json.specs.Strict.{AreDistinct, HasUniqueKeys, MembersHaveUniqueKeys, keys}
 use Rattle.strkw_plan.specs.Distinct.{HasTwice, MembersHaveTwice}
 
+-- of a search that succeeds: `none` where it found no name, `some` of the one found
 abbrev Found : {E : Type 0} → Type 0 → (List ℕ → Type 0) → Result (Option (Bor (List ℕ))) E → Type 0
 Found none some found = IfOk found (λ o. MatchOption o none (λ name. some name.now))
 

@@ -3,7 +3,10 @@ use Rattle.serde_json.specs.View.{members_view}
 use Rattle.strkw_plan.specs.Plan as written
 use Rattle.strkw_plan.specs.declared.plan.Plan.{Plan}
 use Rattle.strkw_plan.specs.declared.problems.Problem.{Problem}
-use Rattle.strkw_plan.specs.declared.problems.Problem.TheVariants.{NoPlan, UnknownMember, NoNames, NoEach, NoLimits, UnknownLimit, NoWholeLimit, Empty, NoObject, UnknownKeyword, UncheckedKeyword}
+use Rattle.strkw_plan.specs.declared.problems.Problem.TheVariants.{NoPlan, UnknownMember, NoNames}
+use Rattle.strkw_plan.specs.declared.problems.Problem.TheVariants.{NoEach, NoLimits, UnknownLimit}
+use Rattle.strkw_plan.specs.declared.problems.Problem.TheVariants.{NoWholeLimit, Empty, NoObject}
+use Rattle.strkw_plan.specs.declared.problems.Problem.TheVariants.{UnknownKeyword, UncheckedKeyword}
 
 abbrev pub plan_view : Plan → written.Plan
 plan_view p = record {

@@ -5,8 +5,8 @@ use Rattle.serde_json.specs.Find.{as_object}
 use Rattle.strkw_report.specs.Refusals.{refusal_of}
 use Rattle.strkw_pattern.specs.declared.engine.Outcome.{Outcome}
 use Rattle.strkw_keywords.specs.Object.{Settings}
-use Rattle.strkw_cli.specs.declared.strings.StringKeywords.{StringKeywords}
-use Rattle.strkw_cli.specs.Compiled.{IsCompiledFrom}
+use Rattle.strkw_object.specs.declared.strings.StringKeywords.{StringKeywords}
+use Rattle.strkw_object.specs.Compiled.{IsCompiledFrom}
 use Rattle.strkw_plan.specs.declared.kind.PlanKind.{PlanKind}
 use Rattle.strkw_plan.specs.declared.faults.PlanFault.{PlanFault}
 use Rattle.strkw_plan.specs.declared.faults.PlanFault.TheVariants as fault
@@ -23,7 +23,8 @@ IsCompiledFor outcome s None (Some k) = ⊥
 IsCompiledFor outcome s (Some schema) None = ⊥
 IsCompiledFor outcome s (Some schema) (Some k) = IsCompiledFrom outcome s schema k
 
--- The fault says why the schema of a name is not compiled: it is no object, it is refused, or it is out of memory.
+-- The fault says why the schema of a name is not compiled: it is no object, it is refused, or it is
+-- out of memory.
 abbrev pub Refuses : Settings → PlanKind → List ℕ → Data → PlanFault → Type 0
 Refuses s kind name schema (fault.NoPlan k) = ⊥
 Refuses s kind name schema (fault.UnknownMember k unknown nearest) = ⊥
@@ -52,8 +53,8 @@ RefusesAmong s kind schemas why = (why ≡ fault.Memory)
     ⊎ ((name : List ℕ) × (schema : Data) × IsAmong name schema schemas
     × Refuses s kind name schema why)
 
--- The fault says why a value is no plan of this kind: what is wrong with it first; or, where nothing is, that one of
--- its schemas is refused; or it is out of memory.
+-- The fault says why a value is no plan of this kind: what is wrong with it first; or, where
+-- nothing is, that one of its schemas is refused; or it is out of memory.
 abbrev pub RefusesPlan : (Draft → Settings) → PlanKind → Data → PlanFault → Type 0
 RefusesPlan settings kind d why = (why ≡ fault.Memory)
     ⊎ ((problem : Problem) × (plan_problem kind d ≡ Some problem) × Tells kind why problem)

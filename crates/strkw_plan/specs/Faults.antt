@@ -5,10 +5,12 @@ use Rattle.strkw_report.specs.declared.refusal.CompileErrorKind.TheVariants.{Reg
 use Rattle.strkw_plan.specs.declared.kind.PlanKind.{PlanKind}
 use Rattle.strkw_plan.specs.declared.faults.PlanFault.{PlanFault}
 use Rattle.strkw_plan.specs.declared.faults.PlanFault.TheVariants as fault
-use Rattle.strkw_plan.specs.Plan.{Problem, no_plan, unknown_member, no_names, no_each, no_limits, unknown_limit, no_whole_limit, empty, no_object, unknown_keyword, unchecked_keyword, schema_place}
+use Rattle.strkw_plan.specs.Plan.{Problem, no_plan, unknown_member, no_names, no_each, no_limits}
+use Rattle.strkw_plan.specs.Plan.{unknown_limit, no_whole_limit, empty, no_object, unknown_keyword}
+use Rattle.strkw_plan.specs.Plan.{unchecked_keyword, schema_place}
 
--- The fault tells of the problem of a plan of this kind, with the place of the schema object. That a keyword that it
--- proposes is near is said by `nearest_keyword`.
+-- The fault tells of the problem of a plan of this kind, with the place of the schema object. That
+-- a keyword that it proposes is near is said by `nearest_keyword`.
 abbrev pub Tells : PlanKind → PlanFault → Problem → Type 0
 Tells kind (fault.NoPlan k) p = (k ≡ kind) × (p ≡ no_plan)
 Tells kind (fault.UnknownMember k name nearest) p = (k ≡ kind)

@@ -6,7 +6,7 @@ use Rattle.serde_json.specs.Find.{as_object}
 use Rattle.strkw_report.specs.Kinds.{Report, text_of}
 use Rattle.strkw_report.specs.Refusals.{Refusal}
 use Rattle.strkw_keywords.specs.Object.{Settings, Errors, FirstRefusal}
-use Rattle.strkw_cli.specs.Answer.{root_site}
+use Rattle.strkw_report.specs.Standings.{root_site}
 use Rattle.strkw_plan.specs.Shown.{shown}
 
 -- these are the members of a schema: it is an object, and no entry of it is malformed
@@ -23,14 +23,16 @@ abbrev pub message : List ℕ → Report → List ℕ
 message place r =
     shown place ++ codes ": " ++ r.schema_path ++ codes ": " ++ shown (text_of r) ++ codes "\n"
 
--- the messages about an instance at a place: one for each of its errors by the schema object, in their order
+-- the messages about an instance at a place: one for each of its errors by the schema object, in
+-- their order
 abbrev pub InstanceMessages : Settings → Members → List ℕ → Option (List ℕ) → List (List ℕ) → Type 0
 InstanceMessages s schema place instance messages = (reports : List Report)
     × Errors s schema s.lists root_site instance reports × (messages ≡ map (message place) reports)
 
--- New is old, and behind it the messages about an instance at a place: one for each of errors that have P, in their
--- order; and so many they are.
-pub record AppendsMessages (P : List Report → Type 0) (place : List ℕ) (count : ℕ) (old new : List ℕ) : Type 0 where
+-- New is old, and behind it the messages about an instance at a place: one for each of errors that
+-- have P, in their order; and so many they are.
+pub record AppendsMessages (P : List Report → Type 0) (place : List ℕ) (count : ℕ)
+    (old new : List ℕ) : Type 0 where
   pub reports : List Report
   pub reported : P reports
   pub counted : count ≡ length reports

@@ -1,5 +1,7 @@
--- A plan, what is wrong with a value that is none, and how the errors of what a plan checks are told.
-use Rattle.std.specs.Prelude.{ℕ, List, [], ◌∷◌, Bool, true, false, ◌||◌, Option, Some, None, option_map, option_and_then, is_some, codes, if◌then◌else◌}
+-- A plan, what is wrong with a value that is none, and how the errors of what a plan checks are
+-- told.
+use Rattle.std.specs.Prelude.{ℕ, List, [], ◌∷◌, Bool, true, false, ◌||◌, Option, Some, None}
+use Rattle.std.specs.Prelude.{option_map, option_and_then, is_some, codes, if◌then◌else◌}
 use Rattle.std.specs.Option.{option_or}
 use Rattle.std.specs.List.{list_any}
 use Rattle.std.specs.Str.{bytes_eq}
@@ -7,17 +9,18 @@ use Rattle.serde_json.specs.Data.{Data, Items, no_items, item, Members, no_membe
 use Rattle.serde_json.specs.Find.{get_member, as_array, as_object, as_str}
 use Rattle.strkw_report.specs.declared.draft.Draft.{Draft}
 use Rattle.strkw_report.specs.Paths.{below}
-use Rattle.strkw_cli.specs.Request.{draft_in}
+use Rattle.strkw_report.specs.Drafts.{draft_in}
 use Rattle.strkw_plan.specs.declared.vocabulary.Standing.{Standing}
-use Rattle.strkw_plan.specs.declared.vocabulary.Standing.TheVariants.{Checked, Annotation, Unchecked}
+use Rattle.strkw_plan.specs.declared.vocabulary.Standing.TheVariants.{Checked, Annotation}
+use Rattle.strkw_plan.specs.declared.vocabulary.Standing.TheVariants.{Unchecked}
 use Rattle.strkw_plan.specs.declared.kind.PlanKind.{PlanKind}
 use Rattle.strkw_plan.specs.declared.kind.PlanKind.TheVariants.{Columns, Places}
 use Rattle.strkw_plan.specs.Limits.{limit_names, limits_in, whole_in}
 use Rattle.strkw_plan.specs.declared.limits.Limits.{Limits}
 use Rattle.strkw_plan.specs.Vocabulary.{standing_of}
 
--- a draft, the schemas by the names of what they check, whether each of several columns of one name is checked, and
--- how much a file may have
+-- a draft, the schemas by the names of what they check, whether each of several columns of one name
+-- is checked, and how much a file may have
 pub record Plan : Type 0 where
   pub draft : Draft
   pub schemas : Members
@@ -73,8 +76,8 @@ pub data Problem : Type 0 where
   -- `ignore` is no array of strings, `duplicates` is not "each"
   no_names : Problem
   no_each : Problem
-  -- `limits` is no object, has a member of this name, which is no limit of such a plan, or one that is no whole number of
-  -- 64 bits
+  -- `limits` is no object, has a member of this name, which is no limit of such a plan, or one that
+  -- is no whole number of 64 bits
   no_limits : Problem
   unknown_limit : List ℕ → Problem
   no_whole_limit : List ℕ → Problem
@@ -82,8 +85,8 @@ pub data Problem : Type 0 where
   empty : Problem
   -- the schema of this name is no object
   no_object : List ℕ → Problem
-  -- the schema of the first name has a member of the second name, which the draft does not have, or by which nothing is
-  -- checked here
+  -- the schema of the first name has a member of the second name, which the draft does not have, or
+  -- by which nothing is checked here
   unknown_keyword : List ℕ → List ℕ → Problem
   unchecked_keyword : List ℕ → List ℕ → Problem
 
@@ -174,7 +177,8 @@ plan_with d s l each = record { draft = d; schemas = s; checks_each = each; limi
 -- the plan that a value is with which nothing is wrong
 abbrev pub plan_of_parts : Option Draft → Option Members → Option Bool → Limits → Option Plan
 plan_of_parts draft schemas each limits =
-    option_and_then (λ d. option_and_then (λ s. option_map (plan_with d s limits) each) schemas) draft
+    option_and_then (λ d. option_and_then (λ s. option_map (plan_with d s limits) each) schemas)
+    draft
 
 abbrev pub plan_of_members : PlanKind → Members → Option Plan
 plan_of_members kind ms = plan_of_parts

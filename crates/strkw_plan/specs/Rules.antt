@@ -15,8 +15,9 @@ plan_options = record default_options {
   ignore_unknown_formats = false;
 }
 
--- What a schema object of a plan of this draft is compiled under, by the meanings of the builder and of the boxes that
--- the lists hold: it stands at the root, with the options and the lists of the caller.
+-- What a schema object of a plan of this draft is compiled under, by the meanings of the builder
+-- and of the boxes that the lists hold: it stands at the root, with the options and the lists of
+-- the caller.
 abbrev pub rules_settings : {B X : Type 0} {F : X → Type 0} {Y : Type 0} {M : Y → Type 0}
     {Z : Type 0} {C : Z → Type 0} → (B → List ℕ → Bool) → (B → List ℕ → List ℕ → Outcome)
     → ((x : X) × F x → List ℕ → Bool) → ((y : Y) × M y → List ℕ → Bool)

@@ -5,10 +5,11 @@ use Rattle.std.specs.Str.{chars}
 use Rattle.std.specs.Fmt.{digits}
 use Rattle.ucd_category.specs.GeneralCategory.{general_category}
 use Rattle.ucd_category.specs.declared.GeneralCategory.{GeneralCategory}
-use Rattle.ucd_category.specs.declared.GeneralCategory.TheVariants.{Control, Format, LineSeparator, ParagraphSeparator}
+use Rattle.ucd_category.specs.declared.GeneralCategory.TheVariants.{Control, Format, LineSeparator}
+use Rattle.ucd_category.specs.declared.GeneralCategory.TheVariants.{ParagraphSeparator}
 
--- The general categories Cc, Cf, Zl and Zp: controls, marks that change how text runs, the bidirectional ones among
--- them, and ends of lines and paragraphs.
+-- The general categories Cc, Cf, Zl and Zp: controls, marks that change how text runs, the
+-- bidirectional ones among them, and ends of lines and paragraphs.
 abbrev pub is_hidden_category : GeneralCategory → Bool
 is_hidden_category Control = true
 is_hidden_category Format = true

@@ -1,17 +1,21 @@
--- The keywords of the drafts: those of JSON Schema Core and JSON Schema Validation, as the meta-schema of each draft
--- names them, with `$ref` in draft 4 (JSON Reference) and `writeOnly` in draft 7 (Validation, 10.3). The meta-schema of
--- draft 6 does not name `contentMediaType` and `contentEncoding`. They stand here as keywords of that draft, since this
--- library checks texts by them there.
-use Rattle.std.specs.Prelude.{ℕ, List, [], ◌∷◌, Bool, ◌&&◌, nat_eq, nat_le, nat_lt, if◌then◌else◌, length, Option, None, option_map, find, codes}
+-- The keywords of the drafts: those of JSON Schema Core and JSON Schema Validation, as the
+-- meta-schema of each draft names them, with `$ref` in draft 4 (JSON Reference) and `writeOnly` in
+-- draft 7 (Validation, 10.3). The meta-schema of draft 6 does not name `contentMediaType` and
+-- `contentEncoding`. They stand here as keywords of that draft, since this library checks texts by
+-- them there.
+use Rattle.std.specs.Prelude.{ℕ, List, [], ◌∷◌, Bool, ◌&&◌, nat_eq, nat_le, nat_lt, if◌then◌else◌}
+use Rattle.std.specs.Prelude.{length, Option, None, option_map, find, codes}
 use Rattle.std.specs.Option.{option_or}
 use Rattle.std.specs.List.{list_any}
 use Rattle.std.specs.Str.{bytes_eq, chars}
 use Rattle.strsim.specs.Edits.{osa_table}
 use Rattle.strkw_report.specs.declared.draft.Draft.{Draft}
-use Rattle.strkw_report.specs.declared.draft.Draft.TheVariants.{Draft4, Draft6, Draft7, Draft201909, Draft202012}
+use Rattle.strkw_report.specs.declared.draft.Draft.TheVariants.{Draft4, Draft6, Draft7, Draft201909}
+use Rattle.strkw_report.specs.declared.draft.Draft.TheVariants.{Draft202012}
 use Rattle.strkw_report.specs.Drafts.{number_of}
 use Rattle.strkw_plan.specs.declared.vocabulary.Standing.{Standing}
-use Rattle.strkw_plan.specs.declared.vocabulary.Standing.TheVariants.{Checked, Annotation, Unchecked}
+use Rattle.strkw_plan.specs.declared.vocabulary.Standing.TheVariants.{Checked, Annotation}
+use Rattle.strkw_plan.specs.declared.vocabulary.Standing.TheVariants.{Unchecked}
 
 -- keywords of which the same is done, in the drafts from the first to the last
 pub record Row : Type 0 where
@@ -147,8 +151,8 @@ standing_of draft name = option_map (λ row. row.standing) (find (is_row_of draf
 
 -- ---- names that were perhaps meant
 
--- One edit leads from one name to the other: a character more or less, another one, or two neighbours changed over (the
--- distance of optimal string alignment is 1).
+-- One edit leads from one name to the other: a character more or less, another one, or two
+-- neighbours changed over (the distance of optimal string alignment is 1).
 abbrev pub is_near : List ℕ → List ℕ → Bool
 is_near a b = nat_eq ((osa_table (chars a) (chars b)).last_row (length (chars b))) 1
 

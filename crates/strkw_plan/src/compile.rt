@@ -5,7 +5,7 @@ ghost use Rattle.serde_json.specs.Find.{as_object};
 ghost use Rattle.serde_json.specs.View.{view};
 ghost use Rattle.strkw_keywords.specs.Demands.{IsInUse};
 ghost use Rattle.strkw_keywords.specs.Handed.{lists_of};
-ghost use Rattle.strkw_cli.specs.Compiled.{keywords_demands};
+ghost use Rattle.strkw_object.specs.Compiled.{keywords_demands};
 ghost use Rattle.strkw_plan.specs.Compiled.{IsCompiledFor, Refuses};
 ghost use Rattle.strkw_plan.specs.Rules.{rules_settings};
 
@@ -14,7 +14,7 @@ use crate::kind::PlanKind;
 use crate::rules::Rules;
 use serde_json::Value;
 use std::alloc::Global;
-use strkw_cli::{StringKeywords, compile_strings};
+use strkw_object::{StringKeywords, compile_strings};
 use strkw_pattern::EngineBuilder;
 use strkw_report::{CompileError, CompileErrorKind, Draft};
 

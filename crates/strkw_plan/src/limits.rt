@@ -18,7 +18,8 @@ const MOST_COLUMNS: u64 = 10_000;
 /// member, memory is the only bound, but on columns.
 #[derive(Clone, Copy, Debug, PartialEq, Eq)]
 pub struct Limits {
-    /// How many bytes a record of a CSV file may have: those of its fields, and one for each comma. The member `record`.
+    /// How many bytes a record of a CSV file may have: those of its fields, and one for each comma. The member
+    /// `record`.
     pub longest_record: Option<u64>,
     /// How many bytes a field of a CSV file may have. The member `field`.
     pub longest_field: Option<u64>,
@@ -29,7 +30,8 @@ pub struct Limits {
 }
 
 fn limit_at(limits: Option<&Map<String, Value>>, name: &str) -> Option<u64>
-    ensures { result ≡ limit_at name.now (option_map (λ ms. members_view ms.now.entries) limits.entry) }
+    ensures { result ≡ limit_at name.now
+        (option_map (λ ms. members_view ms.now.entries) limits.entry) }
 {
     member(limits?, name)?.as_u64()
 }

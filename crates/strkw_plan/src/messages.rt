@@ -15,15 +15,15 @@ ghost use Rattle.strkw_keywords.specs.Handed.{lists_of};
 ghost use Rattle.strkw_keywords.specs.Keywords.{keyword_name};
 ghost use Rattle.strkw_keywords.specs.Places.{standing};
 ghost use Rattle.strkw_keywords.specs.Validators.{assertions_of, demands_of};
-ghost use Rattle.strkw_cli.specs.Answer.{root_site};
-ghost use Rattle.strkw_cli.specs.Compiled.{keywords_assertions, keywords_demands};
+ghost use Rattle.strkw_report.specs.Standings.{root_site};
+ghost use Rattle.strkw_object.specs.Compiled.{keywords_assertions, keywords_demands};
 ghost use Rattle.strkw_plan.specs.Messages.{AppendsMessages, message};
 ghost use Rattle.strkw_plan.specs.Shown.{shown};
 
 use crate::shown::push_shown;
 use std::alloc::{AllocError, Global};
-use strkw_cli::StringKeywords;
 use strkw_keywords::{Checks, Keyword, Origin, Uses, Validate, Validator};
+use strkw_object::StringKeywords;
 use strkw_pattern::RegexEngine;
 use strkw_report::{Failure, Location, Node, TextNode};
 

@@ -7,7 +7,7 @@ ghost use Rattle.strkw_plan.specs.Borrowed.{plan_view, problem_view};
 ghost use Rattle.strkw_plan.specs.Faults.{Tells};
 ghost use Rattle.strkw_plan.specs.Plan as written;
 ghost use Rattle.strkw_plan.specs.Plan.{each_in, ignored_in, object_problem, parts_problem, plan_of, plan_of_members, plan_of_parts, plan_problem, schemas_member};
-ghost use Rattle.strkw_cli.specs.Request.{draft_in};
+ghost use Rattle.strkw_report.specs.Drafts.{draft_in};
 
 use crate::faults::PlanFault;
 use crate::kind::PlanKind;
@@ -15,9 +15,8 @@ use crate::limits::{Limits, limits_in, limits_problem};
 use crate::problems::{Problem, are_strings, member_problem, schemas_problem};
 use serde_json::{Map, Value};
 use std::alloc::Global;
-use strkw_cli::draft_in;
 use strkw_keywords::member;
-use strkw_report::Draft;
+use strkw_report::{Draft, draft_in};
 
 /// A plan, inside its JSON value.
 #[derive(Drop)]
@@ -153,8 +152,8 @@ fn plan_or_problem<'v>(kind: PlanKind, value: &'v Value) -> Result<Plan<'v>, Pro
 }
 
 /// The plan of this kind that a value is: `{"draft": .., "columns": {NAME: SCHEMA, ..}}`, or `places` in place of
-/// `columns`. The members `ignore`, an array of names of keywords that are let pass, `duplicates` and `limits` may stand
-/// beside them.
+/// `columns`. The members `ignore`, an array of names of keywords that are let pass, `duplicates` and `limits` may
+/// stand beside them.
 ///
 /// Errors: what is wrong with the value first, as `PlanFault` says, but for `Refused`; and `Memory`.
 pub fn plan_in<'v>(alloc: Global, kind: PlanKind, value: &'v Value) -> Result<Plan<'v>, PlanFault>

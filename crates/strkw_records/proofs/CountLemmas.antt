@@ -1,5 +1,6 @@
 -- What was gathered, counted against the limits.
-use Rattle.std.proofs.Common.{◌≡◌, ◌≤◌, ◌<◌, ◌+◌, ◌-◌, ℕ, zero, suc, List, [], ◌∷◌, ◌++◌, take, drop, length, refl, sym, ap, arith, ◌∙◌, append_assoc, get_or, Option, Some, None, subst, inl, inr, length-append}
+use Rattle.std.proofs.Common.{◌≡◌, ◌≤◌, ◌<◌, ◌+◌, ◌-◌, ℕ, zero, suc, List, [], ◌∷◌, ◌++◌, take, drop, length, refl, sym, ap, arith, ◌∙◌, append_assoc, get_or}
+use Rattle.std.proofs.Common.{Option, Some, None, subst, inl, inr, length-append}
 use Rattle.std.specs.Prelude.{IfSome, unwrap_or}
 use Rattle.std.proofs.lemmas.List.{append-nil, take_more, take-append-drop}
 use Rattle.csv.specs.Machine.{Runs}
@@ -19,28 +20,34 @@ use Rattle.strkw_records.specs.Limits.{AreShort, AreWithin, IsFirstPast, with_co
 use Rattle.strkw_records.specs.Outcomes.{FailsOutside, Outcome, fields_read, front_of_field, read_from, whole_fields}
 use Rattle.strkw_records.specs.Records.{quote}
 use Rattle.strkw_records.proofs.InputLemmas.{take-length, take-none}
-use Rattle.strkw_records.proofs.OutcomeLemmas.{closed, opened, outcome-comma, outcome-run, outcome-step, read-inside, read-none, read-plain, read-quoted, runs-take}
+use Rattle.strkw_records.proofs.OutcomeLemmas.{closed, opened, outcome-comma, outcome-run, outcome-step, read-inside, read-none, read-plain, read-quoted}
+use Rattle.strkw_records.proofs.OutcomeLemmas.{runs-take}
 
 -- what holds of a limit, if there is one
+-- it holds, where it holds of whatever number the limit is
 pub each-some : (o : Option ℕ) (Q : ℕ → Type 0) → ((n : ℕ) → o ≡ Some n → Q n) → IfSome o Q
 each-some None Q f = tt
 each-some (Some n) Q f = f n refl
 
+-- and back: it holds of the number that the limit is
 pub at-some : (o : Option ℕ) (P : ℕ → Type 0) (n : ℕ) → o ≡ Some n → IfSome o P → P n
 at-some None P n e h = cc e
 at-some (Some m) P n e h = let same : m ≡ n = cc in subst P same h
 
 -- one more field
+-- adds its bytes to the length, and one for the comma behind it
 pub with_commas-more : (fields : List (List ℕ)) (field : List ℕ) → with_commas (fields ++ (field ∷ [])) ≡ with_commas fields + (length field + 1)
 unfolding with_commas
 with_commas-more [] field = omega arith
 with_commas-more (f ∷ fields) field = let more = with_commas-more fields field in omega (arith, more)
 
+-- with one more that is not too long, fields that are not too long stay so
 pub short-more : (limit : ℕ) (fields : List (List ℕ)) (field : List ℕ) → AreShort limit fields → length field ≤ limit → AreShort limit (fields ++ (field ∷ []))
 short-more limit [] field h k = (k, tt)
 short-more limit (f ∷ fields) field h k = (h.0, short-more limit fields field h.1 k)
 
 -- the front of a field, with more bytes that there is room for
+-- is the last field of a record that is within the limits
 pub within-more : (g : Gathered) (y : List ℕ) → IsCounted g → HasRoom g (length y)
     → AreWithin g.limits (whole_fields g ++ ((front_of_field g ++ y) ∷ []))
 within-more g y k h = record {
@@ -57,6 +64,7 @@ within-more g y k h = record {
 }
 
 -- no field at all
+-- is within all limits
 pub within-none : (limits : Limits) → AreWithin limits []
 unfolding with_commas
 within-none limits = record {
@@ -64,6 +72,7 @@ within-none limits = record {
   each = each-some limits.field _ (λ n is. tt);
 }
 
+-- nothing more always fits, where what was gathered is within the limits
 pub room-none : (g : Gathered) → IsCounted g → HasRoom g 0
 room-none g k = record {
   whole = each-some g.limits.«record» _ (λ n is. let fits = at-some g.limits.«record» _ n is k.whole in omega (arith, fits.0, fits.1));
@@ -71,22 +80,27 @@ room-none g k = record {
 }
 
 -- two names of one limit
+-- are the same number
 pub some-same : (o : Option ℕ) (n m : ℕ) → o ≡ Some n → o ≡ Some m → n ≡ m
 some-same o n m h k = let e : Some n ≡ Some m = sym h ∙ k in cc e
 
 -- nothing is in either part
+-- where two parts joined are empty, the first is empty
 pub nil-left : (x y : List ℕ) → x ++ y ≡ [] → x ≡ []
 nil-left [] y e = refl
 nil-left (c ∷ x) y e = cc e
 
+-- and so is the second
 pub nil-right : (x y : List ℕ) → x ++ y ≡ [] → y ≡ []
 nil-right [] y e = e
 nil-right (c ∷ x) y e = cc e
 
+-- where the record holds no bytes of the field at hand, its front is what `field` holds
 pub front-items : (g : Gathered) → partial_of g.fields ≡ [] → front_of_field g ≡ g.field.items
 front-items g e = ap (λ (l : List ℕ). l ++ g.field.items) e
 
 -- no fields yet
+-- what was gathered is within the limits, where it is nothing and the room is the whole limit
 pub counted-none : (g : Gathered) (most : ℕ) → whole_fields g ≡ [] → partial_of g.fields ≡ [] → g.field.items ≡ []
     → g.room ≡ unwrap_or g.limits.«record» most → IsCounted g
 unfolding with_commas
@@ -101,6 +115,7 @@ counted-none g most w p i e = record {
 }
 
 -- more bytes of the field
+-- leave what was gathered within the limits, where there is room for them
 pub counted-run : (g g2 : Gathered) (y : List ℕ) → IsCounted g → HasRoom g (length y) → g2.limits ≡ g.limits → g2.room ≡ g.room
     → g2.fields ≡ g.fields → front_of_field g2 ≡ front_of_field g ++ y → IsCounted g2
 counted-run g g2 y k h limits room fields f = record {
@@ -121,6 +136,7 @@ counted-run g g2 y k h limits room fields f = record {
 }
 
 -- the end of the field, and a comma
+-- leave what was gathered within the same limits, where there is room for both
 pub counted-comma : (g g2 : Gathered) (n : ℕ) (y : List ℕ) → length y ≡ n → IsCounted g → HasRoom g n → HasComma g n → Ends g n g2
     → whole_fields g2 ≡ whole_fields g ++ ((front_of_field g ++ y) ∷ []) → front_of_field g2 ≡ [] → Counts g g2
 counted-comma g g2 n y size k h comma e w f = record {
@@ -149,6 +165,7 @@ counted-comma g g2 n y size k h comma e w f = record {
 }
 
 -- a field that is taken whole
+-- leaves what was gathered within the limits, where it and a comma fit
 pub counted-whole : (g g2 : Gathered) (field : List ℕ) → IsCounted g → length field < g.room → IfSome g.limits.field (λ limit. length field ≤ limit)
     → g2.limits ≡ g.limits → g2.room ≡ g.room - (length field + 1) → whole_fields g2 ≡ whole_fields g ++ (field ∷ []) → front_of_field g2 ≡ [] → IsCounted g2
 counted-whole g g2 field k fits short limits room w f = record {
@@ -167,6 +184,7 @@ counted-whole g g2 field k fits short limits room w f = record {
       (rw w (short-more r (whole_fields g) field have.0 most), omega (arith, none)));
 }
 
+-- and where it is the last field, the record is within the limits
 pub within-whole : (g : Gathered) (field : List ℕ) (all : List (List ℕ)) → IsCounted g → length field < g.room
     → IfSome g.limits.field (λ limit. length field ≤ limit) → all ≡ whole_fields g ++ (field ∷ []) → AreWithin g.limits all
 within-whole g field all k fits short w = record {
@@ -181,22 +199,27 @@ within-whole g field all k fits short w = record {
 }
 
 -- the end of the last field
+-- leaves the record within the limits, where there is room for the last bytes of the field
 pub within-end : (g : Gathered) (n : ℕ) (y : List ℕ) (all : List (List ℕ)) → length y ≡ n → IsCounted g → HasRoom g n
     → all ≡ whole_fields g ++ ((front_of_field g ++ y) ∷ []) → AreWithin g.limits all
 within-end g n y all size k h w = subst (λ (fs : List (List ℕ)). AreWithin g.limits fs) (sym w) (within-more g y k (rw size h))
 
 -- more of the same record
+-- nothing more counts as more, where what was gathered is within the limits
 pub counts-none : (g : Gathered) → IsCounted g → Counts g g
 counts-none g k = record { limits = refl; line = refl; counted = k }
 
+-- more of the same record, and then more again, is more of it
 pub counts-later : (g g1 g2 : Gathered) → Counts g g1 → Counts g1 g2 → Counts g g2
 counts-later g g1 g2 h k = record { limits = k.limits ∙ h.limits; line = k.line ∙ h.line; counted = k.counted }
 
+-- and so it is up to what ended a field
 pub counts-to : (g g1 g2 : Gathered) (end : FieldEnd) → Counts g g1 → CountsTo g1 g2 end → CountsTo g g2 end
 counts-to g g1 g2 end.Comma h k = counts-later g g1 g2 h k
 counts-to g g1 g2 end.Record h k = rw h.limits at k
 
 -- a text, at one of the bytes of its front
+-- it is the bytes before that one, the byte, and what follows it
 split-at : (x rest text : List ℕ) (n : ℕ) → text ≡ x ++ rest → n < length x → text ≡ take n x ++ (get_or x n 0 ∷ (drop (n + 1) x ++ rest))
 split-at x rest text n e h =
     e ∙ ap (λ (l : List ℕ). l ++ rest) (sym (take-append-drop (n + 1) x))
@@ -205,9 +228,11 @@ split-at x rest text n e h =
     ∙ append_assoc (take n x) (get_or x n 0 ∷ []) (drop (n + 1) x ++ rest)
 
 -- what is read behind bytes that only join the field
+-- each front of them reads as more of the field at hand, behind the whole fields
 abbrev pub Joins : State → Gathered → List ℕ → Type 0
 Joins s g x = (k : ℕ) → read_from s g (take k x) ≡ whole_fields g ++ ((front_of_field g ++ take k x) ∷ [])
 
+-- with the byte behind as many as fit, these are the first fields that may be too long
 first-at : (s : State) (g : Gathered) (text x rest : List ℕ) (n : ℕ) → text ≡ x ++ rest → n < length x → Joins s g x → IsCounted g → HasRoom g n
     → IsFirstPast (read_from s g) g.limits text (whole_fields g ++ ((front_of_field g ++ take (n + 1) x) ∷ []))
 first-at s g text x rest n e lt j k h = record {
@@ -227,6 +252,7 @@ front-size g x n lt =
     omega (arith, long, size)
 
 -- bytes of a field, of which one passes a limit
+-- the fault that tells of that limit is why reading on failed
 pub long-joins : (p : Place) (s : State) (g : Gathered) (text x rest : List ℕ) (e : ReadFault) → text ≡ x ++ rest → Joins s g x → IsCounted g
     → IsLongBy g (length x) e → FailsOutside p s g text e
 long-joins p s g text x rest (fault.LongField line number limit) is j k h =
@@ -283,13 +309,16 @@ pub by-run : (p : Place) (s : State) (g : Gathered) (text x rest : List ℕ) (n 
 by-run p s g text x rest n e size is j k (inl h) = inl h
 by-run p s g text x rest n e size is j k (inr h) = long-joins p s g text x rest e is j k (rw (← size) at h)
 
+-- a run of bytes that only join the field outside quotes is read so
 pub joins-plain : (g : Gathered) (x : List ℕ) → Runs default_config st.InField x → Joins st.InField g x
 joins-plain g x r k = read-plain (whole_fields g) (front_of_field g) (take k x) (runs-take st.InField k x r)
 
+-- and so is one in quotes
 pub joins-quoted : (g : Gathered) (x : List ℕ) → Runs default_config st.InQuoted x → Joins st.InQuoted g x
 joins-quoted g x r k = read-quoted (whole_fields g) (front_of_field g) (take k x) (runs-take st.InQuoted k x r)
 
 -- the second of a pair of quotes
+-- joins the field, as a quote
 pub joins-pair : (g : Gathered) → Joins st.AfterQuote g (quote ∷ [])
 joins-pair g zero = read-none st.AfterQuote (whole_fields g) (front_of_field g) closed
     ∙ ap (λ (f : List ℕ). whole_fields g ++ (f ∷ [])) (sym (append-nil (front_of_field g)))
@@ -300,6 +329,7 @@ joins-pair g (suc k) =
     ∙ ap (λ (l : List ℕ). whole_fields g ++ ((front_of_field g ++ (quote ∷ l)) ∷ [])) (sym (take-none k))
 
 -- a comma that passes the limit of the record
+-- is why reading on failed, where there is room for the bytes before it
 pub long-comma : (p : Place) (g : Gathered) (text x rest : List ℕ) (n : ℕ) (e : ReadFault) → length x ≡ n → text ≡ x ++ (44 ∷ rest)
     → Runs default_config st.InField x → IsCounted g → HasRoom g n → IsLongByComma g n e → FailsOutside p st.InField g text e
 long-comma p g text x rest n e count is r k h c =

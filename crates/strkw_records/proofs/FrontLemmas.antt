@@ -1,5 +1,6 @@
 -- Fields that are whole at the front of bytes.
-use Rattle.std.proofs.Common.{◌≡◌, ◌≢◌, ◌≤◌, ◌<◌, ◌+◌, ◌-◌, ℕ, zero, suc, List, [], ◌∷◌, ◌++◌, take, drop, length, Bool, true, false, refl, sym, ap, arith, ◌∙◌, append_assoc, get_or, take-add, Option, Some, inl, inr}
+use Rattle.std.proofs.Common.{◌≡◌, ◌≢◌, ◌≤◌, ◌<◌, ◌+◌, ◌-◌, ℕ, zero, suc, List, [], ◌∷◌, ◌++◌, take, drop, length, Bool, true, false, refl, sym, ap, arith, ◌∙◌}
+use Rattle.std.proofs.Common.{append_assoc, get_or, take-add, Option, Some, inl, inr}
 use Rattle.std.specs.Prelude.{◌==◌, ◌||◌, slice_get}
 use Rattle.std.proofs.lemmas.Bool.{eqb-true}
 use Rattle.std.proofs.lemmas.List.{append-nil, get_or-drop, length-drop, take_more}
@@ -17,7 +18,8 @@ use Rattle.strkw_records.specs.Records.{quote, state_behind}
 use Rattle.strkw_records.proofs.CountLemmas.{nil-left, nil-right}
 use Rattle.strkw_records.proofs.GatherLemmas.{gathers-trans, line_end-of, passes-trans}
 use Rattle.strkw_records.proofs.LineLemmas.{has_no_line_byte-append, has_no_line_byte-more}
-use Rattle.strkw_records.proofs.OutcomeLemmas.{closed, opened, outcome-comma, outcome-goes_on, outcome-line_end, outcome-run, outcome-step, state_behind-append, state_behind-goes_on, state_behind-none, state_behind-one, state_behind-run}
+use Rattle.strkw_records.proofs.OutcomeLemmas.{closed, opened, outcome-comma, outcome-goes_on, outcome-line_end, outcome-run, outcome-step, state_behind-append}
+use Rattle.strkw_records.proofs.OutcomeLemmas.{state_behind-goes_on, state_behind-none, state_behind-one, state_behind-run}
 
 -- a byte that ends a field is no quote
 ends-other : (c : ℕ) → EndsPlain c → c ≢ quote
@@ -28,10 +30,12 @@ ends-other c (inr e) is = by (c == 13) refl e
     by true k h = let line = eqb-true c 13 k in let other : c ≡ 34 = is in omega (arith, line, other)
     by false k h = let line = eqb-true c 10 h in let other : c ≡ 34 = is in omega (arith, line, other)
 
+-- a text whose first byte is no quote does not begin with a quote
 head-other : (c : ℕ) (rest : List ℕ) → c ≢ quote → slice_get (c ∷ rest) 0 ≢ Some quote
 head-other c rest other e = let same : c ≡ quote = cc in other same
 
 -- a field that no quote opens
+-- reads as the bytes that it is written with
 pub is_field-plain : (x : List ℕ) (c : ℕ) → Runs default_config st.InField x → slice_get (x ++ (c ∷ [])) 0 ≢ Some quote → EndsPlain c → IsField x x c
 is_field-plain x c r other ends = record {
   reads = λ fields rest. outcome-goes_on st.StartField fields [] (x ++ (c ∷ rest)) opened (first x rest other)
@@ -46,6 +50,7 @@ is_field-plain x c r other ends = record {
     first (d ∷ y) rest h = h
 
 -- a field in quotes
+-- reads as the bytes between its quotes, of which none is a quote
 pub is_field-quoted : (x : List ℕ) (c : ℕ) → Runs default_config st.InQuoted x → EndsPlain c → IsField (quote ∷ (x ++ (quote ∷ []))) x c
 is_field-quoted x c r ends = record {
   reads = λ fields rest.
@@ -63,6 +68,7 @@ is_field-quoted x c r ends = record {
 }
 
 -- the field at the front of bytes
+-- it stands at these places, where the bytes before the end read as those between the others
 front-of : (xs x field : List ℕ) (c from to at : ℕ) → take at xs ≡ x → take (to - from) (drop from xs) ≡ field → get_or xs at 0 ≡ c
     → from ≤ to → to ≤ at → at < length xs → HasNoLineByte x → EndsPlain c → IsField x field c → IsFront xs (record { from = from; to = to; end = at })
 front-of xs x field c from to at e1 e2 e3 a b d plain ends h = record {
@@ -74,11 +80,13 @@ front-of xs x field c from to at e1 e2 e3 a b d plain ends h = record {
   field = rw (e1, e2, e3) h;
 }
 
+-- where bytes begin with no quote, a front of them with the byte behind it begins with none
 front-head : (xs : List ℕ) (n : ℕ) → n < length xs → slice_get xs 0 ≢ Some quote → slice_get (take n xs ++ (get_or xs n 0 ∷ [])) 0 ≢ Some quote
 front-head [] n h other = absurd (omega arith)
 front-head (d ∷ xs) zero h other = other
 front-head (d ∷ xs) (suc n) h other = other
 
+-- where no quote is first, the run before a byte that ends a field is the field at the front
 pub is_front-plain : (xs : List ℕ) (n : ℕ) → slice_get xs 0 ≢ Some quote → n < length xs → Runs default_config st.InField (take n xs)
     → HasNoLineByte (take n xs) → EndsPlain (get_or xs n 0) → IsFront xs (record { from = 0; to = n; end = n })
 is_front-plain xs n other h r plain ends =
@@ -86,10 +94,12 @@ is_front-plain xs n other h r plain ends =
     front-of xs (take n xs) (take n xs) (get_or xs n 0) 0 n n refl (ap (λ (k : ℕ). take k xs) whole) refl (omega arith) (omega arith) h plain ends
     (is_field-plain (take n xs) (get_or xs n 0) r (front-head xs n h other) ends)
 
+-- where no line ends in bytes, none ends in them with a quote on each side
 no_line-quoted : (x : List ℕ) → HasNoLineByte x → HasNoLineByte (quote ∷ (x ++ (quote ∷ [])))
 unfolding HasNoLineByte
 no_line-quoted x h = (refl, has_no_line_byte-more x quote h refl)
 
+-- where a quote is first, the run between it and another before such a byte is that field
 is_front-quoted : (xs : List ℕ) (n : ℕ) → slice_get xs 0 ≡ Some quote → n ≤ length (drop 1 xs) → Runs default_config st.InQuoted (take n (drop 1 xs))
     → HasNoLineByte (take n (drop 1 xs)) → 2 ≤ length (drop n (drop 1 xs)) → get_or (drop n (drop 1 xs)) 0 0 ≡ quote
     → EndsPlain (get_or (drop n (drop 1 xs)) 1 0) → IsFront xs (record { from = 1; to = n + 1; end = n + 2 })
@@ -116,10 +126,12 @@ is_front-quoted_slices xs inside rest n e1 e2 head h r plain two closes ends =
     is_front-quoted xs n head (rw e1 at h) (rw e1 at r) (rw e1 at plain) (rw (e2, e1) at two) (rw (e2, e1) at closes) (rw (e2, e1) at ends)
 
 -- nothing yet
+-- from no bytes, no fields were gathered
 pub takes_fields-none : (g : Gathered) → TakesFields g [] g
 takes_fields-none g = record { behind = state_behind-none st.StartField; same = λ rest. refl }
 
 -- one more field, and the comma behind it
+-- are gathered behind the fields before them, from the bytes of them all
 pub takes_fields-more : (g g1 g2 : Gathered) (x y field : List ℕ) → TakesFields g x g1 → IsField y field 44
     → whole_fields g2 ≡ whole_fields g1 ++ (field ∷ []) → TakesFields g (x ++ (y ++ (44 ∷ []))) g2
 takes_fields-more g g1 g2 x y field h k w = record {
@@ -134,6 +146,7 @@ takes_fields-more g g1 g2 x y field h k w = record {
 }
 
 -- the last field of a record
+-- is gathered behind the fields before it, where a part of a line end follows its bytes
 pub takes_last-more : (g g1 g2 : Gathered) (x y field : List ℕ) (c : ℕ) → TakesFields g x g1 → IsField y field c → is_line_byte c ≡ true
     → whole_fields g2 ≡ whole_fields g1 ++ (field ∷ []) → TakesLast g (x ++ y) c g2
 takes_last-more g g1 g2 x y field c h k line w = record {
@@ -146,27 +159,34 @@ takes_last-more g g1 g2 x y field c h k line w = record {
 }
 
 -- what stands at a place, behind a front
+-- a front that goes on past the place is the front before it, and a front of what stands there
 take-front : (xs rest : List ℕ) (at n : ℕ) → rest ≡ drop at xs → at ≤ length xs → take (at + n) xs ≡ take at xs ++ take n rest
 take-front xs rest at n e h = take-add at n xs ∙ ap (λ (l : List ℕ). take at xs ++ take n l) (sym e)
 
+-- and the byte so far past the place is the byte so far into what stands there
 at-front : (xs rest : List ℕ) (at n : ℕ) → rest ≡ drop at xs → get_or xs (at + n) 0 ≡ get_or rest n 0
 at-front xs rest at n e = sym (get_or-drop at xs n 0) ∙ ap (λ (l : List ℕ). get_or l n 0) (sym e)
 
+-- what ends a field at the front of what stands there is within the whole bytes
 within-front : (xs rest : List ℕ) (at : ℕ) (front : Front) → rest ≡ drop at xs → at ≤ length xs → IsFront rest front → at + front.end < length xs
 within-front xs rest at front e h k = let long = ap length e ∙ length-drop at xs in let inside = k.inside in omega (arith, long, inside, h)
 
+-- where the front of a field is empty, it stays empty with another part before it that is empty
 pub no_front : (partial partial2 items : List ℕ) → partial ++ items ≡ [] → partial2 ≡ [] → partial2 ++ items ≡ []
 no_front partial partial2 items e e2 = rw e2 (nil-right partial items e)
 
+-- where nothing of a field was gathered before, the field that was added is the bytes that came last
 pub pushed : (g : Gathered) (all : List (List ℕ)) (field : List ℕ) → front_of_field g ≡ [] → all ≡ whole_fields g ++ ((partial_of g.fields ++ field) ∷ [])
     → all ≡ whole_fields g ++ (field ∷ [])
 pushed g all field e h = rw (nil-left (partial_of g.fields) g.field.items e) at h
 
 -- the last field
+-- no line ends in the bytes up to its end, where none ends in those before it
 pub no_line-front : (xs rest : List ℕ) (at : ℕ) (front : Front) → rest ≡ drop at xs → at ≤ length xs → HasNoLineByte (take at xs) → IsFront rest front
     → HasNoLineByte (take (at + front.end) xs)
 no_line-front xs rest at front e h plain k = rw (take-front xs rest at front.end e h) (has_no_line_byte-append (take at xs) (take front.end rest) plain k.plain)
 
+-- a field at the front that no comma ends is gathered as the last of its record
 pub takes_last-front : (g g1 g2 : Gathered) (xs rest : List ℕ) (at : ℕ) (front : Front) → rest ≡ drop at xs → at ≤ length xs → TakesFields g (take at xs) g1
     → IsFront rest front → get_or rest front.end 0 ≢ 44 → front_of_field g1 ≡ []
     → whole_fields g2 ≡ whole_fields g1 ++ ((partial_of g1.fields ++ take (front.to - front.from) (drop front.from rest)) ∷ [])
@@ -179,21 +199,25 @@ takes_last-front g g1 g2 xs rest at front e h t k other f w = (
 )
 
 -- one more field, with its comma
+-- its bytes and the comma stand right behind the bytes before them
 take-comma : (xs rest : List ℕ) (at : ℕ) (front : Front) → rest ≡ drop at xs → at ≤ length xs → IsFront rest front → get_or rest front.end 0 ≡ 44
     → take (at + (front.end + 1)) xs ≡ take at xs ++ (take front.end rest ++ (44 ∷ []))
 take-comma xs rest at front e h k comma =
     take-front xs rest at (front.end + 1) e h
     ∙ ap (λ (l : List ℕ). take at xs ++ l) (take_more rest front.end 0 k.inside ∙ ap (λ (c : ℕ). take front.end rest ++ (c ∷ [])) comma)
 
+-- it and its comma stand within the whole bytes
 pub within-comma : (xs rest : List ℕ) (at : ℕ) (front : Front) → rest ≡ drop at xs → at ≤ length xs → IsFront rest front → at + (front.end + 1) ≤ length xs
 within-comma xs rest at front e h k = let inside = within-front xs rest at front e h k in omega (arith, inside)
 
+-- no line ends in the bytes up to and with its comma, where none ends in those before it
 pub no_line-comma : (xs rest : List ℕ) (at : ℕ) (front : Front) → rest ≡ drop at xs → at ≤ length xs → HasNoLineByte (take at xs) → IsFront rest front
     → get_or rest front.end 0 ≡ 44 → HasNoLineByte (take (at + (front.end + 1)) xs)
 no_line-comma xs rest at front e h plain k comma =
     rw (take-comma xs rest at front e h k comma) (has_no_line_byte-append (take at xs) (take front.end rest ++ (44 ∷ [])) plain
     (has_no_line_byte-more (take front.end rest) 44 k.plain refl))
 
+-- a field at the front that a comma ends is gathered behind the fields before it
 pub takes_fields-front : (g g1 g2 : Gathered) (xs rest : List ℕ) (at : ℕ) (front : Front) → rest ≡ drop at xs → at ≤ length xs → TakesFields g (take at xs) g1
     → IsFront rest front → get_or rest front.end 0 ≡ 44 → front_of_field g1 ≡ []
     → whole_fields g2 ≡ whole_fields g1 ++ ((partial_of g1.fields ++ take (front.to - front.from) (drop front.from rest)) ∷ [])
@@ -204,6 +228,7 @@ takes_fields-front g g1 g2 xs rest at front e h t k comma f w =
     (pushed g1 (whole_fields g2) _ f w))
 
 -- an input that went past them, behind what was gathered
+-- gathered them all, up to the start of another field
 abbrev pub gathers-fields : {R : Type 0} (rem : R → Option (List ℕ)) (a b c : Input R) (text x rest : List ℕ) (g g1 g2 : Gathered)
     → (h : Gathers rem a b text st.StartField g st.StartField g1) → Passes rem b c h.rest x rest → front_of_field g1 ≡ [] → front_of_field g2 ≡ []
     → TakesFields g1 x g2 → Gathers rem a c text st.StartField g st.StartField g2
@@ -211,6 +236,7 @@ gathers-fields rem a b c text x rest g g1 g2 h k f f2 t =
     gathers-trans rem a b c text st.StartField st.StartField st.StartField g g1 g2 h
     (record { bytes = x; rest = rest; passes = k; behind = t.behind; same = λ more. rw (f, f2) (t.same more) })
 
+-- and one that went past the last fields and a part of a line end gathered the whole record
 pub completes-last : {R : Type 0} (rem : R → Option (List ℕ)) (a b c : Input R) (text x r1 r2 : List ℕ) (d : ℕ) (g g2 : Gathered) → Passes rem a b text x r1
     → Passes rem b c r1 (d ∷ []) r2 → front_of_field g ≡ [] → TakesLast g x d g2 → Completes rem a c text st.StartField g g2
 completes-last rem a b c text x r1 r2 d g g2 h k f t = record {

@@ -1,5 +1,6 @@
 -- What steps of a read do one after the other.
-use Rattle.std.proofs.Common.{◌≡◌, ◌≢◌, ◌≤◌, ◌+◌, ℕ, List, [], ◌∷◌, ◌++◌, length, true, false, refl, sym, ap, arith, ◌∙◌, append_assoc, Option, Some, subst, inl, inr, length-append}
+use Rattle.std.proofs.Common.{◌≡◌, ◌≢◌, ◌≤◌, ◌+◌, ℕ, List, [], ◌∷◌, ◌++◌, length, true, false, refl, sym, ap, arith, ◌∙◌, append_assoc, Option, Some, subst}
+use Rattle.std.proofs.Common.{inl, inr, length-append}
 use Rattle.std.proofs.lemmas.Result.{IfOk-weaker}
 use Rattle.std.specs.Prelude.{◌⊎◌, ◌^◌, slice_get, is_some, Result, IfOk}
 use Rattle.std.proofs.lemmas.List.{append-nil}
@@ -18,17 +19,22 @@ use Rattle.strkw_records.specs.declared.limits.Limits.{Limits}
 use Rattle.strkw_records.specs.Counts.{Counts}
 use Rattle.strkw_records.specs.Limits.{AreWithin, IsFirstPast}
 use Rattle.strkw_records.specs.Lines.{is_line_byte, place_after}
-use Rattle.strkw_records.specs.Outcomes.{Completes, EndsField, EndsPlain, Fails, FailsAtField, FailsInQuotes, FailsInRecord, FailsOutside, Gathers, Outcome, Passes, PassesLimit, fields_read, front_of_field, outcome, read_from, rest_of, whole_fields}
+use Rattle.strkw_records.specs.Outcomes.{Completes, EndsField, EndsPlain, Fails, FailsAtField, FailsInQuotes, FailsInRecord, FailsOutside, Gathers, Outcome}
+use Rattle.strkw_records.specs.Outcomes.{Passes, PassesLimit, fields_read, front_of_field, outcome, read_from, rest_of, whole_fields}
 use Rattle.strkw_records.specs.Records.{InQuotes, IsTooLong, nothing, quote, state_behind}
 use Rattle.strkw_records.proofs.CountLemmas.{joins-quoted, room-none, within-end}
 use Rattle.strkw_records.proofs.LineLemmas.{place_after-append, place_after-nil}
-use Rattle.strkw_records.proofs.OutcomeLemmas.{GoesOn, closed, opened, in_quotes-append, in_quotes-run, outcome-comma, outcome-end, outcome-goes_on, outcome-line_end, outcome-run, outcome-step, read-none, read-plain, state_behind-append, state_behind-goes_on, state_behind-none, state_behind-one, state_behind-run}
+use Rattle.strkw_records.proofs.OutcomeLemmas.{GoesOn, closed, opened, in_quotes-append, in_quotes-run, outcome-comma, outcome-end, outcome-goes_on}
+use Rattle.strkw_records.proofs.OutcomeLemmas.{outcome-line_end, outcome-run, outcome-step, read-none, read-plain, state_behind-append, state_behind-goes_on}
+use Rattle.strkw_records.proofs.OutcomeLemmas.{state_behind-none, state_behind-one, state_behind-run}
 
 -- an input that stays where it is, or reads a piece
+-- went past no byte
 pub passes-none : {R : Type 0} (rem : R → Option (List ℕ)) (a b : Input R) (text : List ℕ) → rest_of rem b ≡ Some text → b.place ≡ a.place
     → Passes rem a b text [] text
 passes-none rem a b text e p = record { left = e; splits = refl; place = p ∙ sym (place_after-nil a.place) }
 
+-- an input that went past bytes, and then past others, went past both
 pub passes-trans : {R : Type 0} (rem : R → Option (List ℕ)) (a b c : Input R) (text x rest y rest2 : List ℕ)
     → Passes rem a b text x rest → Passes rem b c rest y rest2 → Passes rem a c text (x ++ y) rest2
 passes-trans rem a b c text x rest y rest2 h k = record {
@@ -38,6 +44,7 @@ passes-trans rem a b c text x rest y rest2 h k = record {
 }
 
 -- bytes in front of those at which the line is past a `u64`
+-- a text is too long where it is so behind some of its bytes
 pub too_long-later : (p : Place) (text x rest : List ℕ) → text ≡ x ++ rest → IsTooLong (place_after p x) rest → IsTooLong p text
 too_long-later p text x rest e h = record {
   before = x ++ h.before;
@@ -51,6 +58,7 @@ too_long-later p text x rest e h = record {
     by (inl k) = let line = ap (λ (q : Place). q.line) (place_after-append p x h.before) in inl (omega (arith, line, k))
     by (inr k) = inr (simp length-append (omega arith))
 
+-- and why reading on failed behind bytes, quotes and limits aside, is why it failed before them
 pub fails-later : (p q : Place) (text x rest : List ℕ) (e : ReadFault) → text ≡ x ++ rest → q ≡ place_after p x → Fails q rest e → Fails p text e
 fails-later p q text x rest (fault.Read e) s at h = tt
 fails-later p q text x rest (fault.OpenQuote line) s at h = h
@@ -61,10 +69,12 @@ fails-later p q text x rest fault.Memory s at h = tt
 fails-later p q text x rest fault.TooLong s at h = too_long-later p text x rest s (rw at at h)
 
 -- nothing yet
+-- an input that stays where it is gathers nothing
 abbrev pub gathers-none : {R : Type 0} (rem : R → Option (List ℕ)) (a b : Input R) (text : List ℕ) (s : State) (g : Gathered)
     → rest_of rem b ≡ Some text → b.place ≡ a.place → Gathers rem a b text s g s g
 gathers-none rem a b text s g e p = record { bytes = []; rest = text; passes = passes-none rem a b text e p; behind = state_behind-none s; same = λ more. refl }
 
+-- an input that gathers, and then gathers more, gathers both
 abbrev pub gathers-trans : {R : Type 0} (rem : R → Option (List ℕ)) (a b c : Input R) (text : List ℕ) (s s1 s2 : State) (g g1 g2 : Gathered)
     → (h : Gathers rem a b text s g s1 g1) → Gathers rem b c h.rest s1 g1 s2 g2 → Gathers rem a c text s g s2 g2
 gathers-trans rem a b c text s s1 s2 g g1 g2 h k = record {
@@ -76,6 +86,7 @@ gathers-trans rem a b c text s s1 s2 g g1 g2 h k = record {
       ∙ h.same (k.bytes ++ more) ∙ k.same more;
 }
 
+-- and one that gathers, and then completes the record, completes it from where it began
 pub gathers-completes : {R : Type 0} (rem : R → Option (List ℕ)) (a b c : Input R) (text : List ℕ) (s s1 : State) (g g1 g2 : Gathered)
     → (h : Gathers rem a b text s g s1 g1) → Completes rem b c h.rest s1 g1 g2 → Completes rem a c text s g g2
 gathers-completes rem a b c text s s1 g g1 g2 h k = record {
@@ -86,6 +97,7 @@ gathers-completes rem a b c text s s1 g g1 g2 h k = record {
 }
 
 -- a run of bytes that only join a field
+-- is gathered where the bytes were added to the front of the field
 abbrev pub gathers-run : {R : Type 0} (rem : R → Option (List ℕ)) (a b : Input R) (text x rest : List ℕ) (s : State) (g g2 : Gathered)
     → Passes rem a b text x rest → Runs default_config s x → whole_fields g2 ≡ whole_fields g → front_of_field g2 ≡ front_of_field g ++ x
     → Gathers rem a b text s g s g2
@@ -98,6 +110,7 @@ gathers-run rem a b text x rest s g g2 h r w f = record {
 }
 
 -- one byte that ends no record
+-- is gathered where the fields and the field at hand are what the machine makes of it
 abbrev pub gathers-byte : {R : Type 0} (rem : R → Option (List ℕ)) (a b : Input R) (text rest : List ℕ) (c : ℕ) (s s2 : State) (g g2 : Gathered)
     → Passes rem a b text (c ∷ []) rest → is_end (step default_config s c).1 ≡ false → s2 ≡ (step default_config s c).0
     → whole_fields g2 ≡ fields_after (step default_config s c).1 (whole_fields g) (front_of_field g)
@@ -112,6 +125,7 @@ gathers-byte rem a b text rest c s s2 g g2 h e to w f = record {
 }
 
 -- a read of a piece goes past no byte
+-- so what was gathered before it is what was gathered behind it
 abbrev pub gathers-moved : {R : Type 0} (rem : R → Option (List ℕ)) (a b c : Input R) (text : List ℕ) (s s1 : State) (g g1 : Gathered)
     → (h : Gathers rem a b text s g s1 g1) → rest_of rem c ≡ Some h.rest → c.place ≡ b.place → Gathers rem a c text s g s1 g1
 gathers-moved rem a b c text s s1 g g1 h e p = record {
@@ -123,13 +137,16 @@ gathers-moved rem a b c text s s1 g g1 h e p = record {
 }
 
 -- the same in quotes
+-- an input gathers in quotes, past bytes that leave the quote open
 abbrev pub Quoted : {R : Type 0} → (R → Option (List ℕ)) → Input R → Input R → List ℕ → Gathered → Gathered → Type 0
 Quoted rem a b text g g2 = (h : Gathers rem a b text st.InQuoted g st.InQuoted g2) × InQuotes h.bytes
 
+-- an input that stays where it is gathers nothing there
 abbrev pub quoted-none : {R : Type 0} (rem : R → Option (List ℕ)) (a : Input R) (text : List ℕ) (g : Gathered) → rest_of rem a ≡ Some text
     → Quoted rem a a text g g
 quoted-none rem a text g e = (gathers-none rem a a text st.InQuoted g e refl, nothing)
 
+-- and one that gathers there, and then more past bytes that leave the quote open, gathers both
 abbrev pub quoted-more : {R : Type 0} (rem : R → Option (List ℕ)) (a b c : Input R) (text : List ℕ) (g g1 g2 : Gathered)
     → (q : Quoted rem a b text g g1) → (k : Gathers rem b c q.0.rest st.InQuoted g1 st.InQuoted g2) → InQuotes k.bytes → Quoted rem a c text g g2
 quoted-more rem a b c text g g1 g2 q k i = (
@@ -138,6 +155,7 @@ quoted-more rem a b c text g g1 g2 q k i = (
 )
 
 -- a run of bytes that are no quote
+-- is gathered behind what was gathered in quotes before
 abbrev pub quoted-run : {R : Type 0} (rem : R → Option (List ℕ)) (a b c d : Input R) (text : List ℕ) (g g1 g2 : Gathered) (q : Quoted rem a b text g g1)
     → rest_of rem c ≡ Some q.0.rest → c.place ≡ b.place → (x rest : List ℕ) → Passes rem c d q.0.rest x rest → Runs default_config st.InQuoted x
     → whole_fields g2 ≡ whole_fields g1 → front_of_field g2 ≡ front_of_field g1 ++ x → Quoted rem a d text g g2
@@ -145,11 +163,13 @@ quoted-run rem a b c d text g g1 g2 q e p x rest h r w f =
     quoted-more rem a c d text g g1 g2 (gathers-moved rem a b c text st.InQuoted st.InQuoted g g1 q.0 e p, q.1)
     (gathers-run rem c d q.0.rest x rest st.InQuoted g1 g2 h r w f) (in_quotes-run x r)
 
+-- a text that has no first byte is empty
 pub no_head : (xs : List ℕ) (o : Option ℕ) → o ≡ slice_get xs 0 → is_some o ≡ false → xs ≡ []
 no_head [] o e h = refl
 no_head (x ∷ xs) o e h = let no = rw e at h in cc no
 
 -- the end of the text, in quotes
+-- the whole text leaves the quote open, where all of it was gathered in quotes
 pub quoted-open : {R : Type 0} (rem : R → Option (List ℕ)) (a b : Input R) (text : List ℕ) (g g1 : Gathered) (q : Quoted rem a b text g g1) → q.0.rest ≡ []
     → InQuotes text
 quoted-open rem a b text g g1 q e =
@@ -157,6 +177,7 @@ quoted-open rem a b text g g1 q e =
     subst (λ (l : List ℕ). InQuotes l) (sym all) q.1
 
 -- a limit that is passed behind bytes
+-- the first byte that may pass it there is the first in the whole text
 first-later : (reads reads1 : List ℕ → List (List ℕ)) (limits : Limits) (text x rest : List ℕ) (fields : List (List ℕ)) → text ≡ x ++ rest
     → ((more : List ℕ) → reads (x ++ more) ≡ reads1 more) → IsFirstPast reads1 limits rest fields → IsFirstPast reads limits text fields
 first-later reads reads1 limits text x rest fields e same h = record {
@@ -168,6 +189,7 @@ first-later reads reads1 limits text x rest fields e same h = record {
   behind = h.behind ∙ sym (ap reads (append_assoc x h.before (h.byte ∷ [])) ∙ same (h.before ++ (h.byte ∷ [])));
 }
 
+-- and the limit that is passed there is passed in the whole text
 pub long-later : (s s1 : State) (g g1 : Gathered) (text x rest : List ℕ) (e : ReadFault) → text ≡ x ++ rest
     → ((more : List ℕ) → read_from s g (x ++ more) ≡ read_from s1 g1 more) → g1.limits ≡ g.limits → g1.line ≡ g.line
     → PassesLimit s1 g1 rest e → PassesLimit s g text e
@@ -198,6 +220,7 @@ long-later s s1 g g1 text x rest (fault.NotUtf8 line number) is same limits line
 long-later s s1 g g1 text x rest fault.Memory is same limits line2 h = h
 long-later s s1 g g1 text x rest fault.TooLong is same limits line2 h = h
 
+-- so why reading on failed behind the bytes, where no quote was open, is why it failed before them
 pub outside-later : (p q : Place) (s s1 : State) (g g1 : Gathered) (text x rest : List ℕ) (e : ReadFault) → text ≡ x ++ rest → q ≡ place_after p x
     → ((more : List ℕ) → read_from s g (x ++ more) ≡ read_from s1 g1 more) → g1.limits ≡ g.limits → g1.line ≡ g.line
     → FailsOutside q s1 g1 rest e → FailsOutside p s g text e
@@ -205,16 +228,19 @@ outside-later p q s s1 g g1 text x rest e is at same limits line (inl h) = inl (
 outside-later p q s s1 g g1 text x rest e is at same limits line (inr h) = inr (long-later s s1 g g1 text x rest e is same limits line h)
 
 -- what is read behind what was gathered
+-- is what is read with the bytes that were gathered in front of it
 pub reads-later : {R : Type 0} (rem : R → Option (List ℕ)) (a b : Input R) (text : List ℕ) (s s1 : State) (g g1 : Gathered)
     (h : Gathers rem a b text s g s1 g1) → (more : List ℕ) → read_from s g (h.bytes ++ more) ≡ read_from s1 g1 more
 reads-later rem a b text s s1 g g1 h more = ap (λ (o : Outcome). fields_read o) (h.same more)
 
+-- why reading on failed behind what was gathered is why it failed before, where no quote was open
 pub outside-gathers : {R : Type 0} (rem : R → Option (List ℕ)) (a b : Input R) (text : List ℕ) (s s1 : State) (g g1 : Gathered)
     (h : Gathers rem a b text s g s1 g1) (e : ReadFault) → Counts g g1 → FailsOutside b.place s1 g1 h.rest e → FailsOutside a.place s g text e
 outside-gathers rem a b text s s1 g g1 h e k f =
     outside-later a.place b.place s s1 g g1 text h.bytes h.rest e h.passes.splits h.passes.place (reads-later rem a b text s s1 g g1 h) k.limits k.line f
 
 -- the end of the text in quotes, within the limits
+-- what is read up to there is within them, where what was gathered is
 pub within-open : {R : Type 0} (rem : R → Option (List ℕ)) (a b : Input R) (text : List ℕ) (g g1 : Gathered) (q : Quoted rem a b text g g1) → q.0.rest ≡ []
     → Counts g g1 → AreWithin g.limits (read_from st.InQuoted g text)
 unfolding Runs
@@ -226,6 +252,7 @@ within-open rem a b text g g1 q e k =
     in rw k.limits at (within-end g1 0 [] (read_from st.InQuoted g text) refl k.counted (room-none g1 k.counted) reads)
 
 -- behind a quote at the start of a field
+-- why reading on failed in the quotes is why it failed at the field
 pub at_field-quoted : (p q : Place) (text rest : List ℕ) (line : ℕ) (g : Gathered) (e : ReadFault) → text ≡ quote ∷ rest
     → q ≡ place_after p (quote ∷ []) → line ≡ p.line → FailsInQuotes q line g rest e → FailsAtField p g text e
 at_field-quoted p q text rest line g e is at l (inl h) = inl (outside-later p q st.StartField st.InQuoted g g text (quote ∷ []) rest e is at
@@ -240,10 +267,12 @@ at_field-quoted p q text rest line g e is at l (inr h) = inr (record {
       ∙ outcome-step st.StartField (whole_fields g) (front_of_field g) quote rest refl))) h.within;
 })
 
+-- why reading on failed behind bytes, quotes and limits aside, is why it failed in the record before them
 pub in_record-fails : (p q : Place) (g : Gathered) (text x rest : List ℕ) (e : ReadFault) → text ≡ x ++ rest → q ≡ place_after p x → Fails q rest e
     → FailsInRecord p g text e
 in_record-fails p q g text x rest e is at h = inl (inl (fails-later p q text x rest e is at h))
 
+-- and so is why it failed at a field behind what was gathered of the record
 pub in_record-later : {R : Type 0} (rem : R → Option (List ℕ)) (a b : Input R) (text : List ℕ) (g g1 : Gathered)
     (h : Gathers rem a b text st.StartField g st.StartField g1) (e : ReadFault) → Counts g g1
     → FailsAtField b.place g1 h.rest e → FailsInRecord a.place g text e
@@ -260,6 +289,7 @@ in_record-later rem a b text g g1 h e k (inr f) = inr (record {
 })
 
 -- what ends a field behind what was gathered
+-- ends it too from where the gathering began
 pub ends-later : {R : Type 0} (rem : R → Option (List ℕ)) (a b c : Input R) (text : List ℕ) (s s1 : State) (g g1 g2 : Gathered)
     (h : Gathers rem a b text s g s1 g1) (e : FieldEnd)
     → EndsField rem b c h.rest s1 g1 g2 e → EndsField rem a c text s g g2 e
@@ -267,6 +297,7 @@ ends-later rem a b c text s s1 g g1 g2 h end.Comma k = (gathers-trans rem a b c 
 ends-later rem a b c text s s1 g g1 g2 h end.Record k = gathers-completes rem a b c text s s1 g g1 g2 h k
 
 -- the first byte stays
+-- where a text begins with no quote, its bytes up to another field do not, whatever follows them
 head-kept : (x rest more text : List ℕ) → text ≡ x ++ rest → slice_get text 0 ≢ Some quote → state_behind st.InField x ≡ Some st.StartField
     → slice_get (x ++ more) 0 ≢ Some quote
 unfolding state_behind
@@ -274,6 +305,7 @@ head-kept [] rest more text e other h = let no : st.InField ≡ st.StartField = 
 head-kept (c ∷ x) rest more text e other h = rw e at other
 
 -- a limit that is passed in a field that goes on outside quotes
+-- what is read of a front of the text is what is read in the midst of a field
 reads-goes_on : (s : State) (g : Gathered) (x rest text : List ℕ) → GoesOn s → text ≡ x ++ rest → slice_get text 0 ≢ Some quote
     → read_from s g x ≡ read_from st.InField g x
 unfolding Runs
@@ -282,6 +314,7 @@ reads-goes_on s g [] rest text on e other = read-none s (whole_fields g) (front_
 reads-goes_on s g (c ∷ x) rest text on e other =
     ap (λ (o : Outcome). fields_read o) (outcome-goes_on s (whole_fields g) (front_of_field g) (c ∷ x) on (rw e at other))
 
+-- so the first byte that may pass a limit in the midst of a field is the first there
 first-goes_on : (s : State) (g : Gathered) (limits : Limits) (text : List ℕ) (fields : List (List ℕ)) → GoesOn s → slice_get text 0 ≢ Some quote
     → IsFirstPast (read_from st.InField g) limits text fields → IsFirstPast (read_from s g) limits text fields
 first-goes_on s g limits text fields on other h = record {
@@ -294,6 +327,7 @@ first-goes_on s g limits text fields on other h = record {
       (h.splits ∙ sym (append_assoc h.before (h.byte ∷ []) h.rest)) other);
 }
 
+-- and a limit that is passed in the midst of a field is passed there
 pub long-goes_on : (s : State) (g : Gathered) (text : List ℕ) (e : ReadFault) → GoesOn s → slice_get text 0 ≢ Some quote
     → PassesLimit st.InField g text e → PassesLimit s g text e
 long-goes_on s g text (fault.LongRecord line limit) on other h = (
@@ -323,12 +357,14 @@ long-goes_on s g text (fault.NotUtf8 line number) on other h = h
 long-goes_on s g text fault.Memory on other h = h
 long-goes_on s g text fault.TooLong on other h = h
 
+-- and why reading on failed in the midst of a field is why it failed there
 pub outside-goes_on : (p : Place) (s : State) (g : Gathered) (text : List ℕ) (e : ReadFault) → GoesOn s → slice_get text 0 ≢ Some quote
     → FailsOutside p st.InField g text e → FailsOutside p s g text e
 outside-goes_on p s g text e on other (inl h) = inl h
 outside-goes_on p s g text e on other (inr h) = inr (long-goes_on s g text e on other h)
 
 -- a field that goes on outside quotes
+-- is ended by what ends one in the midst of it
 pub ends-goes_on : {R : Type 0} (rem : R → Option (List ℕ)) (a b : Input R) (text : List ℕ) (s : State) (g g2 : Gathered) (e : FieldEnd) → GoesOn s
     → slice_get text 0 ≢ Some quote
     → EndsField rem a b text st.InField g g2 e → EndsField rem a b text s g g2 e
@@ -391,11 +427,13 @@ ends-line_end rem a b c text x r1 r2 d g g2 h k r line w = record {
 }
 
 -- a byte that ends a field outside quotes, and is no comma
+-- is a part of a line end
 pub line_end-of : (c : ℕ) → c ≢ 44 → EndsPlain c → is_line_byte c ≡ true
 line_end-of c other (inl e) = absurd (other e)
 line_end-of c other (inr e) = e
 
 -- a field that no quote opens
+-- is ended, from its start, by what ends one in the midst of it
 pub field-plain : {R : Type 0} (rem : R → Option (List ℕ)) (a b d : Input R) (text : List ℕ) (g g2 : Gathered) (r : Result FieldEnd ReadFault)
     → rest_of rem b ≡ Some text → b.place ≡ a.place
     → slice_get text 0 ≢ Some quote → IfOk r (EndsField rem b d text st.InField g g2) → IfOk r (EndsField rem a d text st.StartField g g2)
@@ -404,6 +442,7 @@ field-plain rem a b d text g g2 r e p other h =
     (ends-goes_on rem b d text st.StartField g g2 x opened other k)) h
 
 -- a field that a quote opens and another closes
+-- is ended, from its start, by what ends the bytes behind the closing quote
 pub field-quoted : {R : Type 0} (rem : R → Option (List ℕ)) (a b d : Input R) (text : List ℕ) (g g1 g2 : Gathered) (r : Result FieldEnd ReadFault)
     → (h : Gathers rem a b text st.StartField g st.AfterQuote g1) → slice_get h.rest 0 ≢ Some quote
     → IfOk r (EndsField rem b d h.rest st.InField g1 g2) → IfOk r (EndsField rem a d text st.StartField g g2)
@@ -412,6 +451,7 @@ field-quoted rem a b d text g g1 g2 r h other k =
     (ends-goes_on rem b d h.rest st.AfterQuote g1 g2 x closed other j)) k
 
 -- the quotes of a field
+-- past an opening quote, and from there past the closing one, an input gathers from the start of the field
 abbrev pub gathers-quotes : {R : Type 0} (rem : R → Option (List ℕ)) (a b c d : Input R) (text rest : List ℕ) (g g1 : Gathered) → rest_of rem b ≡ Some text
     → b.place ≡ a.place
     → Passes rem b c text (quote ∷ []) rest → Gathers rem c d rest st.InQuoted g st.AfterQuote g1 → Gathers rem a d text st.StartField g st.AfterQuote g1

@@ -14,16 +14,20 @@ use Rattle.strkw_records.proofs.CountLemmas.{at-some, short-more, with_commas-mo
 use Rattle.strkw_records.proofs.OutcomeLemmas.{read-of_outcome}
 
 -- fields that go on as others
+-- the others are no shorter with their commas, and have no field too long only where these have none
 abbrev pub Grows : List (List ℕ) → List (List ℕ) → Type 0
 Grows before after = (with_commas before ≤ with_commas after) × ((limit : ℕ) → AreShort limit after → AreShort limit before)
 
+-- fields go on as themselves
 grows-same : (fields : List (List ℕ)) → Grows fields fields
 grows-same fields = (omega arith, λ limit h. h)
 
+-- a record without fields goes on as any fields
 grows-none : (fields : List (List ℕ)) → Grows [] fields
 unfolding with_commas
 grows-none fields = (omega arith, λ limit h. tt)
 
+-- fields that go on as others go on as what those go on as
 grows-trans : (a b c : List (List ℕ)) → Grows a b → Grows b c → Grows a c
 grows-trans a b c h k =
     let one = h.0 in
@@ -31,11 +35,13 @@ grows-trans a b c h k =
     (omega (arith, one, two), λ limit s. h.1 limit (k.1 limit s))
 
 -- the last field, and those before it
+-- are not too long, where none of all the fields is
 short-parts : (limit : ℕ) (fields : List (List ℕ)) (field : List ℕ) → AreShort limit (fields ++ (field ∷ []))
     → AreShort limit fields × (length field ≤ limit)
 short-parts limit [] field h = (tt, h.0)
 short-parts limit (f ∷ fields) field h = let more = short-parts limit fields field h.1 in ((h.0, more.0), more.1)
 
+-- fields go on as the same with one more byte of the last
 grows-copy : (fields : List (List ℕ)) (field : List ℕ) (c : ℕ) → Grows (fields ++ (field ∷ [])) (fields ++ ((field ++ (c ∷ [])) ∷ []))
 grows-copy fields field c =
     let one = with_commas-more fields field in
@@ -46,12 +52,14 @@ grows-copy fields field c =
           let last = parts.1 in short-more limit fields field parts.0 (omega (arith, last, size)),
     )
 
+-- and as the same with an empty field behind them
 grows-comma : (fields : List (List ℕ)) (field : List ℕ) → Grows (fields ++ (field ∷ [])) ((fields ++ (field ∷ [])) ++ ([] ∷ []))
 grows-comma fields field =
     let one = with_commas-more (fields ++ (field ∷ [])) [] in
     (omega (arith, one), λ limit h. (short-parts limit (fields ++ (field ∷ [])) [] h).0)
 
 -- one byte that ends no record
+-- fields go on as what such a byte makes of them
 grows-step : (a : Action) (fields : List (List ℕ)) (field : List ℕ) (c : ℕ) → is_end a ≡ false
     → Grows (fields ++ (field ∷ [])) (fields_after a fields field ++ (field_after a c field ∷ []))
 grows-step act.Copy fields field c e = grows-copy fields field c
@@ -74,11 +82,13 @@ pick b x y = if b then x else y
 abbrev pub outside : Bool → Bool → State → State × Action
 outside p q s = pick p (st.StartField, act.EndField) (pick q (s, act.EndRecord) (st.InField, act.Copy))
 
+-- what ends no record outside quotes leads to a state in one
 within-outside : (p q : Bool) (s : State) → is_end (outside p q s).1 ≡ false → Within (outside p q s).0
 within-outside true q s e = start_field
 within-outside false true s e = cc e
 within-outside false false s e = in_field
 
+-- and so does a byte in the midst of a field that ends no record
 within-plain : (c : ℕ) → is_end (step default_config st.InField c).1 ≡ false → Within (step default_config st.InField c).0
 within-plain c e = within-outside (c == 44) (ends_with default_config.terminator c) (after_end default_config.terminator c) e
 
@@ -88,10 +98,12 @@ within-quote : (b : Bool) (s : State) (a : Action) (c : ℕ) → Within s → is
 within-quote true s a c w e = w
 within-quote false s a c w e = within-plain c e
 
+-- each byte in quotes leads to a state in the record
 within-inside : (b : Bool) → Within (pick b (st.AfterQuote, act.Skip) (st.InQuoted, act.Copy)).0
 within-inside true = after_quote
 within-inside false = in_quoted
 
+-- a byte that ends no record leads from each state in one to another
 within-step : (s : State) (c : ℕ) → Within s → is_end (step default_config s c).1 ≡ false → Within (step default_config s c).0
 within-step _ c start_field e = within-quote (c == 34) st.InQuoted act.Skip c in_quoted e
 within-step _ c in_field e = within-plain c e
@@ -99,6 +111,7 @@ within-step _ c in_quoted e = within-inside (c == 34)
 within-step _ c after_quote e = within-quote (c == 34) st.InQuoted act.Copy c in_quoted e
 
 -- what was gathered, and what a text then comes to
+-- in a record, what was gathered goes on as what is read with a text
 grows-text : (s : State) (fields : List (List ℕ)) (field text : List ℕ) → Within s → Grows (fields ++ (field ∷ [])) (fields_read (outcome s fields field text))
 unfolding outcome
 grows-text _ fields field [] start_field = grows-same (fields ++ (field ∷ []))
@@ -115,7 +128,8 @@ grows-text s fields field (c ∷ text) w = by (is_end (step default_config s c).
         (fields_read (outcome (step default_config s c).0 (fields_after (step default_config s c).1 fields field)
         (field_after (step default_config s c).1 c field) text)))
         → Grows (fields ++ (field ∷ [])) (fields_read (if b then Taken (fields ++ (field ∷ [])) text
-        else outcome (step default_config s c).0 (fields_after (step default_config s c).1 fields field) (field_after (step default_config s c).1 c field) text))
+        else outcome (step default_config s c).0 (fields_after (step default_config s c).1 fields field) (field_after (step default_config s c).1 c field)
+        text))
     by true e more = grows-same (fields ++ (field ∷ []))
     by false e more = grows-trans _ _ _ (grows-step (step default_config s c).1 fields field c e) (more e)
 
@@ -124,16 +138,19 @@ data Reached : State → Type 0 where
   before : Reached st.StartRecord
   within : (s : State) → Within s → Reached s
 
+-- before a record, a byte that ends none leads to a state before one or in it
 reached-begins : (b : Bool) (c : ℕ) → is_end (pick b (st.StartRecord, act.Skip) (step default_config st.StartField c)).1 ≡ false
     → Reached (pick b (st.StartRecord, act.Skip) (step default_config st.StartField c)).0
 reached-begins true c e = before
 reached-begins false c e = within _ (within-step st.StartField c start_field e)
 
+-- and so it does from each state before a record or in it
 reached-step : (s : State) (c : ℕ) → Reached s → is_end (step default_config s c).1 ≡ false → Reached (step default_config s c).0
 reached-step _ c before e = reached-begins (ends_with default_config.terminator c) c e
 reached-step _ c (within s w) e = within _ (within-step s c w e)
 
 -- a front of a text, and the text
+-- what is read of a front of a text goes on as what is read of the text
 grows-front : (s : State) (fields : List (List ℕ)) (field x more : List ℕ) → Reached s
     → Grows (fields_read (outcome s fields field x)) (fields_read (outcome s fields field (x ++ more)))
 unfolding outcome
@@ -143,7 +160,8 @@ grows-front _ fields field [] more (within _ in_field) = grows-text st.InField f
 grows-front _ fields field [] more (within _ in_quoted) = grows-text st.InQuoted fields field more in_quoted
 grows-front _ fields field [] more (within _ after_quote) = grows-text st.AfterQuote fields field more after_quote
 grows-front s fields field (c ∷ x) more r = by (is_end (step default_config s c).1) refl
-    (λ e. grows-front (step default_config s c).0 (fields_after (step default_config s c).1 fields field) (field_after (step default_config s c).1 c field) x more
+    (λ e. grows-front (step default_config s c).0 (fields_after (step default_config s c).1 fields field) (field_after (step default_config s c).1 c field) x
+    more
     (reached-step s c r e))
   where
     by : (b : Bool) → is_end (step default_config s c).1 ≡ b
@@ -161,12 +179,14 @@ grows-front s fields field (c ∷ x) more r = by (is_end (step default_config s 
     by false e later = later e
 
 -- the next record of a text, and that of a front
+-- the fields so far of a front of a text go on as those of the text
 grows-so_far : (x more : List ℕ) → Grows (fields_so_far x) (fields_so_far (x ++ more))
 grows-so_far x more =
     subst (λ (fs : List (List ℕ)). Grows fs (fields_so_far (x ++ more))) (read-of_outcome st.StartRecord [] [] x)
     (subst (λ (fs : List (List ℕ)). Grows (fields_read (outcome st.StartRecord [] [] x)) fs) (read-of_outcome st.StartRecord [] [] (x ++ more))
     (grows-front st.StartRecord [] [] x more before))
 
+-- so do the fields with one byte more than were within the limits
 grows-past : (limits : Limits) (text : List ℕ) (fields : List (List ℕ)) → IsFirstPast fields_so_far limits text fields → Grows fields (fields_so_far text)
 grows-past limits text fields h =
     let whole : (h.before ++ (h.byte ∷ [])) ++ h.rest ≡ text = append_assoc h.before (h.byte ∷ []) h.rest ∙ sym h.splits in
@@ -181,6 +201,7 @@ within-no_long_record limits text limit h k =
     let grown = (grows-past limits text k.fields k.first).0 in
     let long = k.long in absurd (omega (arith, most, grown, long))
 
+-- and so it is with the limit of a field
 pub within-no_long_field : (limits : Limits) (text : List ℕ) (number limit : ℕ) → AreWithin limits (fields_so_far text)
     → ¬ (IsLongField fields_so_far limits text number limit)
 within-no_long_field limits text number limit h k =

@@ -16,9 +16,11 @@ use Rattle.strkw_records.proofs.LineLemmas.{place_after-append}
 abbrev pub Fresh : State → Type 0
 Fresh s = (text : List ℕ) → next_record default_config s [] [] text ≡ next_record default_config st.StartRecord [] [] text
 
+-- the start of a record is such a state
 fresh-start : Fresh st.StartRecord
 fresh-start text = refl
 
+-- an LF is a part of a line end
 line_feed-line : (c : ℕ) → (c == 10) ≡ true → ((c == 13) || (c == 10)) ≡ true
 line_feed-line c h = by (c == 13)
   where
@@ -26,6 +28,7 @@ line_feed-line c h = by (c == 13)
     by true = refl
     by false = h
 
+-- the state behind a CR that ended a record is such a state too
 fresh-after_cr : Fresh st.AfterCr
 unfolding next_record
 fresh-after_cr [] = refl
@@ -39,6 +42,7 @@ fresh-after_cr (c ∷ rest) = by (c == 10) refl
 abbrev pub IsBehind : State → Type 0
 IsBehind s = (s ≡ st.StartRecord) ⊎ (s ≡ st.AfterCr)
 
+-- from each of them, the next record is read as from the start of one
 fresh-behind : (s : State) → IsBehind s → Fresh s
 fresh-behind s (inl e) = rw e fresh-start
 fresh-behind s (inr e) = rw e fresh-after_cr
@@ -48,32 +52,39 @@ abbrev outside : Bool → Bool → Bool → State × Action
 outside comma line cr =
     if comma then (st.StartField, act.EndField) else if line then ((if cr then st.AfterCr else st.StartRecord), act.EndRecord) else (st.InField, act.Copy)
 
+-- what ends a record outside quotes leads to a state behind it
 outside-behind : (comma line cr : Bool) → is_end (outside comma line cr).1 ≡ true → IsBehind (outside comma line cr).0
 outside-behind true line cr h = cc h
 outside-behind false true true h = inr refl
 outside-behind false true false h = inl refl
 outside-behind false false cr h = cc h
 
+-- and so does a byte in the midst of a field that ends the record
 in_field-behind : (c : ℕ) → is_end (in_field default_config c).1 ≡ true → IsBehind (in_field default_config c).0
 in_field-behind c h = outside-behind (c == 44) ((c == 13) || (c == 10)) (c == 13) h
 
+-- what skips a byte or does something else leads behind the record it ends, where that does
 unless-skipped : (skips : Bool) (s : State) (q : State × Action) → is_end (if skips then (s, act.Skip) else q).1 ≡ true → (is_end q.1 ≡ true → IsBehind q.0)
     → IsBehind (if skips then (s, act.Skip) else q).0
 unless-skipped true s q h f = cc h
 unless-skipped false s q h f = f h
 
+-- and so does what copies a byte or does something else
 unless-copied : (copies : Bool) (s : State) (q : State × Action) → is_end (if copies then (s, act.Copy) else q).1 ≡ true → (is_end q.1 ≡ true → IsBehind q.0)
     → IsBehind (if copies then (s, act.Copy) else q).0
 unless-copied true s q h f = cc h
 unless-copied false s q h f = f h
 
+-- a byte that ends a record at the start of a field leads to a state behind it
 start_field-behind : (c : ℕ) → is_end (start_field default_config c).1 ≡ true → IsBehind (start_field default_config c).0
 start_field-behind c h = unless-skipped (c == 34) st.InQuoted (in_field default_config c) h (in_field-behind c)
 
+-- and so does one at the start of a record
 start_record-behind : (c : ℕ) → is_end (start_record default_config c).1 ≡ true → IsBehind (start_record default_config c).0
 start_record-behind c h = unless-skipped ((c == 13) || (c == 10)) st.StartRecord (start_field default_config c) h (start_field-behind c)
 
 -- a byte that ends a record
+-- leads from each state to one behind the record
 step-behind : (s : State) (c : ℕ) → is_end (step default_config s c).1 ≡ true → IsBehind (step default_config s c).0
 step-behind st.StartRecord c h = start_record-behind c h
 step-behind st.StartField c h = start_field-behind c h
@@ -89,6 +100,7 @@ abbrev read_state : Option Read → State
 read_state None = st.StartRecord
 read_state (Some r) = r.1
 
+-- behind a record that was read, the state is one behind the end of a record
 record-behind : (s : State) (fields : List (List ℕ)) (field text : List ℕ) (got : List (List ℕ)) (s2 : State) (rest : List ℕ)
     → next_record default_config s fields field text ≡ Some (got, s2, rest) → IsBehind s2
 unfolding next_record
@@ -115,6 +127,7 @@ record-behind s fields field (c ∷ text) got s2 rest h =
     by true e t more = let same : (step default_config s c).0 ≡ s2 = ap read_state t in rw same at (step-behind s c e)
     by false e t more = more t
 
+-- the fields of lined records are all the records of their text, from each state like the start of one
 lined-records : (place : Place) (text : List ℕ) (records : List LinedRecord) (s : State) → Fresh s → AreLinedRecords place text records
     → AreRecords default_config s text (fields_of_each records)
 unfolding AreLinedRecords Reached
@@ -125,11 +138,13 @@ lined-records place text (r ∷ more) s fresh h =
     let (s2, ys, reached, none) = lined-records behind rest more takes.state next others in
     (s2, ys, ((r.fields, takes.state, rest), fresh text ∙ takes.reads, refl, reached), none)
 
+-- the fields of lined records are all the records of their text
 pub lined-are_records : (place : Place) (text : List ℕ) (records : List LinedRecord) → AreLinedRecords place text records
     → AreRecords default_config st.StartRecord text (fields_of_each records)
 lined-are_records place text records h = lined-records place text records st.StartRecord fresh-start h
 
 -- where a record begins, behind the records before it
+-- its line is that behind the bytes of the records before it and the blank lines that follow
 begins-behind : (place : Place) (text : List ℕ) (earlier later : List LinedRecord) (r : LinedRecord) (s : State) → Fresh s
     → AreLinedRecords place text (earlier ++ (r ∷ later))
     → (taken : List ℕ) × (state : State) × (rest : List ℕ) × (text ≡ taken ++ rest) × Reached default_config s text (fields_of_each earlier) state rest
@@ -150,6 +165,7 @@ begins-behind place text (e ∷ earlier) later r s fresh h =
           ∙ ap (λ (l : List ℕ). (place_after place l).line) (sym (append_assoc takes.bytes taken (blank_front left))),
     )
 
+-- the line of a record is the one on which it begins, counted from the start of the text
 pub begins-on_line : (text : List ℕ) (earlier later : List LinedRecord) (r : LinedRecord) → AreLinedRecords first_place text (earlier ++ (r ∷ later))
     → BeginsOnLine text (fields_of_each earlier) r.line
 begins-on_line text earlier later r h =

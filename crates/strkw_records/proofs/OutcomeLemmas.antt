@@ -1,5 +1,6 @@
 -- What a text comes to, step by step.
-use Rattle.std.proofs.Common.{◌≡◌, ◌≢◌, ◌≤◌, ◌<◌, ℕ, zero, suc, List, [], ◌∷◌, ◌++◌, take, length, Bool, true, false, refl, sym, ap, arith, ◌∙◌, append_assoc, get_or, inl, inr, Option, Some, None}
+use Rattle.std.proofs.Common.{◌≡◌, ◌≢◌, ◌≤◌, ◌<◌, ℕ, zero, suc, List, [], ◌∷◌, ◌++◌, take, length, Bool, true, false, refl, sym, ap, arith, ◌∙◌, append_assoc}
+use Rattle.std.proofs.Common.{get_or, inl, inr, Option, Some, None}
 use Rattle.std.specs.Prelude.{◌==◌, ◌||◌, if◌then◌else◌, slice_get, unwrap_or}
 use Rattle.std.proofs.Common.{eq-eqb}
 use Rattle.memchr.specs.Find.{IsFirstByte, is_byte}
@@ -18,6 +19,7 @@ use Rattle.strkw_records.specs.Records.{InQuotes, byte, nothing, pair, quote, st
 use Rattle.strkw_records.proofs.LineLemmas.{neither}
 
 -- bytes that only join a field
+-- come to the same as if the field ended with them already
 pub outcome-run : (s : State) (fields : List (List ℕ)) (field x rest : List ℕ) → Runs default_config s x
     → outcome s fields field (x ++ rest) ≡ outcome s fields (field ++ x) rest
 unfolding outcome Runs
@@ -25,12 +27,14 @@ outcome-run s fields field [] rest h = rw (append-nil field) refl
 outcome-run s fields field (c ∷ x) rest h =
     rw h.0 (outcome-run s fields (field ++ (c ∷ [])) x rest h.1 ∙ ap (λ (f : List ℕ). outcome s fields f rest) (append_assoc field (c ∷ []) x))
 
+-- and leave the state as it was
 pub state_behind-run : (s : State) (x : List ℕ) → Runs default_config s x → state_behind s x ≡ Some s
 unfolding state_behind Runs
 state_behind-run s [] h = refl
 state_behind-run s (c ∷ x) h = rw h.0 (state_behind-run s x h.1)
 
 -- the state behind more bytes
+-- is the state behind the second, from the state behind the first
 pub state_behind-append : (s s2 : State) (x y : List ℕ) → state_behind s x ≡ Some s2 → state_behind s (x ++ y) ≡ state_behind s2 y
 unfolding state_behind
 state_behind-append s s2 [] y h = let same : s ≡ s2 = cc in rw same refl
@@ -43,6 +47,7 @@ state_behind-append s s2 (c ∷ x) y h = by (is_end (step default_config s c).1)
     by false e more = more e
 
 -- one byte that ends no record
+-- leads to the state, the fields and the field at hand that the machine says
 pub outcome-step : (s : State) (fields : List (List ℕ)) (field : List ℕ) (c : ℕ) (rest : List ℕ) → is_end (step default_config s c).1 ≡ false
     → outcome s fields field (c ∷ rest)
     ≡ outcome (step default_config s c).0 (fields_after (step default_config s c).1 fields field) (field_after (step default_config s c).1 c field) rest
@@ -50,11 +55,13 @@ unfolding outcome
 outcome-step s fields field c rest e = rw e refl
 
 -- blank lines before a record
+-- are no matter to what the text comes to
 pub outcome-blank : (x rest : List ℕ) → AreLineBytes x → outcome st.StartRecord [] [] (x ++ rest) ≡ outcome st.StartRecord [] [] rest
 unfolding outcome AreLineBytes
 outcome-blank [] rest h = refl
 outcome-blank (c ∷ x) rest h = rw h.0 (outcome-blank x rest h.1)
 
+-- and lead from the start of a record to the start of one
 pub state_behind-blank : (x : List ℕ) → AreLineBytes x → state_behind st.StartRecord x ≡ Some st.StartRecord
 unfolding state_behind AreLineBytes
 state_behind-blank [] h = refl
@@ -65,14 +72,17 @@ pub outcome-begins : (c : ℕ) (rest : List ℕ) → is_line_byte c ≡ false �
 unfolding outcome
 outcome-begins c rest e = rw e refl
 
+-- and so it does for the state behind the bytes
 pub state_behind-begins : (c : ℕ) (rest : List ℕ) → is_line_byte c ≡ false → state_behind st.StartRecord (c ∷ rest) ≡ state_behind st.StartField (c ∷ rest)
 unfolding state_behind
 state_behind-begins c rest e = rw e refl
 
+-- behind no bytes, the state is as it was
 pub state_behind-none : (s : State) → state_behind s [] ≡ Some s
 unfolding state_behind
 state_behind-none s = refl
 
+-- behind one byte that ends no record, it is the state to which that leads
 pub state_behind-one : (s s2 : State) (c : ℕ) → is_end (step default_config s c).1 ≡ false → s2 ≡ (step default_config s c).0
     → state_behind s (c ∷ []) ≡ Some s2
 unfolding state_behind
@@ -83,6 +93,7 @@ pub data GoesOn : State → Type 0 where
   closed : GoesOn st.AfterQuote
   opened : GoesOn st.StartField
 
+-- from there a text comes to the same as in the midst of a field
 pub outcome-goes_on : (s : State) (fields : List (List ℕ)) (field rest : List ℕ) → GoesOn s → slice_get rest 0 ≢ Some quote
     → outcome s fields field rest ≡ outcome st.InField fields field rest
 unfolding outcome
@@ -91,6 +102,7 @@ outcome-goes_on _ fields field [] opened other = refl
 outcome-goes_on _ fields field (c ∷ rest) closed other = let plain = ne_eqb c quote (λ e. other (ap (λ (n : ℕ). Some n) e)) in rw plain refl
 outcome-goes_on _ fields field (c ∷ rest) opened other = let plain = ne_eqb c quote (λ e. other (ap (λ (n : ℕ). Some n) e)) in rw plain refl
 
+-- and bytes that lead from the midst of a field to the start of another lead to it from there
 pub state_behind-goes_on : (s : State) (x rest text : List ℕ) → GoesOn s → text ≡ x ++ rest → slice_get text 0 ≢ Some quote
     → state_behind st.InField x ≡ Some st.StartField → state_behind s x ≡ Some st.StartField
 unfolding state_behind
@@ -101,39 +113,47 @@ state_behind-goes_on _ (c ∷ x) rest text opened e other h =
     let plain = ne_eqb c quote (λ is. other (rw (e, is) refl)) in rw plain h
 
 -- what ends a field outside quotes
+-- a comma ends the field, and the start of another follows
 pub outcome-comma : (fields : List (List ℕ)) (field rest : List ℕ)
     → outcome st.InField fields field (44 ∷ rest) ≡ outcome st.StartField (fields ++ (field ∷ [])) [] rest
 unfolding outcome
 outcome-comma fields field rest = refl
 
+-- a part of a line end is no comma
 line_byte-no_comma : (c : ℕ) → is_line_byte c ≡ true → (c == 44) ≡ false
 line_byte-no_comma c h = ne_eqb c 44 (λ e. let no = rw e at h in cc no)
 
+-- a part of a line end ends the field, and the record
 pub outcome-line_end : (fields : List (List ℕ)) (field : List ℕ) (c : ℕ) (rest : List ℕ) → is_line_byte c ≡ true
     → outcome st.InField fields field (c ∷ rest) ≡ Taken (fields ++ (field ∷ [])) rest
 unfolding outcome
 outcome-line_end fields field c rest h = rw (line_byte-no_comma c h, h) refl
 
+-- and so does the end of the text
 pub outcome-end : (fields : List (List ℕ)) (field : List ℕ) → outcome st.InField fields field [] ≡ Taken (fields ++ (field ∷ [])) []
 unfolding outcome
 outcome-end fields field = refl
 
 -- bytes in quotes
+-- bytes that leave a quote open, with more such bytes, leave it open
 pub in_quotes-append : (x y : List ℕ) → InQuotes x → InQuotes y → InQuotes (x ++ y)
 in_quotes-append _ y nothing k = k
 in_quotes-append _ y (byte c rest other more) k = byte c (rest ++ y) other (in_quotes-append rest y more k)
 in_quotes-append _ y (pair rest more) k = pair (rest ++ y) (in_quotes-append rest y more k)
 
+-- a byte that only joins the field there is no quote
 in_quotes-copies : (c : ℕ) → step default_config st.InQuoted c ≡ (st.InQuoted, act.Copy) → c ≢ quote
 in_quotes-copies c h e = let at : step default_config st.InQuoted quote ≡ (st.InQuoted, act.Copy) = rw e at h in
     let no : st.AfterQuote ≡ st.InQuoted = ap (λ (q : State × Action). q.0) at in cc no
 
+-- so bytes that only join the field there leave the quote open
 pub in_quotes-run : (x : List ℕ) → Runs default_config st.InQuoted x → InQuotes x
 unfolding Runs
 in_quotes-run [] h = nothing
 in_quotes-run (c ∷ x) h = byte c x (in_quotes-copies c h.0) (in_quotes-run x h.1)
 
 -- what the end of the text comes to, by what the machine says of it
+-- where it comes to a record, the machine ends one there, of these fields and with no rest
 at_end-taken : (s : State) (all got : List (List ℕ)) (rest : List ℕ) → outcome_at_end s all ≡ Taken got rest
     → (ends_at_end s ≡ true) × (all ≡ got) × ([] ≡ rest)
 at_end-taken st.StartRecord all got rest h = cc h
@@ -145,6 +165,7 @@ at_end-taken st.AfterQuote all got rest h = (refl, cc, cc)
 at_end-taken st.InEscape all got rest h = (refl, cc, cc)
 at_end-taken st.InComment all got rest h = (refl, cc, cc)
 
+-- and where it comes to no record, the machine ends none there
 at_end-none : (s : State) (all : List (List ℕ)) → outcome_at_end s all ≡ NoRecord → ends_at_end s ≡ false
 at_end-none st.StartRecord all h = refl
 at_end-none st.AfterCr all h = refl
@@ -155,6 +176,7 @@ at_end-none st.AfterQuote all h = cc h
 at_end-none st.InEscape all h = cc h
 at_end-none st.InComment all h = cc h
 
+-- what ends a record adds the field at hand to the fields
 end-fields : (a : Action) (fields : List (List ℕ)) (field : List ℕ) → is_end a ≡ true → fields_after a fields field ≡ fields ++ (field ∷ [])
 end-fields act.EndRecord fields field h = refl
 end-fields act.Skip fields field h = cc h
@@ -162,6 +184,7 @@ end-fields act.Copy fields field h = cc h
 end-fields act.EndField fields field h = cc h
 
 -- what a text comes to is what the machine reads
+-- where it comes to a record, the machine reads those fields, and leaves that rest
 pub record-of_outcome : (s : State) (fields : List (List ℕ)) (field text : List ℕ) (got : List (List ℕ)) (rest : List ℕ)
     → outcome s fields field text ≡ Taken got rest → (s2 : State) × (next_record default_config s fields field text ≡ Some (got, s2, rest))
 unfolding outcome next_record
@@ -194,6 +217,7 @@ record-of_outcome s fields field (c ∷ text) got rest h = by (is_end a) refl h 
         ((step default_config s c).0, rw (end-fields (step default_config s c).1 fields field e, all, left) refl)
     by false e t more = more t
 
+-- and where it comes to no record, the machine reads none
 pub none-of_outcome : (s : State) (fields : List (List ℕ)) (field text : List ℕ)
     → outcome s fields field text ≡ NoRecord → next_record default_config s fields field text ≡ None
 unfolding outcome next_record
@@ -217,6 +241,7 @@ none-of_outcome s fields field (c ∷ text) h =
     by false t more = more t
 
 -- an open quote, by the states behind bytes
+-- a text behind which the state is in quotes comes to an open quote
 pub outcome-open : (s : State) (fields : List (List ℕ)) (field text : List ℕ) → state_behind s text ≡ Some st.InQuoted
     → (got : List (List ℕ)) × (outcome s fields field text ≡ Open got)
 unfolding outcome state_behind
@@ -237,6 +262,7 @@ outcome-open s fields field (c ∷ text) h =
     by false t more = more t
 
 -- the fields that are read, by the machine
+-- at the end of the text, those are read that the machine reads there
 read-at_end : (s : State) (all : List (List ℕ))
     → fields_read (outcome_at_end s all) ≡ fields_of_read (if ends_at_end s then Some (all, st.StartRecord, []) else None)
 read-at_end st.StartRecord all = refl
@@ -248,6 +274,7 @@ read-at_end st.AfterQuote all = refl
 read-at_end st.InEscape all = refl
 read-at_end st.InComment all = refl
 
+-- and of a whole text, those that the machine reads of it
 pub read-of_outcome : (s : State) (fields : List (List ℕ)) (field text : List ℕ)
     → fields_read (outcome s fields field text) ≡ fields_of_read (next_record default_config s fields field text)
 unfolding outcome next_record
@@ -271,17 +298,20 @@ read-of_outcome s fields field (c ∷ text) =
     by false e more = more
 
 -- nothing more of a field
+-- at the end of the text, the fields are read and the front at hand as the last
 pub read-none : (s : State) (fields : List (List ℕ)) (field : List ℕ) → GoesOn s
     → fields_read (outcome s fields field []) ≡ fields ++ (field ∷ [])
 unfolding outcome
 read-none _ fields field closed = refl
 read-none _ fields field opened = refl
 
+-- and so they are in quotes
 pub read-inside : (fields : List (List ℕ)) (field : List ℕ) → fields_read (outcome st.InQuoted fields field []) ≡ fields ++ (field ∷ [])
 unfolding outcome
 read-inside fields field = refl
 
 -- bytes that only joined a field
+-- are read as the end of the last field
 pub read-plain : (fields : List (List ℕ)) (field x : List ℕ) → Runs default_config st.InField x
     → fields_read (outcome st.InField fields field x) ≡ fields ++ ((field ++ x) ∷ [])
 unfolding outcome
@@ -289,6 +319,7 @@ read-plain fields field x r =
     ap (λ (l : List ℕ). fields_read (outcome st.InField fields field l)) (sym (append-nil x))
     ∙ ap (λ (o : Outcome). fields_read o) (outcome-run st.InField fields field x [] r)
 
+-- and so they are in quotes
 pub read-quoted : (fields : List (List ℕ)) (field x : List ℕ) → Runs default_config st.InQuoted x
     → fields_read (outcome st.InQuoted fields field x) ≡ fields ++ ((field ++ x) ∷ [])
 unfolding outcome
@@ -296,25 +327,30 @@ read-quoted fields field x r =
     ap (λ (l : List ℕ). fields_read (outcome st.InQuoted fields field l)) (sym (append-nil x))
     ∙ ap (λ (o : Outcome). fields_read o) (outcome-run st.InQuoted fields field x [] r)
 
+-- where bytes only join a field, so does each front of them
 pub runs-take : (s : State) (k : ℕ) (x : List ℕ) → Runs default_config s x → Runs default_config s (take k x)
 unfolding Runs
 runs-take s zero x h = tt
 runs-take s (suc k) [] h = tt
 runs-take s (suc k) (c ∷ x) h = (h.0, runs-take s k x h.1)
 
+-- behind bytes that leave a quote open, the state is still in quotes
 pub state_behind-in_quotes : (x : List ℕ) → InQuotes x → state_behind st.InQuoted x ≡ Some st.InQuoted
 unfolding state_behind
 state_behind-in_quotes _ nothing = refl
 state_behind-in_quotes _ (byte c rest other more) = rw (ne_eqb c quote other) (state_behind-in_quotes rest more)
 state_behind-in_quotes _ (pair rest more) = state_behind-in_quotes rest more
 
+-- a byte that is neither a comma nor a part of a line end only joins a field outside quotes
 pub plain-copies : (c : ℕ) → c ≢ 44 → is_line_byte c ≡ false → step default_config st.InField c ≡ (st.InField, act.Copy)
 plain-copies c other line = rw (ne_eqb c 44 other, line) refl
 
+-- a byte that is no quote only joins a field in quotes
 pub quoted-copies : (c : ℕ) → c ≢ quote → step default_config st.InQuoted c ≡ (st.InQuoted, act.Copy)
 quoted-copies c other = rw (ne_eqb c quote other) refl
 
 -- a byte that ends a field outside quotes
+-- a byte that passes the test for a comma or a part of a line end is one
 pub ends_plain-of : (c : ℕ) → is_or_line_byte 44 c ≡ true → EndsPlain c
 ends_plain-of c h = by (c == 44) refl h
   where
@@ -323,6 +359,7 @@ ends_plain-of c h = by (c == 44) refl h
     by false e h = inr h
 
 -- bytes that only join a field outside quotes
+-- so many bytes do so and end no line, where none is a comma or part of a line end
 pub plain-below : (xs : List ℕ) (n : ℕ) → n ≤ length xs → ((k : ℕ) → k < n → is_or_line_byte 44 (get_or xs k 0) ≡ false)
     → Runs default_config st.InField (take n xs) × HasNoLineByte (take n xs)
 unfolding Runs HasNoLineByte
@@ -334,6 +371,7 @@ plain-below (x ∷ xs) (suc n) l h =
     ((plain-copies x (eqb-false x 44 here.0) here.1, more.0), (here.1, more.1))
 
 -- bytes that only join a field in quotes, and end no line
+-- so many bytes do so, where none is a quote or a part of a line end
 pub quoted_line-below : (xs : List ℕ) (n : ℕ) → n ≤ length xs → ((k : ℕ) → k < n → is_or_line_byte 34 (get_or xs k 0) ≡ false)
     → Runs default_config st.InQuoted (take n xs) × HasNoLineByte (take n xs)
 unfolding Runs HasNoLineByte
@@ -344,12 +382,14 @@ quoted_line-below (x ∷ xs) (suc n) l h =
     let more = quoted_line-below xs n (omega arith) (λ k a. h (suc k) (omega arith)) in
     ((quoted-copies x (eqb-false x 34 here.0), more.0), (here.1, more.1))
 
+-- so many bytes only join a field in quotes, where none of them is a quote
 copies-below : (xs : List ℕ) (n : ℕ) → ((k : ℕ) → k < n → k < length xs → get_or xs k 0 ≢ quote) → Runs default_config st.InQuoted (take n xs)
 unfolding Runs
 copies-below xs zero h = tt
 copies-below [] (suc n) h = tt
 copies-below (x ∷ xs) (suc n) h = (quoted-copies x (h 0 (omega arith) (omega arith)), copies-below xs n (λ k a b. h (suc k) (omega arith) (omega arith)))
 
+-- the bytes before the first quote, or all where there is none, only join a field in quotes
 pub quoted_run-copies : (xs : List ℕ) (found : Option ℕ) (n : ℕ) → IsFirstByte (is_byte quote) xs found → n ≡ unwrap_or found (length xs)
     → Runs default_config st.InQuoted (take n xs)
 quoted_run-copies xs None n h e = rw e (copies-below xs (length xs) (λ k a b is. h k (omega arith) b (eq-eqb _ _ is)))

@@ -1,5 +1,6 @@
 -- What a read of a record does.
-use Rattle.std.proofs.Common.{◌≡◌, ◌<◌, ℕ, List, [], ◌∷◌, ◌++◌, drop, length, true, false, refl, sym, ap, arith, ◌∙◌, append_assoc, length-append, subst, Option, Some, None, inl, inr}
+use Rattle.std.proofs.Common.{◌≡◌, ◌<◌, ℕ, List, [], ◌∷◌, ◌++◌, drop, length, true, false, refl, sym, ap, arith, ◌∙◌, append_assoc, length-append, subst}
+use Rattle.std.proofs.Common.{Option, Some, None, inl, inr}
 use Rattle.std.specs.Str.{IsAscii}
 use Rattle.std.proofs.lemmas.List.{append-nil}
 use Rattle.std.proofs.lemmas.Str.{IsAscii-drop, IsAscii-take, IsUtf8-from_ascii}
@@ -16,13 +17,15 @@ use Rattle.strkw_records.specs.declared.place.Place.{Place}
 use Rattle.strkw_records.specs.declared.reader.RecordReader.{RecordReader}
 use Rattle.strkw_records.specs.Limits.{AreWithin, IsFirstPast, fields_so_far}
 use Rattle.strkw_records.specs.Lines.{blank_front, is_line_byte, place_after}
-use Rattle.strkw_records.specs.Outcomes.{Completes, Fails, FailsInRecord, Open, OpensIn, Outcome, Passes, PassesLimit, Taken, fields_read, front_of_field, outcome, read_from, rest_of, whole_fields}
+use Rattle.strkw_records.specs.Outcomes.{Completes, Fails, FailsInRecord, Open, OpensIn, Outcome, Passes, PassesLimit, Taken, fields_read, front_of_field}
+use Rattle.strkw_records.specs.Outcomes.{outcome, read_from, rest_of, whole_fields}
 use Rattle.strkw_records.specs.Reading.{Explains, limits_of, place_of, unread_of}
 use Rattle.strkw_records.specs.Records.{IsBeforeField, IsOpenAt, TakesRecord, quote, state_behind}
 use Rattle.strkw_records.proofs.CountLemmas.{within-none}
 use Rattle.strkw_records.proofs.GatherLemmas.{fails-later, passes-trans}
 use Rattle.strkw_records.proofs.LineLemmas.{blank_front-lines, blank_front-next, place_after-append}
-use Rattle.strkw_records.proofs.OutcomeLemmas.{none-of_outcome, outcome-begins, outcome-blank, outcome-open, read-of_outcome, record-of_outcome, state_behind-append, state_behind-begins, state_behind-blank, state_behind-in_quotes}
+use Rattle.strkw_records.proofs.OutcomeLemmas.{none-of_outcome, outcome-begins, outcome-blank, outcome-open, read-of_outcome, record-of_outcome}
+use Rattle.strkw_records.proofs.OutcomeLemmas.{state_behind-append, state_behind-begins, state_behind-blank, state_behind-in_quotes}
 
 -- each part of a text of ASCII is ASCII, and so is UTF-8
 pub all_text-ascii : (start : ℕ) (ends bytes : List ℕ) → IsAscii bytes → AllText (cut_from start ends bytes)
@@ -35,6 +38,7 @@ all_text-ascii start (end ∷ ends) bytes h =
 pub unread-begun : {R : Type 0} (rem : R → Option (List ℕ)) (r : RecordReader R) → r.has_begun ≡ true → unread_of rem r ≡ rest_of rem r.input
 unread-begun rem r e = rw e refl
 
+-- why reading on failed, quotes and limits aside, explains the fault of a read
 pub explains-fails : {R : Type 0} (rem : R → Option (List ℕ)) (old new : RecordReader R) (text : List ℕ) (e : ReadFault) → Fails (place_of old) text e
     → Explains rem old new text e
 explains-fails rem old new text (fault.Read e) h = tt
@@ -46,6 +50,7 @@ explains-fails rem old new text fault.Memory h = tt
 explains-fails rem old new text fault.TooLong h = h
 
 -- nothing but blank lines
+-- a text that is nothing but blank lines has no record
 pub no_record : (text rest : List ℕ) → text ≡ blank_front text ++ rest → (0 < length rest → ⊥) → next_record default_config st.StartRecord [] [] text ≡ None
 unfolding outcome
 no_record text [] e h =
@@ -55,6 +60,7 @@ no_record text [] e h =
 no_record text (c ∷ rest) e h = absurd (h (omega arith))
 
 -- the blank lines before a record, and the record
+-- behind its blank lines, a text that goes on comes to the same at the start of a field
 begins : (text rest : List ℕ) → text ≡ blank_front text ++ rest → 0 < length rest → outcome st.StartRecord [] [] text ≡ outcome st.StartField [] [] rest
 begins text [] e h = absurd (omega arith)
 begins text (c ∷ rest) e h =
@@ -62,6 +68,7 @@ begins text (c ∷ rest) e h =
     ∙ outcome-begins c rest (blank_front-next text c rest e)
 
 -- a quote that is open
+-- a text in which one is open at the end comes to an open quote
 open-outcome : (p : Place) (text : List ℕ) (line : ℕ) → IsOpenAt p text line → (got : List (List ℕ)) × (outcome st.StartRecord [] [] text ≡ Open got)
 unfolding state_behind
 open-outcome p text line h =
@@ -74,12 +81,14 @@ open-outcome p text line h =
     by before inside (inl e) k = state_behind-append st.StartRecord st.StartRecord before (quote ∷ inside) e ∙ k
     by before inside (inr e) k = state_behind-append st.StartRecord st.StartField before (quote ∷ inside) e ∙ k
 
+-- and in a text that comes to a record none is open at the end
 not_open : (p : Place) (text : List ℕ) (got : List (List ℕ)) (rest : List ℕ) → outcome st.StartRecord [] [] text ≡ Taken got rest → (line : ℕ)
     → ¬ (IsOpenAt p text line)
 not_open p text got rest h line k =
     let (all, is) = open-outcome p text line k in
     let no : Open all ≡ Taken got rest = sym is ∙ h in cc no
 
+-- an input that went past the blank lines, and then gathered a record, took the next record of the text
 pub takes-record : {R : Type 0} (rem : R → Option (List ℕ)) (a b c : Input R) (text rest : List ℕ) (g g2 : Gathered) (line : ℕ)
     → Passes rem a b text (blank_front text) rest → 0 < length rest → whole_fields g ≡ [] → front_of_field g ≡ []
     → line ≡ b.place.line → (k : Completes rem b c rest st.StartField g g2) → TakesRecord a.place text line (whole_fields g2) c.place k.rest
@@ -97,6 +106,7 @@ takes-record rem a b c text rest g g2 line h some w f at k =
       closed = not_open a.place text (whole_fields g2) k.rest whole;
     }
 
+-- a quote that is open behind the blank lines is open in the next record of the text
 opens-in : (p q : Place) (g : Gathered) (text rest : List ℕ) (e : ReadFault) → text ≡ blank_front text ++ rest → q ≡ place_after p (blank_front text)
     → (h : OpensIn q g rest e) → IsOpenAt p text (place_after q h.before).line
 opens-in p q g text rest why e at h = record {
@@ -120,6 +130,7 @@ opens-in p q g text rest why e at h = record {
         inr (state_behind-append st.StartRecord st.StartRecord (blank_front text) (c ∷ before) blank ∙ state_behind-begins c before first ∙ k)
 
 -- what is read from the first byte of a record
+-- is the fields so far of the same bytes with the blank lines before them
 reads-begun : (g : Gathered) (text rest x more : List ℕ) → whole_fields g ≡ [] → front_of_field g ≡ [] → text ≡ blank_front text ++ rest → rest ≡ x ++ more
     → 0 < length x → read_from st.StartField g x ≡ fields_so_far (blank_front text ++ x)
 reads-begun g text rest [] more w f e is some = absurd (omega arith)
@@ -134,12 +145,14 @@ unfolding outcome
 none-begun text = sym (read-of_outcome st.StartRecord [] [] (blank_front text ++ []))
     ∙ ap (λ (o : Outcome). fields_read o) (outcome-blank (blank_front text) [] (blank_front-lines text))
 
+-- and where what is read from it is within the limits, so are the fields so far
 within-begun : (g : Gathered) (limits : Limits) (text rest x more : List ℕ) → whole_fields g ≡ [] → front_of_field g ≡ [] → text ≡ blank_front text ++ rest
     → rest ≡ x ++ more → AreWithin limits (read_from st.StartField g x) → AreWithin limits (fields_so_far (blank_front text ++ x))
 within-begun g limits text rest [] more w f e is h = subst (λ (fs : List (List ℕ)). AreWithin limits fs) (sym (none-begun text)) (within-none limits)
 within-begun g limits text rest (c ∷ x) more w f e is h =
     subst (λ (fs : List (List ℕ)). AreWithin limits fs) (reads-begun g text rest (c ∷ x) more w f e is (omega arith)) h
 
+-- so the first byte that may pass a limit there is the first in the whole text
 first-begun : (g : Gathered) (limits : Limits) (text rest : List ℕ) (fields : List (List ℕ)) → whole_fields g ≡ [] → front_of_field g ≡ []
     → text ≡ blank_front text ++ rest → IsFirstPast (read_from st.StartField g) limits rest fields → IsFirstPast fields_so_far limits text fields
 first-begun g limits text rest fields w f e h =
@@ -155,6 +168,7 @@ first-begun g limits text rest fields w f e h =
     }
 
 -- a limit that is passed in the record
+-- explains the fault of a read of the text
 pub explains-long : {R : Type 0} (rem : R → Option (List ℕ)) (old new : RecordReader R) (q : Place) (g : Gathered) (text rest : List ℕ) (e : ReadFault)
     → text ≡ blank_front text ++ rest → q ≡ place_after (place_of old) (blank_front text) → whole_fields g ≡ [] → front_of_field g ≡ []
     → g.limits ≡ limits_of old → g.line ≡ q.line → PassesLimit st.StartField g rest e → Explains rem old new text e
@@ -185,6 +199,7 @@ explains-long rem old new q g text rest (fault.NotUtf8 line number) s at w f lim
 explains-long rem old new q g text rest fault.Memory s at w f limits line2 h = absurd h
 explains-long rem old new q g text rest fault.TooLong s at w f limits line2 h = absurd h
 
+-- and so does whatever else is why reading on failed at the start of the record
 pub explains-in_record : {R : Type 0} (rem : R → Option (List ℕ)) (old new : RecordReader R) (q : Place) (g : Gathered) (text rest : List ℕ) (e : ReadFault)
     → text ≡ blank_front text ++ rest → q ≡ place_after (place_of old) (blank_front text) → whole_fields g ≡ [] → front_of_field g ≡ []
     → g.limits ≡ limits_of old → g.line ≡ q.line → FailsInRecord q g rest e → Explains rem old new text e
@@ -201,5 +216,6 @@ pub takes-same : (p p2 : Place) (text : List ℕ) (line : ℕ) (f f2 : List (Lis
     → TakesRecord p text line f q rest → TakesRecord p2 text line f2 q2 rest
 takes-same p p2 text line f f2 q q2 rest e1 e2 e3 h = rw (← e1, ← e2, ← e3) h
 
+-- an input that is the same stands at the same place
 pub place-of : {R : Type 0} {a b : Input R} → a ≡ b → a.place ≡ b.place
 place-of {R} e = ap (λ (i : Input R). i.place) e

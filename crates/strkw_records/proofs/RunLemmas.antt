@@ -1,5 +1,6 @@
 -- Runs of bytes at the front of a text, by blocks.
-use Rattle.std.proofs.Common.{◌≡◌, ◌≤◌, ◌<◌, ◌+◌, ◌^◌, ◌%◌, ℕ, zero, suc, List, [], ◌∷◌, Bool, true, false, not, cond, eqb, ◌||◌, map, replicate, take, length, refl, ap, arith, ◌∙◌, get_or, bit_or, Option, Some, None}
+use Rattle.std.proofs.Common.{◌≡◌, ◌≤◌, ◌<◌, ◌+◌, ◌^◌, ◌%◌, ℕ, zero, suc, List, [], ◌∷◌, Bool, true, false, not, cond, eqb, ◌||◌, map, replicate, take, length}
+use Rattle.std.proofs.Common.{refl, ap, arith, ◌∙◌, get_or, bit_or, Option, Some, None}
 use Rattle.std.specs.Prelude.{◌==◌, unwrap_or}
 use Rattle.std.specs.List.{prefix_len}
 use Rattle.std.specs.Simd.Lanes.{mask_l, zip2}
@@ -24,6 +25,7 @@ lanes_of byte block =
 abbrev lane_of : ℕ → ℕ → ℕ
 lane_of byte b = bit_or (marked (eqb b byte)) (bit_or (marked (eqb b 13)) (marked (eqb b 10)))
 
+-- the top bit of three lanes joined is set exactly where one of their tests holds
 either_marked : (p q r : Bool) → top 7 (bit_or (marked p) (bit_or (marked q) (marked r))) ≡ (p || (q || r))
 either_marked true true true = refl
 either_marked true true false = refl
@@ -34,11 +36,13 @@ either_marked false true false = refl
 either_marked false false true = refl
 either_marked false false false = refl
 
+-- so the top bits are set exactly for the bytes that are `byte` or a part of a line end
 tops_are_ends : (byte : ℕ) (block : List ℕ) → map (λ b. top 7 (lane_of byte b)) block ≡ map (is_or_line_byte byte) block
 tops_are_ends byte [] = refl
 tops_are_ends byte (b ∷ block) = rw (either_marked (eqb b byte) (eqb b 13) (eqb b 10), tops_are_ends byte block) refl
 
 -- the run of a block
+-- what the lanes of 16 bytes count is how many of them stand before the first of the three
 pub run_of_lanes : (byte : ℕ) (block : List ℕ) (r : ℕ) → length block ≡ 16
     → r ≡ cond (eqb (mask_l (map (top 7) (lanes_of byte block)) % 2 ^ 64) 0) 16 (count_trailing_zeros 64 (mask_l (map (top 7) (lanes_of byte block)) % 2 ^ 64))
     → r ≡ prefix_len (λ c. not (is_or_line_byte byte c)) block
@@ -55,14 +59,17 @@ run_of_lanes byte block r size found =
     ap (λ l. mask_l l % 2 ^ 64) tops ∙ mask_l-mod (map (is_or_line_byte byte) block) 64 (omega (arith, length-map block (is_or_line_byte byte), size)) in
     found ∙ ap (λ m. cond (eqb m 0) 16 (count_trailing_zeros 64 m)) mask ∙ first_set_mask_l (is_or_line_byte byte) block 16 size (omega arith)
 
+-- a truth value that is not true is false
 not-true : (b : Bool) → ¬ (b ≡ true) → b ≡ false
 not-true true h = absurd (h refl)
 not-true false h = refl
 
+-- of three truth values it is no matter which two are joined first
 regroup : (p q r : Bool) → (p || (q || r)) ≡ ((p || q) || r)
 regroup true q r = refl
 regroup false q r = refl
 
+-- the test for `byte` or a part of a line end is that for one of three bytes
 is_or_line-three : (byte c : ℕ) → is_or_line_byte byte c ≡ is_byte3 byte 13 10 c
 is_or_line-three byte c = regroup (c == byte) (c == 13) (c == 10)
 
@@ -72,16 +79,19 @@ pub found-before : (byte : ℕ) (xs : List ℕ) (found : Option ℕ) (n : ℕ) �
 found-before byte xs None n h e k a = is_or_line-three byte _ ∙ not-true _ (h k (omega arith) (omega (arith, e, a)))
 found-before byte xs (Some at) n h e k a = is_or_line-three byte _ ∙ not-true _ (h.0.before k (omega arith) (omega (arith, e, a)))
 
+-- and where the search stops before the end, it stops at one of them
 pub found-stops : (byte : ℕ) (xs : List ℕ) (found : Option ℕ) (n : ℕ) → IsFirstByte (is_byte3 byte 13 10) xs found → n ≡ unwrap_or found (length xs)
     → n < length xs → is_or_line_byte byte (get_or xs n 0) ≡ true
 found-stops byte xs None n h e a = absurd (omega (arith, e, a))
 found-stops byte xs (Some at) n h e a = is_or_line-three byte _ ∙ rw e h.1
 
 -- in the block at the front of bytes
+-- before the end of its run, none of the three stands
 pub block-before : (byte : ℕ) (xs : List ℕ) (n : ℕ) → 16 ≤ length xs → n ≡ prefix_len (λ c. not (is_or_line_byte byte c)) (take 16 xs)
     → (k : ℕ) → k < n → is_or_line_byte byte (get_or xs k 0) ≡ false
 block-before byte xs n long e k a = run_in_chunk_fails (is_or_line_byte byte) xs 0 16 n 0 long e k (omega arith) (omega (arith, a))
 
+-- and where its run ends before it does, one of them stands there
 pub block-stops : (byte : ℕ) (xs : List ℕ) (n : ℕ) → 16 ≤ length xs → n ≡ prefix_len (λ c. not (is_or_line_byte byte c)) (take 16 xs)
     → n < 16 → is_or_line_byte byte (get_or xs n 0) ≡ true
 block-stops byte xs n long e a =
@@ -89,12 +99,14 @@ block-stops byte xs n long e a =
     ap (λ (k : ℕ). is_or_line_byte byte (get_or xs k 0)) same ∙ run_in_chunk_stops (is_or_line_byte byte) xs 0 16 n 0 long e a
 
 -- before the first part of a line end there is none
+-- so many bytes have no part of a line end, where each of them is none
 line_free-below : (xs : List ℕ) (n : ℕ) → n ≤ length xs → ((k : ℕ) → k < n → is_line_byte (get_or xs k 0) ≡ false) → HasNoLineByte (take n xs)
 unfolding HasNoLineByte
 line_free-below xs zero l h = tt
 line_free-below [] (suc n) l h = tt
 line_free-below (x ∷ xs) (suc n) l h = (h 0 (omega arith), line_free-below xs n (omega arith) (λ k a. h (suc k) (omega arith)))
 
+-- so the bytes before the first CR or LF have none, or all where there is neither
 pub found-line_free : (xs : List ℕ) (found : Option ℕ) (n : ℕ) → IsFirstByte (is_byte2 13 10) xs found → n ≡ unwrap_or found (length xs)
     → HasNoLineByte (take n xs)
 found-line_free xs None n h e = line_free-below xs n (omega (arith, e)) (λ k a. not-true _ (h k (omega arith) (omega (arith, e, a))))

@@ -1,5 +1,6 @@
 -- How long a record is, and which limit it passes first.
-use Rattle.std.specs.Prelude.{◌≡◌, ◌≤◌, ◌<◌, ◌+◌, ◌-◌, ℕ, List, [], ◌∷◌, ◌++◌, length, Option, Some, None, IfSome}
+use Rattle.std.specs.Prelude.{◌≡◌, ◌≤◌, ◌<◌, ◌+◌, ◌-◌, ℕ, List, [], ◌∷◌, ◌++◌, length, Option, Some}
+use Rattle.std.specs.Prelude.{None, IfSome}
 use Rattle.std.specs.List.{AllByRecursion}
 use Rattle.csv.specs.Machine.{Read, next_record}
 use Rattle.csv.specs.Reading.{default_config}
@@ -33,12 +34,13 @@ abbrev pub fields_of_read : Option Read → List (List ℕ)
 fields_of_read None = []
 fields_of_read (Some read) = read.0
 
--- the fields of the next record of a text that may be cut off in it: so the last may be a front of one
+-- the fields of the next record of a text that may be cut off in it: so the last may be a front of
+-- one
 abbrev pub fields_so_far : List ℕ → List (List ℕ)
 fields_so_far text = fields_of_read (next_record default_config st.StartRecord [] [] text)
 
--- With one more byte the next record of a text has these fields, where it was within the limits before. `reads` says
--- which fields it has in a front of the text.
+-- With one more byte the next record of a text has these fields, where it was within the limits
+-- before. `reads` says which fields it has in a front of the text.
 pub record IsFirstPast (reads : List ℕ → List (List ℕ)) (limits : Limits) (text : List ℕ)
     (fields : List (List ℕ)) : Type 0 where
   pub before : List ℕ
@@ -48,7 +50,8 @@ pub record IsFirstPast (reads : List ℕ → List (List ℕ)) (limits : Limits) 
   pub within : AreWithin limits (reads before)
   pub behind : fields ≡ reads (before ++ (byte ∷ []))
 
--- The first byte that passes a limit is one of the field with this number, from 1, and passes that of a field.
+-- The first byte that passes a limit is one of the field with this number, from 1, and passes that
+-- of a field.
 pub record IsLongField (reads : List ℕ → List (List ℕ)) (limits : Limits) (text : List ℕ)
     (number limit : ℕ) : Type 0 where
   pub earlier : List (List ℕ)

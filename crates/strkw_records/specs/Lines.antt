@@ -1,6 +1,7 @@
 -- Where the lines of a text end. A line ends with LF, with CR LF (one end), or with a CR that no LF
 -- follows. So each CR ends a line, and an LF does where no CR stands right before it.
-use Rattle.std.specs.Prelude.{◌≡◌, ℕ, ◌+◌, ◌==◌, ◌&&◌, ◌||◌, Bool, true, false, not, if◌then◌else◌, List, [], ◌∷◌, ⊤}
+use Rattle.std.specs.Prelude.{◌≡◌, ℕ, ◌+◌, ◌==◌, ◌&&◌, ◌||◌, Bool, true, false, not, if◌then◌else◌}
+use Rattle.std.specs.Prelude.{List, [], ◌∷◌, ⊤}
 use Rattle.std.specs.List.{take_while}
 use Rattle.csv.specs.Machine.{carriage_return, line_feed}
 use Rattle.strkw_records.specs.declared.place.Place.{Place}

@@ -1,5 +1,6 @@
 -- What the steps of a read do.
-use Rattle.std.specs.Prelude.{◌≡◌, ◌⊎◌, ℕ, true, if◌then◌else◌, List, [], ◌∷◌, ◌++◌, Option, Some, ⊤}
+use Rattle.std.specs.Prelude.{◌≡◌, ◌⊎◌, ℕ, true, if◌then◌else◌, List, [], ◌∷◌, ◌++◌, Option, Some}
+use Rattle.std.specs.Prelude.{⊤}
 use Rattle.std.specs.Io.KnownBytes.{prepend_known}
 use Rattle.csv.specs.Machine.{field_after, fields_after, is_end, step}
 use Rattle.csv.specs.Reading.{default_config}
@@ -83,7 +84,8 @@ pub record Gathers {R : Type 0} (rem : R → Option (List ℕ)) (old new : Input
   pub rest : List ℕ
   pub passes : Passes rem old new text bytes rest
   pub behind : state_behind s bytes ≡ Some s2
-  pub same : (more : List ℕ) → outcome s (whole_fields before) (front_of_field before) (bytes ++ more)
+  pub same : (more : List ℕ) → outcome s (whole_fields before) (front_of_field before)
+      (bytes ++ more)
       ≡ outcome s2 (whole_fields after) (front_of_field after) more
 
 -- an input, which has this text left, went past the end of a record, whose fields were gathered

@@ -1,5 +1,6 @@
 -- What a reader of records has left, and what a read does.
-use Rattle.std.specs.Prelude.{◌≡◌, ℕ, not, ◌&&◌, ◌==◌, length, if◌then◌else◌, List, Option, Some, option_map, ⊤}
+use Rattle.std.specs.Prelude.{◌≡◌, ℕ, not, ◌&&◌, ◌==◌, length, if◌then◌else◌, List, Option, Some}
+use Rattle.std.specs.Prelude.{option_map, ⊤}
 use Rattle.csv.specs.Reading.{strip_bom}
 use Rattle.strkw_records.specs.declared.faults.ReadFault.{ReadFault}
 use Rattle.strkw_records.specs.declared.faults.ReadFault.TheVariants as fault
@@ -37,8 +38,8 @@ Takes rem old new text line fields = (rest : List ℕ) × (unread_of rem new ≡
 abbrev pub BeginsAt : Place → List ℕ → ℕ → Type 0
 BeginsAt place text line = line ≡ (place_after place (blank_front text)).line
 
--- Why a reader, whose unread bytes are this text, gave a fault. A record of which it tells something else is within
--- the limits, as far as it goes.
+-- Why a reader, whose unread bytes are this text, gave a fault. A record of which it tells
+-- something else is within the limits, as far as it goes.
 abbrev pub Explains : {R : Type 0} → (R → Option (List ℕ)) → RecordReader R → RecordReader R
     → List ℕ → ReadFault → Type 0
 Explains rem old new text (fault.Read e) = ⊤

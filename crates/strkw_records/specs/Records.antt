@@ -1,7 +1,8 @@
 -- The records of a text, each with the line on which it begins. What a record is, the machine of
 -- the kit's `csv` says: it begins behind the blank lines before it, and ends with a line end
 -- outside quotes, or with the text.
-use Rattle.std.specs.Prelude.{◌≡◌, ◌≢◌, ◌⊎◌, ◌^◌, ◌≤◌, ◌+◌, ℕ, false, if◌then◌else◌, List, [], ◌∷◌, ◌++◌, length, map, take, Option, Some, None, IsUtf8}
+use Rattle.std.specs.Prelude.{◌≡◌, ◌≢◌, ◌⊎◌, ◌^◌, ◌≤◌, ◌+◌, ℕ, false, if◌then◌else◌, List, [], ◌∷◌}
+use Rattle.std.specs.Prelude.{◌++◌, length, map, take, Option, Some, None, IsUtf8}
 use Rattle.csv.specs.Machine.{is_end, next_record, step}
 use Rattle.csv.specs.Reading.{Reached, default_config}
 use Rattle.csv.specs.Records.{AllText, field_at}

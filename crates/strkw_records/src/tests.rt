@@ -46,12 +46,12 @@ impl Read for EndlessSource {
 }
 
 // Each record of a source behind its line, and the fault that ended the reading, if one did.
-fn told<R: Read + Drop>(alloc: Global, source: R) -> Result<String, Fail> {
-    told_by(alloc, RecordReader::new(alloc, source)?)
+fn describe<R: Read + Drop>(alloc: Global, source: R) -> Result<String, Fail> {
+    describe_by(alloc, RecordReader::new(alloc, source)?)
 }
 
 // The same of a reader.
-fn told_by<R: Read + Drop>(alloc: Global, reader: RecordReader<R>) -> Result<String, Fail> {
+fn describe_by<R: Read + Drop>(alloc: Global, reader: RecordReader<R>) -> Result<String, Fail> {
     let mut reader = reader;
     let mut row = StringRecord::new(alloc);
     let mut out = String::new(alloc);
@@ -101,13 +101,13 @@ const TEXTS: [(&[u8], &str); 8] = [
 #[test]
 fn each_text_has_its_lines(rt: HostRuntime) -> Result<(), Fail> {
     for (text, wanted) in TEXTS {
-        let whole = told(rt.alloc(), text)?;
+        let whole = describe(rt.alloc(), text)?;
         assert_eq!(rt; whole.as_str(), wanted);
         let slow = SlowSource {
             rest: text,
             fails: false,
         };
-        let slowly = told(rt.alloc(), slow)?;
+        let slowly = describe(rt.alloc(), slow)?;
         assert_eq!(rt; slowly.as_str(), wanted);
     }
     Ok(())
@@ -252,14 +252,14 @@ fn a_record_keeps_to_its_limits(rt: HostRuntime) -> Result<(), Fail> {
             field,
         };
         let reader = RecordReader::with_limits(rt.alloc(), text, limits)?;
-        let whole = told_by(rt.alloc(), reader)?;
+        let whole = describe_by(rt.alloc(), reader)?;
         assert_eq!(rt; whole.as_str(), wanted);
         let slow = SlowSource {
             rest: text,
             fails: false,
         };
         let reader = RecordReader::with_limits(rt.alloc(), slow, limits)?;
-        let slowly = told_by(rt.alloc(), reader)?;
+        let slowly = describe_by(rt.alloc(), reader)?;
         assert_eq!(rt; slowly.as_str(), wanted);
     }
     Ok(())
@@ -320,7 +320,7 @@ fn an_endless_record_is_refused(rt: HostRuntime) -> Result<(), Fail> {
             field,
         };
         let reader = RecordReader::with_limits(rt.alloc(), source, limits)?;
-        let read = told_by(rt.alloc(), reader)?;
+        let read = describe_by(rt.alloc(), reader)?;
         assert_eq!(rt; read.as_str(), wanted);
     }
     Ok(())
@@ -344,7 +344,7 @@ fn a_source_fails(rt: HostRuntime) -> Result<(), Fail> {
         rest: b"a\nb",
         fails: true,
     };
-    let read = told(rt.alloc(), source)?;
+    let read = describe(rt.alloc(), source)?;
     assert!(rt;
         read.as_str()
             .starts_with("1 StringRecord([\"a\"])\nread failed: "),
@@ -358,7 +358,7 @@ fn a_source_fails(rt: HostRuntime) -> Result<(), Fail> {
 fn read_under_refusal(rt: HostRuntime) -> Result<(), Fail> {
     let text: &[u8] = b"a,\"b\"\"c\"\nd";
     let wanted = "1 StringRecord([\"a\", \"b\\\"c\"])\n2 StringRecord([\"d\"])\n";
-    let read = told(rt.alloc(), text)?;
+    let read = describe(rt.alloc(), text)?;
     if read.as_str() == wanted {
         Ok(())
     } else {
@@ -375,7 +375,7 @@ fn read_with_limits_under_refusal(rt: HostRuntime) -> Result<(), Fail> {
         field: Some(3),
     };
     let text: &[u8] = b"a,\"b\"\"c\"\n\"\"\"abc\"";
-    let read = told_by(
+    let read = describe_by(
         rt.alloc(),
         RecordReader::with_limits(rt.alloc(), text, limits)?,
     )?;

@@ -1,5 +1,6 @@
 -- Bytes that begin a character, block by block: each lane of a block is judged by itself, and the marks are counted.
-use Rattle.std.proofs.Common.{◌≡◌, ℕ, zero, suc, ◌+◌, ◌^◌, ◌%◌, ◌<◌, Bool, true, false, cond, ltb, leb, ◌||◌, List, [], ◌∷◌, map, length, get_or, take, drop, take-add, ◌*◌, replicate, bit_or, refl, sym, ap, ◌∙◌, arith}
+use Rattle.std.proofs.Common.{◌≡◌, ℕ, zero, suc, ◌+◌, ◌^◌, ◌%◌, ◌<◌, Bool, true, false, cond, ltb, leb, ◌||◌, List, [], ◌∷◌, map, length, get_or, take, drop}
+use Rattle.std.proofs.Common.{take-add, ◌*◌, replicate, bit_or, refl, sym, ap, ◌∙◌, arith}
 use Rattle.std.specs.List.{count_by}
 use Rattle.std.specs.Fmt.{is_char_start}
 use Rattle.std.specs.Simd.{first_chunks}
@@ -22,12 +23,14 @@ lanes_of block = zip2 bit_or (zip2 (λ a b. marked (ltb a b)) block (replicate 3
 abbrev lane_of : ℕ → ℕ
 lane_of b = bit_or (marked (ltb b 128)) (marked (leb 192 b))
 
+-- the top bit of two marks joined is set exactly where one of their tests, or both, holds
 either_marked : (p q : Bool) → top 7 (bit_or (marked p) (marked q)) ≡ (p || q)
 either_marked true true = refl
 either_marked true false = refl
 either_marked false true = refl
 either_marked false false = refl
 
+-- the top bits of the lanes of bytes tell which of them begin a character
 tops_are_starts : (block : List ℕ) → map (λ b. top 7 (lane_of b)) block ≡ map is_char_start block
 tops_are_starts [] = refl
 tops_are_starts (b ∷ block) = rw (either_marked (ltb b 128) (leb 192 b), tops_are_starts block) refl
@@ -48,11 +51,13 @@ block_at : (count : ℕ) (bytes : List ℕ) (i : ℕ) (none : List ℕ) → i < 
 block_at zero bytes i none below = absurd (omega arith)
 block_at (suc count) bytes zero none below = refl
 block_at (suc count) bytes (suc i) none below =
-    block_at count (drop 32 bytes) i none (omega arith) ∙ ap (take 32) (drop-drop (i * 32) 32 bytes) ∙ ap (λ place. take 32 (drop place bytes)) (let next : 32 + i * 32 ≡ suc i * 32 = omega arith in next)
+    block_at count (drop 32 bytes) i none (omega arith) ∙ ap (take 32) (drop-drop (i * 32) 32 bytes)
+    ∙ ap (λ place. take 32 (drop place bytes)) (let next : 32 + i * 32 ≡ suc i * 32 = omega arith in next)
 
 -- the blocks before an index, and the one at it, in which `here` characters begin
 pub starts_with_block : (bytes : List ℕ) (blocks : List (List ℕ)) (count i here : ℕ) (none : List ℕ) → blocks ≡ first_chunks 32 count bytes → i < count
-    → here ≡ count_by is_char_start (get_or blocks i none) → count_by is_char_start (take ((i + 1) * 32) bytes) ≡ count_by is_char_start (take (i * 32) bytes) + here
+    → here ≡ count_by is_char_start (get_or blocks i none) → count_by is_char_start (take ((i + 1) * 32) bytes)
+    ≡ count_by is_char_start (take (i * 32) bytes) + here
 starts_with_block bytes blocks count i here none cut below counted =
     let block : get_or blocks i none ≡ take 32 (drop (i * 32) bytes) = ap (λ all. get_or all i none) cut ∙ block_at count bytes i none below in
     let place : (i + 1) * 32 ≡ i * 32 + 32 = omega arith in

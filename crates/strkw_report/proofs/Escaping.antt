@@ -9,23 +9,29 @@ use Rattle.strkw_text.proofs.AsciiForms.{IsAscii-from_each}
 use Rattle.strkw_text.proofs.Bytewise.{IsAsciiRewriting, encodes-flat_map, flat_map-encode_past, flat_map-encode_within, flat_map-encodes_more}
 use Rattle.strkw_report.specs.Paths.{escaped, escaped_char}
 
+-- a byte past ASCII stands for itself
 escaped_char-past : (b : ℕ) → 128 ≤ b → escaped_char b ≡ b ∷ []
 escaped_char-past b h = grind (arith, nat_tests)
 
+-- what is written for an ASCII byte is ASCII
 escaped_char-within : (b : ℕ) (t s : Bool) → eqb b 126 ≡ t → eqb b 47 ≡ s → b < 128 → IsAscii (escaped_char b)
 escaped_char-within b true s e f h = rw e (IsAscii-from_each (codes "~0") (lit< tt, (lit< tt, tt)))
 escaped_char-within b false true e f h = rw (e, f) (IsAscii-from_each (codes "~1") (lit< tt, (lit< tt, tt)))
 escaped_char-within b false false e f h = rw (e, f) (IsAscii-from_each (b ∷ []) (h, tt))
 
+-- `escaped_char` changes ASCII alone, and into ASCII
 escapes : IsAsciiRewriting escaped_char
 escapes = record { past = escaped_char-past; within = λ b h. escaped_char-within b _ _ refl refl h }
 
+-- to escape characters and then encode them is to encode them and then escape the bytes
 pub encodes-escaped : (cs : List ℕ) → encode_utf8_all (escaped cs) ≡ escaped (encode_utf8_all cs)
 encodes-escaped cs = encodes-flat_map escaped_char escapes cs
 
+-- what is neither `~` nor `/` stands for itself
 escaped_char-plain : (c : ℕ) → c ≢ 126 → c ≢ 47 → escaped_char c ≡ c ∷ []
 escaped_char-plain c not_tilde not_slash = grind (arith, nat_tests)
 
+-- the encoding of a character that is neither `~` nor `/` stays, in ASCII or past it
 escaped-by_cases : (c : ℕ) → c ≢ 126 → c ≢ 47 → (c < 128) ⊎ (128 ≤ c) → escaped (encode_utf8 c) ≡ encode_utf8 c
 escaped-by_cases c t s (inl h) = flat_map-encode_within escaped_char c h ∙ rw (escaped_char-plain c t s, encode_ascii c h) refl
 escaped-by_cases c t s (inr h) = flat_map-encode_past escaped_char escapes c h

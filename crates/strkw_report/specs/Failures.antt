@@ -1,7 +1,13 @@
 -- What a text failed at, with no memory or capacity.
-use Rattle.strkw_report.specs.Kinds.{Kind, min_length, max_length, pattern, backtrack_limit_exceeded, regex_engine_failure, format, content_encoding, content_media_type, from_utf8}
+use Rattle.strkw_report.specs.Kinds.{Kind, min_length, max_length, pattern}
+use Rattle.strkw_report.specs.Kinds.{backtrack_limit_exceeded, regex_engine_failure, format}
+use Rattle.strkw_report.specs.Kinds.{content_encoding, content_media_type, from_utf8}
 use Rattle.strkw_report.specs.declared.failure.Failure.{Failure}
-use Rattle.strkw_report.specs.declared.failure.Failure.TheVariants.{MinLength, MaxLength, Pattern, BacktrackLimitExceeded, RegexEngineFailure, Format, ContentEncoding, ContentMediaType, FromUtf8}
+use Rattle.strkw_report.specs.declared.failure.Failure.TheVariants.{MinLength, MaxLength, Pattern}
+use Rattle.strkw_report.specs.declared.failure.Failure.TheVariants.{BacktrackLimitExceeded}
+use Rattle.strkw_report.specs.declared.failure.Failure.TheVariants.{RegexEngineFailure, Format}
+use Rattle.strkw_report.specs.declared.failure.Failure.TheVariants.{ContentEncoding}
+use Rattle.strkw_report.specs.declared.failure.Failure.TheVariants.{ContentMediaType, FromUtf8}
 
 abbrev pub kind_failed : Failure → Kind
 kind_failed (MinLength n) = min_length n

@@ -17,4 +17,5 @@ named (Number n) = decimal n
 
 -- the whole
 abbrev pub spelled : Wording → List ℕ
-spelled w = front (option_map (λ text. text.now) w.text) ++ w.before.now ++ named w.name ++ w.after.now
+spelled w = front (option_map (λ text. text.now) w.text) ++ w.before.now ++ named w.name
+    ++ w.after.now

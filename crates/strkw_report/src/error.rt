@@ -124,7 +124,8 @@ pub fn error_at(
     site: &Site,
 ) -> Result<ValidationError, AllocError>
     ensures { IfOk result (λ e. e
-        ≡ report_at (standing_of location.now prefix.now site.now) keyword.now (kind_of kind) text.now) }
+        ≡ report_at (standing_of location.now prefix.now site.now) keyword.now (kind_of kind)
+        text.now) }
 {
     let schema_path = location.join(keyword)?;
     let absolute = match prefix {

@@ -89,8 +89,8 @@ impl<'a> Failure<'a> {
         ensures { spelled result ≡ message (kind_failed self.now) (compact_text (string text.now)) }
     {
         match *self {
-            Failure::MinLength(limit) => self.limited(text, " is shorter than ", limit),
-            Failure::MaxLength(limit) => self.limited(text, " is longer than ", limit),
+            Failure::MinLength(limit) => self.limit_wording(text, " is shorter than ", limit),
+            Failure::MaxLength(limit) => self.limit_wording(text, " is longer than ", limit),
             Failure::Pattern(pattern) => {
                 Wording::behind(text, " does not match \"", pattern, "\"")
             }
@@ -117,7 +117,12 @@ impl<'a> Failure<'a> {
     }
 
     // What is said of a text and of a limit of its characters.
-    fn limited<'t>(&self, text: &'t str, relation: &'static str, limit: u64) -> Wording<'t, 'a>
+    fn limit_wording<'t>(
+        &self,
+        text: &'t str,
+        relation: &'static str,
+        limit: u64,
+    ) -> Wording<'t, 'a>
         ensures { spelled result ≡ compact_text (string text.now)
             ++ relation.now ++ decimal limit ++ codes " " ++ characters limit }
     {

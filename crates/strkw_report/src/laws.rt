@@ -32,5 +32,6 @@ pub fn drafts_hashed_by_place()
 
 /// A segment's bytes, escaped one by one, are the bytes of its escaped characters.
 pub fn segments_escaped_by_characters()
-    ensures { (segment : List ℕ) → encode_utf8_all (escaped segment) ≡ escaped (encode_utf8_all segment) }
+    ensures { (segment : List ℕ) → encode_utf8_all (escaped segment)
+        ≡ escaped (encode_utf8_all segment) }
 {}

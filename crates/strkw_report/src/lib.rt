@@ -18,7 +18,7 @@ mod refusal;
 mod text_node;
 mod wording;
 
-pub use draft::Draft;
+pub use draft::{Draft, draft_in, draft_numbered};
 pub use error::{ErrorKind, Site, ValidationError, error_at};
 pub use evaluation::EvaluationResult;
 pub use failure::Failure;

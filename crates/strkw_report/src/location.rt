@@ -48,8 +48,8 @@ impl Location {
         Ok(Location { text })
     }
 
-    /// Appends the place of the member or the item `segment` of this place, as `join` gives it. Out of memory, a beginning
-    /// of it may have been appended.
+    /// Appends the place of the member or the item `segment` of this place, as `join` gives it. Out of memory, a
+    /// beginning of it may have been appended.
     pub fn push_below(&self, segment: &str, out: &mut Vec<u8>) -> Result<(), AllocError>
         ensures ok { OnOk result (out.new.items ≡ out.old.items ++ below self.now segment.now) }
         ensures err { OnErr result ((more : List ℕ) × (out.new.items ≡ out.old.items ++ more)) }

@@ -68,7 +68,8 @@ impl CompileErrorKind {
 
     /// What the text says behind the refused value, where there is one. These are all words of refusals.
     pub(crate) fn wording(&self) -> Wording<'_, '_>
-        ensures { value_text (reason_of self.now) ++ spelled result ≡ explanation (reason_of self.now) }
+        ensures { value_text (reason_of self.now) ++ spelled result
+            ≡ explanation (reason_of self.now) }
     {
         match self {
             CompileErrorKind::NotString { .. } => Wording::alone(

@@ -97,7 +97,8 @@ impl<'t, 'n> Wording<'t, 'n> {
 
 // Appends the text as a JSON string, where there is one.
 fn push_front(text: Option<&str>, out: &mut Vec<u8>) -> Result<(), AllocError>
-    ensures ok { OnOk result (out.new.items ≡ out.old.items ++ front (option_map (λ t. t.now) text.entry)) }
+    ensures ok { OnOk result (out.new.items ≡ out.old.items
+        ++ front (option_map (λ t. t.now) text.entry)) }
     ensures err { OnErr result ((more : List ℕ) × (out.new.items ≡ out.old.items ++ more)) }
 {
     match text {

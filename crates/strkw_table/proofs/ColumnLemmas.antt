@@ -8,9 +8,9 @@ use Rattle.strkw_pattern.specs.declared.engine.Outcome.{Outcome}
 use Rattle.strkw_keywords.specs.Demands.{IsInUse}
 use Rattle.strkw_keywords.specs.Errors.{NodeReports}
 use Rattle.strkw_keywords.specs.Object.{Settings}
-use Rattle.strkw_cli.specs.declared.strings.StringKeywords.{StringKeywords}
-use Rattle.strkw_cli.specs.Compiled.{IsCompiledFrom, keywords_demands}
-use Rattle.strkw_cli.specs.Answer.{root_site}
+use Rattle.strkw_object.specs.declared.strings.StringKeywords.{StringKeywords}
+use Rattle.strkw_object.specs.Compiled.{IsCompiledFrom, keywords_demands}
+use Rattle.strkw_report.specs.Standings.{root_site}
 use Rattle.strkw_table.specs.declared.schema_column.SchemaColumn.{SchemaColumn}
 use Rattle.strkw_table.specs.Rows.{OfField, OfFirst, OfRecords}
 use Rattle.strkw_records.specs.Records.{LinedRecord}
@@ -26,6 +26,7 @@ take-next [] n name e = cc e
 take-next (x ∷ xs) zero name e = cc e
 take-next (x ∷ xs) (suc n) name e = ap (λ l. x ∷ l) (take-next xs n name e)
 
+-- the same, with `n + 1` for the count of the names
 pub take-one_more : (names : List (List ℕ)) (n : ℕ) (name : List ℕ) → field_at names n ≡ Some name → take (n + 1) names ≡ take n names ++ name ∷ []
 take-one_more names n name e =
     let next : suc n ≡ n + 1 = omega arith in
@@ -42,6 +43,7 @@ take-none (x ∷ xs) (suc n) e = ap (λ l. x ∷ l) (take-none xs n e)
 module _ {C D : Type 0} (says : C → ℕ → List ℕ → List (List ℕ) → Type 0) (tells : D → ℕ → List ℕ → List (List ℕ) → Type 0) (columns : List C) (names : List D)
     (along : (n line : ℕ) (field : Option (List ℕ)) (messages : List (List ℕ)) → OfField says line field (slice_get columns n) messages
     → OfField tells line field (slice_get names n) messages) where
+  -- so it is with the first fields of a record
   of_first-along : (line : ℕ) (fields : List (List ℕ)) (n : ℕ) (messages : List (List ℕ)) → OfFirst says columns line fields n messages
       → OfFirst tells names line fields n messages
   unfolding OfFirst
@@ -50,6 +52,7 @@ module _ {C D : Type 0} (says : C → ℕ → List ℕ → List (List ℕ) → T
       let (before, last, first, one, e) = p in
       (before, last, of_first-along line fields n before first, along n line (field_at fields n) last one, e)
 
+  -- and with records, where there are as many columns as names
   pub of_records-along : length columns ≡ length names → (records : List LinedRecord) (messages : List (List ℕ)) → OfRecords says columns records messages
       → OfRecords tells names records messages
   unfolding OfRecords
@@ -78,6 +81,7 @@ module _ {E : Type 0} (find : List ℕ → Option (StringKeywords E)) where
   are_columns-more (n ∷ ns) [] name column p named found = absurd p
   are_columns-more (n ∷ ns) (c ∷ cs) name column p named found = (p.0, p.1, are_columns-more ns cs name column p.2 named found)
 
+  -- the same, by the name that stands at a place
   pub are_columns_next : (names : List (List ℕ)) (n : ℕ) (name : List ℕ) (columns : List (SchemaColumn E)) (column : SchemaColumn E)
       → field_at names n ≡ Some name
       → AreColumns find (take n names) columns → column.name.now ≡ name → keywords_of column ≡ find name
@@ -91,10 +95,12 @@ module _ {E : Type 0} (find : List ℕ → Option (StringKeywords E)) where
       → AreColumns find names columns
   are_columns_whole names n columns e p = subst (λ l. AreColumns find l columns) (take-none names n e) p
 
+  -- and so are those of as many names as there are
   pub are_columns_all : (names : List (List ℕ)) (columns : List (SchemaColumn E)) → AreColumns find (take (length names) names) columns
       → AreColumns find names columns
   are_columns_all names columns p = subst (λ l. AreColumns find l columns) (take_all (length names) names (omega arith)) p
 
+  -- there are as many columns as names
   pub are_columns-length : (names : List (List ℕ)) (columns : List (SchemaColumn E)) → AreColumns find names columns → length columns ≡ length names
   unfolding AreColumns
   are_columns-length [] [] p = refl
@@ -113,6 +119,7 @@ module _ {E : Type 0} (outcome : E → List ℕ → Outcome) (s : Settings) (sch
   compiled_errors (Some schema) (Some k) field reports p q =
       (p.entries, p.are_entries, subst (λ assertions. NodeReports assertions s.lists root_site (Some field) reports) p.asserts q)
 
+  -- what may be compiled for a schema is in use with the lists, where each compiled object is
   compiled_usable : ((schema : Members) (k : StringKeywords E) → IsCompiledFrom outcome s schema k → IsInUse (keywords_demands outcome k) s.lists)
       → (schema : Option Members) (keywords : Option (StringKeywords E)) → IsCompiledFor outcome s schema keywords
       → IfSome keywords (λ k. IsInUse (keywords_demands outcome k) s.lists)
@@ -121,6 +128,7 @@ module _ {E : Type 0} (outcome : E → List ℕ → Outcome) (s : Settings) (sch
   compiled_usable law (Some schema) None p = absurd p
   compiled_usable law (Some schema) (Some k) p = law schema k p
 
+  -- the messages of a column about a field are those that its name means
   column_messages : (name : List ℕ) (column : SchemaColumn E) (line : ℕ) (field : List ℕ) (messages : List (List ℕ)) → column.name.now ≡ name
       → keywords_of column ≡ find name
       → ColumnMessages outcome s.lists column line field messages → MessagesOf s schemas name line field messages
@@ -148,7 +156,8 @@ module _ {E : Type 0} (outcome : E → List ℕ → Outcome) (s : Settings) (sch
   -- the messages of the columns are those that their names mean
   pub column_fields : (names : List (List ℕ)) (columns : List (SchemaColumn E)) → AreColumns find names columns
       → (n line : ℕ) (field : Option (List ℕ)) (messages : List (List ℕ))
-      → OfField (ColumnMessages outcome s.lists) line field (slice_get columns n) messages → OfField (MessagesOf s schemas) line field (slice_get names n) messages
+      → OfField (ColumnMessages outcome s.lists) line field (slice_get columns n) messages
+      → OfField (MessagesOf s schemas) line field (slice_get names n) messages
   unfolding AreColumns
   column_fields [] [] p n line None messages q = q
   column_fields [] [] p n line (Some field) messages q = q

@@ -21,7 +21,8 @@ use Rattle.strkw_records.specs.Reading.{Explains, limits_of, place_of}
 use Rattle.strkw_records.specs.Records.{LinedRecord, TakesRecord}
 use Rattle.strkw_table.specs.declared.faults.TableFault.{TableFault}
 use Rattle.strkw_table.specs.declared.faults.TableFault.TheVariants as fault
-use Rattle.strkw_table.specs.Faults.{HaveColumns, IsHeader, IsNoPlanFault, IsUnexplained, IsWhy, IsWhyOfNames, IsWhyOfNext, IsWhyOfRows, IsWhyOfText, IsWhyUnread, record_limits}
+use Rattle.strkw_table.specs.Faults.{HaveColumns, IsHeader, IsNoPlanFault, IsUnexplained, IsWhy, IsWhyOfNames, IsWhyOfNext, IsWhyOfRows, IsWhyOfText}
+use Rattle.strkw_table.specs.Faults.{IsWhyUnread, record_limits}
 use Rattle.strkw_table.specs.Fields.{AreDistinct, AreNamed, MessagesOf}
 use Rattle.strkw_table.specs.Gives.{GivesOfPlan, GivesOfReading}
 use Rattle.strkw_table.specs.Rows.{AreFirstRecords, HaveShape, OfRecords}
@@ -39,11 +40,14 @@ no_plan settings plan fault.Write p = tt
 no_plan settings plan fault.Memory p = tt
 no_plan settings plan fault.TooLong p = tt
 
+-- the same of the fault of a result, if there is one
 pub if_err-no_plan : {T : Type 0} (settings : Draft → Settings) (plan : Data) (r : Result T TableFault) → IfErr r IsNoPlanFault → IfErr r (IsWhy settings plan)
 if_err-no_plan settings plan (Ok x) p = tt
 if_err-no_plan settings plan (Err why) p = no_plan settings plan why p
 
-by_refusal : (settings : Draft → Settings) (plan : Data) (e : PlanFault) (why : TableFault) → RefusesPlan settings Columns plan e → GivesOfPlan e why → IsWhy settings plan why
+-- why a plan is refused is why the file is not checked
+by_refusal : (settings : Draft → Settings) (plan : Data) (e : PlanFault) (why : TableFault) → RefusesPlan settings Columns plan e → GivesOfPlan e why
+    → IsWhy settings plan why
 by_refusal settings plan (refused.NoPlan kind) why p gives = rw gives p
 by_refusal settings plan (refused.UnknownMember kind name nearest) why p gives = rw gives p
 by_refusal settings plan refused.NoNames why p gives = rw gives p
@@ -59,10 +63,12 @@ by_refusal settings plan (refused.Refused place refusal) why p gives = rw gives 
 by_refusal settings plan refused.Memory why p gives = rw gives tt
 
 -- why a schema of a good plan is not compiled is why the file is not checked
-pub why_of_schemas : (settings : Draft → Settings) (plan : Data) (p : Plan) (e : PlanFault) (why : TableFault) → plan_problem Columns plan ≡ None → plan_of Columns plan ≡ Some p
+pub why_of_schemas : (settings : Draft → Settings) (plan : Data) (p : Plan) (e : PlanFault) (why : TableFault) → plan_problem Columns plan ≡ None
+    → plan_of Columns plan ≡ Some p
     → RefusesAmong (settings p.draft) Columns p.schemas e → GivesOfPlan e why → IsWhy settings plan why
 why_of_schemas settings plan p e why good is (inl memory) gives = by_refusal settings plan e why (inl memory) gives
-why_of_schemas settings plan p e why good is (inr (name, schema, among, refuses)) gives = by_refusal settings plan e why (inr (inr (p, good, is, name, schema, among, refuses))) gives
+why_of_schemas settings plan p e why good is (inr (name, schema, among, refuses)) gives =
+    by_refusal settings plan e why (inr (inr (p, good, is, name, schema, among, refuses))) gives
 
 -- none of the plan is one of the names in a first record
 pub no_plan_of_names : (p : Plan) (names : List (List ℕ)) (why : TableFault) → IsWhyOfNames p names why → IsNoPlanFault why
@@ -91,6 +97,7 @@ unread rem old new text (read.LongField line number most) p = p
 unread rem old new text read.Memory p = tt
 unread rem old new text read.TooLong p = tt
 
+-- and so it is why the next record is not checked
 pub why_of_read : {R : Type 0} (rem : R → Option (List ℕ)) (old new : RecordReader R) (text : List ℕ) (width : ℕ) (e : ReadFault) (why : TableFault)
     → Explains rem old new text e
     → GivesOfReading e why → IsWhyOfNext (limits_of old) width (place_of old) text why
@@ -115,7 +122,9 @@ why_of_next limits width place text fault.Write p = tt
 why_of_next limits width place text fault.Memory p = tt
 why_of_next limits width place text fault.TooLong p = tt
 
-module _ {C : Type 0} (says : C → ℕ → List ℕ → List (List ℕ) → Type 0) (limits : Limits) (columns : List C) (place : Place) (text : List ℕ) (wrote : List ℕ → Type 0) where
+module _ {C : Type 0} (says : C → ℕ → List ℕ → List (List ℕ) → Type 0) (limits : Limits) (columns : List C) (place : Place) (text : List ℕ)
+    (wrote : List ℕ → Type 0) where
+  -- and so it has one among any records
   pub why_of_rows : (why : TableFault) → IsUnexplained why → IsWhyOfRows says limits columns place text wrote why
   why_of_rows (fault.Plan why) p = absurd p
   why_of_rows (fault.Columns most found) p = absurd p
@@ -131,7 +140,8 @@ module _ {C : Type 0} (says : C → ℕ → List ℕ → List (List ℕ) → Typ
   -- why the next record is not checked, behind those that are, is why one of the records is not
   pub why_behind : (earlier : List LinedRecord) (messages : List (List ℕ)) (behind : Place) (rest : List ℕ) (why : TableFault)
       → AreFirstRecords place text earlier behind rest → HaveShape limits (length columns) earlier → OfRecords says columns earlier messages
-      → ((IsUnexplained why → ⊥) → wrote (concat messages)) → IsWhyOfNext limits (length columns) behind rest why → IsWhyOfRows says limits columns place text wrote why
+      → ((IsUnexplained why → ⊥) → wrote (concat messages)) → IsWhyOfNext limits (length columns) behind rest why
+      → IsWhyOfRows says limits columns place text wrote why
   why_behind earlier messages behind rest (fault.Plan why) first width said written p = p
   why_behind earlier messages behind rest (fault.Columns most found) first width said written p = p
   why_behind earlier messages behind rest (fault.Missing name) first width said written p = p
@@ -185,6 +195,7 @@ module _ (settings : Draft → Settings) (plan : Data) (text : List ℕ) (wrote 
   why_of_plan (refused.Refused place refusal) why gives written = rw gives written
   why_of_plan refused.Memory why gives written = rw gives tt
 
+  -- so does a fault that says why the first record is not read
   by_first : (p : Plan) (e : ReadFault) (why : TableFault) → plan_of Columns plan ≡ Some p → IsWhyUnread (record_limits p.limits) first_place text e
       → GivesOfReading e why → wrote [] → IsWhyOfText settings plan text wrote why
   by_first p (read.Read e) why is q gives written = rw gives (inl (p, is, written, q))
@@ -196,11 +207,13 @@ module _ (settings : Draft → Settings) (plan : Data) (text : List ℕ) (wrote 
   by_first p read.TooLong why is q gives written = rw gives tt
 
   -- and so does a first record that is not read
-  pub why_of_first : {R : Type 0} (rem : R → Option (List ℕ)) (old new : RecordReader R) (p : Plan) (e : ReadFault) (why : TableFault) → plan_of Columns plan ≡ Some p
+  pub why_of_first : {R : Type 0} (rem : R → Option (List ℕ)) (old new : RecordReader R) (p : Plan) (e : ReadFault) (why : TableFault)
+      → plan_of Columns plan ≡ Some p
       → place_of old ≡ first_place → limits_of old ≡ record_limits p.limits
       → Explains rem old new text e → GivesOfReading e why → wrote [] → IsWhyOfText settings plan text wrote why
   why_of_first rem old new p e why is at keeps explained gives written =
-      by_first p e why is (subst (λ limits. IsWhyUnread limits first_place text e) keeps (subst (λ place. IsWhyUnread (limits_of old) place text e) at (unread rem old new text e explained))) gives written
+      by_first p e why is (subst (λ limits. IsWhyUnread limits first_place text e) keeps
+      (subst (λ place. IsWhyUnread (limits_of old) place text e) at (unread rem old new text e explained))) gives written
 
   -- and one whose names are not those of the plan
   pub why_of_names : (p : Plan) (names : List (List ℕ)) (why : TableFault) → plan_of Columns plan ≡ Some p → IsHeader text names → IsWhyOfNames p names why
@@ -222,22 +235,27 @@ module _ (settings : Draft → Settings) (plan : Data) (text : List ℕ) (wrote 
       → HaveColumns p names.fields → AreNamed names.fields p.schemas
       → (p.checks_each ≡ true) ⊎ AreDistinct names.fields → AreWithin (record_limits p.limits) names.fields
       → TakesRecord first_place text names.line names.fields behind rest
-      → IsWhyOfRows (MessagesOf (settings p.draft) p.schemas) (record_limits p.limits) names.fields behind rest wrote why → IsWhyOfText settings plan text wrote why
+      → IsWhyOfRows (MessagesOf (settings p.draft) p.schemas) (record_limits p.limits) names.fields behind rest wrote why
+      → IsWhyOfText settings plan text wrote why
   why_under_header p names behind rest (fault.Plan why) is few named each within header q = absurd q
   why_under_header p names behind rest (fault.Columns most found) is few named each within header q = absurd q
   why_under_header p names behind rest (fault.Missing name) is few named each within header q = absurd q
   why_under_header p names behind rest (fault.Twice name first second) is few named each within header q = absurd q
   why_under_header p names behind rest fault.NoHeader is few named each within header q = absurd q
-  why_under_header p names behind rest (fault.Fields line expected found) is few named each within header q = (p, names, behind, rest, is, few, named, each, within, header, q)
-  why_under_header p names behind rest (fault.Record why) is few named each within header q = inr (p, names, behind, rest, is, few, named, each, within, header, q)
+  why_under_header p names behind rest (fault.Fields line expected found) is few named each within header q =
+      (p, names, behind, rest, is, few, named, each, within, header, q)
+  why_under_header p names behind rest (fault.Record why) is few named each within header q =
+      inr (p, names, behind, rest, is, few, named, each, within, header, q)
   why_under_header p names behind rest fault.Write is few named each within header q = tt
   why_under_header p names behind rest fault.Memory is few named each within header q = tt
   why_under_header p names behind rest fault.TooLong is few named each within header q = tt
 
 -- why one of the records is not checked by columns is why it is not by what they stand for
-module _ {C D : Type 0} (limits : Limits) (says : C → ℕ → List ℕ → List (List ℕ) → Type 0) (tells : D → ℕ → List ℕ → List (List ℕ) → Type 0) (columns : List C) (names : List D)
+module _ {C D : Type 0} (limits : Limits) (says : C → ℕ → List ℕ → List (List ℕ) → Type 0) (tells : D → ℕ → List ℕ → List (List ℕ) → Type 0) (columns : List C)
+    (names : List D)
     (same : length columns ≡ length names)
     (along : (records : List LinedRecord) (messages : List (List ℕ)) → OfRecords says columns records messages → OfRecords tells names records messages) where
+  -- a reason by the columns is one by what they stand for, whatever was written
   pub why_along : (place : Place) (text : List ℕ) (wrote : List ℕ → Type 0) (why : TableFault) → IsWhyOfRows says limits columns place text wrote why
       → IsWhyOfRows tells limits names place text wrote why
   why_along place text wrote (fault.Plan why) p = p

@@ -1,5 +1,6 @@
 -- The names in the first record of a file.
-use Rattle.std.proofs.Common.{Bor, ◌≡◌, ◌<◌, ◌+◌, ℕ, zero, suc, List, [], ◌∷◌, length, Bool, true, false, Some, None, refl, sym, ap, subst, ◌∙◌, arith, bytes_eq, cond, true≢false}
+use Rattle.std.proofs.Common.{Bor, ◌≡◌, ◌<◌, ◌+◌, ℕ, zero, suc, List, [], ◌∷◌, length, Bool, true, false, Some, None, refl, sym, ap, subst, ◌∙◌, arith}
+use Rattle.std.proofs.Common.{bytes_eq, cond, true≢false}
 use Rattle.std.specs.Option.{option_copied}
 use Rattle.std.specs.Prelude.{Option, is_some}
 use Rattle.std.specs.BTreeMap.{BTreeMap, get_by}
@@ -22,6 +23,7 @@ pub found_at : (found : Option (Bor ℕ)) (place : Option ℕ) → option_copied
 found_at None place is some = absurd (true≢false (sym some))
 found_at (Some i) place is some = (i.now, sym is)
 
+-- where it was not found, there is no place
 pub not_found : (found : Option (Bor ℕ)) (place : Option ℕ) → option_copied found ≡ place → is_some found ≡ false → place ≡ None
 not_found None place is none = sym is
 not_found (Some i) place is none = absurd (true≢false none)
@@ -52,6 +54,7 @@ distinct names n place within one name first second (i, j, at_first, at_second, 
 abbrev pub AreKnown : List (List ℕ) → ℕ → (List ℕ → Option ℕ) → Type 0
 AreKnown names n place = (name : List ℕ) (i : ℕ) → place name ≡ Some i → (i < n) × (field_at names i ≡ Some name)
 
+-- each of the first fields has the place at which it stands
 abbrev pub HavePlaces : List (List ℕ) → ℕ → (List ℕ → Option ℕ) → Type 0
 HavePlaces names n place = (name : List ℕ) (i : ℕ) → i < n → field_at names i ≡ Some name → place name ≡ Some i
 
@@ -61,6 +64,7 @@ AreAll names n place = (name : List ℕ) (i : ℕ) → i < n → field_at names 
 
 module _ (names : List (List ℕ)) (n : ℕ) (key : List ℕ) (old new : List ℕ → Option ℕ) (here : field_at names n ≡ Some key)
     (updates : (name : List ℕ) → new name ≡ update bytes_eq old key (Some n) name) where
+  -- a name with a place has it among the fields up to the new one, whichever it is
   known_by : (name : List ℕ) (i : ℕ) (b : Bool) → bytes_eq key name ≡ b → AreKnown names n old → cond b (Some n) (old name) ≡ Some i
       → (i < n + 1) × (field_at names i ≡ Some name)
   known_by name i true is known found =
@@ -73,6 +77,7 @@ module _ (names : List (List ℕ)) (n : ℕ) (key : List ℕ) (old new : List �
   pub known_more : AreKnown names n old → AreKnown names (n + 1) new
   known_more known name i found = known_by name i (bytes_eq key name) refl known (sym (updates name) ∙ found)
 
+  -- a field up to the new one has its place, whether or not it has the new name
   places_by : (name : List ℕ) (i : ℕ) (b : Bool) → bytes_eq key name ≡ b → old key ≡ None → HavePlaces names n old → i < n + 1 → field_at names i ≡ Some name
       → cond b (Some n) (old name) ≡ Some i
   places_by name i true is none have less there =
@@ -90,17 +95,21 @@ module _ (names : List (List ℕ)) (n : ℕ) (key : List ℕ) (old new : List �
             (same_Some key name (sym here ∙ subst (λ k. field_at names k ≡ Some name) same there)))
       ]
 
+  -- and each field up to the new one has its one place, where the new name had none
   pub places_more : old key ≡ None → HavePlaces names n old → HavePlaces names (n + 1) new
   places_more none have name i less there = updates name ∙ places_by name i (bytes_eq key name) refl none have less there
 
-  some_by : (name : List ℕ) (i : ℕ) (b : Bool) → bytes_eq key name ≡ b → AreAll names n old → i < n + 1 → field_at names i ≡ Some name → cond b (Some n) (old name) ≡ None → ⊥
+  -- no field up to the new one is without a place, whether or not it has the new name
+  some_by : (name : List ℕ) (i : ℕ) (b : Bool) → bytes_eq key name ≡ b → AreAll names n old → i < n + 1 → field_at names i ≡ Some name
+      → cond b (Some n) (old name) ≡ None → ⊥
   some_by name i true is all less there none = none-some n (sym none)
   some_by name i false is all less there none =
       elim (dec_lt i n) [
         | yes earlier ↦ all name i earlier there none
         | no later ↦
             let same : i ≡ n = omega arith in
-            not_from_Decides (bytes_eq key name) (bytes_eq-Decides key name) is (same_Some key name (sym here ∙ subst (λ k. field_at names k ≡ Some name) same there))
+            not_from_Decides (bytes_eq key name) (bytes_eq-Decides key name) is
+            (same_Some key name (sym here ∙ subst (λ k. field_at names k ≡ Some name) same there))
       ]
 
   -- each of the first fields has a place, of which one more is the next

@@ -1,5 +1,6 @@
 -- The compiled objects of a plan, by their names.
-use Rattle.std.proofs.Common.{◌≡◌, ◌∙◌, ℕ, List, [], ◌∷◌, Bool, true, false, String, Global, Some, None, suc, inl, inr, refl, sym, ap, subst, arith, bytes_eq, cond}
+use Rattle.std.proofs.Common.{◌≡◌, ◌∙◌, ℕ, List, [], ◌∷◌, Bool, true, false, String, Global, Some, None, suc, inl, inr, refl, sym, ap, subst, arith, bytes_eq}
+use Rattle.std.proofs.Common.{cond}
 use Rattle.std.specs.BTreeMap.{is_at}
 use Rattle.std.specs.List.{All}
 use Rattle.std.specs.Map.{lookup, update}
@@ -20,7 +21,7 @@ use Rattle.serde_json.proofs.Views.{view-lookup}
 use Rattle.serde_json.specs.Find.{as_object}
 use Rattle.strkw_pattern.specs.declared.engine.Outcome.{Outcome}
 use Rattle.strkw_keywords.specs.Object.{Settings}
-use Rattle.strkw_cli.specs.declared.strings.StringKeywords.{StringKeywords}
+use Rattle.strkw_object.specs.declared.strings.StringKeywords.{StringKeywords}
 use Rattle.strkw_plan.specs.Compiled.{IsAmong, IsCompiledFor}
 use Rattle.strkw_table.specs.Fields.{schema_named}
 
@@ -44,6 +45,7 @@ by_order name other d ms Less is apart none = none
 by_order name other d ms Equal is apart none = absurd (apart (same_names name other is))
 by_order name other d ms Greater is apart none = none
 
+-- so no member has a name that is neither the first one's nor of one behind it
 none_at_all : (name other : List ℕ) (d : Data) (ms : Members) → (name ≡ other → ⊥) → get_member name ms ≡ None → get_member name (member other d ms) ≡ None
 none_at_all name other d ms apart none = by_order name other d ms (slice_cmp nat_cmp name other) refl apart none
 
@@ -51,6 +53,7 @@ module _ {E : Type 0} (outcome : E → List ℕ → Outcome) (s : Settings) (all
     → Option (StringKeywords E)) (key : List ℕ) (schema : Data) (k : StringKeywords E)
     (done : (name : List ℕ) → get_member name (member key schema rest) ≡ None → IsCompiledFor outcome s (schema_named all name) (old name))
     (found : get_member key all ≡ Some schema) (compiled : IsCompiledFor outcome s (as_object schema) (Some k)) where
+  -- what is found by a name not left is compiled for its schema, be it new or not
   by_name : (name : List ℕ) (b : Bool) → bytes_eq key name ≡ b → get_member name rest ≡ None
       → IsCompiledFor outcome s (schema_named all name) (cond b (Some k) (old name))
   by_name name true is none =

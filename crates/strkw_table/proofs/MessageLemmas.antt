@@ -9,9 +9,9 @@ use Rattle.std.specs.Str.{IsUtf8, chars}
 use Rattle.strkw_pattern.specs.declared.engine.Outcome.{Outcome}
 use Rattle.strkw_keywords.specs.Meanings.{Lists}
 use Rattle.strkw_keywords.specs.Errors.{NodeReports}
-use Rattle.strkw_cli.specs.declared.strings.StringKeywords.{StringKeywords}
-use Rattle.strkw_cli.specs.Compiled.{keywords_assertions}
-use Rattle.strkw_cli.specs.Answer.{root_site}
+use Rattle.strkw_object.specs.declared.strings.StringKeywords.{StringKeywords}
+use Rattle.strkw_object.specs.Compiled.{keywords_assertions}
+use Rattle.strkw_report.specs.Standings.{root_site}
 use Rattle.strkw_table.specs.declared.schema_column.SchemaColumn.{SchemaColumn}
 use Rattle.strkw_table.specs.Fields.{field_place}
 use Rattle.strkw_plan.specs.Messages.{AppendsMessages, message}
@@ -36,7 +36,8 @@ shown_place line name digits colon =
 
 -- what is appended for a field: messages, and so many
 abbrev pub Said : {E : Type 0} → (E → List ℕ → Outcome) → Lists → SchemaColumn E → ℕ → List ℕ → ℕ → List ℕ → List ℕ → Type 0
-Said outcome lists column line field count old new = (messages : List (List ℕ)) × ColumnMessages outcome lists column line field messages × (count ≡ length messages) ×
+Said outcome lists column line field count old new = (messages : List (List ℕ)) × ColumnMessages outcome lists column line field messages
+    × (count ≡ length messages) ×
     (new ≡ old ++ concat messages)
 
 module _ {E : Type 0} (outcome : E → List ℕ → Outcome) (lists : Lists) (column : SchemaColumn E) (line : ℕ) (field old : List ℕ) where

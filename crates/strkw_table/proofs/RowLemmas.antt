@@ -68,6 +68,7 @@ pub have_shape-front : (limits : Limits) (width : ℕ) (r : LinedRecord) (record
 unfolding HaveShape
 have_shape-front limits width r records one within have = (one, within, have)
 
+-- an empty list of records has any shape
 pub have_shape-none : (limits : Limits) (width : ℕ) → HaveShape limits width []
 unfolding HaveShape
 have_shape-none limits width = tt

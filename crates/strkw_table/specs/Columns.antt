@@ -1,13 +1,14 @@
 -- What stands for the columns of a file, once the schema objects of its plan are compiled.
-use Rattle.std.specs.Prelude.{◌≡◌, ℕ, List, [], ◌∷◌, Option, Some, None, map, option_map, slice_get, IfSome, ⊤}
+use Rattle.std.specs.Prelude.{◌≡◌, ℕ, List, [], ◌∷◌, Option, Some, None, map, option_map, slice_get}
+use Rattle.std.specs.Prelude.{IfSome, ⊤}
 use Rattle.strkw_report.specs.Kinds.{Report}
 use Rattle.strkw_pattern.specs.declared.engine.Outcome.{Outcome}
 use Rattle.strkw_keywords.specs.Meanings.{Lists}
 use Rattle.strkw_keywords.specs.Demands.{IsInUse}
 use Rattle.strkw_keywords.specs.Errors.{NodeReports}
-use Rattle.strkw_cli.specs.declared.strings.StringKeywords.{StringKeywords}
-use Rattle.strkw_cli.specs.Compiled.{keywords_assertions, keywords_demands}
-use Rattle.strkw_cli.specs.Answer.{root_site}
+use Rattle.strkw_object.specs.declared.strings.StringKeywords.{StringKeywords}
+use Rattle.strkw_object.specs.Compiled.{keywords_assertions, keywords_demands}
+use Rattle.strkw_report.specs.Standings.{root_site}
 use Rattle.strkw_plan.specs.Messages.{message}
 use Rattle.strkw_table.specs.declared.schema_column.SchemaColumn.{SchemaColumn}
 use Rattle.strkw_table.specs.Fields.{field_place}

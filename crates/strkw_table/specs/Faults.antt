@@ -1,5 +1,6 @@
 -- Why a file is not checked to its end.
-use Rattle.std.specs.Prelude.{◌≡◌, ◌≢◌, ◌⊎◌, ◌<◌, ◌≤◌, ℕ, List, [], true, false, length, Some, None, string_bytes, ⊤}
+use Rattle.std.specs.Prelude.{◌≡◌, ◌≢◌, ◌⊎◌, ◌<◌, ◌≤◌, ℕ, List, [], true, false, length, Some, None}
+use Rattle.std.specs.Prelude.{string_bytes, ⊤}
 use Rattle.std.specs.List.{concat}
 use Rattle.serde_json.specs.Data.{Data, Members}
 use Rattle.csv.specs.Machine.{next_record}
@@ -38,16 +39,17 @@ IsNoPlanFault _ = ⊤
 
 -- ---- by one record
 
--- the fault is one of which nothing is said: of writing, of memory, or of too many records or messages
+-- the fault is one of which nothing is said: of writing, of memory, or of too many records or
+-- messages
 abbrev pub IsUnexplained : TableFault → Type 0
 IsUnexplained fault.Write = ⊤
 IsUnexplained fault.Memory = ⊤
 IsUnexplained fault.TooLong = ⊤
 IsUnexplained _ = ⊥
 
--- why the next record of a text, which stands at a place, is not read: a quote that opened on the line is open at
--- the end of the text; a field is not UTF-8; the record, or a field of it, passes a limit. Of the other faults nothing
--- is said.
+-- why the next record of a text, which stands at a place, is not read: a quote that opened on the
+-- line is open at the end of the text; a field is not UTF-8; the record, or a field of it, passes a
+-- limit. Of the other faults nothing is said.
 abbrev pub IsWhyUnread : Limits → Place → List ℕ → ReadFault → Type 0
 IsWhyUnread limits place text (read.OpenQuote line) = IsOpenAt place text line
 IsWhyUnread limits place text (read.NotUtf8 line number) = (fields : List (List ℕ))
@@ -59,13 +61,15 @@ IsWhyUnread limits place text (read.LongField line number most) = BeginsAt place
     × IsLongField fields_so_far limits text number most
 IsWhyUnread limits place text _ = ⊤
 
--- the next record begins on this line, and has so many fields, which are not as many as are expected
+-- the next record begins on this line, and has so many fields, which are not as many as are
+-- expected
 abbrev pub HasOtherWidth : Place → List ℕ → ℕ → ℕ → ℕ → Type 0
 HasOtherWidth place text line expected found = (fields : List (List ℕ)) × (behind : Place)
     × (rest : List ℕ) × TakesRecord place text line fields behind rest
     × (found ≡ length fields) × (found ≢ expected)
 
--- why the next record is not checked, where each is to have so many fields and to be within the limits
+-- why the next record is not checked, where each is to have so many fields and to be within the
+-- limits
 abbrev pub IsWhyOfNext : Limits → ℕ → Place → List ℕ → TableFault → Type 0
 IsWhyOfNext limits width place text (fault.Fields line expected found) =
     (expected ≡ width) × HasOtherWidth place text line expected found
@@ -74,8 +78,9 @@ IsWhyOfNext limits width place text why = IsUnexplained why
 
 -- ---- by the records
 
--- The records of a text, which stands at a place, were checked up to one of which this is said: those before it have
--- as many fields as there are columns and are within the limits, and the messages about them are what was written.
+-- The records of a text, which stands at a place, were checked up to one of which this is said:
+-- those before it have as many fields as there are columns and are within the limits, and the
+-- messages about them are what was written.
 abbrev pub StopsAt : {C : Type 0} → Says C → Limits → List C → Place → List ℕ → (List ℕ → Type 0)
     → (Place → List ℕ → Type 0) → Type 0
 StopsAt says limits columns place text wrote IsSaid = (earlier : List LinedRecord)
@@ -121,8 +126,9 @@ IsWhyUnnamed schemas names (fault.Missing name) = (schema : Data)
     × IsAmong (string_bytes name) schema schemas × (IsNamed names (string_bytes name) → ⊥)
 IsWhyUnnamed schemas names why = why ≡ fault.Memory
 
--- why the names in a first record are not those of a plan: they are more than its limits let them be, they lack one of
--- the plan, or one stands there twice where the plan does not say that each is checked
+-- why the names in a first record are not those of a plan: they are more than its limits let them
+-- be, they lack one of the plan, or one stands there twice where the plan does not say that each is
+-- checked
 abbrev pub IsWhyOfNames : Plan → List (List ℕ) → TableFault → Type 0
 IsWhyOfNames p names (fault.Columns most found) = (most ≡ p.limits.most_columns)
     × (found ≡ length names) × (most < found)
@@ -131,7 +137,8 @@ IsWhyOfNames p names (fault.Twice name first second) = (p.checks_each ≡ false)
     × IsTwice names (string_bytes name) first second
 IsWhyOfNames p names why = why ≡ fault.Memory
 
--- a text was checked by a plan up to a record of which this is said, its first record naming the columns
+-- a text was checked by a plan up to a record of which this is said, its first record naming the
+-- columns
 abbrev pub IsCheckedTo : (Draft → Settings) → Data → List ℕ → (List ℕ → Type 0)
     → (Limits → List (List ℕ) → Place → List ℕ → Type 0) → Type 0
 IsCheckedTo settings plan text wrote IsSaid = (p : Plan) × (names : LinedRecord) × (behind : Place)
@@ -155,9 +162,9 @@ abbrev pub IsWhyOfFirst : Data → List ℕ → (List ℕ → Type 0) → ReadFa
 IsWhyOfFirst plan text wrote why = (p : Plan) × (plan_of Columns plan ≡ Some p) × wrote []
     × IsWhyUnread (record_limits p.limits) first_place text why
 
--- Why a file with this text is not checked by its plan, and what was written then: nothing but the messages about the
--- records before the one that is to blame. A fault of the plan is told by `IsWhy`; of writing, memory and too many
--- records nothing is said.
+-- Why a file with this text is not checked by its plan, and what was written then: nothing but the
+-- messages about the records before the one that is to blame. A fault of the plan is told by
+-- `IsWhy`; of writing, memory and too many records nothing is said.
 abbrev pub IsWhyOfText : (Draft → Settings) → Data → List ℕ → (List ℕ → Type 0) → TableFault
     → Type 0
 IsWhyOfText settings plan text wrote (fault.Plan why) = wrote []

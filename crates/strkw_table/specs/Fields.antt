@@ -1,11 +1,12 @@
 -- The errors of the fields of a file, and the names in its first record.
-use Rattle.std.specs.Prelude.{◌≡◌, ◌<◌, ◌+◌, ℕ, List, [], ◌++◌, Option, Some, None, option_and_then, codes, decimal, map, ⊤}
+use Rattle.std.specs.Prelude.{◌≡◌, ◌<◌, ◌+◌, ℕ, List, [], ◌++◌, Option, Some, None, option_and_then}
+use Rattle.std.specs.Prelude.{codes, decimal, map, ⊤}
 use Rattle.serde_json.specs.Data.{Members, no_members, member}
 use Rattle.serde_json.specs.Find.{get_member, as_object}
 use Rattle.csv.specs.Records.{field_at}
 use Rattle.strkw_report.specs.Kinds.{Report}
 use Rattle.strkw_keywords.specs.Object.{Settings, Errors}
-use Rattle.strkw_cli.specs.Answer.{root_site}
+use Rattle.strkw_report.specs.Standings.{root_site}
 use Rattle.strkw_plan.specs.Messages.{message}
 use Rattle.strkw_table.specs.Rows.{Says}
 
@@ -13,7 +14,8 @@ use Rattle.strkw_table.specs.Rows.{Says}
 abbrev pub schema_named : Members → List ℕ → Option Members
 schema_named schemas name = option_and_then as_object (get_member name schemas)
 
--- the errors of a field by the schema object of its column; none where the column has no schema object
+-- the errors of a field by the schema object of its column; none where the column has no schema
+-- object
 abbrev pub FieldErrors : Settings → Option Members → List ℕ → List Report → Type 0
 FieldErrors s None field reports = reports ≡ []
 FieldErrors s (Some schema) field reports = Errors s schema s.lists root_site (Some field) reports

@@ -1,13 +1,14 @@
 -- The messages about the records of a file. A field is its UTF-8 bytes.
-use Rattle.std.specs.Prelude.{◌≡◌, ℕ, zero, suc, List, [], ◌∷◌, ◌++◌, length, Option, Some, None, slice_get, ⊤}
+use Rattle.std.specs.Prelude.{◌≡◌, ℕ, zero, suc, List, [], ◌∷◌, ◌++◌, length, Option, Some, None}
+use Rattle.std.specs.Prelude.{slice_get, ⊤}
 use Rattle.csv.specs.Records.{field_at}
 use Rattle.strkw_records.specs.declared.place.Place.{Place}
 use Rattle.strkw_records.specs.Limits.{AreWithin}
 use Rattle.strkw_records.specs.declared.limits.Limits.{Limits}
 use Rattle.strkw_records.specs.Records.{LinedRecord, TakesRecord}
 
--- What is said of columns. says column line field messages: these are the messages about a field of the column, in a
--- record that begins on the line.
+-- What is said of columns. says column line field messages: these are the messages about a field of
+-- the column, in a record that begins on the line.
 abbrev pub Says : Type 0 → Type 1
 Says C = C → ℕ → List ℕ → List (List ℕ) → Type 0
 
@@ -47,7 +48,8 @@ HaveShape limits width [] = ⊤
 HaveShape limits width (r ∷ more) = (length r.fields ≡ width) × AreWithin limits r.fields
     × HaveShape limits width more
 
--- these are the first records of a text, which stands at a place; behind them are another place and the rest
+-- these are the first records of a text, which stands at a place; behind them are another place and
+-- the rest
 unfoldable pub AreFirstRecords : Place → List ℕ → List LinedRecord → Place → List ℕ → Type 0
 AreFirstRecords place text [] behind rest = (place ≡ behind) × (text ≡ rest)
 AreFirstRecords place text (r ∷ more) behind rest = (next : Place) × (left : List ℕ)

@@ -14,7 +14,7 @@ use crate::schema_column::SchemaColumn;
 use csv::StringRecord;
 use std::alloc::{AllocError, Global};
 use std::collections::BTreeMap;
-use strkw_cli::StringKeywords;
+use strkw_object::StringKeywords;
 use strkw_pattern::EngineBuilder;
 use strkw_plan::{Plan, PlanFault, PlanKind, Rules, compile_schema};
 

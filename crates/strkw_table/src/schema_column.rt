@@ -8,8 +8,8 @@ ghost use Rattle.strkw_table.specs.Fields.{field_place};
 
 use itoa::Buffer;
 use std::alloc::{AllocError, Global};
-use strkw_cli::StringKeywords;
 use strkw_keywords::Checks;
+use strkw_object::StringKeywords;
 use strkw_pattern::RegexEngine;
 use strkw_plan::{InstancePlace, push_messages, push_shown};
 

@@ -25,7 +25,7 @@ use csv::StringRecord;
 use serde_json::Value;
 use std::alloc::Global;
 use std::io::{Read, Write};
-use strkw_cli::laws::lists_of_compile_are_in_use;
+use strkw_object::laws::lists_of_compile_are_in_use;
 use strkw_pattern::EngineBuilder;
 use strkw_plan::{Limits as PlanLimits, Plan, PlanKind, Rules, plan_in};
 use strkw_records::{Limits, RecordReader};

@@ -11,7 +11,7 @@ use strkw_test_doubles::{ScriptedBuilder, ScriptedEngine};
 
 /// What is compiled of the entry at a keyword. `None` where there is no such entry, or the keyword is left out, or the
 /// draft does not look at it, or it adds nothing.
-pub fn compiled<'a>(
+pub fn compile_entry<'a>(
     alloc: Global,
     ctx: &Context<'_, ScriptedBuilder<'a>>,
     keyword: Keyword,

@@ -6,4 +6,4 @@ mod entry;
 #[cfg(test)]
 mod tests;
 
-pub use entry::compiled;
+pub use entry::compile_entry;

@@ -21,7 +21,8 @@ pub struct ScriptedCheck {
 
 impl ScriptedCheck {
     fn says(&self, text: &str) -> Result<bool, AllocError>
-        ensures { IfOk result (λ b. b ≡ (if self.now.by_length then length (chars text.now) % 2 == 0 else self.now.admits)) }
+        ensures { IfOk result (λ b. b ≡ (if self.now.by_length then length (chars text.now) % 2 == 0
+            else self.now.admits)) }
     {
         if !self.has_memory {
             return Err(AllocError);
@@ -43,7 +44,8 @@ impl Format for ScriptedCheck {
 }
 
 impl MediaTypeCheck for ScriptedCheck {
-    ghost accepted = { λ check text. if check.by_length then length text % 2 == 0 else check.admits };
+    ghost accepted = { λ check text. if check.by_length then length text % 2 == 0
+        else check.admits };
 
     fn accepts(&self, _alloc: Global, value: &str) -> Result<bool, AllocError> {
         self.says(value)
@@ -73,7 +75,8 @@ impl ContentCodec for ScriptedCodec {
 
     ghost encoded = { λ codec _. codec.encodes };
 
-    ghost decoding = { λ codec text. if codec.is_plain then decoded (encode_utf8_all text) else (if codec.is_bytes then no_text else no_encoding) };
+    ghost decoding = { λ codec text. if codec.is_plain then decoded (encode_utf8_all text)
+        else (if codec.is_bytes then no_text else no_encoding) };
 
     fn is_encoded(&self, _alloc: Global, _value: &str) -> Result<bool, AllocError> {
         if !self.has_memory {
@@ -140,7 +143,8 @@ fn has_pattern(rows: &[Row<'_>], pattern: &str) -> bool
 }
 
 fn outcome_in(rows: &[Row<'_>], pattern: &str, text: &str) -> Outcome
-    ensures { result ≡ unwrap_or (option_map (λ r. r.outcome) (find (λ r. bytes_eq r.pattern.now pattern.now
+    ensures { result ≡ unwrap_or (option_map (λ r. r.outcome)
+        (find (λ r. bytes_eq r.pattern.now pattern.now
         && bytes_eq r.text.now text.now) rows.now)) Outcome.NoMatch }
 {
     match rows
@@ -155,7 +159,8 @@ fn outcome_in(rows: &[Row<'_>], pattern: &str, text: &str) -> Outcome
 impl<'a> RegexEngine for ScriptedEngine<'a> {
     ghost use Rattle.strkw_pattern.specs.declared.engine.Outcome.{Outcome};
 
-    ghost outcome = { λ e t. unwrap_or (option_map (λ r. r.outcome) (find (λ r. bytes_eq r.pattern.now (string_bytes e.pattern)
+    ghost outcome = { λ e t. unwrap_or
+        (option_map (λ r. r.outcome) (find (λ r. bytes_eq r.pattern.now (string_bytes e.pattern)
         && bytes_eq r.text.now (encode_utf8_all t)) e.rows.now)) Outcome.NoMatch };
 
     fn is_match(&self, _alloc: Global, text: &str) -> Result<bool, EngineFailure> {
@@ -178,7 +183,8 @@ impl<'a> EngineBuilder for ScriptedBuilder<'a> {
 
     ghost takes = { λ b p. list_any (λ r. bytes_eq r.pattern.now (encode_utf8_all p)) b.rows.now };
 
-    ghost outcome = { λ b p t. unwrap_or (option_map (λ r. r.outcome) (find (λ r. bytes_eq r.pattern.now (encode_utf8_all p)
+    ghost outcome = { λ b p t. unwrap_or
+        (option_map (λ r. r.outcome) (find (λ r. bytes_eq r.pattern.now (encode_utf8_all p)
         && bytes_eq r.text.now (encode_utf8_all t)) b.rows.now)) Outcome.NoMatch };
 
     fn build(&self, alloc: Global, pattern: &str) -> Result<ScriptedEngine<'a>, BuildRefusal> {

@@ -1,5 +1,5 @@
-//! What a caller hands in, for tests: a check, a codec, a builder with its engines, and a node. Each has a script for its
-//! answers, and what it answers is stated.
+//! What a caller hands in, for tests: a check, a codec, a builder with its engines, and a node. Each has a script for
+//! its answers, and what it answers is stated.
 #![tactic(auto)]
 
 mod doubles;

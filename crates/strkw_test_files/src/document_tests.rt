@@ -48,8 +48,9 @@ const BY_DRAFT: Set = Set {
     ..PLAIN
 };
 
-// A plan, what is set, and the messages, or the text of the fault. The format `even` is registered, for texts of an even
-// number of characters, and `date` is, for none; so are the media type `none` and the codec `bytes`, which admit none.
+// A plan, what is set, and the messages, or the text of the fault. The format `even` is registered, for texts of an
+// even number of characters, and `date` is, for none; so are the media type `none` and the codec `bytes`, which admit
+// none.
 fn cases() -> [(&'static str, Set, &'static str); 9] {
     [
         // A format of the caller's own has errors, and one that admits the text has none.
@@ -117,7 +118,7 @@ pub(crate) fn format_of(
 }
 
 // What is told of the document.
-fn told(alloc: Global, rules: &Rules<'_, NoPatterns>, plan: &str) -> Result<String, Fail> {
+fn describe(alloc: Global, rules: &Rules<'_, NoPatterns>, plan: &str) -> Result<String, Fail> {
     let (plan, document) = (json(alloc, plan)?, json(alloc, DOCUMENT)?);
     let mut out = Vec::with_capacity(alloc, 200)?;
     match check_document(alloc, rules, &plan, &document, &mut out) {
@@ -139,7 +140,7 @@ fn are_told(alloc: Global, checks: &Checks<'_>) -> Result<(), Fail> {
             },
             builder: &NoPatterns,
         };
-        if told(alloc, &rules, plan)?.as_str() != wanted {
+        if describe(alloc, &rules, plan)?.as_str() != wanted {
             return Err(Fail::new(plan));
         }
     }

@@ -6,7 +6,7 @@ use std::test::Fail;
 use strkw_plan::{PlanFault, PlanKind, plan_in};
 
 // What the fault of a plan of columns says.
-fn told(alloc: Global, plan: &str) -> Result<String, Fail> {
+fn describe(alloc: Global, plan: &str) -> Result<String, Fail> {
     let plan = json(alloc, plan)?;
     match plan_in(alloc, PlanKind::Columns, &plan) {
         Ok(_) => Err(Fail::new("a plan")),
@@ -41,7 +41,7 @@ fn plan_in_under_refusal(rt: HostRuntime) -> Result<(), Fail> {
             "the schema at /columns/a is no object",
         ),
     ] {
-        if told(alloc, plan)?.as_str() != wanted {
+        if describe(alloc, plan)?.as_str() != wanted {
             return Err(Fail::new(wanted));
         }
     }

@@ -36,7 +36,7 @@ fn fault_text(alloc: Global, fault: &PlanFault) -> Result<String, Fail> {
 }
 
 // What `check_instance` appends, where `require_schema` answers `Ok`.
-fn checked(alloc: Global, schema: &str) -> Result<String, Fail> {
+fn describe(alloc: Global, schema: &str) -> Result<String, Fail> {
     let (schema, rules) = (json(alloc, schema)?, Rules::new(&NoPatterns));
     let (kind, draft) = (PlanKind::Columns, Draft::Draft7);
     if let Err(fault) = require_schema(alloc, &rules, kind, draft, "a", &schema) {
@@ -50,7 +50,7 @@ fn checked(alloc: Global, schema: &str) -> Result<String, Fail> {
 }
 
 // The same by a schema that is compiled once.
-fn checked_by_compiled(alloc: Global, schema: &str) -> Result<String, Fail> {
+fn describe_by_compiled(alloc: Global, schema: &str) -> Result<String, Fail> {
     let (schema, rules) = (json(alloc, schema)?, Rules::new(&NoPatterns));
     let (kind, draft) = (PlanKind::Columns, Draft::Draft7);
     match compile_schema(alloc, &rules, kind, draft, "a", &schema) {
@@ -67,7 +67,7 @@ fn checked_by_compiled(alloc: Global, schema: &str) -> Result<String, Fail> {
 #[test]
 fn check_instance_under_refusal(rt: HostRuntime) -> Result<(), Fail> {
     for (schema, wanted) in cases() {
-        if checked(rt.alloc(), schema)?.as_str() != wanted {
+        if describe(rt.alloc(), schema)?.as_str() != wanted {
             return Err(Fail::new(wanted));
         }
     }
@@ -78,7 +78,7 @@ fn check_instance_under_refusal(rt: HostRuntime) -> Result<(), Fail> {
 #[test]
 fn push_messages_under_refusal(rt: HostRuntime) -> Result<(), Fail> {
     for (schema, wanted) in cases() {
-        if checked_by_compiled(rt.alloc(), schema)?.as_str() != wanted {
+        if describe_by_compiled(rt.alloc(), schema)?.as_str() != wanted {
             return Err(Fail::new(wanted));
         }
     }

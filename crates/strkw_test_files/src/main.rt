@@ -33,21 +33,21 @@ impl Watch for Unwatched {
 
 fn main(rt: HostRuntime) -> io::Result<()> {
     for line in rt.lines(rt.alloc()) {
-        let lines = told(rt.alloc(), line?.as_str())?;
+        let lines = answer(rt.alloc(), line?.as_str())?;
         print!(rt; "{lines}")?;
     }
     Ok(())
 }
 
 // A line, and what is told of the row that it is.
-fn told(alloc: Global, line: &str) -> Result<String, AllocError> {
+fn answer(alloc: Global, line: &str) -> Result<String, AllocError> {
     let mut lines = format!(in alloc; "{line}\n")?;
     if line.is_empty() || line.starts_with('#') {
         return Ok(lines);
     }
     let mut messages = Vec::new(alloc);
     let ended = match Value::from_str(alloc, line) {
-        Ok(row) => ended(alloc, &row, &mut messages)?,
+        Ok(row) => check_row(alloc, &row, &mut messages)?,
         Err(_) => String::from_str(alloc, "no JSON")?,
     };
     lines.push_str(str::from_utf8(&messages).unwrap_or("messages that are not UTF-8\n"))?;
@@ -57,7 +57,7 @@ fn told(alloc: Global, line: &str) -> Result<String, AllocError> {
 }
 
 // How the check of a row ended, with its messages appended.
-fn ended(alloc: Global, row: &Value, messages: &mut Vec<u8>) -> Result<String, AllocError> {
+fn check_row(alloc: Global, row: &Value, messages: &mut Vec<u8>) -> Result<String, AllocError> {
     let Some(plan) = row.get("plan") else {
         return String::from_str(alloc, "no plan");
     };

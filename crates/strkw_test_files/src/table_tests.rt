@@ -12,8 +12,8 @@ use strkw_table::{TableFault, check_table};
 
 const FILE: &str = "a,b\nxxx,xxxx\nxxxx,xxx\n";
 
-// A plan, what is set, and the messages, or the text of the fault. The format `even` is registered, for texts of an even
-// number of characters.
+// A plan, what is set, and the messages, or the text of the fault. The format `even` is registered, for texts of an
+// even number of characters.
 fn cases() -> [(&'static str, Set, &'static str); 5] {
     [
         (
@@ -45,7 +45,7 @@ fn cases() -> [(&'static str, Set, &'static str); 5] {
 }
 
 // What is told of the file.
-fn told(alloc: Global, rules: &Rules<'_, NoPatterns>, plan: &str) -> Result<String, Fail> {
+fn describe(alloc: Global, rules: &Rules<'_, NoPatterns>, plan: &str) -> Result<String, Fail> {
     let plan = json(alloc, plan)?;
     let mut out = Vec::with_capacity(alloc, 200)?;
     match check_table(
@@ -74,7 +74,7 @@ fn are_told(alloc: Global, formats: &[NamedFormat]) -> Result<(), Fail> {
             },
             builder: &NoPatterns,
         };
-        if told(alloc, &rules, plan)?.as_str() != wanted {
+        if describe(alloc, &rules, plan)?.as_str() != wanted {
             return Err(Fail::new(plan));
         }
     }

@@ -1,5 +1,5 @@
-//! The checks, and the reading of a plan, with each growth refused. With ample memory a row has to pass. `tools/refusals.py`
-//! runs it with each growth refused in turn too: then it ends as out of memory.
+//! The checks, and the reading of a plan, with each growth refused. With ample memory a row has to pass.
+//! `tools/refusals.py` runs it with each growth refused in turn too: then it ends as out of memory.
 
 use crate::Unwatched;
 use serde_json::Value;

@@ -10,7 +10,7 @@ use strkw_coding::{
 };
 
 // An answer that two calls agree on.
-fn agreed(one: bool, other: bool) -> Option<bool> {
+fn agreement(one: bool, other: bool) -> Option<bool> {
     if one == other { Some(one) } else { None }
 }
 
@@ -30,12 +30,12 @@ pub fn is_encoded(alloc: Global, of: &str, text: &str) -> Result<Option<bool>, A
     let Some(codec) = Codec::by_name(of) else {
         return Ok(None);
     };
-    Ok(agreed(check(alloc, of, text)?, codec.is_encoded(alloc, text)?))
+    Ok(agreement(check(alloc, of, text)?, codec.is_encoded(alloc, text)?))
 }
 
 /// Whether a text is JSON; `None` where the two checks disagree.
 pub fn is_media(alloc: Global, text: &str) -> Result<Option<bool>, AllocError> {
-    Ok(agreed(
+    Ok(agreement(
         is_json(alloc, text)?,
         BuiltinMediaType::Json.accepts(alloc, text)?,
     ))

@@ -1,6 +1,6 @@
-//! Reads rows, one a line of JSON, each with the answers that are expected of calls of the crates of grammars, encodings,
-//! patterns and reports. Prints under each how many answers are as expected, and which are not; a line that begins with
-//! `#` is copied. The last line counts all. `row.rt` tells what stands in a row.
+//! Reads rows, one a line of JSON, each with the answers that are expected of calls of the crates of grammars,
+//! encodings, patterns and reports. Prints under each how many answers are as expected, and which are not; a line that
+//! begins with `#` is copied. The last line counts all. `row.rt` tells what stands in a row.
 #![tactic(auto)]
 
 mod coding;
@@ -29,7 +29,7 @@ fn main(rt: HostRuntime) -> io::Result<()> {
         if line.is_empty() || line.starts_with('#') {
             print!(rt; "{line}\n")?;
         } else {
-            let lines = told(alloc, line.as_str(), &mut all)?;
+            let lines = answer(alloc, line.as_str(), &mut all)?;
             print!(rt; "{lines}")?;
             rows = rows.wrapping_add(1);
         }
@@ -39,15 +39,15 @@ fn main(rt: HostRuntime) -> io::Result<()> {
 }
 
 // What is told of a row, whose answers are added to all.
-fn told(alloc: Global, line: &str, all: &mut Tally) -> Result<String, AllocError> {
+fn answer(alloc: Global, line: &str, all: &mut Tally) -> Result<String, AllocError> {
     let mut tally = Tally::new(alloc);
     let lines = match Value::from_str(alloc, line) {
         Ok(row) => {
             ask(alloc, &row, &mut tally)?;
             let (what, of) = (row::text(&row, "ask"), row::text(&row, "of"));
-            tally.told(alloc, what, of)?
+            tally.lines(alloc, what, of)?
         }
-        Err(_) => tally.told(alloc, "no JSON", line)?,
+        Err(_) => tally.lines(alloc, "no JSON", line)?,
     };
     all.add(&tally);
     Ok(lines)

@@ -10,7 +10,7 @@ use strkw_pattern::{
 };
 
 // The kind of an analysis, and its texts, with a `·`, which no literal holds, between two of them.
-fn shown(alloc: Global, found: &Option<PatternOptimization>) -> Result<String, AllocError> {
+fn show(alloc: Global, found: &Option<PatternOptimization>) -> Result<String, AllocError> {
     match found {
         None => String::from_str(alloc, "none"),
         Some(PatternOptimization::Prefix(text)) => format!(in alloc; "prefix {text}"),
@@ -36,7 +36,7 @@ fn ask_analysis(
     expected: &str,
     tally: &mut Tally,
 ) -> Result<(), AllocError> {
-    let found = shown(alloc, &analyze_pattern(alloc, pattern)?)?;
+    let found = show(alloc, &analyze_pattern(alloc, pattern)?)?;
     tally.count(alloc, found.as_str() == expected, pattern, &found)
 }
 

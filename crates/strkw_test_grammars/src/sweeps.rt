@@ -16,7 +16,7 @@ pub fn ascii(alloc: Global) -> Result<String, AllocError> {
 }
 
 // What is tried at the places of a row.
-fn tried(alloc: Global, row: &Value) -> Result<String, AllocError> {
+fn tried_characters(alloc: Global, row: &Value) -> Result<String, AllocError> {
     match row.get("tried").and_then(Value::as_str) {
         Some(tried) => String::from_str(alloc, tried),
         None => ascii(alloc),
@@ -25,7 +25,7 @@ fn tried(alloc: Global, row: &Value) -> Result<String, AllocError> {
 
 /// Each character that is tried, at each place of the row.
 pub fn ask_characters(alloc: Global, row: &Value, tally: &mut Tally) -> Result<(), AllocError> {
-    let tried = tried(alloc, row)?;
+    let tried = tried_characters(alloc, row)?;
     for place in items(row, "places") {
         ask_characters_at(alloc, row, place, "", &tried, tally)?;
         for side in items(row, "sides") {

@@ -50,7 +50,7 @@ impl Tally {
     }
 
     /// The lines of a row. One that asked nothing is wrong.
-    pub fn told(&mut self, alloc: Global, what: &str, of: &str) -> Result<String, AllocError> {
+    pub fn lines(&mut self, alloc: Global, what: &str, of: &str) -> Result<String, AllocError> {
         if self.asked == 0 {
             self.count(alloc, false, of, "nothing is asked")?;
         }

@@ -45,7 +45,7 @@ fn plain_number(bytes: &[u8]) -> Option<u16> {
 }
 
 // What the parser of two or of four digits answers. It takes no other number of bytes.
-fn parsed(bytes: &[u8]) -> Option<u16> {
+fn parse_number(bytes: &[u8]) -> Option<u16> {
     match bytes.len() {
         2 => match parse_two_digits(bytes) {
             Some(number) => Some(u16::from(number)),
@@ -67,7 +67,7 @@ pub fn ask_digits(alloc: Global, row: &Value, tally: &mut Tally) -> Result<(), A
                 if let Some(hole) = bytes.get_mut(place) {
                     *hole = byte;
                 }
-                let is_expected = parsed(&bytes) == plain_number(&bytes);
+                let is_expected = parse_number(&bytes) == plain_number(&bytes);
                 tally.count(alloc, is_expected, digits, "another number")?;
             }
         }

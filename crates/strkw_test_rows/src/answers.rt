@@ -56,7 +56,7 @@ pub fn first_error(alloc: Global, verdict: Result<(), Fault>) -> Result<String, 
 }
 
 /// A vector that holds one error, to be lent to `collect_errors`.
-pub fn lent(alloc: Global) -> Result<Vec<ValidationError>, AllocError> {
+pub fn filled(alloc: Global) -> Result<Vec<ValidationError>, AllocError> {
     let site = Site {
         evaluation: Location::root(alloc),
         instance: Location::root(alloc),
@@ -70,7 +70,7 @@ const LENT: &str =
     "    /k: \"lent\" does not decode to UTF-8 text\n      FromUtf8, by /k of \"lent\" at ''\n";
 
 /// The errors that `collect_errors` appended to such a vector, or that it was refused and left the vector as it was.
-pub fn appended(
+pub fn append(
     alloc: Global,
     outcome: Result<(), AllocError>,
     found: &[ValidationError],

@@ -4,9 +4,9 @@ use crate::lists::parts;
 use crate::{entry, object, row, shown};
 use serde_json::{Map, Value};
 use std::alloc::{AllocError, Global};
-use strkw_cli::{StringKeywords, compile_strings};
 use strkw_keywords::{Checks, Context, Uses, Validate, Validator};
-use strkw_test_calls::compiled;
+use strkw_object::{StringKeywords, compile_strings};
+use strkw_test_calls::compile_entry;
 use strkw_test_doubles::{Name, ScriptedBuilder, ScriptedEngine};
 
 /// Appends what is compiled of the object, or of the one entry that the row names, and its answers; and where a pattern
@@ -48,7 +48,7 @@ fn push_entry(
     let Some(keyword) = row::keyword_named(name) else {
         return out.push_str("  no keyword\n");
     };
-    match compiled(alloc, ctx, keyword, schema) {
+    match compile_entry(alloc, ctx, keyword, schema) {
         None => out.push_str("  adds nothing\n"),
         Some(Err(refusal)) => shown::push_refusal(alloc, &refusal, out),
         Some(Ok(validator)) => push_validator(alloc, row, all, &ctx.checks, &validator, out),

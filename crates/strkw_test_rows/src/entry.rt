@@ -1,6 +1,6 @@
 //! The validator of one entry, asked.
 
-use crate::answers::{Answers, appended, first_error, lent, word};
+use crate::answers::{Answers, append, filled, first_error, word};
 use crate::shown::{OUT_OF_MEMORY, errors};
 use std::alloc::{AllocError, Global};
 use strkw_keywords::{Checks, Uses, Validate, Validator};
@@ -62,7 +62,7 @@ fn answers<N: Node>(
     if !validator.uses(checks) {
         return Ok(None);
     }
-    let mut found = lent(alloc)?;
+    let mut found = filled(alloc)?;
     let collected = validator.collect_errors(alloc, node, site, checks, &mut found);
     let (evaluate, notes) = match validator.evaluate(alloc, node, site, checks) {
         Ok(it) => (errors(alloc, &it.errors)?, annotation(alloc, &it)?),
@@ -71,7 +71,7 @@ fn answers<N: Node>(
     Ok(Some(Answers {
         is_valid: word(validator.is_valid(alloc, node, checks)),
         validate: first_error(alloc, validator.validate(alloc, node, site, checks))?,
-        collect_errors: appended(alloc, collected, &found)?,
+        collect_errors: append(alloc, collected, &found)?,
         evaluate,
         notes,
     }))

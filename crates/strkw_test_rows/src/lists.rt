@@ -1,7 +1,7 @@
-//! The caller's rows of a row: `formats`, `media_types` and `codecs`, each an array of a name and a script; which ranges of
-//! them the object is compiled with (`with`, all if it has none) and which are asked whether they are in use (`lent`), each
-//! as the two ends of the three ranges; `patterns`, each a pattern, a text and an outcome; and `out_of_memory`, which
-//! names the builder or its engines.
+//! The caller's rows of a row: `formats`, `media_types` and `codecs`, each an array of a name and a script; which
+//! ranges of them the object is compiled with (`with`, all if it has none) and which are asked whether they are in use
+//! (`lent`), each as the two ends of the three ranges; `patterns`, each a pattern, a text and an outcome; and
+//! `out_of_memory`, which names the builder or its engines.
 
 use crate::asked::push_asked;
 use crate::row;

@@ -22,14 +22,14 @@ fn main(rt: HostRuntime) -> io::Result<()> {
     let tables = tables::lines(alloc)?;
     print!(rt; "{tables}")?;
     for line in rt.lines(alloc) {
-        let lines = told(alloc, line?.as_str())?;
+        let lines = answer(alloc, line?.as_str())?;
         print!(rt; "{lines}")?;
     }
     Ok(())
 }
 
 // A line, and what is answered to the row that it is.
-fn told(alloc: Global, line: &str) -> Result<String, AllocError> {
+fn answer(alloc: Global, line: &str) -> Result<String, AllocError> {
     let mut out = format!(in alloc; "{line}\n")?;
     if line.is_empty() || line.starts_with('#') {
         return Ok(out);

@@ -1,10 +1,10 @@
 //! A whole schema object, compiled and asked.
 
-use crate::answers::{Answers, appended, first_error, lent, word};
+use crate::answers::{Answers, append, filled, first_error, word};
 use crate::shown::{OUT_OF_MEMORY, errors};
 use std::alloc::{AllocError, Global};
-use strkw_cli::{Note, StringKeywords};
 use strkw_keywords::Checks;
+use strkw_object::{Note, StringKeywords};
 use strkw_report::{Node, Site};
 use strkw_test_doubles::ScriptedEngine;
 
@@ -43,7 +43,7 @@ fn answers<N: Node>(
     if !keywords.uses(checks) {
         return Ok(None);
     }
-    let mut found = lent(alloc)?;
+    let mut found = filled(alloc)?;
     let collected = keywords.collect_errors(alloc, node, site, checks, &mut found);
     let (evaluate, notes) = match keywords.evaluate(alloc, node, site, checks) {
         Ok(it) => (errors(alloc, &it.errors)?, notes_of(alloc, &it.notes)?),
@@ -52,7 +52,7 @@ fn answers<N: Node>(
     Ok(Some(Answers {
         is_valid: word(keywords.is_valid(alloc, node, checks)),
         validate: first_error(alloc, keywords.validate(alloc, node, site, checks))?,
-        collect_errors: appended(alloc, collected, &found)?,
+        collect_errors: append(alloc, collected, &found)?,
         evaluate,
         notes,
     }))

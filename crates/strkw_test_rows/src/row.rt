@@ -4,9 +4,8 @@
 
 use serde_json::Value;
 use std::alloc::{AllocError, Global};
-use strkw_cli::draft_in;
 use strkw_keywords::{Keyword, Options};
-use strkw_report::{Draft, Location, Site};
+use strkw_report::{Draft, Location, Site, draft_in};
 
 /// The items at a key, none where there is no array.
 pub fn items<'v>(row: &'v Value, key: &str) -> &'v [Value] {

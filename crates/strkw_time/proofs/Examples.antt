@@ -11,6 +11,7 @@ use Rattle.strkw_time.specs.Duration.{Amount, IsDuration}
 use Rattle.strkw_time.proofs.Dates.{full_date_at}
 use Rattle.strkw_time.proofs.Times.{full_time_spelled}
 
+-- the text `2020-01-01` is a full-date
 pub date_example : IsFullDate (codes "2020-01-01")
 date_example = record {
   year = 2020;
@@ -28,12 +29,15 @@ date_example = record {
   day_fits = (omega arith, omega arith);
 }
 
+-- both characters of `00` are decimal digits
 two_zeros : AllDigits 10 (codes "00")
 two_zeros = (omega arith, (omega arith, tt))
 
+-- before `Z` an optional fraction may be left out
 no_fraction : StartsWith (Optional TimeSecfrac) (codes "Z") (codes "Z")
 no_fraction = record { front = []; is = inl refl; joined = refl }
 
+-- the text `00:00:00Z` is a full-time
 pub time_example : IsFullTime (codes "00:00:00Z")
 time_example = record {
   hour = 0;
@@ -48,11 +52,15 @@ time_example = record {
   leap_second = λ e. absurd (omega arith);
 }
 
+-- the text `2020-01-01T00:00:00Z` is a date-time
 pub datetime_example : IsDateTime (codes "2020-01-01T00:00:00Z")
-datetime_example = then (codes "2020-01-01") (codes "T00:00:00Z") (codes "2020-01-01T00:00:00Z") date_example (then (codes "T") (codes "00:00:00Z") (codes "T00:00:00Z") (inl refl) time_example refl) refl
+datetime_example = then (codes "2020-01-01") (codes "T00:00:00Z") (codes "2020-01-01T00:00:00Z") date_example
+    (then (codes "T") (codes "00:00:00Z") (codes "T00:00:00Z") (inl refl) time_example refl) refl
 
+-- `1D` is an amount of days
 one_day : Amount 68 (codes "1D")
 one_day = then (codes "1") (codes "D") (codes "1D") ((digits_numeral (codes "1")).1 (omega arith, (omega arith, tt))) refl refl
 
+-- the text `P1D` is a duration
 pub duration_example : IsDuration (codes "P1D")
 duration_example = then (codes "P") (codes "1D") (codes "P1D") refl (inl (then (codes "1D") [] (codes "1D") (inl one_day) (inl refl) refl)) refl

@@ -1,6 +1,7 @@
 -- Dates and times, RFC 3339 section 5.6: its rules, and beside them its restrictions.
 -- "T" and "Z" may stand in lower case there, as its note says.
-use Rattle.std.specs.Prelude.{◌≡◌, ℕ, ◌+◌, ◌*◌, ◌%◌, ◌≤◌, ◌⊎◌, Bool, ◌&&◌, ◌||◌, not, List, [], ◌∷◌, codes, ◌==◌, if◌then◌else◌, ℤ, pos, neg_ℤ, ◌-ℤ◌}
+use Rattle.std.specs.Prelude.{◌≡◌, ℕ, ◌+◌, ◌*◌, ◌%◌, ◌≤◌, ◌⊎◌, Bool, ◌&&◌, ◌||◌, not, List, [], ◌∷◌}
+use Rattle.std.specs.Prelude.{codes, ◌==◌, if◌then◌else◌, ℤ, pos, neg_ℤ, ◌-ℤ◌}
 use Rattle.std.specs.Str.{byte}
 use Rattle.std.specs.Int.{int_rem_euclid}
 use Rattle.strkw_text.specs.Abnf.{Form, ◌⨾◌, ◌∣◌, Literal, Optional, Repeat1}
@@ -31,7 +32,8 @@ DateMday day = Number 2 day
 
 -- full-date = date-fullyear "-" date-month "-" date-mday
 abbrev pub FullDate : ℕ → ℕ → ℕ → Form
-FullDate year month day = DateFullyear year ⨾ Literal (codes "-") ⨾ DateMonth month ⨾ Literal (codes "-") ⨾ DateMday day
+FullDate year month day = DateFullyear year ⨾ Literal (codes "-") ⨾ DateMonth month
+    ⨾ Literal (codes "-") ⨾ DateMday day
 
 pub record IsFullDate (text : List ℕ) : Type 0 where
   pub year : ℕ
@@ -65,15 +67,18 @@ pub record IsTimeNumoffset (offset : ℤ) (text : List ℕ) : Type 0 where
   pub spelled : (Literal (sign ∷ []) ⨾ TimeHour hour ⨾ Literal (codes ":") ⨾ TimeMinute minute) text
   pub hour_fits : hour ≤ 23
   pub minute_fits : minute ≤ 59
-  pub minutes_east : ((sign ≡ byte "+") × (offset ≡ pos (60 * hour + minute))) ⊎ ((sign ≡ byte "-") × (offset ≡ neg_ℤ (pos (60 * hour + minute))))
+  pub minutes_east : ((sign ≡ byte "+") × (offset ≡ pos (60 * hour + minute)))
+      ⊎ ((sign ≡ byte "-") × (offset ≡ neg_ℤ (pos (60 * hour + minute))))
 
 -- time-offset = "Z" / time-numoffset, of so many minutes east of UTC
 abbrev pub IsTimeOffset : ℤ → Form
-IsTimeOffset offset text = ((Literal (codes "Z") ∣ Literal (codes "z")) text × (offset ≡ pos 0)) ⊎ IsTimeNumoffset offset text
+IsTimeOffset offset text = ((Literal (codes "Z") ∣ Literal (codes "z")) text × (offset ≡ pos 0))
+    ⊎ IsTimeNumoffset offset text
 
 -- partial-time = time-hour ":" time-minute ":" time-second [time-secfrac]
 abbrev pub PartialTime : ℕ → ℕ → ℕ → Form
-PartialTime hour minute second = TimeHour hour ⨾ Literal (codes ":") ⨾ TimeMinute minute ⨾ Literal (codes ":") ⨾ TimeSecond second ⨾ Optional TimeSecfrac
+PartialTime hour minute second = TimeHour hour ⨾ Literal (codes ":") ⨾ TimeMinute minute
+    ⨾ Literal (codes ":") ⨾ TimeSecond second ⨾ Optional TimeSecfrac
 
 -- full-time = partial-time time-offset
 pub record IsFullTime (text : List ℕ) : Type 0 where
@@ -85,8 +90,10 @@ pub record IsFullTime (text : List ℕ) : Type 0 where
   pub hour_fits : hour ≤ 23
   pub minute_fits : minute ≤ 59
   pub second_fits : second ≤ 60
-  -- appendix D: a leap second is the last of a day of UTC, 23:59:60Z. Section 5.7 has it only in months that have one, here in any
-  pub leap_second : second ≡ 60 → int_rem_euclid (pos (60 * hour + minute) -ℤ offset) (pos 1440) ≡ pos 1439
+  -- appendix D: a leap second is the last of a day of UTC, 23:59:60Z. Section 5.7 has it only in
+  -- months that have one, here in any
+  pub leap_second : second ≡ 60 → int_rem_euclid (pos (60 * hour + minute) -ℤ offset) (pos 1440)
+      ≡ pos 1439
 
 -- date-time = full-date "T" full-time
 abbrev pub IsDateTime : Form

@@ -8,8 +8,8 @@ use crate::time::is_full_time;
 
 /// Whether the text is a date, `T` and a time: `date-time` of RFC 3339, section 5.6, as in `2020-01-01T00:00:00Z`.
 ///
-/// `t` may stand for `T`, and no other separator. A leap second may end any day of UTC, as in `2021-02-15T23:59:60Z`, where
-/// section 5.7 has second 60 only at the end of months for which one was announced.
+/// `t` may stand for `T`, and no other separator. A leap second may end any day of UTC, as in `2021-02-15T23:59:60Z`,
+/// where section 5.7 has second 60 only at the end of months for which one was announced.
 pub fn is_valid_datetime(datetime: &str) -> bool
     ensures { IsTrue result ↔ IsDateTime (chars datetime.now) }
 {

@@ -1,7 +1,7 @@
 //! Decimal digits, all bytes tested at once in one word.
 //!
-//! A byte is an ASCII digit exactly where its upper half is 3 and stays 3 when 6 is added. The bytes are tested less 0x30,
-//! which leaves the value of a digit: then the upper half is 0 and stays 0.
+//! A byte is an ASCII digit exactly where its upper half is 3 and stays 3 when 6 is added. The bytes are tested less
+//! 0x30, which leaves the value of a digit: then the upper half is 0 and stays 0.
 ghost use Rattle.std.specs.Prelude.{◌≡◌, length, SomeIff};
 ghost use Rattle.std.specs.Str.Parse.{AllDigits, digits_value};
 

@@ -112,7 +112,8 @@ fn is_dur_second(bytes: &[u8]) -> bool
 /// The letter of the unit of the amount at the front, and what follows it.
 fn split_amount(bytes: &[u8]) -> Option<(u8, &[u8])>
     ensures some { IfSome result (λ amount. AmountThen amount.0 bytes.now amount.1.now) }
-    ensures none { IfNone result ((unit : ℕ) → (rest : List ℕ) → AmountThen unit bytes.now rest → ⊥) }
+    ensures none { IfNone result ((unit : ℕ) → (rest : List ℕ) → AmountThen unit bytes.now rest
+        → ⊥) }
 {
     let (digits, rest) = split_digits(bytes);
     if digits.len() == 0 {

@@ -1,4 +1,5 @@
-//! Laws over the definitions that the calls of this crate name. Each function has an empty body, and its clause is the law.
+//! Laws over the definitions that the calls of this crate name. Each function has an empty body, and its clause is the
+//! law.
 ghost use Rattle.std.specs.Prelude.{◌≡◌, ◌==◌, ◌%◌, ◌&&◌, ◌||◌, not, true, false, ℕ, codes};
 ghost use Rattle.strkw_text.specs.Bounds.{DerivesAtLeast, DerivesLength};
 ghost use Rattle.strkw_time.specs.Duration.{IsDuration};

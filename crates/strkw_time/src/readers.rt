@@ -6,7 +6,8 @@ ghost use Rattle.strkw_time.specs.Readers.{StartsWithNoDigit};
 
 /// What follows the byte, where it stands first.
 pub(crate) fn after_byte(bytes: &[u8], wanted: u8) -> Option<&[u8]>
-    ensures { MatchOption result (NotFirst wanted bytes.now) (λ rest. bytes.now ≡ wanted ∷ rest.now) }
+    ensures { MatchOption result (NotFirst wanted bytes.now)
+        (λ rest. bytes.now ≡ wanted ∷ rest.now) }
 {
     if bytes.len() == 0 {
         return None;

@@ -12,10 +12,10 @@ use crate::readers::{after_byte, split_digits};
 
 /// Whether the text is a time of day with its offset, `full-time` of RFC 3339, section 5.6, as in `12:30:45.123Z`.
 ///
-/// Hours are 00 to 23, minutes 00 to 59, seconds 00 to 60, with any fraction of one digit or more; the offset is `Z`, `z`,
-/// or a sign with 00:00 to 23:59 (`-00:00` too). Second 60 is a leap second, and stands only in the last minute of a day of
-/// UTC (`00:29:60+00:30`). It may be any day: section 5.7 has leap seconds only at the end of months for which one was
-/// announced, and no list of those is kept here.
+/// Hours are 00 to 23, minutes 00 to 59, seconds 00 to 60, with any fraction of one digit or more; the offset is `Z`,
+/// `z`, or a sign with 00:00 to 23:59 (`-00:00` too). Second 60 is a leap second, and stands only in the last minute of
+/// a day of UTC (`00:29:60+00:30`). It may be any day: section 5.7 has leap seconds only at the end of months for which
+/// one was announced, and no list of those is kept here.
 pub fn is_valid_time(time: &str) -> bool
     ensures { IsTrue result ↔ IsFullTime (chars time.now) }
 {
@@ -68,7 +68,8 @@ fn is_last_minute(hour: u8, minute: u8, offset: i32) -> bool
 /// What follows the fraction of a second, if there is one: `None` for a point without digits.
 fn after_fraction(bytes: &[u8]) -> Option<&[u8]>
     ensures some { IfSome result (λ rest. StartsWith (Optional TimeSecfrac) bytes.now rest.now) }
-    ensures ends { (rest : List ℕ) → StartsWith (Optional TimeSecfrac) bytes.now rest → EndsSecfrac rest
+    ensures ends { (rest : List ℕ) → StartsWith (Optional TimeSecfrac) bytes.now rest
+        → EndsSecfrac rest
         → IsSomeAnd result (λ r. r.now ≡ rest) }
 {
     let Some(after) = after_byte(bytes, b'.') else {

@@ -20,16 +20,20 @@ pub record HostRun (class : ℕ → Bool) (text : List ℕ) : Type 0 where
   pub no_at : NotFirst 64 rest
 
 module _ (class : ℕ → Bool) (pc : class 37 ≡ false) (at : class 64 ≡ false) (H : Form) (shape : (x : List ℕ) → H x → HostRun class x) where
+  -- a run of the class and "@", or neither, and then an H
   abbrev WithUserinfo : Form
   WithUserinfo = Optional (Repeat (Encoded class) ⨾ Literal (64 ∷ [])) ⨾ H
 
+  -- an "@" and an H begin with no character of the class or percent-encoding
   stops : (x : List ℕ) → (Literal (64 ∷ []) ⨾ H) x → StartsWithNo (Encoded class) x
   stops = literal_ind (StartsWithNo (Encoded class)) 64 H (stops_at class 64 at refl)
 
   -- behind the run of a userinfo
   past : (text rest : List ℕ) → RunThen (Encoded class) text rest → ((Repeat (Encoded class) ⨾ Literal (64 ∷ [])) ⨾ H) text ↔ (Literal (64 ∷ []) ⨾ H) rest
-  past text rest r = iff_trans (assoc (Repeat (Encoded class)) (Literal (64 ∷ [])) H text) (run_then (Encoded class) (Literal (64 ∷ []) ⨾ H) text rest (encoded_free class pc) stops r)
+  past text rest r = iff_trans (assoc (Repeat (Encoded class)) (Literal (64 ∷ [])) H text)
+      (run_then (Encoded class) (Literal (64 ∷ []) ⨾ H) text rest (encoded_free class pc) stops r)
 
+  -- with "@" behind the run, a text is `WithUserinfo` exactly where an H follows it
   pub userinfo_at : (text rest host : List ℕ) → RunThen (Encoded class) text rest → rest ≡ 64 ∷ host → WithUserinfo text ↔ H host
   userinfo_at text rest host r e =
       let i = iff_trans (past text rest r) (literal_at H 64 rest host e) in
@@ -41,19 +45,23 @@ module _ (class : ℕ → Bool) (pc : class 37 ≡ false) (at : class 64 ≡ fal
         λ h. j.1 (inl (i.1 h)),
       )
 
+  -- with none there, exactly where all of the text is an H
   pub userinfo_off : (text rest : List ℕ) → RunThen (Encoded class) text rest → NotFirst 64 rest → WithUserinfo text ↔ H text
   userinfo_off text rest r n =
       let j = optional_then (Repeat (Encoded class) ⨾ Literal (64 ∷ [])) H text in
       (λ h. elim (j.0 h) [ inl q ↦ absurd (literal_not H 64 rest n ((past text rest r).0 q)) | inr b ↦ b ], λ h. j.1 (inr h))
 
+-- an authority, a path, a query and a fragment are grouped in either way
 pub authority_regroup : (K : Alphabet) (text : List ℕ) → ((Authority K ⨾ PathAbempty K) ⨾ QueryAndFragment K) text ↔ AuthorityAndTail K text
 authority_regroup K text =
     iff_trans (assoc (Authority K) (PathAbempty K) (QueryAndFragment K) text)
     (assoc3 (Optional (Userinfo K ⨾ Literal (codes "@"))) (Host K) (Optional (Literal (codes ":") ⨾ Port)) (PathAndTail K) text)
 
 -- where no character of a name stands, one of a userinfo is a colon
-pub userinfo_stops : (K : Alphabet) (text : List ℕ) → StartsWithNo (Encoded (is_reg_name_char K)) text → NotFirst 58 text → StartsWithNo (Encoded (is_userinfo_char K)) text
-userinfo_stops K text stops other = no_start_either (OneOf (is_userinfo_char K)) PctEncoded text one (λ y f. stops y (start_right (OneOf (is_reg_name_char K)) PctEncoded text y f))
+pub userinfo_stops : (K : Alphabet) (text : List ℕ) → StartsWithNo (Encoded (is_reg_name_char K)) text → NotFirst 58 text
+    → StartsWithNo (Encoded (is_userinfo_char K)) text
+userinfo_stops K text stops other = no_start_either (OneOf (is_userinfo_char K)) PctEncoded text one
+    (λ y f. stops y (start_right (OneOf (is_reg_name_char K)) PctEncoded text y f))
   where
     one : StartsWithNo (OneOf (is_userinfo_char K)) text
     one y f = by_class (is_reg_name_char K c) refl

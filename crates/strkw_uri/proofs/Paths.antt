@@ -14,29 +14,36 @@ use Rattle.strkw_uri.proofs.Encodings.{Encoded-weaker}
 abbrev pub Slashes : (ℕ → Bool) → Form
 Slashes p = Repeat (Literal (47 ∷ []) ⨾ Repeat (Encoded p))
 
+-- where a or b holds and a does not, b does
 pub or_other : (a b : Bool) → IsTrue (a || b) → a ≡ false → IsTrue b
 or_other true b h e = cc
 or_other false b h e = h
 
 module _ (p : ℕ → Bool) where
+  -- the class with the slash
   abbrev q : ℕ → Bool
   q = or_slash p
 
+  -- a character of the class is of the class with the slash
   wider : (c : ℕ) → IsTrue (p c) → IsTrue (q c)
   wider c h = or_left (p c) (c == 47) h
 
+  -- the slash is of the class with the slash
   slash : IsTrue (q 47)
   slash = or_right (p 47) true refl
 
+  -- what is of it but not of the class is the slash
   only : (c : ℕ) → IsTrue (q c) → p c ≡ false → c ≡ 47
   only c h e = eqb-true c 47 (or_other (p c) (c == 47) h e)
 
+  -- segments, each behind a slash, are a run of the class with the slash
   slashes_in : (ps : List (List ℕ)) → AllByRecursion (Literal (47 ∷ []) ⨾ Repeat (Encoded p)) ps → Repeat (Encoded q) (concat ps)
   slashes_in [] h = Repeat-nil (Encoded q)
   slashes_in (s ∷ ps) h =
       let segment : Repeat (Encoded q) h.0.back = Repeat-weaker (Encoded p) (Encoded q) (Encoded-weaker p q wider) h.0.back h.0.second in
       let whole : 47 ∷ h.0.back ≡ s = ap (λ t. t ++ h.0.back) (sym h.0.first) ∙ h.0.joined in
-      Repeat-append (Encoded q) s (concat ps) (subst (Repeat (Encoded q)) whole (Repeat-cons (Encoded q) (47 ∷ []) h.0.back (inl (one_of q 47 slash)) segment)) (slashes_in ps h.1)
+      Repeat-append (Encoded q) s (concat ps) (subst (Repeat (Encoded q)) whole (Repeat-cons (Encoded q) (47 ∷ []) h.0.back (inl (one_of q 47 slash)) segment))
+      (slashes_in ps h.1)
 
   -- one more at the front of a segment and what follows it
   more : (s t : List ℕ) → Encoded q s → (Repeat (Encoded p) ⨾ Slashes p) t → (Repeat (Encoded p) ⨾ Slashes p) (s ++ t)
@@ -55,6 +62,7 @@ module _ (p : ℕ → Bool) where
           then [] (s ++ t) (s ++ t) (Repeat-nil (Encoded p))
           (subst (Slashes p) rest (Repeat-cons (Literal (47 ∷ []) ⨾ Repeat (Encoded p)) (s ++ h.front) h.back segment h.second)) refl
 
+  -- a run of the class with the slash is a segment, and segments behind slashes
   slashes_out : (ps : List (List ℕ)) → AllByRecursion (Encoded q) ps → (Repeat (Encoded p) ⨾ Slashes p) (concat ps)
   slashes_out [] h = then [] [] [] (Repeat-nil (Encoded p)) (Repeat-nil (Literal (47 ∷ []) ⨾ Repeat (Encoded p))) refl
   slashes_out (s ∷ ps) h = more s (concat ps) h.0 (slashes_out ps h.1)
@@ -70,7 +78,8 @@ module _ (p : ℕ → Bool) where
 
   -- a segment, *( "/" segment ) and B
   pub segments_then : (B : Form) (text : List ℕ) → (Repeat (Encoded p) ⨾ Slashes p ⨾ B) text ↔ (Repeat (Encoded q) ⨾ B) text
-  segments_then B text = iff_trans (iff_sym (assoc (Repeat (Encoded p)) (Slashes p) B text)) (front_cong (Repeat (Encoded p) ⨾ Slashes p) (Repeat (Encoded q)) B text segments)
+  segments_then B text = iff_trans (iff_sym (assoc (Repeat (Encoded p)) (Slashes p) B text))
+      (front_cong (Repeat (Encoded p) ⨾ Slashes p) (Repeat (Encoded q)) B text segments)
 
   -- *( "/" segment ) and B, where the text begins with a slash
   pub slashes_at : (B : Form) (text after : List ℕ) → text ≡ 47 ∷ after → (B text → ⊥) → (Slashes p ⨾ B) text ↔ (Repeat (Encoded q) ⨾ B) after

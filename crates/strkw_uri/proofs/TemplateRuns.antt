@@ -14,6 +14,7 @@ use Rattle.strkw_uri.proofs.AsciiRuns.{implied, part_small}
 use Rattle.strkw_uri.proofs.Encodings.{Encoded-weaker}
 use Rattle.strkw_uri.proofs.Expressions.{literal_front, template_step}
 
+-- a character of a query by RFC 3986 is a literal character of a template
 query_is_literal : (c : ℕ) → IsTrue (is_part_char Rfc3986 QueryChar c) → IsTrue (is_literal_char c)
 query_is_literal c h =
     let all = agree_below_at (λ d. not (is_part_char Rfc3986 QueryChar d) || is_literal_char d) (λ _. true) 128 c refl (part_small QueryChar c h) in
@@ -23,7 +24,8 @@ query_is_literal c h =
 pub template_run : (text rest : List ℕ) → StartsWith (Repeat (Encoded (is_part_char Rfc3986 QueryChar))) text rest → IsUriTemplate text ↔ IsUriTemplate rest
 template_run text rest run = go run.is.parts run.is.each text (ap (λ s. s ++ rest) run.is.joined ∙ run.joined)
   where
-    go : (ps : List (List ℕ)) → AllByRecursion (Encoded (is_part_char Rfc3986 QueryChar)) ps → (whole : List ℕ) → concat ps ++ rest ≡ whole → IsUriTemplate whole ↔ IsUriTemplate rest
+    go : (ps : List (List ℕ)) → AllByRecursion (Encoded (is_part_char Rfc3986 QueryChar)) ps → (whole : List ℕ) → concat ps ++ rest ≡ whole
+        → IsUriTemplate whole ↔ IsUriTemplate rest
     go [] each whole e = (λ t. subst IsUriTemplate (sym e) t, λ t. subst IsUriTemplate e t)
     go (p ∷ ps) each whole e =
         let first = Encoded-weaker (is_part_char Rfc3986 QueryChar) is_literal_char query_is_literal p each.0 in

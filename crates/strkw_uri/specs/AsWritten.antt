@@ -1,5 +1,6 @@
--- The characters of the rules as the standards write them, alternative by alternative and range by range. The laws say that
--- the classes of `Characters`, `Template` and `Pointer`, which gather them, are the same.
+-- The characters of the rules as the standards write them, alternative by alternative and range by
+-- range. The laws say that the classes of `Characters`, `Template` and `Pointer`, which gather
+-- them, are the same.
 use Rattle.std.specs.Prelude.{ℕ, Bool, ◌||◌, ◌==◌, List, [], ◌∷◌}
 use Rattle.std.specs.List.{list_any}
 use Rattle.std.specs.Str.{byte}
@@ -14,22 +15,27 @@ alpha_as_written c = is_from_to 0x41 0x5A c || is_from_to 0x61 0x7A c
 abbrev pub digit_as_written : ℕ → Bool
 digit_as_written c = is_from_to 0x30 0x39 c
 
--- RFC 5234 appendix B.1: HEXDIG = DIGIT / "A" / "B" / "C" / "D" / "E" / "F", the letters in either case (section 2.3)
+-- RFC 5234 appendix B.1: HEXDIG = DIGIT / "A" / "B" / "C" / "D" / "E" / "F", the letters in either
+-- case (section 2.3)
 abbrev pub hexdig_as_written : ℕ → Bool
 hexdig_as_written c = digit_as_written c || is_from_to 0x41 0x46 c || is_from_to 0x61 0x66 c
 
 -- RFC 3986 section 2.3: unreserved = ALPHA / DIGIT / "-" / "." / "_" / "~"
 abbrev pub unreserved_as_written : ℕ → Bool
-unreserved_as_written c = alpha_as_written c || digit_as_written c || c == byte "-" || c == byte "." || c == byte "_" || c == byte "~"
+unreserved_as_written c = alpha_as_written c || digit_as_written c || c == byte "-" || c == byte "."
+    || c == byte "_" || c == byte "~"
 
 -- RFC 3986 section 2.2: gen-delims = ":" / "/" / "?" / "#" / "[" / "]" / "@"
 abbrev pub gen_delims_as_written : ℕ → Bool
-gen_delims_as_written c = c == byte ":" || c == byte "/" || c == byte "?" || c == byte "#" || c == byte "[" || c == byte "]" || c == byte "@"
+gen_delims_as_written c = c == byte ":" || c == byte "/" || c == byte "?" || c == byte "#"
+    || c == byte "[" || c == byte "]" || c == byte "@"
 
--- RFC 3986 section 2.2: sub-delims = "!" / "$" / "&" / "'" / "(" / ")" / "*" / "+" / "," / ";" / "="
+-- RFC 3986 section 2.2: sub-delims = "!" / "$" / "&" / "'" / "(" / ")" / "*" / "+" / "," / ";" /
+-- "="
 abbrev pub sub_delims_as_written : ℕ → Bool
 sub_delims_as_written c =
-    c == byte "!" || c == byte "$" || c == byte "&" || c == byte "'" || c == byte "(" || c == byte ")"
+    c == byte "!" || c == byte "$" || c == byte "&" || c == byte "'" || c == byte "("
+    || c == byte ")"
     || c == byte "*" || c == byte "+" || c == byte "," || c == byte ";" || c == byte "="
 
 -- one of the ranges, both ends included
@@ -53,14 +59,16 @@ iprivate_as_written = (0xE000, 0xF8FF) ∷ (0xF0000, 0xFFFFD) ∷ (0x100000, 0x1
 -- RFC 6570 section 2.1: literals, up to ucschar
 abbrev pub ascii_literals_as_written : ℕ → Bool
 ascii_literals_as_written c =
-    c == 0x21 || is_from_to 0x23 0x24 c || c == 0x26 || is_from_to 0x28 0x3B c || c == 0x3D || is_from_to 0x3F 0x5B c
+    c == 0x21 || is_from_to 0x23 0x24 c || c == 0x26 || is_from_to 0x28 0x3B c || c == 0x3D
+    || is_from_to 0x3F 0x5B c
     || c == 0x5D || c == 0x5F || is_from_to 0x61 0x7A c || c == 0x7E
 
 -- and with ucschar and iprivate, but without pct-encoded, which is no single character
 abbrev pub literals_as_written : ℕ → Bool
 literals_as_written c = ascii_literals_as_written c || is_ucschar c || is_iprivate c
 
--- RFC 6570 section 2.2: op-level2 = "+" / "#", op-level3 = "." / "/" / ";" / "?" / "&", op-reserve = "=" / "," / "!" / "@" / "|"
+-- RFC 6570 section 2.2: op-level2 = "+" / "#", op-level3 = "." / "/" / ";" / "?" / "&", op-reserve
+-- = "=" / "," / "!" / "@" / "|"
 abbrev pub operator_as_written : ℕ → Bool
 operator_as_written c =
     (c == byte "+" || c == byte "#")
@@ -69,4 +77,5 @@ operator_as_written c =
 
 -- RFC 6901 section 3: unescaped = %x00-2E / %x30-7D / %x7F-10FFFF
 abbrev pub unescaped_as_written : ℕ → Bool
-unescaped_as_written c = is_from_to 0x00 0x2E c || is_from_to 0x30 0x7D c || is_from_to 0x7F 0x10FFFF c
+unescaped_as_written c = is_from_to 0x00 0x2E c || is_from_to 0x30 0x7D c
+    || is_from_to 0x7F 0x10FFFF c

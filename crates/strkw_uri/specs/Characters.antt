@@ -1,4 +1,5 @@
--- The classes of characters of URIs and IRIs: RFC 3986 appendix A, RFC 3987 section 2.2. Above each class stands its rule.
+-- The classes of characters of URIs and IRIs: RFC 3986 appendix A, RFC 3987 section 2.2. Above each
+-- class stands its rule.
 use Rattle.std.specs.Prelude.{ℕ, Bool, false, ◌||◌, ◌==◌, codes}
 use Rattle.std.specs.Str.{byte}
 use Rattle.std.specs.Char.{is_ascii_alphanumeric}
@@ -20,16 +21,21 @@ is_scheme_char c = is_ascii_alphanumeric c || is_one_of (codes "+-.") c
 abbrev pub is_ucschar : ℕ → Bool
 is_ucschar c =
     is_from_to 0xA0 0xD7FF c || is_from_to 0xF900 0xFDCF c || is_from_to 0xFDF0 0xFFEF c
-    || is_from_to 0x10000 0x1FFFD c || is_from_to 0x20000 0x2FFFD c || is_from_to 0x30000 0x3FFFD c || is_from_to 0x40000 0x4FFFD c
-    || is_from_to 0x50000 0x5FFFD c || is_from_to 0x60000 0x6FFFD c || is_from_to 0x70000 0x7FFFD c || is_from_to 0x80000 0x8FFFD c
-    || is_from_to 0x90000 0x9FFFD c || is_from_to 0xA0000 0xAFFFD c || is_from_to 0xB0000 0xBFFFD c || is_from_to 0xC0000 0xCFFFD c
+    || is_from_to 0x10000 0x1FFFD c || is_from_to 0x20000 0x2FFFD c || is_from_to 0x30000 0x3FFFD c
+    || is_from_to 0x40000 0x4FFFD c
+    || is_from_to 0x50000 0x5FFFD c || is_from_to 0x60000 0x6FFFD c || is_from_to 0x70000 0x7FFFD c
+    || is_from_to 0x80000 0x8FFFD c
+    || is_from_to 0x90000 0x9FFFD c || is_from_to 0xA0000 0xAFFFD c || is_from_to 0xB0000 0xBFFFD c
+    || is_from_to 0xC0000 0xCFFFD c
     || is_from_to 0xD0000 0xDFFFD c || is_from_to 0xE1000 0xEFFFD c
 
 -- iprivate = %xE000-F8FF / %xF0000-FFFFD / %x100000-10FFFD
 abbrev pub is_iprivate : ℕ → Bool
-is_iprivate c = is_from_to 0xE000 0xF8FF c || is_from_to 0xF0000 0xFFFFD c || is_from_to 0x100000 0x10FFFD c
+is_iprivate c = is_from_to 0xE000 0xF8FF c || is_from_to 0xF0000 0xFFFFD c
+    || is_from_to 0x100000 0x10FFFD c
 
--- What URIs and IRIs differ in: the unreserved characters, and what a query may hold beside the others.
+-- What URIs and IRIs differ in: the unreserved characters, and what a query may hold beside the
+-- others.
 pub record Alphabet : Type 0 where
   pub unreserved : ℕ → Bool
   pub private : ℕ → Bool

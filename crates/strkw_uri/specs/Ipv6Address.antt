@@ -1,5 +1,5 @@
--- IPv6address as RFC 3986 section 3.2.2 writes it, in nine alternatives. A law says that it derives what `IsIpv6` derives,
--- which counts groups.
+-- IPv6address as RFC 3986 section 3.2.2 writes it, in nine alternatives. A law says that it derives
+-- what `IsIpv6` derives, which counts groups.
 use Rattle.std.specs.Prelude.{codes}
 use Rattle.strkw_text.specs.Abnf.{Form, ◌⨾◌, ◌∣◌, Literal, Optional, Times, Exactly}
 use Rattle.strkw_net.specs.Addresses.{IsIpv4, H16}
@@ -26,8 +26,10 @@ Ipv6Address =
     Exactly 6 GroupAndColon ⨾ Ls32
     ∣ Literal (codes "::") ⨾ Exactly 5 GroupAndColon ⨾ Ls32
     ∣ Optional H16 ⨾ Literal (codes "::") ⨾ Exactly 4 GroupAndColon ⨾ Ls32
-    ∣ Optional (Times 0 1 GroupAndColon ⨾ H16) ⨾ Literal (codes "::") ⨾ Exactly 3 GroupAndColon ⨾ Ls32
-    ∣ Optional (Times 0 2 GroupAndColon ⨾ H16) ⨾ Literal (codes "::") ⨾ Exactly 2 GroupAndColon ⨾ Ls32
+    ∣ Optional (Times 0 1 GroupAndColon ⨾ H16) ⨾ Literal (codes "::") ⨾ Exactly 3 GroupAndColon
+    ⨾ Ls32
+    ∣ Optional (Times 0 2 GroupAndColon ⨾ H16) ⨾ Literal (codes "::") ⨾ Exactly 2 GroupAndColon
+    ⨾ Ls32
     ∣ Optional (Times 0 3 GroupAndColon ⨾ H16) ⨾ Literal (codes "::") ⨾ GroupAndColon ⨾ Ls32
     ∣ Optional (Times 0 4 GroupAndColon ⨾ H16) ⨾ Literal (codes "::") ⨾ Ls32
     ∣ Optional (Times 0 5 GroupAndColon ⨾ H16) ⨾ Literal (codes "::") ⨾ H16

@@ -1,5 +1,6 @@
 -- Classes of ASCII characters as tables of 16 bytes, and how far a text goes on by one of them.
-use Rattle.std.specs.Prelude.{◌≡◌, ℕ, ◌<◌, ◌≤◌, Bool, true, false, not, ◌==◌, ◌||◌, ◌&&◌, ◌+◌, ◌/◌, ◌%◌, List, [], ◌∷◌, slice_index, bit_and}
+use Rattle.std.specs.Prelude.{◌≡◌, ℕ, ◌<◌, ◌≤◌, Bool, true, false, not, ◌==◌, ◌||◌, ◌&&◌, ◌+◌, ◌/◌}
+use Rattle.std.specs.Prelude.{◌%◌, List, [], ◌∷◌, slice_index, bit_and}
 use Rattle.std.specs.Str.{byte}
 use Rattle.std.specs.Char.{is_ascii_hexdigit}
 
@@ -16,7 +17,9 @@ is_in table c = not (members table c == 0)
 
 -- at i stands "%" before two hexadecimal digits
 abbrev pub is_escape_at : List ℕ → ℕ → Bool
-is_escape_at bytes i = slice_index bytes i == byte "%" && is_ascii_hexdigit (slice_index bytes (i + 1)) && is_ascii_hexdigit (slice_index bytes (i + 2))
+is_escape_at bytes i = slice_index bytes i == byte "%"
+    && is_ascii_hexdigit (slice_index bytes (i + 1))
+    && is_ascii_hexdigit (slice_index bytes (i + 2))
 
 -- at i stands a byte of the class, or an escape begins
 abbrev pub goes_on : (ℕ → Bool) → List ℕ → ℕ → Bool

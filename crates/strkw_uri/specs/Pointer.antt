@@ -1,5 +1,6 @@
--- JSON pointers, RFC 6901 section 3, and relative JSON pointers, draft-handrews-relative-json-pointer-02 section 3: a whole
--- number before them. Above each form stands its rule.
+-- JSON pointers, RFC 6901 section 3, and relative JSON pointers,
+-- draft-handrews-relative-json-pointer-02 section 3: a whole number before them. Above each form
+-- stands its rule.
 use Rattle.std.specs.Prelude.{◌≡◌, ◌↔◌, ◌⊎◌, ℕ, Bool, not, List, [], ◌∷◌, codes}
 use Rattle.std.specs.Str.{byte}
 use Rattle.strkw_text.specs.Abnf.{Form, ◌⨾◌, ◌∣◌, Literal, Repeat, OneOf}
@@ -29,6 +30,8 @@ NonNegativeInteger = Literal (codes "0") ∣ OneOf (is_from_to (byte "1") (byte 
 abbrev pub IsRelativeJsonPointer : Form
 IsRelativeJsonPointer = NonNegativeInteger ⨾ (Literal (codes "#") ∣ IsJsonPointer)
 
--- "0" and then p, which is empty or begins with a slash, is a relative pointer exactly where p is a pointer
+-- "0" and then p, which is empty or begins with a slash, is a relative pointer exactly where p is a
+-- pointer
 abbrev pub ZeroThenPointer : Type 0
-ZeroThenPointer = (p : List ℕ) → (p ≡ []) ⊎ ((rest : List ℕ) × (p ≡ byte "/" ∷ rest)) → IsRelativeJsonPointer (byte "0" ∷ p) ↔ IsJsonPointer p
+ZeroThenPointer = (p : List ℕ) → (p ≡ []) ⊎ ((rest : List ℕ) × (p ≡ byte "/" ∷ rest))
+    → IsRelativeJsonPointer (byte "0" ∷ p) ↔ IsJsonPointer p

@@ -1,20 +1,27 @@
--- What the private functions speak of: the classes that are read, and the grammars from a part on to the end of the text.
+-- What the private functions speak of: the classes that are read, and the grammars from a part on
+-- to the end of the text.
 use Rattle.std.specs.Prelude.{ℕ, Bool, ◌||◌, ◌==◌, false, codes}
 use Rattle.std.specs.Str.{byte}
 use Rattle.std.specs.Char.{is_ascii_hexdigit, is_ascii_digit, is_ascii_alphabetic}
 use Rattle.strkw_text.specs.Abnf.{Form, ◌⨾◌, ◌∣◌, Literal, Optional, Repeat}
 use Rattle.strkw_text.specs.Characters.{is_one_of, is_from_to}
 use Rattle.strkw_text.specs.Fronts.{NotFirst}
-use Rattle.strkw_uri.specs.Characters.{is_scheme_char, Alphabet, uri, iri, is_reg_name_char, is_userinfo_char, is_pchar, is_nc_char, is_query_char, is_fragment_char, is_ucschar, is_iprivate}
-use Rattle.strkw_uri.specs.Uri.{Encoded, Userinfo, BracketedAddress, Host, Port, PathAbempty, HierPart, QueryAndFragment}
+use Rattle.strkw_uri.specs.Characters.{is_scheme_char, Alphabet, uri, iri, is_reg_name_char}
+use Rattle.strkw_uri.specs.Characters.{is_userinfo_char, is_pchar, is_nc_char, is_query_char}
+use Rattle.strkw_uri.specs.Characters.{is_fragment_char, is_ucschar, is_iprivate}
+use Rattle.strkw_uri.specs.Uri.{Encoded, Userinfo, BracketedAddress, Host, Port, PathAbempty}
+use Rattle.strkw_uri.specs.Uri.{HierPart, QueryAndFragment}
 use Rattle.strkw_uri.specs.Template.{is_operator, FurtherVarchar, ModifierLevel4}
 use Rattle.strkw_uri.specs.Pointer.{IsJsonPointer}
 use Rattle.strkw_uri.specs.declared.part.Syntax.{Syntax}
 use Rattle.strkw_uri.specs.declared.part.Syntax.TheVariants.{Rfc3986, Rfc3987}
 use Rattle.strkw_uri.specs.declared.part.Part.{Part}
-use Rattle.strkw_uri.specs.declared.part.Part.TheVariants.{RegNameChar, UserinfoChar, PathChar, SegmentNcChar, QueryChar, FragmentChar}
+use Rattle.strkw_uri.specs.declared.part.Part.TheVariants.{RegNameChar, UserinfoChar, PathChar}
+use Rattle.strkw_uri.specs.declared.part.Part.TheVariants.{SegmentNcChar, QueryChar, FragmentChar}
 use Rattle.strkw_uri.specs.declared.scan.Class.{Class}
-use Rattle.strkw_uri.specs.declared.scan.Class.TheVariants.{Letter, SchemeChar, Decimal, NonzeroDecimal, Hexadecimal, ZeroOrOne, VersionLetter, FutureChar, OperatorChar}
+use Rattle.strkw_uri.specs.declared.scan.Class.TheVariants.{Letter, SchemeChar, Decimal}
+use Rattle.strkw_uri.specs.declared.scan.Class.TheVariants.{NonzeroDecimal, Hexadecimal, ZeroOrOne}
+use Rattle.strkw_uri.specs.declared.scan.Class.TheVariants.{VersionLetter, FutureChar, OperatorChar}
 
 abbrev pub alphabet : Syntax → Alphabet
 alphabet Rfc3986 = uri
@@ -95,7 +102,8 @@ module _ (K : Alphabet) where
 
   -- behind a slash: another one and an authority, or else from within a path on
   abbrev pub BehindSlash : Form
-  BehindSlash = Literal (codes "/") ⨾ AuthorityAndTail ∣ (λ text. NotFirst (byte "/") text × InPathAndTail text)
+  BehindSlash = Literal (codes "/") ⨾ AuthorityAndTail
+      ∣ (λ text. NotFirst (byte "/") text × InPathAndTail text)
 
   abbrev pub HierPartAndTail : Form
   HierPartAndTail = HierPart K ⨾ QueryAndFragment K

@@ -2,17 +2,20 @@
 use Rattle.std.specs.Prelude.{ℕ, Bool, not, ◌||◌, ◌==◌, codes}
 use Rattle.std.specs.Str.{byte}
 use Rattle.std.specs.Char.{is_ascii_alphanumeric}
-use Rattle.strkw_text.specs.Abnf.{Form, ◌⨾◌, ◌∣◌, Literal, Optional, Repeat, Times, OneOf, SeparatedBy}
+use Rattle.strkw_text.specs.Abnf.{Form, ◌⨾◌, ◌∣◌, Literal, Optional, Repeat, Times, OneOf}
+use Rattle.strkw_text.specs.Abnf.{SeparatedBy}
 use Rattle.strkw_text.specs.Characters.{is_one_of, is_from_to, Digit}
 use Rattle.strkw_uri.specs.Uri.{Encoded}
 
--- literals = %x21 / %x23-24 / %x26 / %x28-3B / %x3D / %x3F-5B / %x5D / %x5F / %x61-7A / %x7E / ucschar / iprivate /
--- pct-encoded; wider here: the apostrophe too (erratum 6937), and every character past ASCII for ucschar / iprivate. So of
--- the characters that stand for themselves: none of the controls, the space, DEL, and these
+-- literals = %x21 / %x23-24 / %x26 / %x28-3B / %x3D / %x3F-5B / %x5D / %x5F / %x61-7A / %x7E /
+-- ucschar / iprivate / pct-encoded; wider here: the apostrophe too (erratum 6937), and every
+-- character past ASCII for ucschar / iprivate. So of the characters that stand for themselves: none
+-- of the controls, the space, DEL, and these
 abbrev pub is_literal_char : ℕ → Bool
 is_literal_char c = not (is_from_to 0 0x20 c || c == 0x7F || is_one_of (codes "\"<>%\\^`{|}") c)
 
--- op-level2 / op-level3 / op-reserve, which are "+" / "#", "." / "/" / ";" / "?" / "&", "=" / "," / "!" / "@" / "|"
+-- op-level2 / op-level3 / op-reserve, which are "+" / "#", "." / "/" / ";" / "?" / "&", "=" / "," /
+-- "!" / "@" / "|"
 abbrev pub is_operator : ℕ → Bool
 is_operator c = is_one_of (codes "+#./;?&=,!@|") c
 

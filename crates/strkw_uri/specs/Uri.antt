@@ -1,11 +1,13 @@
--- The syntax of URIs and IRIs: RFC 3986 appendix A, RFC 3987 section 2.2. Above each form stands its rule. Over the
--- characters of RFC 3986 the forms are those of URIs, over those of RFC 3987 those of IRIs (there each rule's name begins
--- with "i"; scheme, port and IP-literal are the same).
+-- The syntax of URIs and IRIs: RFC 3986 appendix A, RFC 3987 section 2.2. Above each form stands
+-- its rule. Over the characters of RFC 3986 the forms are those of URIs, over those of RFC 3987
+-- those of IRIs (there each rule's name begins with "i"; scheme, port and IP-literal are the same).
 use Rattle.std.specs.Prelude.{ℕ, Bool, codes}
 use Rattle.strkw_text.specs.Abnf.{Form, ◌⨾◌, ◌∣◌, Literal, Empty, Optional, Repeat, Repeat1, OneOf}
 use Rattle.strkw_text.specs.Characters.{is_one_of, Alpha, Digit, HexDigit}
 use Rattle.strkw_net.specs.Addresses.{IsIpv4, IsIpv6}
-use Rattle.strkw_uri.specs.Characters.{Alphabet, uri, iri, is_scheme_char, is_reg_name_char, is_userinfo_char, is_pchar, is_nc_char, is_fragment_char, is_query_char}
+use Rattle.strkw_uri.specs.Characters.{Alphabet, uri, iri, is_scheme_char, is_reg_name_char}
+use Rattle.strkw_uri.specs.Characters.{is_userinfo_char, is_pchar, is_nc_char, is_fragment_char}
+use Rattle.strkw_uri.specs.Characters.{is_query_char}
 
 -- pct-encoded = "%" HEXDIG HEXDIG
 abbrev pub PctEncoded : Form
@@ -23,9 +25,11 @@ Scheme = Alpha ⨾ Repeat (OneOf is_scheme_char)
 abbrev pub Port : Form
 Port = Repeat Digit
 
--- IPvFuture = "v" 1*HEXDIG "." 1*( unreserved / sub-delims / ":" ); a letter in quotes stands for either case
+-- IPvFuture = "v" 1*HEXDIG "." 1*( unreserved / sub-delims / ":" ); a letter in quotes stands for
+-- either case
 abbrev pub IpvFuture : Form
-IpvFuture = OneOf (is_one_of (codes "vV")) ⨾ Repeat1 HexDigit ⨾ Literal (codes ".") ⨾ Repeat1 (OneOf (is_userinfo_char uri))
+IpvFuture = OneOf (is_one_of (codes "vV")) ⨾ Repeat1 HexDigit ⨾ Literal (codes ".")
+    ⨾ Repeat1 (OneOf (is_userinfo_char uri))
 
 -- IPv6address / IPvFuture
 abbrev pub BracketedAddress : Form
@@ -50,7 +54,8 @@ module _ (K : Alphabet) where
 
   -- authority = [ userinfo "@" ] host [ ":" port ]
   abbrev pub Authority : Form
-  Authority = Optional (Userinfo ⨾ Literal (codes "@")) ⨾ Host ⨾ Optional (Literal (codes ":") ⨾ Port)
+  Authority = Optional (Userinfo ⨾ Literal (codes "@")) ⨾ Host
+      ⨾ Optional (Literal (codes ":") ⨾ Port)
 
   -- segment = *pchar
   abbrev pub Segment : Form
@@ -86,7 +91,8 @@ module _ (K : Alphabet) where
 
   -- relative-part = "//" authority path-abempty / path-absolute / path-noscheme / path-empty
   abbrev pub RelativePart : Form
-  RelativePart = Literal (codes "//") ⨾ Authority ⨾ PathAbempty ∣ PathAbsolute ∣ PathNoscheme ∣ Empty
+  RelativePart = Literal (codes "//") ⨾ Authority ⨾ PathAbempty ∣ PathAbsolute ∣ PathNoscheme
+      ∣ Empty
 
   -- query = *( pchar / "/" / "?" ), iquery = *( ipchar / iprivate / "/" / "?" )
   abbrev pub Query : Form
@@ -98,7 +104,8 @@ module _ (K : Alphabet) where
 
   -- [ "?" query ] [ "#" fragment ]
   abbrev pub QueryAndFragment : Form
-  QueryAndFragment = Optional (Literal (codes "?") ⨾ Query) ⨾ Optional (Literal (codes "#") ⨾ Fragment)
+  QueryAndFragment = Optional (Literal (codes "?") ⨾ Query)
+      ⨾ Optional (Literal (codes "#") ⨾ Fragment)
 
   -- URI = scheme ":" hier-part [ "?" query ] [ "#" fragment ]
   abbrev pub Uri : Form

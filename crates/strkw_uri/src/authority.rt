@@ -36,7 +36,8 @@ fn is_bracketed_address_and_tail(text: &str, syntax: Syntax) -> bool
 /// A host, whose registered name may be an IPv4 address, and what follows the characters of a name at the front.
 #[inline]
 fn is_host_and_tail(text: &str, after_name: &str, syntax: Syntax) -> bool
-    requires { RunThen (Encoded (is_reg_name_char (alphabet syntax))) (chars text.now) (chars after_name.now) }
+    requires { RunThen (Encoded (is_reg_name_char (alphabet syntax))) (chars text.now)
+        (chars after_name.now) }
     ensures { IsTrue result ↔ HostAndTail (alphabet syntax) (chars text.now) }
 {
     match strip(text, b'[') {
@@ -49,7 +50,8 @@ fn is_host_and_tail(text: &str, after_name: &str, syntax: Syntax) -> bool
 #[inline]
 fn after_userinfo(after_name: &str, syntax: Syntax) -> &str
     requires { StartsWithNo (Encoded (is_reg_name_char (alphabet syntax))) (chars after_name.now) }
-    ensures { RunThen (Encoded (is_userinfo_char (alphabet syntax))) (chars after_name.now) (chars result.now) }
+    ensures { RunThen (Encoded (is_userinfo_char (alphabet syntax))) (chars after_name.now)
+        (chars result.now) }
 {
     match strip(after_name, b':') {
         Some(rest) => skip(rest, syntax, Part::UserinfoChar),

@@ -70,7 +70,8 @@ pub fn letters_and_digits()
 pub fn unreserved_and_delimiters()
     ensures unreserved { (c : ℕ) → is_unreserved c ≡ unreserved_as_written c }
     ensures sub_delims { (c : ℕ) → is_sub_delim c ≡ sub_delims_as_written c }
-    ensures reserved { (c : ℕ) → IsTrue (gen_delims_as_written c || sub_delims_as_written c) → is_unreserved c ≡ false }
+    ensures reserved { (c : ℕ) → IsTrue (gen_delims_as_written c || sub_delims_as_written c)
+        → is_unreserved c ≡ false }
 {}
 
 /// The characters that an IRI adds are those of the ranges that RFC 3987, section 2.2, writes.
@@ -82,7 +83,8 @@ pub fn ranges_of_iris()
 /// The literals of a template are those of RFC 6570, section 2.1, and beside them the apostrophe (erratum 6937) and
 /// every other character past ASCII.
 pub fn literals_of_templates()
-    ensures exact { (c : ℕ) → is_literal_char c ≡ (ascii_literals_as_written c || c == byte "'" || nat_le 0x80 c) }
+    ensures exact { (c : ℕ) → is_literal_char c
+        ≡ (ascii_literals_as_written c || c == byte "'" || nat_le 0x80 c) }
     ensures wider { (c : ℕ) → IsTrue (literals_as_written c) → IsTrue (is_literal_char c) }
 {}
 

@@ -1,7 +1,7 @@
-//! URIs, IRIs and their references (RFC 3986, RFC 3987), URI templates (RFC 6570) and JSON pointers (RFC 6901).
-//! Each call answers true exactly where its grammar in `specs/` derives the text, and takes no memory.
-//! One scan reads every part of a URI or IRI, in long texts 32 bytes at a time; a part's end is where its grammar ends it.
-//! Templates and pointers are read a character at a time.
+//! URIs, IRIs and their references (RFC 3986, RFC 3987), URI templates (RFC 6570) and JSON pointers (RFC 6901). Each
+//! call answers true exactly where its grammar in `specs/` derives the text, and takes no memory. One scan reads every
+//! part of a URI or IRI, in long texts 32 bytes at a time; a part's end is where its grammar ends it. Templates and
+//! pointers are read a character at a time, save for runs of ASCII in the literals of a template.
 #![tactic(auto)]
 
 mod authority;

@@ -20,7 +20,8 @@ fn is_future_address(text: &str) -> bool
 }
 
 fn is_version_and_address(text: &str) -> bool
-    ensures { IsTrue result ↔ (Repeat1 HexDigit ⨾ Literal (codes ".") ⨾ Repeat1 (OneOf (is_userinfo_char uri))) (chars text.now) }
+    ensures { IsTrue result ↔ (Repeat1 HexDigit ⨾ Literal (codes ".")
+        ⨾ Repeat1 (OneOf (is_userinfo_char uri))) (chars text.now) }
 {
     match after_one(text, Class::Hexadecimal) {
         Some(rest) => match strip(skip_class(rest, Class::Hexadecimal), b'.') {

@@ -85,7 +85,8 @@ fn ascii_run(bytes: &[u8], part: Part) -> usize
 /// What follows the ASCII characters of the part at the front, and the percent-encoded ones.
 #[inline]
 pub(crate) fn after_ascii(text: &str, syntax: Syntax, part: Part) -> &str
-    ensures run { StartsWith (Repeat (Encoded (is_part_char syntax part))) (chars text.now) (chars result.now) }
+    ensures run { StartsWith (Repeat (Encoded (is_part_char syntax part))) (chars text.now)
+        (chars result.now) }
     ensures stops { StartsWithNo (Encoded (is_part_char Rfc3986 part)) (chars result.now) }
     ensures bound { length result.now ≤ length text.now }
 {

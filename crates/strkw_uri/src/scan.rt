@@ -15,7 +15,8 @@ use crate::plain;
 /// The first character, and what follows it.
 #[inline]
 pub(crate) fn first_char(text: &str) -> Option<(char, &str)>
-    ensures cases { MatchOption result (Empty (chars text.now)) (λ r. chars text.now ≡ r.0 ∷ chars r.1.now) }
+    ensures cases { MatchOption result (Empty (chars text.now))
+        (λ r. chars text.now ≡ r.0 ∷ chars r.1.now) }
     ensures shorter { IfSome result (λ r. length r.1.now < length text.now) }
     ensures utf8 { IfSome result (λ r. IsUtf8 r.1.now) }
 {
@@ -35,7 +36,8 @@ pub(crate) fn is_end(text: &str) -> bool
 #[inline]
 pub(crate) fn strip(text: &str, wanted: u8) -> Option<&str>
     requires { wanted < 128 }
-    ensures cases { MatchOption result (NotFirst wanted (chars text.now)) (λ rest. chars text.now ≡ wanted ∷ chars rest.now) }
+    ensures cases { MatchOption result (NotFirst wanted (chars text.now))
+        (λ rest. chars text.now ≡ wanted ∷ chars rest.now) }
     ensures shorter { IfSome result (λ rest. length rest.now < length text.now) }
     ensures utf8 { IfSome result (λ rest. IsUtf8 rest.now) }
 {
@@ -49,7 +51,8 @@ pub(crate) fn strip(text: &str, wanted: u8) -> Option<&str>
 pub(crate) fn split_at(text: &str, wanted: char) -> Option<(&str, &str)>
     requires { wanted < 128 }
     ensures cases { MatchOption result (Without wanted (chars text.now))
-        (λ x. Without wanted (chars x.0.now) × (chars text.now ≡ chars x.0.now ++ wanted ∷ chars x.1.now)) }
+        (λ x. Without wanted (chars x.0.now)
+        × (chars text.now ≡ chars x.0.now ++ wanted ∷ chars x.1.now)) }
     ensures shorter { IfSome result (λ x. length x.1.now < length text.now) }
     ensures utf8 { IfSome result (λ x. IsUtf8 x.1.now) }
 {

@@ -15,7 +15,8 @@ fn is_fragment(text: &str, syntax: Syntax) -> bool
 }
 
 fn is_optional_fragment(text: &str, syntax: Syntax) -> bool
-    ensures { IsTrue result ↔ Optional (Literal (codes "#") ⨾ Fragment (alphabet syntax)) (chars text.now) }
+    ensures { IsTrue result ↔ Optional (Literal (codes "#") ⨾ Fragment (alphabet syntax))
+        (chars text.now) }
 {
     match strip(text, b'#') {
         Some(rest) => is_fragment(rest, syntax),

@@ -28,7 +28,8 @@ fn is_varchar(c: char) -> bool
 
 /// What follows a character of a name.
 fn after_varchar(text: &str) -> Option<&str>
-    ensures cases { MatchOption result (StartsWithNo Varchar (chars text.now)) (λ rest. StartsWith Varchar (chars text.now) (chars rest.now)) }
+    ensures cases { MatchOption result (StartsWithNo Varchar (chars text.now))
+        (λ rest. StartsWith Varchar (chars text.now) (chars rest.now)) }
     ensures shorter { IfSome result (λ rest. length rest.now < length text.now) }
     ensures utf8 { IfSome result (λ rest. IsUtf8 rest.now) }
 {
@@ -48,7 +49,8 @@ fn after_varchar(text: &str) -> Option<&str>
 
 /// What follows a further character of a name, which a dot may precede.
 fn after_further_varchar(text: &str) -> Option<&str>
-    ensures cases { MatchOption result (StartsWithNo FurtherVarchar (chars text.now)) (λ rest. StartsWith FurtherVarchar (chars text.now) (chars rest.now)) }
+    ensures cases { MatchOption result (StartsWithNo FurtherVarchar (chars text.now))
+        (λ rest. StartsWith FurtherVarchar (chars text.now) (chars rest.now)) }
     ensures shorter { IfSome result (λ rest. length rest.now < length text.now) }
     ensures utf8 { IfSome result (λ rest. IsUtf8 rest.now) }
 {
@@ -125,7 +127,8 @@ fn is_operator_and_variables(text: &str) -> bool
 
 /// What follows an expression, after the brace that opens it.
 fn after_in_expression(text: &str) -> Option<&str>
-    ensures cases { MatchOption result (StartsWithNo InExpression (chars text.now)) (λ rest. StartsWith InExpression (chars text.now) (chars rest.now)) }
+    ensures cases { MatchOption result (StartsWithNo InExpression (chars text.now))
+        (λ rest. StartsWith InExpression (chars text.now) (chars rest.now)) }
     ensures shorter { IfSome result (λ rest. length rest.now < length text.now) }
     ensures utf8 { IfSome result (λ rest. IsUtf8 rest.now) }
 {

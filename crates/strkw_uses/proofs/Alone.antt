@@ -15,12 +15,13 @@ use Rattle.strkw_keywords.specs.Meanings.{Lists}
 use Rattle.strkw_keywords.specs.Places.{Place, standing}
 use Rattle.strkw_keywords.specs.Demands.{found_by_outcome}
 use Rattle.strkw_keywords.specs.Errors.{reported, NodeReports}
-use Rattle.strkw_keywords.specs.Object.{Settings, Entry, nothing, engine_entry, Keyed, keywords, AreEntriesOf, AreEntries, asserted, refusal, Errors, FirstRefusal}
+use Rattle.strkw_keywords.specs.Object.{Settings, Entry, nothing, engine_entry, Keyed, keywords, AreEntriesOf, AreEntries, asserted, refusal, Errors}
+use Rattle.strkw_keywords.specs.Object.{FirstRefusal}
 use Rattle.strkw_ecma.specs.Syntax.{Disjunction}
 use Rattle.strkw_ecma.specs.Patterns.{pattern}
 use Rattle.strkw_ecma.specs.Meaning.{Found}
 use Rattle.strkw_ecma.specs.Laws.{IsPattern, IsExact}
-use Rattle.strkw_ecma.specs.Outcomes.{takes_pattern, pattern_outcome}
+use Rattle.strkw_ecma.specs.machine.Outcomes.{takes_pattern, pattern_outcome}
 use Rattle.strkw_uses.specs.Patterns.{pattern_alone, settings_with_patterns, AreErrors, SaysItsPattern}
 
 -- the entries of the object: that of the pattern alone is something
@@ -34,12 +35,15 @@ entries_with e =
 module _ (exact : (source : List ℕ) → IsExact source)
     (once : (s : Settings) (ms : Members) (a b : List Keyed) → AreEntries s ms a → AreEntries s ms b → a ≡ b)
     (draft : Draft) (place : Place) (lists : Lists) (p : List ℕ) (other : IsLiteral (chars p) → ⊥) where
+  -- what the object is compiled under
   abbrev settings : Settings
   settings = settings_with_patterns draft place lists
 
+  -- its entries, by whether the pattern is taken
   abbrev entries : Bool → List Keyed
   entries taken = entries_with (engine_entry settings p taken)
 
+  -- they are the entries of the object, keyword by keyword
   in_order : (taken : Bool) → takes_pattern (chars p) ≡ taken → AreEntriesOf settings (pattern_alone p) keywords (entries taken)
   in_order taken e = (
     nothing,
@@ -79,13 +83,16 @@ module _ (exact : (source : List ℕ) → IsExact source)
     ),
   )
 
+  -- so they are the entries of the object
   are_entries : (taken : Bool) → takes_pattern (chars p) ≡ taken → AreEntries settings (pattern_alone p) (entries taken)
   are_entries taken e = record { in_order = in_order taken e }
 
+  -- where none of them is refused, the pattern is taken
   not_refused : (taken : Bool) → takes_pattern (chars p) ≡ taken → refusal place (entries taken) ≡ None → IsTrue (takes_pattern (chars p))
   not_refused true e h = e
   not_refused false e h = absurd (cc)
 
+  -- the object is compiled exactly where `p` is a pattern
   compiles : FirstRefusal settings (pattern_alone p) None ↔ ((d : Disjunction) × IsPattern (chars p) d)
   compiles = (
     (λ (es, are, good).
@@ -95,19 +102,25 @@ module _ (exact : (source : List ℕ) → IsExact source)
   )
 
   module _ (d : Disjunction) (is : IsPattern (chars p) d) (site : Site) (text : List ℕ) (errors : List Report) where
+    -- what the pattern comes to in the text
     abbrev outcome : Outcome
     outcome = pattern_outcome (chars p) (chars text)
 
+    -- it is a match exactly where the pattern is found in the text
     meant : (outcome ≡ Match) ↔ Found (pattern d) (chars text)
     meant = (exact (chars p)).meant d is (chars text)
 
+    -- the entries of the object are those of a pattern that is taken
     are : AreEntries settings (pattern_alone p) (entries true)
     are = are_entries true ((exact (chars p)).taken d is)
 
+    -- it is not both a match and none
     no_both : outcome ≡ Match → outcome ≡ NoMatch → ⊥
     no_both h k = absurd (cc)
 
-    by_outcome : (outcome ≡ Match) ⊎ (outcome ≡ NoMatch) → NodeReports (asserted place (entries true)) lists site (Some text) errors → AreErrors place site p d text errors
+    -- what the entries report is an error exactly where the pattern is not found
+    by_outcome : (outcome ≡ Match) ⊎ (outcome ≡ NoMatch) → NodeReports (asserted place (entries true)) lists site (Some text) errors
+        → AreErrors place site p d text errors
     by_outcome (inl m) (found, rest, h, joined, none) =
         inl (meant.0 m, joined ∙ ap (λ f. reported (standing place site) text f ++ rest) (h ∙ ap (found_by_outcome p) m) ∙ none)
     by_outcome (inr m) (found, rest, h, joined, none) =
@@ -117,11 +130,13 @@ module _ (exact : (source : List ℕ) → IsExact source)
               ∙ ap (λ l. report_at (standing place site) (keyword_name Pattern) (kind.pattern p) text ∷ l) none,
         )
 
+    -- and back
     said : (outcome ≡ Match) ⊎ (outcome ≡ NoMatch) → AreErrors place site p d text errors → Errors settings (pattern_alone p) lists site (Some text) errors
     said o (inl (f, none)) = (entries true, are, (None, [], sym (ap (found_by_outcome p) (meant.1 f)), none, refl))
     said (inl m) (inr (missed, one)) = absurd (missed (meant.0 m))
     said (inr m) (inr (missed, one)) = (entries true, are, (_, [], sym (ap (found_by_outcome p) m), one, refl))
 
+    -- so the errors of the object are exactly those
     errors_are : Errors settings (pattern_alone p) lists site (Some text) errors ↔ AreErrors place site p d text errors
     errors_are = (
       (λ (es, of, reports). by_outcome ((exact (chars p)).decided (chars text))
@@ -129,5 +144,6 @@ module _ (exact : (source : List ℕ) → IsExact source)
       said ((exact (chars p)).decided (chars text)),
     )
 
+  -- the object is refused unless `p` is a pattern, and then its errors are those
   pub says : SaysItsPattern draft place lists p
   says = record { compiled = compiles; errors = errors_are }

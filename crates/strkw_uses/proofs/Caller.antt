@@ -12,12 +12,12 @@ use Rattle.strkw_keywords.specs.Meanings.{Lists, no_lists}
 use Rattle.strkw_keywords.specs.Places.{Place}
 use Rattle.strkw_keywords.specs.Errors.{NodeReports, Appends}
 use Rattle.strkw_keywords.specs.Object.{Settings, default_options, Errors}
-use Rattle.strkw_cli.specs.declared.strings.StringKeywords.{StringKeywords}
-use Rattle.strkw_cli.specs.Compiled.{keywords_assertions, IsCompiledFrom}
-use Rattle.strkw_cli.specs.Answer.{root_site}
+use Rattle.strkw_object.specs.declared.strings.StringKeywords.{StringKeywords}
+use Rattle.strkw_object.specs.Compiled.{keywords_assertions, IsCompiledFrom}
+use Rattle.strkw_report.specs.Standings.{root_site}
 use Rattle.strkw_ecma.specs.Syntax.{Disjunction}
 use Rattle.strkw_ecma.specs.Laws.{IsPattern}
-use Rattle.strkw_ecma.specs.Outcomes.{takes_pattern, pattern_outcome}
+use Rattle.strkw_ecma.specs.machine.Outcomes.{takes_pattern, pattern_outcome}
 use Rattle.strkw_uses.specs.Patterns.{pattern_alone, root_place, settings_with_patterns, AreErrors, SaysItsPattern}
 
 -- this is what nothing is set in
@@ -30,11 +30,20 @@ pub record IsPlain (s : Settings) : Type 0 where
   pub takes : s.takes ≡ takes_pattern
   pub outcome : s.outcome ≡ pattern_outcome
 
+-- settings in which nothing is set are those of draft 7 at the root, with nothing registered
 plain_is : (s : Settings) → IsPlain s → s ≡ settings_with_patterns Draft7 root_place no_lists
 plain_is s is =
-    let whole : s ≡ record { draft = s.draft; place = record { schema = s.place.schema; prefix = s.place.prefix }; options = s.options; lists = s.lists; takes = s.takes; outcome = s.outcome } = refl in
+    let whole : s ≡ record {
+      draft = s.draft;
+      place = record { schema = s.place.schema; prefix = s.place.prefix };
+      options = s.options;
+      lists = s.lists;
+      takes = s.takes;
+      outcome = s.outcome;
+    } = refl in
     whole ∙ rw (is.draft, is.schema, is.prefix, is.options, is.lists, is.takes, is.outcome)
 
+-- such a caller is told of one error exactly where the pattern is not found in the text
 pub errors_are : {E : Type 0} (outcome : E → List ℕ → Outcome)
     → ((draft : Draft) (place : Place) (lists : Lists) (p : List ℕ) → (IsLiteral (chars p) → ⊥) → SaysItsPattern draft place lists p)
     → (s : Settings) (ms : Members) (k : StringKeywords E) (lists : Lists) (site : Site) (text : List ℕ) (old new : List Report)
@@ -42,7 +51,8 @@ pub errors_are : {E : Type 0} (outcome : E → List ℕ → Outcome)
     → Appends (NodeReports (keywords_assertions outcome k) lists site (Some text)) old new
     → (p : List ℕ) (d : Disjunction) → ms ≡ pattern_alone p → (IsLiteral (chars p) → ⊥) → IsPattern (chars p) d → AreErrors root_place root_site p d text new
 errors_are outcome says s ms k lists site text old new plain from none evaluation instance empty a p d alone other is =
-    let here : Errors s ms lists site (Some text) a.added = (from.entries, from.are_entries, subst (λ l. NodeReports l lists site (Some text) a.added) from.asserts a.reported) in
+    let here : Errors s ms lists site (Some text) a.added =
+    (from.entries, from.are_entries, subst (λ l. NodeReports l lists site (Some text) a.added) from.asserts a.reported) in
     let stands : record { evaluation = site.evaluation; instance = site.instance } ≡ root_site = rw (evaluation, instance) in
     let same : Errors (settings_with_patterns Draft7 root_place no_lists) (pattern_alone p) no_lists root_site (Some text) a.added =
     subst (λ t. Errors t (pattern_alone p) no_lists root_site (Some text) a.added) (plain_is s plain)

@@ -1,4 +1,5 @@
--- What a schema object with the one keyword `pattern` says of texts, where the patterns are those of ECMA-262.
+-- What a schema object with the one keyword `pattern` says of texts, where the patterns are those
+-- of ECMA-262.
 use Rattle.std.specs.Prelude.{◌≡◌, ◌↔◌, ◌⊎◌, ℕ, List, [], ◌∷◌, Some, None}
 use Rattle.std.specs.Str.{chars}
 use Rattle.serde_json.specs.Data.{string, Members, no_members, member}
@@ -15,7 +16,7 @@ use Rattle.strkw_ecma.specs.Syntax.{Disjunction}
 use Rattle.strkw_ecma.specs.Patterns.{pattern}
 use Rattle.strkw_ecma.specs.Meaning.{Found}
 use Rattle.strkw_ecma.specs.Laws.{IsPattern}
-use Rattle.strkw_ecma.specs.Outcomes.{takes_pattern, pattern_outcome}
+use Rattle.strkw_ecma.specs.machine.Outcomes.{takes_pattern, pattern_outcome}
 
 -- the members of `{"pattern": p}`
 abbrev pub pattern_alone : List ℕ → Members
@@ -40,10 +41,16 @@ settings_with_patterns draft place lists = record {
 abbrev pub AreErrors : Place → Site → List ℕ → Disjunction → List ℕ → List Report → Type 0
 AreErrors place site p d text errors =
     (Found (pattern d) (chars text) × (errors ≡ []))
-    ⊎ ((Found (pattern d) (chars text) → ⊥) × (errors ≡ report_at (standing place site) (keyword_name Pattern) (kind.pattern p) text ∷ []))
+    ⊎ ((Found (pattern d) (chars text) → ⊥)
+    × (errors ≡ report_at (standing place site) (keyword_name Pattern) (kind.pattern p) text
+    ∷ []))
 
 -- the object is refused unless p is a pattern, and then its errors are those
-pub record SaysItsPattern (draft : Draft) (place : Place) (lists : Lists) (p : List ℕ) : Type 0 where
-  pub compiled : FirstRefusal (settings_with_patterns draft place lists) (pattern_alone p) None ↔ ((d : Disjunction) × IsPattern (chars p) d)
-  pub errors : (d : Disjunction) → IsPattern (chars p) d → (site : Site) (text : List ℕ) (errors : List Report)
-      → Errors (settings_with_patterns draft place lists) (pattern_alone p) lists site (Some text) errors ↔ AreErrors place site p d text errors
+pub record SaysItsPattern (draft : Draft) (place : Place) (lists : Lists) (p : List ℕ) : Type 0
+  where
+    pub compiled : FirstRefusal (settings_with_patterns draft place lists) (pattern_alone p) None
+        ↔ ((d : Disjunction) × IsPattern (chars p) d)
+    pub errors : (d : Disjunction) → IsPattern (chars p) d
+        → (site : Site) (text : List ℕ) (errors : List Report)
+        → Errors (settings_with_patterns draft place lists) (pattern_alone p) lists site (Some text)
+        errors ↔ AreErrors place site p d text errors

@@ -1,5 +1,5 @@
-//! An engine of the caller's own, and what builds it. Its patterns are masks: a mask, as `____-__-__`, matches the texts
-//! that have as many characters.
+//! An engine of the caller's own, and what builds it. Its patterns are masks: a mask, as `____-__-__`, matches the
+//! texts that have as many characters.
 
 ghost use Rattle.std.specs.Prelude.{◌==◌, length, true, if◌then◌else◌};
 

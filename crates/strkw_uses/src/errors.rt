@@ -3,8 +3,8 @@
 use anyhow::{Context as _, Result};
 use serde_json::Value;
 use std::alloc::Global;
-use strkw_cli::compile_strings;
 use strkw_keywords::Context;
+use strkw_object::compile_strings;
 use strkw_pattern::NoPatterns;
 use strkw_report::{Draft, Location, Site};
 

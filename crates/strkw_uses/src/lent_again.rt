@@ -1,11 +1,12 @@
 //! Asks a compiled object of a text, with the caller's checks lent again.
 
 use std::alloc::{AllocError, Global};
-use strkw_cli::StringKeywords;
 use strkw_keywords::Checks;
+use strkw_object::StringKeywords;
 use strkw_pattern::RegexEngine;
 
-/// Whether the text is valid; `None` where these checks have not the rows that were chosen when the object was compiled.
+/// Whether the text is valid; `None` where these checks have not the rows that were chosen when the object was
+/// compiled.
 pub fn is_valid<E: RegexEngine>(
     alloc: Global,
     keywords: &StringKeywords<E>,

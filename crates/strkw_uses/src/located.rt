@@ -3,8 +3,8 @@
 use anyhow::Result;
 use serde_json::{Map, Value};
 use std::alloc::Global;
-use strkw_cli::compile_strings;
 use strkw_keywords::{Context, Options};
+use strkw_object::compile_strings;
 use strkw_pattern::NoPatterns;
 use strkw_report::{Draft, Location, Site, ValidationError};
 

@@ -16,8 +16,8 @@ use engine::Masks;
 use registered::{ArticleNumber, AsciiText, EightBit};
 use serde_json::Value;
 use std::alloc::Global;
-use strkw_cli::{StringKeywords, compile_strings};
 use strkw_keywords::{Checks, Context, NamedCodec, NamedFormat, NamedMediaType};
+use strkw_object::{StringKeywords, compile_strings};
 use strkw_pattern::{LiteralMatcher, NoPatterns};
 use strkw_report::Draft;
 

@@ -3,7 +3,7 @@
 ghost use Rattle.std.specs.Prelude.{◌≡◌, ◌==◌, IfOk, option_map};
 ghost use Rattle.std.specs.Str.{byte};
 ghost use Rattle.strkw_ecma.specs.Classes.{class_token as spec_class_token, class_escape as spec_class_escape};
-ghost use Rattle.strkw_ecma.specs.Parts.{parts_of, class_of, within, after_class_token, after_class_escape, after_bracket};
+ghost use Rattle.strkw_ecma.specs.machine.Parts.{parts_of, class_of, within, after_class_token, after_class_escape, after_bracket};
 
 use super::{Mode, Reader};
 use crate::classes::{ClassReader, Item};
@@ -33,7 +33,7 @@ impl Reader {
             ≡ after_class_token (parts_of self) (class_of class) c (spec_class_token c)) }
     {
         match ClassToken::of(c) {
-            ClassToken::Closing => Ok(Some(self.with_atom(alloc, class.closed()?)?)),
+            ClassToken::Closing => Ok(Some(self.with_atom(alloc, class.close()?)?)),
             ClassToken::Backslash => Ok(Some(self.with_mode(Mode::ClassEscaping(class)))),
             ClassToken::Dash => Ok(self.with_class(class.with_dash()?)),
             ClassToken::Character => Ok(self.with_class(class.with_item(Item::Char(c))?)),
@@ -80,7 +80,8 @@ impl Reader {
 
     // Behind `[`.
     pub(super) fn in_bracket(self, alloc: Global, c: char) -> Result<Option<Reader>, AllocError>
-        ensures { IfOk result (λ r. option_map parts_of r ≡ after_bracket (parts_of self) c (c == byte "^")) }
+        ensures { IfOk result (λ r. option_map parts_of r
+            ≡ after_bracket (parts_of self) c (c == byte "^")) }
     {
         if c == '^' {
             let class = ClassReader::new(alloc, true);

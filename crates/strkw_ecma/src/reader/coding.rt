@@ -1,8 +1,7 @@
 //! How an escape by a number is read, in a pattern and in a class.
 
 ghost use Rattle.std.specs.Prelude.{◌≡◌, IfOk, option_map};
-ghost use Rattle.strkw_ecma.specs.CodeParts.{coded_of};
-ghost use Rattle.strkw_ecma.specs.Parts.{parts_of, class_of, after_coding, after_class_coding};
+ghost use Rattle.strkw_ecma.specs.machine.Parts.{parts_of, class_of, after_coding, after_class_coding};
 
 use super::{Mode, Reader};
 use crate::classes::{ClassReader, Item};
@@ -10,8 +9,8 @@ use crate::codes::Coded;
 use std::alloc::{AllocError, Global};
 
 impl Reader {
-    pub(super) fn coded(self, alloc: Global, coded: Coded) -> Result<Option<Reader>, AllocError>
-        ensures { IfOk result (λ r. option_map parts_of r ≡ after_coding (parts_of self) (coded_of coded)) }
+    pub(super) fn take_code(self, alloc: Global, coded: Coded) -> Result<Option<Reader>, AllocError>
+        ensures { IfOk result (λ r. option_map parts_of r ≡ after_coding (parts_of self) coded) }
     {
         match coded {
             Coded::Fails => Ok(None),
@@ -26,7 +25,7 @@ impl Reader {
         coded: Coded,
     ) -> Result<Option<Reader>, AllocError>
         ensures { IfOk result (λ r. option_map parts_of r
-            ≡ after_class_coding (parts_of self) (class_of class) (coded_of coded)) }
+            ≡ after_class_coding (parts_of self) (class_of class) coded) }
     {
         match coded {
             Coded::Fails => Ok(None),

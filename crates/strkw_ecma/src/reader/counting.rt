@@ -2,8 +2,8 @@
 
 ghost use Rattle.std.specs.Prelude.{◌≡◌, IfOk, option_map};
 ghost use Rattle.strkw_ecma.specs.Numbers.{count_token as spec_count_token};
-ghost use Rattle.strkw_ecma.specs.Shape.{quantifier_of};
-ghost use Rattle.strkw_ecma.specs.Parts.{parts_of, last_of, after_count, after_low, after_high};
+ghost use Rattle.strkw_ecma.specs.machine.Shape.{quantifier_of};
+ghost use Rattle.strkw_ecma.specs.machine.Parts.{parts_of, last_of, after_count, after_low, after_high};
 
 use super::{Last, Mode, Reader};
 use crate::counts::{Count, with_digit};
@@ -35,7 +35,8 @@ impl Reader {
         first: Option<u32>,
         c: char,
     ) -> Result<Option<Reader>, AllocError>
-        ensures { IfOk result (λ r. option_map parts_of r ≡ after_low (parts_of self) first c (spec_count_token c)) }
+        ensures { IfOk result (λ r. option_map parts_of r
+            ≡ after_low (parts_of self) first c (spec_count_token c)) }
     {
         match (CountToken::of(c), first) {
             (CountToken::Digit, _) => match with_digit(first, c) {
@@ -61,7 +62,8 @@ impl Reader {
         second: Option<u32>,
         c: char,
     ) -> Result<Option<Reader>, AllocError>
-        ensures { IfOk result (λ r. option_map parts_of r ≡ after_high (parts_of self) first second c (spec_count_token c)) }
+        ensures { IfOk result (λ r. option_map parts_of r
+            ≡ after_high (parts_of self) first second c (spec_count_token c)) }
     {
         match CountToken::of(c) {
             CountToken::Digit => match with_digit(second, c) {

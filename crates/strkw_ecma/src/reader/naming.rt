@@ -3,8 +3,7 @@
 ghost use Rattle.std.specs.Prelude.{◌≡◌, ◌==◌, IfOk, option_map};
 ghost use Rattle.std.specs.Str.{byte};
 ghost use Rattle.strkw_ecma.specs.Names.{name_token as spec_name_token};
-ghost use Rattle.strkw_ecma.specs.CodeParts.{coded_of};
-ghost use Rattle.strkw_ecma.specs.Parts.{parts_of, after_name, after_name_char, after_naming, after_name_escape, after_name_coding};
+ghost use Rattle.strkw_ecma.specs.machine.Parts.{parts_of, after_name, after_name_char, after_naming, after_name_escape, after_name_coding};
 
 use super::{Mode, Outer, Reader};
 use crate::codes::{Coded, Coding};
@@ -14,7 +13,8 @@ use std::alloc::{AllocError, Global};
 
 impl Reader {
     fn with_name_char(self, name: Vec<char>, c: char) -> Result<Option<Reader>, AllocError>
-        ensures { IfOk result (λ r. option_map parts_of r ≡ after_name_char (parts_of self) name.items c) }
+        ensures { IfOk result (λ r. option_map parts_of r
+            ≡ after_name_char (parts_of self) name.items c) }
     {
         if !may_follow(&name, c) {
             return Ok(None);
@@ -25,7 +25,7 @@ impl Reader {
     }
 
     // Behind the `>` of the name.
-    fn named(self, alloc: Global, name: Vec<char>) -> Result<Option<Reader>, AllocError>
+    fn take_name(self, alloc: Global, name: Vec<char>) -> Result<Option<Reader>, AllocError>
         ensures { IfOk result (λ r. option_map parts_of r ≡ after_name (parts_of self) name.items) }
     {
         if name.is_empty() {
@@ -45,7 +45,7 @@ impl Reader {
             last,
             mode,
         };
-        named.opened(alloc)
+        named.open_group(alloc)
     }
 
     pub(super) fn in_name(
@@ -54,17 +54,19 @@ impl Reader {
         name: Vec<char>,
         c: char,
     ) -> Result<Option<Reader>, AllocError>
-        ensures { IfOk result (λ r. option_map parts_of r ≡ after_naming (parts_of self) name.items c (spec_name_token c)) }
+        ensures { IfOk result (λ r. option_map parts_of r
+            ≡ after_naming (parts_of self) name.items c (spec_name_token c)) }
     {
         match NameToken::of(c) {
-            NameToken::End => self.named(alloc, name),
+            NameToken::End => self.take_name(alloc, name),
             NameToken::Backslash => Ok(Some(self.with_mode(Mode::NameEscaping(name)))),
             NameToken::Character => self.with_name_char(name, c),
         }
     }
 
     pub(super) fn name_escaped(self, name: Vec<char>, c: char) -> Result<Option<Reader>, AllocError>
-        ensures { IfOk result (λ r. option_map parts_of r ≡ after_name_escape (parts_of self) name.items (c == byte "u")) }
+        ensures { IfOk result (λ r. option_map parts_of r
+            ≡ after_name_escape (parts_of self) name.items (c == byte "u")) }
     {
         if c == 'u' {
             Ok(Some(self.with_mode(Mode::NameCoding(name, Coding::UnitOpened))))
@@ -78,7 +80,8 @@ impl Reader {
         name: Vec<char>,
         coded: Coded,
     ) -> Result<Option<Reader>, AllocError>
-        ensures { IfOk result (λ r. option_map parts_of r ≡ after_name_coding (parts_of self) name.items (coded_of coded)) }
+        ensures { IfOk result (λ r. option_map parts_of r
+            ≡ after_name_coding (parts_of self) name.items coded) }
     {
         match coded {
             Coded::Fails => Ok(None),

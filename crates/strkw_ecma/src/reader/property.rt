@@ -1,8 +1,8 @@
 //! How a property is read, in a pattern and in a class.
 
 ghost use Rattle.std.specs.Prelude.{◌≡◌, IfOk, option_map};
-ghost use Rattle.strkw_ecma.specs.PropertyReading.{property_next};
-ghost use Rattle.strkw_ecma.specs.Parts.{parts_of, class_of, part_of, after_property, after_class_property};
+ghost use Rattle.strkw_ecma.specs.machine.PropertyReading.{property_next};
+ghost use Rattle.strkw_ecma.specs.machine.Parts.{parts_of, class_of, part_of, after_property, after_class_property};
 
 use super::{Mode, Reader};
 use crate::classes::{ClassReader, Item};
@@ -41,7 +41,8 @@ impl Reader {
         c: char,
     ) -> Result<Option<Reader>, AllocError>
         ensures { IfOk result (λ r. option_map parts_of r
-            ≡ after_class_property (parts_of self) (class_of class) (property_next (part_of part) c)) }
+            ≡ after_class_property (parts_of self) (class_of class)
+            (property_next (part_of part) c)) }
     {
         match part.next(alloc, c)? {
             PropertyRead::Fails => Ok(None),

@@ -5,10 +5,10 @@ ghost use Rattle.std.specs.Str.{chars};
 ghost use Rattle.strkw_ecma.specs.Syntax.{max_length};
 ghost use Rattle.strkw_ecma.specs.Numbers.{count_token as spec_count_token};
 ghost use Rattle.strkw_ecma.specs.Names.{extension as spec_extension, name_token as spec_name_token};
-ghost use Rattle.strkw_ecma.specs.Outcomes.{takes_pattern};
-ghost use Rattle.strkw_ecma.specs.Parts.{parts_of, last_of, count_of, part_of, expression_of};
+ghost use Rattle.strkw_ecma.specs.machine.Outcomes.{takes_pattern};
+ghost use Rattle.strkw_ecma.specs.machine.Parts.{parts_of, last_of, part_of, expression_of};
 ghost use Rattle.strkw_ecma.specs.Refusals.{IsReason, is_unknown as spec_is_unknown};
-ghost use Rattle.strkw_ecma.specs.RefusalParts.{escape_refusal, depth_refusal, extension_refusal, name_refusal, term_refusal, count_refusal, part_refusal, refusal_at};
+ghost use Rattle.strkw_ecma.specs.machine.RefusalParts.{escape_refusal, depth_refusal, extension_refusal, name_refusal, term_refusal, count_refusal, part_refusal, refusal_at};
 
 use super::{Last, MAX_NESTING, Mode, Reader};
 use crate::counts::Count;
@@ -94,7 +94,7 @@ impl Reader {
 
     fn count_refusal(&self, count: Count, c: char) -> PatternRefusal
         ensures { result
-            ≡ count_refusal (last_of self.now.last) (count_of count) (spec_count_token c) }
+            ≡ count_refusal (last_of self.now.last) count (spec_count_token c) }
     {
         match (CountToken::of(c), count) {
             (CountToken::Digit, _) => PatternRefusal::CountTooGreat,

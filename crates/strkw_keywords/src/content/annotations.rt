@@ -13,7 +13,7 @@ ghost use Rattle.strkw_keywords.specs.Settings.{place_in, settings_of};
 ghost use Rattle.strkw_keywords.specs.Without.{IsWithoutSchema};
 
 use crate::checks::{Checks, ContentCodec, Format, MediaTypeCheck};
-use crate::compile::{Refused, compile_value, located, origin_of};
+use crate::compile::{Refused, compile_value, locate, origin_of};
 use crate::content_rule::ContentRule;
 use crate::findings::{Findings, Found};
 use crate::keyed::Keyed;
@@ -61,7 +61,8 @@ pub(crate) fn build_media_type_annotation<B: EngineBuilder>(
     value: &Value,
 ) -> Result<Option<Validator<B::Engine>>, Refused>
     ensures { IsBuilt B.Engine.outcome (place_in ctx.now)
-        (alone Keyword.ContentMediaType (noted_text (view value.now) (as_str (view value.now)))) result }
+        (alone Keyword.ContentMediaType (noted_text (view value.now) (as_str (view value.now))))
+        result }
 {
     if value.as_str().is_none() {
         return Ok(None);
@@ -80,7 +81,8 @@ pub(crate) fn build_encoding_annotation<B: EngineBuilder>(
     value: &Value,
 ) -> Result<Option<Validator<B::Engine>>, Refused>
     ensures { IsBuilt B.Engine.outcome (place_in ctx.now)
-        (alone Keyword.ContentEncoding (noted_text (view value.now) (as_str (view value.now)))) result }
+        (alone Keyword.ContentEncoding (noted_text (view value.now) (as_str (view value.now))))
+        result }
 {
     if value.as_str().is_none() {
         return Ok(None);
@@ -121,7 +123,8 @@ fn build_owned_schema<B: EngineBuilder>(
     schema: Value,
 ) -> Result<Option<Validator<B::Engine>>, Refused>
     ensures { IsBuilt B.Engine.outcome (place_in ctx.now) (alone Keyword.ContentSchema
-        (schema_entry (content_rule ctx.now.draft) (members_view others.now.entries) (view schema))) result }
+        (schema_entry (content_rule ctx.now.draft) (members_view others.now.entries) (view schema)))
+        result }
 {
     if !matches!(ContentRule::of(ctx.draft), ContentRule::Noted)
         || !notes_schema(others, &schema)?
@@ -173,8 +176,10 @@ pub fn compile_content_schema_annotation<B: EngineBuilder>(
     parent: &Map<String, Value>,
     value: &Value,
 ) -> Option<Result<Validator<B::Engine>, CompileError>>
-    requires { value_at ctx.now.options Keyword.ContentSchema (members_view parent.now.entries) ≡ Some (view value.now) }
-    ensures { IsCompiledAt B.Engine.outcome (settings_of B.takes B.outcome admits accepted encoded decoding ctx.now)
+    requires { value_at ctx.now.options Keyword.ContentSchema (members_view parent.now.entries)
+        ≡ Some (view value.now) }
+    ensures { IsCompiledAt B.Engine.outcome
+        (settings_of B.takes B.outcome admits accepted encoded decoding ctx.now)
         (members_view parent.now.entries) Keyword.ContentSchema result }
 {
     compile_value(alloc, ctx, parent, value, Keyword::ContentSchema)
@@ -190,15 +195,17 @@ pub fn take_content_schema<B: EngineBuilder>(
     ctx: &Context<'_, B>,
     object: &mut Map<String, Value>,
 ) -> Option<Result<Validator<B::Engine>, CompileError>>
-    ensures compiled { IsCompiledAt B.Engine.outcome (settings_of B.takes B.outcome admits accepted encoded decoding ctx.now)
+    ensures compiled { IsCompiledAt B.Engine.outcome
+        (settings_of B.takes B.outcome admits accepted encoded decoding ctx.now)
         (members_view object.old.entries) Keyword.ContentSchema result }
-    ensures others { IsWithoutSchema (members_view object.old.entries) (members_view object.new.entries) }
+    ensures others { IsWithoutSchema (members_view object.old.entries)
+        (members_view object.new.entries) }
 {
     let schema = object.remove(Keyword::ContentSchema.as_str())?;
     if ctx.options.is_overridden(Keyword::ContentSchema) {
         return None;
     }
-    located(
+    locate(
         alloc,
         &ctx.location,
         build_owned_schema(ctx, object, schema),

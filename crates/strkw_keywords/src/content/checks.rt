@@ -67,7 +67,8 @@ pub struct Encoded {
 
 impl Encoded {
     fn finding(&self, alloc: Global, text: &str, checks: &Checks) -> FoundOne<'_>
-        ensures { IfOk result (λ o. HasFinding (is_encoded (choice_of self.now.codec)) (lists_of admits accepted encoded decoding checks.now)
+        ensures { IfOk result (λ o. HasFinding (is_encoded (choice_of self.now.codec))
+            (lists_of admits accepted encoded decoding checks.now)
             text.now (option_map finding_of o)) }
     {
         if is_encoding(alloc, &self.codec, checks, text)? {
@@ -109,8 +110,10 @@ pub struct EncodedMediaType {
 
 impl EncodedMediaType {
     fn finding(&self, alloc: Global, text: &str, checks: &Checks) -> FoundOne<'_>
-        ensures { IfOk result (λ o. HasFinding (encodes_media_type (choice_of self.now.codec) (choice_of self.now.media_type))
-            (lists_of admits accepted encoded decoding checks.now) text.now (option_map finding_of o)) }
+        ensures { IfOk result (λ o. HasFinding
+            (encodes_media_type (choice_of self.now.codec) (choice_of self.now.media_type))
+            (lists_of admits accepted encoded decoding checks.now) text.now
+            (option_map finding_of o)) }
     {
         match decode(alloc, &self.codec, checks, text) {
             Ok(None) => Ok(Some(Failure::ContentEncoding(chosen_codec(&self.codec)))),
@@ -179,7 +182,9 @@ fn codec_known<B>(
     ctx: &Context<'_, B>,
     name: &str,
 ) -> Result<Option<Choice<Codec>>, AllocError>
-    ensures { IfOk result (λ o. option_map choice_of o ≡ known_codec (lists_of admits accepted encoded decoding ctx.now.checks) ctx.now.options name.now) }
+    ensures { IfOk result (λ o. option_map choice_of o
+        ≡ known_codec (lists_of admits accepted encoded decoding ctx.now.checks) ctx.now.options
+        name.now) }
 {
     if let Some(position) = ctx.checks.codec_named(name) {
         return Ok(Some(Choice::Row {
@@ -272,8 +277,10 @@ pub fn compile_media_type<B: EngineBuilder>(
     parent: &Map<String, Value>,
     value: &Value,
 ) -> Option<Result<Validator<B::Engine>, CompileError>>
-    requires { value_at ctx.now.options Keyword.ContentMediaType (members_view parent.now.entries) ≡ Some (view value.now) }
-    ensures { IsCompiledAt B.Engine.outcome (settings_of B.takes B.outcome admits accepted encoded decoding ctx.now)
+    requires { value_at ctx.now.options Keyword.ContentMediaType (members_view parent.now.entries)
+        ≡ Some (view value.now) }
+    ensures { IsCompiledAt B.Engine.outcome
+        (settings_of B.takes B.outcome admits accepted encoded decoding ctx.now)
         (members_view parent.now.entries) Keyword.ContentMediaType result }
 {
     compile_value(alloc, ctx, parent, value, Keyword::ContentMediaType)
@@ -293,8 +300,10 @@ pub fn compile_content_encoding<B: EngineBuilder>(
     parent: &Map<String, Value>,
     value: &Value,
 ) -> Option<Result<Validator<B::Engine>, CompileError>>
-    requires { value_at ctx.now.options Keyword.ContentEncoding (members_view parent.now.entries) ≡ Some (view value.now) }
-    ensures { IsCompiledAt B.Engine.outcome (settings_of B.takes B.outcome admits accepted encoded decoding ctx.now)
+    requires { value_at ctx.now.options Keyword.ContentEncoding (members_view parent.now.entries)
+        ≡ Some (view value.now) }
+    ensures { IsCompiledAt B.Engine.outcome
+        (settings_of B.takes B.outcome admits accepted encoded decoding ctx.now)
         (members_view parent.now.entries) Keyword.ContentEncoding result }
 {
     compile_value(alloc, ctx, parent, value, Keyword::ContentEncoding)

@@ -31,7 +31,8 @@ pub(crate) fn build_pattern<B: EngineBuilder>(
     ctx: &Context<'_, B>,
     value: &Value,
 ) -> Result<Option<Validator<B::Engine>>, Refused>
-    ensures { IsPatternBuilt B.Engine.outcome (settings_of B.takes B.outcome admits accepted encoded decoding ctx.now)
+    ensures { IsPatternBuilt B.Engine.outcome
+        (settings_of B.takes B.outcome admits accepted encoded decoding ctx.now)
         (view value.now) result }
 {
     matcher_answers_search();
@@ -70,8 +71,10 @@ pub fn compile<B: EngineBuilder>(
     parent: &Map<String, Value>,
     value: &Value,
 ) -> Option<Result<Validator<B::Engine>, CompileError>>
-    requires { value_at ctx.now.options Keyword.Pattern (members_view parent.now.entries) ≡ Some (view value.now) }
-    ensures { IsCompiledAt B.Engine.outcome (settings_of B.takes B.outcome admits accepted encoded decoding ctx.now)
+    requires { value_at ctx.now.options Keyword.Pattern (members_view parent.now.entries)
+        ≡ Some (view value.now) }
+    ensures { IsCompiledAt B.Engine.outcome
+        (settings_of B.takes B.outcome admits accepted encoded decoding ctx.now)
         (members_view parent.now.entries) Keyword.Pattern result }
 {
     compile_value(alloc, ctx, parent, value, Keyword::Pattern)
@@ -83,7 +86,8 @@ fn literal_validator<E: RegexEngine>(
     literal: PatternOptimization,
 ) -> Validator<E>
     ensures place { place_of result ≡ origin }
-    ensures demands { demands_of E.outcome result ≡ compares (string_bytes pattern) (literal_outcome (matcher_of literal)) ∷ [] }
+    ensures demands { demands_of E.outcome result
+        ≡ compares (string_bytes pattern) (literal_outcome (matcher_of literal)) ∷ [] }
     ensures remark { remark_made result ≡ None }
 {
     match literal {

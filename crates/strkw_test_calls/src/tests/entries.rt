@@ -1,11 +1,12 @@
-//! Each call on one entry that allocates. With ample memory a row has to pass. `tools/refusals.py` runs it with each growth
-//! refused in turn too: then it ends as out of memory, once it has shown that what the refused call was lent is as it was.
+//! Each call on one entry that allocates. With ample memory a row has to pass. `tools/refusals.py` runs it with each
+//! growth refused in turn too: then it ends as out of memory, once it has shown that what the refused call was lent is
+//! as it was.
 
 use super::context::{
     Call, are_lent, builder, collects, context, ended_well, error_lines, even_format,
     gives_the_first, is_as_made, is_at, json, lent_errors, root_site,
 };
-use crate::compiled;
+use crate::compile_entry;
 use serde_json::Value;
 use std::alloc::{AllocError, Global};
 use std::test::Fail;
@@ -105,7 +106,7 @@ fn compiled_of(
     keyword: Keyword,
     schema: &Value,
 ) -> Result<Outcome, Fail> {
-    match compiled(alloc, ctx, keyword, schema.as_object().ok_or("no object")?) {
+    match compile_entry(alloc, ctx, keyword, schema.as_object().ok_or("no object")?) {
         Some(outcome) => Ok(outcome),
         None => Err(Fail::new("it adds nothing")),
     }

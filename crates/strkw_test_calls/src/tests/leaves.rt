@@ -1,6 +1,6 @@
-//! The calls of encodings and of patterns that allocate, by name, and those of the engine of ECMA-262. With ample memory a
-//! row has to pass. `tools/refusals.py` runs it with each growth refused in turn too: then it ends with the error of the
-//! call that was refused, by that error's own name.
+//! The calls of encodings and of patterns that allocate, by name, and those of the engine of ECMA-262. With ample
+//! memory a row has to pass. `tools/refusals.py` runs it with each growth refused in turn too: then it ends with the
+//! error of the call that was refused, by that error's own name.
 
 use std::alloc::{AllocError, Global};
 use std::test::Fail;

@@ -1,6 +1,6 @@
-//! Each call on a whole schema object that allocates, and `run`. With ample memory a row has to pass. `tools/refusals.py`
-//! runs it with each growth refused in turn too: then it ends as out of memory, once it has shown that what the refused
-//! call was lent is as it was.
+//! Each call on a whole schema object that allocates, and `run`. With ample memory a row has to pass.
+//! `tools/refusals.py` runs it with each growth refused in turn too: then it ends as out of memory, once it has shown
+//! that what the refused call was lent is as it was.
 
 use super::context::{
     Call, are_lent, builder, collects, context, ended_well, error_lines, even_format,
@@ -10,11 +10,9 @@ use super::devices::{answers, ends, script};
 use serde_json::Value;
 use std::alloc::{AllocError, Global};
 use std::test::Fail;
-use strkw_cli::{
-    BoundedRunFault, MemorySink, MemorySource, Note, RunFault, Sink, StringKeywords,
-    compile_strings, run, run_bounded,
-};
+use strkw_cli::{BoundedRunFault, MemorySink, MemorySource, RunFault, Sink, run, run_bounded};
 use strkw_keywords::{Checks, Context};
+use strkw_object::{Note, StringKeywords, compile_strings};
 use strkw_report::{CompileError, Draft, Site};
 use strkw_test_doubles::{ScriptedBuilder, ScriptedEngine};
 

@@ -9,8 +9,8 @@ use super::objects::note_lines;
 use serde_json::{Map, Value};
 use std::alloc::{AllocError, Global};
 use std::test::Fail;
-use strkw_cli::{Note, StringKeywords, compile_owned};
 use strkw_keywords::{Checks, Context, Uses, Validator, take_content_schema};
+use strkw_object::{Note, StringKeywords, compile_owned};
 use strkw_report::{CompileError, Draft};
 use strkw_test_doubles::{ScriptedBuilder, ScriptedEngine};
 
@@ -105,8 +105,8 @@ fn compile_owned_under_refusal(rt: HostRuntime) -> Result<(), Fail> {
     Ok(())
 }
 
-// What the validator that was made of a taken value notes. A refusal as out of memory stands at the root, and is an error
-// here.
+// What the validator that was made of a taken value notes. A refusal as out of memory stands at the root, and is an
+// error here.
 fn note_taken(alloc: Global, taken: &Taken) -> Result<Option<Note>, Fail> {
     match taken {
         None => Ok(None),

@@ -1,5 +1,5 @@
-//! Errors, refusals and places: their texts, with each growth refused too. A refused call is asked again, once it has shown
-//! that what it was lent is as it was.
+//! Errors, refusals and places: their texts, with each growth refused too. A refused call is asked again, once it has
+//! shown that what it was lent is as it was.
 
 use super::context::{json, root_site};
 use serde_json::Value;
@@ -10,7 +10,7 @@ use strkw_report::{
     ValidationError, error_at,
 };
 
-fn owned(alloc: Global, text: &str) -> Result<String, AllocError> {
+fn to_owned(alloc: Global, text: &str) -> Result<String, AllocError> {
     String::from_str(alloc, text)
 }
 
@@ -162,11 +162,11 @@ fn refusal_of(alloc: Global, why: Why) -> Result<CompileError, Fail> {
         },
         Why::Size => CompileErrorKind::Size,
         Why::UnknownFormat(it, by_dialect) => CompileErrorKind::UnknownFormat {
-            name: owned(alloc, it)?,
+            name: to_owned(alloc, it)?,
             by_dialect,
         },
         Why::Regex(it) => CompileErrorKind::Regex {
-            pattern: owned(alloc, it)?,
+            pattern: to_owned(alloc, it)?,
         },
         Why::FractionalNumber => CompileErrorKind::FractionalNumber,
         Why::Memory => CompileErrorKind::Memory,
@@ -309,7 +309,7 @@ fn pointers_of_places_under_refusal(rt: HostRuntime) -> Result<(), Fail> {
 fn error_of_an_item(alloc: Global) -> Result<ValidationError, AllocError> {
     let evaluation = Location::root(alloc).join("a/b")?;
     let instance = Location::root(alloc).join("0")?;
-    let prefix = Some(owned(alloc, "https://example.com/s.json")?);
+    let prefix = Some(to_owned(alloc, "https://example.com/s.json")?);
     error_at(
         alloc,
         ErrorKind::MinLength { limit: 20 },
@@ -335,7 +335,7 @@ fn is_error_of_the_item(error: &ValidationError) -> bool {
 }
 
 // A result with a note alone.
-fn noted(alloc: Global) -> Result<EvaluationResult, AllocError> {
+fn noted_result(alloc: Global) -> Result<EvaluationResult, AllocError> {
     Ok(EvaluationResult {
         errors: Vec::new(alloc),
         annotation: Some(Value::try_from_str(alloc, "date")?),
@@ -357,7 +357,7 @@ fn fields_of_an_error_under_refusal(rt: HostRuntime) -> Result<(), Fail> {
 
 #[test]
 fn fields_of_a_result_under_refusal(rt: HostRuntime) -> Result<(), Fail> {
-    if is_noted_alone(&noted(rt.alloc())?) {
+    if is_noted_alone(&noted_result(rt.alloc())?) {
         Ok(())
     } else {
         Err(Fail::new("another result"))

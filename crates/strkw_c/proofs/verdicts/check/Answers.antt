@@ -1,7 +1,7 @@
 use Rattle.std.proofs.Common.{Some, []}
 use Rattle.strkw_pattern.specs.Matcher.{literal_outcome}
 use Rattle.strkw_keywords.specs.Meanings.{no_lists}
-use Rattle.strkw_cli.specs.Answer.{root_site}
+use Rattle.strkw_report.specs.Standings.{root_site}
 use Rattle.strkw_c.specs.Settings.{settings_for}
 use Rattle.strkw_c.specs.Verdicts.{IsValid, Passes}
 use Rattle.strkw_c.proofs.VerdictLemmas.{not_refused, verdicts_alike}
@@ -18,6 +18,7 @@ returns-clause-done c =
       is_schema,
       not_refused literal_outcome s object k of,
       are_texts,
-      verdicts_alike (Passes literal_outcome k) (IsValid s object) (λ text. c.compiled_errors_are_those_of_the_object.ensures s object k no_lists root_site (Some text) [] of)
+      verdicts_alike (Passes literal_outcome k) (IsValid s object)
+          (λ text. c.compiled_errors_are_those_of_the_object.ensures s object k no_lists root_site (Some text) [] of)
           list _ verdicts,
     )

@@ -1,6 +1,6 @@
 use Rattle.std.proofs.Common.{rules, ◌≡◌, IsTrue, inl, inr, refl}
 use Rattle.std.specs.Str.{IsUtf8}
-use Rattle.strkw_cli.specs.Answer.{root_site}
+use Rattle.strkw_report.specs.Standings.{root_site}
 use Rattle.strkw_c.specs.Verdicts.{Passes}
 use Rattle.strkw_c.proofs.verdicts.verdict_on.Goals as goal
 

@@ -5,7 +5,12 @@ use Rattle.strkw_c.proofs.TextLemmas.{ascends, are_texts, texts_from}
 use Rattle.strkw_c.proofs.verdicts.verdicts_on.Goals as goal
 
 pub loop-end-init : goal.loop-end-init
-loop-end-init g c = (ap length c.in_ok-made.ensures.items, ascends c.args.texts.now c.args.ends.now c.requires.texts.0 c.requires.texts.1, λ more are. rw c.in_ok-made.ensures.items are)
+loop-end-init g c = (
+  ap length c.in_ok-made.ensures.items,
+  ascends c.args.texts.now c.args.ends.now c.requires.texts.0 c.requires.texts.1,
+  λ more are.
+      rw c.in_ok-made.ensures.items are,
+)
 
 pub returns-clause-verdicts : goal.returns-clause-verdicts
 returns-clause-verdicts g c =

@@ -12,4 +12,8 @@ changed text i other within low same =
     absurd (omega (arith, high, low))
 
 pub returns-then-byte-lt32 : goal.returns-then-byte-lt32
-returns-then-byte-lt32 c = ((λ no. absurd (cc)), (λ same. absurd (changed c.args.text.now c.loop-byte.byte-index _ (omega (arith, c.loop-byte-test.true)) c.if-byte-lt32.true same)))
+returns-then-byte-lt32 c = (
+  (λ no. absurd (cc)),
+  (λ same. absurd
+      (changed c.args.text.now c.loop-byte.byte-index _ (omega (arith, c.loop-byte-test.true)) c.if-byte-lt32.true same)),
+)

@@ -3,7 +3,7 @@ use Rattle.json.specs.Json.{read_key, value}
 use Rattle.json.proofs.Grammar.{read_key-shorter}
 use Rattle.serde_json.specs.Data.{no_members, put}
 use Rattle.strkw_cli.specs.Tokens.{member_depth}
-use Rattle.strkw_coding.proofs.Reading.{members_end, next_member, no_next_member, no_key}
+use Rattle.strkw_json.proofs.Reading.{members_end, next_member, no_next_member, no_key}
 use Rattle.strkw_cli.proofs.Parts.{parts_taken}
 use Rattle.strkw_cli.proofs.request.parts_in.Goals as goal
 
@@ -39,11 +39,16 @@ members-preserved c =
       turns = l.invariant.turns - 1;
       enough = omega (arith, key, taken.shorter, l.invariant.enough);
       found = put name d l.invariant.found;
-      same = l.invariant.same ∙ next_member (value member_depth) l.invariant.found l.invariant.turns name l.tokens _ _ d (omega (arith, key, l.invariant.enough)) named read;
+      same = l.invariant.same ∙ next_member (value member_depth) l.invariant.found l.invariant.turns name l.tokens _ _ d
+          (omega (arith, key, l.invariant.enough)) named read;
       are = parts_taken name d l.parts c.take_member.new.self l.invariant.found takes l.invariant.are;
     }
 
 pub returns-clause-ok : goal.returns-clause-ok
 returns-clause-ok c =
-    let l = c.members in
-    (l.invariant.found, l.invariant.same ∙ members_end (value member_depth) l.invariant.found l.invariant.turns l.tokens c.next_key.new.self l.invariant.enough (grind arith), l.invariant.are)
+    let l = c.members in (
+      l.invariant.found,
+      l.invariant.same ∙ members_end (value member_depth) l.invariant.found l.invariant.turns l.tokens c.next_key.new.self l.invariant.enough
+          (grind arith),
+      l.invariant.are,
+    )

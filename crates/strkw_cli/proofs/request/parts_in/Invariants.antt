@@ -3,7 +3,7 @@ use Rattle.json.specs.Json.{members, value}
 use Rattle.serde_json.specs.Data.{Members}
 use Rattle.serde_json.specs.Read.{of_members, converted}
 use Rattle.strkw_cli.specs.Parts.{AreParts}
-use Rattle.strkw_coding.specs.Passing.{members_read}
+use Rattle.strkw_json.specs.Passing.{members_read}
 use Rattle.strkw_cli.specs.Tokens.{member_depth}
 use Rattle.strkw_cli.proofs.request.parts_in.Given as goal
 

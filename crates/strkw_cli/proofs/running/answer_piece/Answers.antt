@@ -1,8 +1,9 @@
-use Rattle.std.proofs.Common.{◌≡◌, ℕ, ◌+◌, ◌-◌, ◌++◌, List, Some, None, Result, Ok, Err, OnOk, is_ok, cond, position, take, drop, arith, sym, ap, ◌∙◌, append-nil, refl, subst, append_assoc, []}
+use Rattle.std.proofs.Common.{◌≡◌, ℕ, ◌+◌, ◌-◌, ◌++◌, List, Some, None, Result, Ok, Err, OnOk, is_ok, cond, position, take, drop, arith, sym, ap, ◌∙◌}
+use Rattle.std.proofs.Common.{append-nil, refl, subst, append_assoc, []}
 use Rattle.std.proofs.lemmas.List.{take_rest}
 use Rattle.strkw_cli.specs.Lines.{is_line_feed, ended_lines, last_part}
 use Rattle.strkw_cli.specs.Answer.{AreAnswers, IsAnswer}
-use Rattle.strkw_cli.proofs.Results.{on_ok, on_err}
+use Rattle.strkw_object.proofs.Results.{on_ok, on_err}
 use Rattle.strkw_cli.proofs.AnswerLemmas.{ends_line, goes_on, some_answered, none_ended, one_more}
 use Rattle.strkw_cli.proofs.running.answer_piece.Goals as goal
 use Rattle.strkw_cli.proofs.running.answer_piece.Goals.{In-Some}
@@ -22,8 +23,13 @@ loop-offset-init c =
     }
 
 pub returns-in_err-answer_ending-clause-err : goal.returns-in_err-answer_ending-clause-err
-returns-in_err-answer_ending-clause-err c = on_err c.from_residual.result
-    (c.loop-offset.invariant.answered.0, c.in_err-answer_ending.ensures.err ∙ c.loop-offset.invariant.answered.1, some_answered c.args.line.now.items c.args.piece.now c.loop-offset.at c.loop-offset.invariant.answered.0 c.loop-offset.invariant.answered.2)
+returns-in_err-answer_ending-clause-err c = on_err c.from_residual.result (
+  c.loop-offset.invariant.answered.0,
+  c.in_err-answer_ending.ensures.err
+      ∙ c.loop-offset.invariant.answered.1,
+  some_answered c.args.line.now.items c.args.piece.now c.loop-offset.at c.loop-offset.invariant.answered.0
+      c.loop-offset.invariant.answered.2,
+)
 
 pub loop-offset-preserved : goal.loop-offset-preserved
 loop-offset-preserved c =
@@ -31,11 +37,13 @@ loop-offset-preserved c =
     let piece = c.args.piece.now in
     let at = c.loop-offset.at in
     let offset = c.in-Some.offset in
-    let found : position is_line_feed (drop at piece) ≡ Some offset = ap (position is_line_feed) (sym (take_rest piece at)) ∙ sym c.find_line_feed.ensures ∙ c.in-Some.is in
+    let found : position is_line_feed (drop at piece) ≡ Some offset = ap (position is_line_feed) (sym (take_rest piece at)) ∙ sym c.find_line_feed.ensures
+    ∙ c.in-Some.is in
     let line = ends_line start piece at offset found in
     let count : at + offset - at ≡ offset = omega arith in
     let whole : c.loop-offset.line.items ++ take (at + offset - at) (drop at piece) ≡ last_part (start ++ take at piece) ++ take offset (drop at piece) =
-    ap (λ x. x ++ take (at + offset - at) (drop at piece)) c.loop-offset.invariant.begun ∙ ap (λ n. last_part (start ++ take at piece) ++ take n (drop at piece)) count in
+    ap (λ x. x ++ take (at + offset - at) (drop at piece)) c.loop-offset.invariant.begun
+    ∙ ap (λ n. last_part (start ++ take at piece) ++ take n (drop at piece)) count in
     let (made, is, are) = c.loop-offset.invariant.answered in
     let (answer, answer_is, answered) = c.in_ok-answer_ending.ensures.ok in
     record {
@@ -44,7 +52,8 @@ loop-offset-preserved c =
       answered = (
         made ++ answer,
         answer_is ∙ ap (λ x. x ++ answer) is ∙ append_assoc c.args.out.now.items made answer,
-        subst (λ x. AreAnswers x (made ++ answer)) (sym line.ended) (one_more (ended_lines (start ++ take at piece)) made _ answer are (subst (λ x. IsAnswer x answer) whole answered)),
+        subst (λ x. AreAnswers x (made ++ answer)) (sym line.ended)
+            (one_more (ended_lines (start ++ take at piece)) made _ answer are (subst (λ x. IsAnswer x answer) whole answered)),
       );
     }
 
@@ -61,8 +70,13 @@ pub returns-clause-begun : goal.returns-clause-begun
 returns-clause-begun c =
     let on = goes_on c.args.line.now.items c.args.piece.now c.loop-offset.at (no_more c) in
     extended c.extend_from_slice.result c.extend_from_slice.new.self.items c.loop-offset.line.items _ _ c.extend_from_slice.ensures.items
-    (ap (λ x. c.loop-offset.line.items ++ x) (take_rest c.args.piece.now c.loop-offset.at) ∙ ap (λ x. x ++ drop c.loop-offset.at c.args.piece.now) c.loop-offset.invariant.begun ∙ sym on.1)
+    (ap (λ x. c.loop-offset.line.items ++ x) (take_rest c.args.piece.now c.loop-offset.at)
+    ∙ ap (λ x. x ++ drop c.loop-offset.at c.args.piece.now) c.loop-offset.invariant.begun ∙ sym on.1)
 
 pub returns-clause-err : goal.returns-clause-err
-returns-clause-err c = on_err c.extend_from_slice.result
-    (c.loop-offset.invariant.answered.0, c.loop-offset.invariant.answered.1, some_answered c.args.line.now.items c.args.piece.now c.loop-offset.at c.loop-offset.invariant.answered.0 c.loop-offset.invariant.answered.2)
+returns-clause-err c = on_err c.extend_from_slice.result (
+  c.loop-offset.invariant.answered.0,
+  c.loop-offset.invariant.answered.1,
+  some_answered c.args.line.now.items c.args.piece.now c.loop-offset.at
+      c.loop-offset.invariant.answered.0 c.loop-offset.invariant.answered.2,
+)

@@ -30,7 +30,8 @@ loop-offset-preserved c =
       within = let line = ends_line [] piece at offset found in omega (arith, line.within);
       reaches = λ start is short.
           subst (λ n. Reaches c.in-Some.longest (start ++ take n piece) c.in-Some.longest) count
-          (reaches_next c.in-Some.longest start piece at offset c.loop-offset.room (c.loop-offset.invariant.reaches start is short) found c.if-room-offset.false);
+          (reaches_next c.in-Some.longest start piece at offset c.loop-offset.room (c.loop-offset.invariant.reaches start is short) found
+          c.if-room-offset.false);
     }
 
 pub returns-then-room-piece-clause-taken : goal.returns-then-room-piece-clause-taken

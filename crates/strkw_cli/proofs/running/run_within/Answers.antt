@@ -10,7 +10,8 @@ use Rattle.strkw_cli.specs.Lines.{ended_lines, last_part}
 use Rattle.strkw_cli.specs.Serving.{Serves}
 use Rattle.strkw_cli.proofs.OutcomeLemmas.{some_none}
 use Rattle.strkw_cli.proofs.BoundLemmas.{fits_none, taken_whole, within_none}
-use Rattle.strkw_cli.proofs.RunLemmas.{Runs, Runs-start, Runs-begun, Runs-more, written_at_read_fault, none_read, written_at_end, written_at_fault, written_at_last_fault, written_at_long_line}
+use Rattle.strkw_cli.proofs.RunLemmas.{Runs, Runs-start, Runs-begun, Runs-more, written_at_read_fault, none_read, written_at_end, written_at_fault}
+use Rattle.strkw_cli.proofs.RunLemmas.{written_at_last_fault, written_at_long_line}
 use Rattle.strkw_cli.proofs.running.run_within.Goals as goal
 
 pub loop-turn-init : goal.loop-turn-init
@@ -22,7 +23,8 @@ loop-turn-init g c = record {
 }
 
 pub returns-in_default-clause-written : goal.returns-in_default-clause-written
-returns-in_default-clause-written g c = written_at_read_fault _ _ _ _ _ _ (g.K.Sink.taken c.args.sink.now) _ _ c.loop-turn.invariant.runs c.in_default.ensures.moved
+returns-in_default-clause-written g c = written_at_read_fault _ _ _ _ _ _ (g.K.Sink.taken c.args.sink.now) _ _ c.loop-turn.invariant.runs
+    c.in_default.ensures.moved
 
 pub serve_last-requires-clause-begun : goal.serve_last-requires-clause-begun
 serve_last-requires-clause-begun g c = rw c.deref.ensures.value (Runs-begun c.loop-turn.invariant.runs)
@@ -36,23 +38,38 @@ lent_front len count lent buffer rest is whole = ap (take count) (is ∙ take_at
 
 pub returns-in_err-piece-clause-written : goal.returns-in_err-piece-clause-written
 returns-in_err-piece-clause-written g c =
-    let p = err_from_is_err_and c.from_residual.result c.from_residual.ensures.1 in
-    ([], [], Consumes-nil _, Appends-nil _, rw (p.1, p.2) ([], taken_whole c.args.bound [] (rw (none_read.0, none_read.1) (within_none c.args.bound, fits_none c.args.bound)), some_none (ended_lines [])))
+    let p = err_from_is_err_and c.from_residual.result c.from_residual.ensures.1 in (
+      [],
+      [],
+      Consumes-nil _,
+      Appends-nil _,
+      rw (p.1, p.2) (
+        [],
+        taken_whole c.args.bound []
+            (rw (none_read.0, none_read.1) (within_none c.args.bound, fits_none c.args.bound)),
+        some_none (ended_lines []),
+      ),
+    )
 
 pub returns-in_err-serve_last-clause-written : goal.returns-in_err-serve_last-clause-written
 returns-in_err-serve_last-clause-written g c =
     let p = err_from_is_err_and c.from_residual-in_err-serve_last.result c.from_residual-in_err-serve_last.ensures.1 in
     let none : Consumes (g.S.Source.left c.loop-turn.source) (g.S.Source.left c.read.new.self) [] =
-    subst (λ n. Consumes (g.S.Source.left c.loop-turn.source) (g.S.Source.left c.read.new.self) (take n c.read.new.buffer)) c.if-count-eq0.true c.in-Ok.ensures.moved.0 in
-    let runs = subst (λ l. Runs c.args.bound (g.S.Source.left c.args.source.now) (g.S.Source.left c.loop-turn.source) (g.K.Sink.taken c.args.sink.now) (g.K.Sink.taken c.loop-turn.sink) l c.loop-turn.turn)
+    subst (λ n. Consumes (g.S.Source.left c.loop-turn.source) (g.S.Source.left c.read.new.self) (take n c.read.new.buffer)) c.if-count-eq0.true
+    c.in-Ok.ensures.moved.0 in
+    let runs = subst (λ l. Runs c.args.bound (g.S.Source.left c.args.source.now) (g.S.Source.left c.loop-turn.source) (g.K.Sink.taken c.args.sink.now)
+    (g.K.Sink.taken c.loop-turn.sink) l c.loop-turn.turn)
     (sym c.deref.ensures.value) c.loop-turn.invariant.runs in
-    rw (p.1, p.2) (written_at_last_fault _ _ _ _ _ _ _ c.deref.result.now c.loop-turn.turn runs c.serve_last.result c.in_err-serve_last.field-0.0 c.in_err-serve_last.was none c.serve_last.ensures.written)
+    rw (p.1, p.2) (written_at_last_fault _ _ _ _ _ _ _ c.deref.result.now c.loop-turn.turn runs c.serve_last.result c.in_err-serve_last.field-0.0
+    c.in_err-serve_last.was none c.serve_last.ensures.written)
 
 pub returns-then-count-eq0-clause-written : goal.returns-then-count-eq0-clause-written
 returns-then-count-eq0-clause-written g c =
     let none : Consumes (g.S.Source.left c.loop-turn.source) (g.S.Source.left c.read.new.self) [] =
-    subst (λ n. Consumes (g.S.Source.left c.loop-turn.source) (g.S.Source.left c.read.new.self) (take n c.read.new.buffer)) c.if-count-eq0.true c.in-Ok.ensures.moved.0 in
-    let runs = subst (λ l. Runs c.args.bound (g.S.Source.left c.args.source.now) (g.S.Source.left c.loop-turn.source) (g.K.Sink.taken c.args.sink.now) (g.K.Sink.taken c.loop-turn.sink) l c.loop-turn.turn)
+    subst (λ n. Consumes (g.S.Source.left c.loop-turn.source) (g.S.Source.left c.read.new.self) (take n c.read.new.buffer)) c.if-count-eq0.true
+    c.in-Ok.ensures.moved.0 in
+    let runs = subst (λ l. Runs c.args.bound (g.S.Source.left c.args.source.now) (g.S.Source.left c.loop-turn.source) (g.K.Sink.taken c.args.sink.now)
+    (g.K.Sink.taken c.loop-turn.sink) l c.loop-turn.turn)
     (sym c.deref.ensures.value) c.loop-turn.invariant.runs in
     written_at_end _ _ _ _ _ _ _ c.deref.result.now c.loop-turn.turn runs c.serve_last.result _ c.in_ok-serve_last.was none c.serve_last.ensures.written
 
@@ -77,13 +94,15 @@ returns-in_err-serve_piece-clause-written g c =
     let consumed : Consumes (g.S.Source.left c.loop-turn.source) (g.S.Source.left c.read.new.self) bytes =
     subst (Consumes (g.S.Source.left c.loop-turn.source) (g.S.Source.left c.read.new.self)) (sym same) c.in-Ok.ensures.moved.0 in
     let front : take fitting c.deref-in-loop-turn-3.result.now ≡ take fitting bytes =
-    lent_again c.in-Ok.count fitting c.deref-in-loop-turn-2.result.now c.deref-in-loop-turn-3.result.now (c.deref-in-loop-turn-3.ensures.value ∙ sym c.deref-in-loop-turn-2.ensures.value)
+    lent_again c.in-Ok.count fitting c.deref-in-loop-turn-2.result.now c.deref-in-loop-turn-3.result.now
+    (c.deref-in-loop-turn-3.ensures.value ∙ sym c.deref-in-loop-turn-2.ensures.value)
     c.fitting_front-fitting.ensures.within in
     let runs = c.loop-turn.invariant.runs in
     let begun : c.deref-in-loop-turn.result.now ≡ last_part runs.read = c.deref-in-loop-turn.ensures.value ∙ runs.begun in
     let taken = c.fitting_front-fitting.ensures.taken runs.read begun runs.short in
     let served = subst (λ f. (written : List ℕ) × Appends (g.K.Sink.taken c.loop-turn.sink) (g.K.Sink.taken c.serve_piece.new.sink) written
-    × Serves {T = Unit {0}} (Err c.in_err-serve_piece.field-0.0) (ended_lines (c.loop-turn.line.items ++ f)) (c.loop-turn.line.items ++ f) written) front c.in_err-serve_piece.ensures.written in
+    × Serves {T = Unit {0}} (Err c.in_err-serve_piece.field-0.0) (ended_lines (c.loop-turn.line.items ++ f)) (c.loop-turn.line.items ++ f) written) front
+    c.in_err-serve_piece.ensures.written in
     rw (p.1, p.2) (written_at_fault _ _ _ _ _ _ _ _ _ runs (Unit {0}) c.in_err-serve_piece.field-0.0 bytes (take fitting bytes) consumed taken served)
 
 pub returns-then-fitting-count-clause-written : goal.returns-then-fitting-count-clause-written
@@ -96,7 +115,8 @@ returns-then-fitting-count-clause-written g c =
     let consumed : Consumes (g.S.Source.left c.loop-turn.source) (g.S.Source.left c.read.new.self) bytes =
     subst (Consumes (g.S.Source.left c.loop-turn.source) (g.S.Source.left c.read.new.self)) (sym same) c.in-Ok.ensures.moved.0 in
     let front : take fitting c.deref-in-loop-turn-3.result.now ≡ take fitting bytes =
-    lent_again c.in-Ok.count fitting c.deref-in-loop-turn-2.result.now c.deref-in-loop-turn-3.result.now (c.deref-in-loop-turn-3.ensures.value ∙ sym c.deref-in-loop-turn-2.ensures.value)
+    lent_again c.in-Ok.count fitting c.deref-in-loop-turn-2.result.now c.deref-in-loop-turn-3.result.now
+    (c.deref-in-loop-turn-3.ensures.value ∙ sym c.deref-in-loop-turn-2.ensures.value)
     c.fitting_front-fitting.ensures.within in
     let runs = c.loop-turn.invariant.runs in
     let begun : c.deref-in-loop-turn.result.now ≡ last_part runs.read = c.deref-in-loop-turn.ensures.value ∙ runs.begun in
@@ -116,7 +136,8 @@ loop-turn-preserved g c =
     let consumed : Consumes (g.S.Source.left c.loop-turn.source) (g.S.Source.left c.read.new.self) bytes =
     subst (Consumes (g.S.Source.left c.loop-turn.source) (g.S.Source.left c.read.new.self)) (sym same) c.in-Ok.ensures.moved.0 in
     let front : take fitting c.deref-in-loop-turn-3.result.now ≡ take fitting bytes =
-    lent_again c.in-Ok.count fitting c.deref-in-loop-turn-2.result.now c.deref-in-loop-turn-3.result.now (c.deref-in-loop-turn-3.ensures.value ∙ sym c.deref-in-loop-turn-2.ensures.value)
+    lent_again c.in-Ok.count fitting c.deref-in-loop-turn-2.result.now c.deref-in-loop-turn-3.result.now
+    (c.deref-in-loop-turn-3.ensures.value ∙ sym c.deref-in-loop-turn-2.ensures.value)
     c.fitting_front-fitting.ensures.within in
     let runs = c.loop-turn.invariant.runs in
     let begun : c.deref-in-loop-turn.result.now ≡ last_part runs.read = c.deref-in-loop-turn.ensures.value ∙ runs.begun in
@@ -130,7 +151,9 @@ loop-turn-preserved g c =
     record {
       room = c.loop-turn.invariant.room;
       source_works = c.in-Ok.ensures.ok ∙ c.loop-turn.invariant.source_works;
-      sink_works = false_from_ne_true (g.K.Sink.has_failed c.serve_piece.new.sink) (λ failed. let fault = c.in_ok-serve_piece.ensures.write_fault.1 failed in cc);
+      sink_works = false_from_ne_true (g.K.Sink.has_failed c.serve_piece.new.sink)
+          (λ failed. let fault = c.in_ok-serve_piece.ensures.write_fault.1 failed in cc);
       runs = Runs-more _ _ _ _ _ _ _ c.loop-turn.line.items c.loop-turn.turn runs bytes c.serve_piece.new.line.items consumed some
-          (subst (λ f. HasShortLines c.args.bound (runs.read ++ f)) all taken.short) served (c.in_ok-serve_piece.ensures.begun ∙ ap (λ f. last_part (c.loop-turn.line.items ++ f)) whole);
+          (subst (λ f. HasShortLines c.args.bound (runs.read ++ f)) all taken.short) served
+          (c.in_ok-serve_piece.ensures.begun ∙ ap (λ f. last_part (c.loop-turn.line.items ++ f)) whole);
     }

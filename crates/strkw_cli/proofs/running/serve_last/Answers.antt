@@ -14,7 +14,8 @@ returns-then-is_empty-clause-written g c =
     ([], Appends-nil (g.K.Sink.taken c.args.sink.now), rw none refl)
 
 -- the answer to the one line
-one : (line lent out old : List ℕ) → lent ≡ out → old ≡ [] → lines line ≡ line ∷ [] → (made : List ℕ) × (out ≡ old ++ made) × IsAnswer line made → AreAnswers (lines line) lent
+one : (line lent out old : List ℕ) → lent ≡ out → old ≡ [] → lines line ≡ line ∷ [] → (made : List ℕ) × (out ≡ old ++ made) × IsAnswer line made
+    → AreAnswers (lines line) lent
 one line lent out old same none is (made, e, answer) =
     let whole : made ≡ lent = sym (same ∙ e ∙ ap (λ x. x ++ made) none) in
     rw is (AreAnswers-one line lent (subst (IsAnswer line) whole answer))
@@ -22,7 +23,8 @@ one line lent out old same none is (made, e, answer) =
 pub returns-then-is_err-clause-written : goal.returns-then-is_err-clause-written
 returns-then-is_err-clause-written g c =
     let is = lines-last_one c.args.line.now c.requires.begun (eqb-false (length c.args.line.now) 0 (sym c.is_empty.ensures ∙ c.if-is_empty.false)) in
-    let answered = one c.args.line.now c.deref.result.now c.answer_with.new.out.items c.clear.new.self.items c.deref.ensures.value c.clear.ensures.items is c.in_ok-answer_with.ensures.ok in
+    let answered = one c.args.line.now c.deref.result.now c.answer_with.new.out.items c.clear.new.self.items c.deref.ensures.value c.clear.ensures.items is
+    c.in_ok-answer_with.ensures.ok in
     written_short c.write_all.result (g.K.Sink.taken c.args.sink.now) (g.K.Sink.taken c.write_all.new.self) (lines c.args.line.now) c.deref.result.now
     (sym c.is_err.ensures.value ∙ c.if-is_err.true) c.write_all.ensures.short
     (some_all (lines c.args.line.now) c.deref.result.now answered)
@@ -30,6 +32,7 @@ returns-then-is_err-clause-written g c =
 pub returns-clause-written : goal.returns-clause-written
 returns-clause-written g c =
     let is = lines-last_one c.args.line.now c.requires.begun (eqb-false (length c.args.line.now) 0 (sym c.is_empty.ensures ∙ c.if-is_empty.false)) in
-    let answered = one c.args.line.now c.deref.result.now c.answer_with.new.out.items c.clear.new.self.items c.deref.ensures.value c.clear.ensures.items is c.in_ok-answer_with.ensures.ok in
+    let answered = one c.args.line.now c.deref.result.now c.answer_with.new.out.items c.clear.new.self.items c.deref.ensures.value c.clear.ensures.items is
+    c.in_ok-answer_with.ensures.ok in
     written_whole c.write_all.result (g.K.Sink.taken c.args.sink.now) (g.K.Sink.taken c.write_all.new.self) c.deref.result.now (lines c.args.line.now)
     (sym c.is_err.ensures.value ∙ c.if-is_err.false) c.write_all.ensures.ok answered

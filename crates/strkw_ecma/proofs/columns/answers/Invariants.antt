@@ -1,5 +1,5 @@
 use Rattle.std.proofs.Common.{◌≡◌, ◌+◌, ◌^◌, ◌≤◌, drop}
-use Rattle.strkw_ecma.specs.Columns.{answers}
+use Rattle.strkw_ecma.specs.machine.Columns.{answers}
 use Rattle.strkw_ecma.proofs.columns.answers.Given as goal
 
 -- the digits so far, and those behind them

@@ -1,6 +1,6 @@
 use Rattle.std.proofs.Common.{◌≡◌, ◌+◌, drop}
 use Rattle.std.specs.Prelude.{option_map}
-use Rattle.strkw_ecma.specs.Columns.{place_of}
+use Rattle.strkw_ecma.specs.machine.Columns.{place_of}
 use Rattle.strkw_ecma.proofs.columns.place_of.Given as goal
 
 -- what was passed over is another number

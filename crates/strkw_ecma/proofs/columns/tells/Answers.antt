@@ -1,8 +1,8 @@
 use Rattle.std.proofs.Common.{◌≡◌, ◌<◌, List, true, length, get_or, sym, ap, subst, ◌∙◌, true≢false, arith}
 use Rattle.std.proofs.lemmas.List.{get_or_default}
-use Rattle.strkw_ecma.specs.Columns.{has_boundary, TellsSets}
+use Rattle.strkw_ecma.specs.machine.Columns.{has_boundary, TellsSets}
 use Rattle.strkw_ecma.specs.Sets.{word_characters}
-use Rattle.strkw_ecma.specs.Machine.{pattern_of}
+use Rattle.strkw_ecma.specs.machine.Machine.{pattern_of}
 use Rattle.strkw_ecma.specs.declared.code.Class.{Class}
 use Rattle.strkw_ecma.proofs.Few.{pattern_told}
 use Rattle.strkw_ecma.proofs.Rows.{one_more}

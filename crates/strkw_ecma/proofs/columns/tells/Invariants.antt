@@ -1,5 +1,5 @@
 use Rattle.std.proofs.Common.{ℕ, ◌<◌, get_or}
-use Rattle.strkw_ecma.specs.Columns.{TellsSets}
+use Rattle.strkw_ecma.specs.machine.Columns.{TellsSets}
 use Rattle.strkw_ecma.specs.declared.code.Class.{Class}
 use Rattle.strkw_ecma.proofs.columns.tells.Given as goal
 

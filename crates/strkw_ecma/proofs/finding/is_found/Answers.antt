@@ -2,9 +2,9 @@ use Rattle.std.proofs.Common.{◌≡◌, ◌↔◌, ℕ, suc, List, [], ◌∷�
 use Rattle.std.specs.Str.{chars}
 use Rattle.std.proofs.lemmas.Iterator.{YieldsList-from_chars}
 use Rattle.std.proofs.lemmas.Iterator.Consumers.{YieldsList-turn, YieldsList-end}
-use Rattle.strkw_ecma.specs.Machine.{pattern_of}
+use Rattle.strkw_ecma.specs.machine.Machine.{pattern_of}
 use Rattle.strkw_ecma.specs.Meaning.{Found}
-use Rattle.strkw_ecma.specs.Marks.{marked}
+use Rattle.strkw_ecma.specs.machine.Marks.{marked}
 use Rattle.std.proofs.lemmas.List.{length-replicate}
 use Rattle.strkw_ecma.proofs.Marked.{unmarked, none_marked}
 use Rattle.strkw_ecma.proofs.Machines.{few_marks}
@@ -30,30 +30,36 @@ loop-c-init c =
 
 pub loop-c-preserved : goal.loop-c-preserved
 loop-c-preserved c =
-    let turn = YieldsList-turn (YieldsList-from_chars c.args.text.now c.utf8.text cc) c.loop-c.yielded _ c.loop-c.yielded_by _ _ c.in-Some.c c.in-Some.is c.next.ensures.steps in
+    let turn = YieldsList-turn (YieldsList-from_chars c.args.text.now c.utf8.text cc) c.loop-c.yielded _ c.loop-c.yielded_by _ _ c.in-Some.c c.in-Some.is
+    c.next.ensures.steps in
     let text = chars c.args.text.now in
     let next = longer c.loop-c.yielded c.in-Some.c in
     let p = marked c.loop-c.marks (pattern_of c.args.program.now) in
     record {
       last = is_behind text p _ _ _ _ turn.0 turn.1 c.loop-c.invariant.last next _ c.step.ensures.left;
       long = c.step.ensures.length ∙ c.loop-c.invariant.long;
-      later = both (not_yet text p _ _ _ _ turn.0 turn.1 c.loop-c.invariant.last next _ c.step.ensures.left c.if-step.false _ c.step.ensures.marks) c.loop-c.invariant.later;
+      later = both (not_yet text p _ _ _ _ turn.0 turn.1 c.loop-c.invariant.last next _ c.step.ensures.left c.if-step.false _ c.step.ensures.marks)
+          c.loop-c.invariant.later;
     }
 
 pub returns-then-step : goal.returns-then-step
 returns-then-step c =
-    let turn = YieldsList-turn (YieldsList-from_chars c.args.text.now c.utf8.text cc) c.loop-c.yielded _ c.loop-c.yielded_by _ _ c.in-Some.c c.in-Some.is c.next.ensures.steps in
+    let turn = YieldsList-turn (YieldsList-from_chars c.args.text.now c.utf8.text cc) c.loop-c.yielded _ c.loop-c.yielded_by _ _ c.in-Some.c c.in-Some.is
+    c.next.ensures.steps in
     let next = longer c.loop-c.yielded c.in-Some.c in
-    let w = found_here (chars c.args.text.now) (marked c.loop-c.marks (pattern_of c.args.program.now)) _ _ _ _ turn.0 turn.1 c.loop-c.invariant.last next _ c.step.ensures.left c.if-step.true in
+    let w = found_here (chars c.args.text.now) (marked c.loop-c.marks (pattern_of c.args.program.now)) _ _ _ _ turn.0 turn.1 c.loop-c.invariant.last next _
+    c.step.ensures.left c.if-step.true in
     let F = Found (pattern_of c.args.program.now) (chars c.args.text.now) in
     let meaning : IsTrue true ↔ F = (λ _. c.loop-c.invariant.later.0 w, λ _. refl) in
     record { meaning = meaning; search = same_answer F _ _ meaning (search_is_exact (pattern_of c.args.program.now) (chars c.args.text.now) c.requires.clean) }
 
 pub returns : goal.returns
 returns c =
-    let end = YieldsList-end (YieldsList-from_chars c.args.text.now c.utf8.text cc) c.loop-c.yielded _ c.loop-c.yielded_by _ _ c.in-None.is c.next.ensures.steps in
+    let end = YieldsList-end (YieldsList-from_chars c.args.text.now c.utf8.text cc) c.loop-c.yielded _ c.loop-c.yielded_by _ _ c.in-None.is c.next.ensures.steps
+    in
     let F = Found (pattern_of c.args.program.now) (chars c.args.text.now) in
-    let meaning = at_end (chars c.args.text.now) (marked c.loop-c.marks (pattern_of c.args.program.now)) _ c.loop-c.last end.1 c.loop-c.invariant.last c.step-2.result c.step-2.ensures.left F c.loop-c.invariant.later in
+    let meaning = at_end (chars c.args.text.now) (marked c.loop-c.marks (pattern_of c.args.program.now)) _ c.loop-c.last end.1 c.loop-c.invariant.last
+    c.step-2.result c.step-2.ensures.left F c.loop-c.invariant.later in
     record { meaning = meaning; search = same_answer F _ _ meaning (search_is_exact (pattern_of c.args.program.now) (chars c.args.text.now) c.requires.clean) }
 
 pub step-requires : goal.step-requires

@@ -1,8 +1,8 @@
 use Rattle.std.proofs.Common.{◌≡◌, ◌↔◌, length}
 use Rattle.std.specs.Str.{chars}
 use Rattle.strkw_ecma.specs.Meaning.{Found, before}
-use Rattle.strkw_ecma.specs.Marks.{Later, marked}
-use Rattle.strkw_ecma.specs.Machine.{pattern_of}
+use Rattle.strkw_ecma.specs.machine.Marks.{Later, marked}
+use Rattle.strkw_ecma.specs.machine.Machine.{pattern_of}
 use Rattle.strkw_ecma.proofs.finding.is_found.Given as goal
 
 -- the matches that are under way or begin later are those that are looked for

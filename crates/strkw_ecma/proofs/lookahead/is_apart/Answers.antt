@@ -3,7 +3,6 @@ use Rattle.std.specs.Str.{chars}
 use Rattle.std.proofs.lemmas.Iterator.{YieldsList-from_chars}
 use Rattle.std.proofs.lemmas.Iterator.Consumers.{YieldsList-turn, YieldsList-end}
 use Rattle.strkw_ecma.specs.Lookahead.{may_precede}
-use Rattle.strkw_ecma.specs.Parts.{front_of}
 use Rattle.strkw_ecma.proofs.Apart.{turn_stops, turn_goes, turn_ends}
 use Rattle.strkw_ecma.proofs.lookahead.is_apart.Goals as goal
 
@@ -12,16 +11,20 @@ longer xs c = length-append xs (c ∷ []) ∙ omega arith
 
 pub returns-then-not-may_precede : goal.returns-then-not-may_precede
 returns-then-not-may_precede c =
-    let turn = YieldsList-turn (YieldsList-from_chars c.args.source.now c.utf8.source cc) c.loop-c.yielded _ c.loop-c.yielded_by _ _ c.in-Some.c c.in-Some.is c.next.ensures.steps in
-    turn_stops (chars c.args.source.now) (front_of c.loop-c.front) _ c.loop-c.invariant _ c.in-Some.c turn.0 turn.1 (longer c.loop-c.yielded c.in-Some.c) cc
+    let turn = YieldsList-turn (YieldsList-from_chars c.args.source.now c.utf8.source cc) c.loop-c.yielded _ c.loop-c.yielded_by _ _ c.in-Some.c c.in-Some.is
+    c.next.ensures.steps in
+    turn_stops (chars c.args.source.now) (c.loop-c.front) _ c.loop-c.invariant _ c.in-Some.c turn.0 turn.1 (longer c.loop-c.yielded c.in-Some.c) cc
 
 pub loop-c-preserved : goal.loop-c-preserved
 loop-c-preserved c =
-    let turn = YieldsList-turn (YieldsList-from_chars c.args.source.now c.utf8.source cc) c.loop-c.yielded _ c.loop-c.yielded_by _ _ c.in-Some.c c.in-Some.is c.next.ensures.steps in
-    let stands : may_precede (front_of c.loop-c.front) c.in-Some.c ≡ true = cc in
-    turn_goes (chars c.args.source.now) (front_of c.loop-c.front) _ c.loop-c.invariant _ c.in-Some.c turn.0 turn.1 (longer c.loop-c.yielded c.in-Some.c) stands (front_of c.after-front.result) c.after-front.ensures
+    let turn = YieldsList-turn (YieldsList-from_chars c.args.source.now c.utf8.source cc) c.loop-c.yielded _ c.loop-c.yielded_by _ _ c.in-Some.c c.in-Some.is
+    c.next.ensures.steps in
+    let stands : may_precede (c.loop-c.front) c.in-Some.c ≡ true = cc in
+    turn_goes (chars c.args.source.now) (c.loop-c.front) _ c.loop-c.invariant _ c.in-Some.c turn.0 turn.1 (longer c.loop-c.yielded c.in-Some.c) stands
+    (c.after-front.result) c.after-front.ensures
 
 pub returns : goal.returns
 returns c =
-    let end = YieldsList-end (YieldsList-from_chars c.args.source.now c.utf8.source cc) c.loop-c.yielded _ c.loop-c.yielded_by _ _ c.in-None.is c.next.ensures.steps in
-    turn_ends (chars c.args.source.now) (front_of c.loop-c.front) _ c.loop-c.invariant end.1
+    let end = YieldsList-end (YieldsList-from_chars c.args.source.now c.utf8.source cc) c.loop-c.yielded _ c.loop-c.yielded_by _ _ c.in-None.is
+    c.next.ensures.steps in
+    turn_ends (chars c.args.source.now) (c.loop-c.front) _ c.loop-c.invariant end.1

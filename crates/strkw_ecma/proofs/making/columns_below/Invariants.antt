@@ -1,5 +1,5 @@
 use Rattle.std.proofs.Common.{◌≡◌, ◌<◌, ℕ, Some, length, get_or}
-use Rattle.strkw_ecma.specs.Columns.{column_of}
+use Rattle.strkw_ecma.specs.machine.Columns.{column_of}
 use Rattle.strkw_ecma.proofs.making.columns_below.Given as goal
 
 abbrev pub invariant-loop-number : goal.invariant-loop-number

@@ -1,11 +1,12 @@
 use Rattle.std.proofs.Common.{rules}
-use Rattle.strkw_ecma.specs.Machine.{pattern_of}
-use Rattle.strkw_ecma.specs.Table.{IsTable}
+use Rattle.strkw_ecma.specs.machine.Machine.{pattern_of}
+use Rattle.strkw_ecma.specs.machine.Table.{IsTable}
 use Rattle.strkw_ecma.proofs.Tables.{searches}
 use Rattle.strkw_ecma.proofs.making.table_if_right.Goals as goal
 
 pub returns : goal.returns
 returns c =
     let draft = c.args.draft in
-    let right : IsTable c.args.classes.items c.args.keys.items draft.samples.items draft.entries.items draft.states.items (pattern_of c.args.program.now) = search rules in
+    let right : IsTable c.args.classes.items c.args.keys.items draft.samples.items draft.entries.items draft.states.items (pattern_of c.args.program.now) =
+    search rules in
     searches _ _ _ _ _ _ c.requires.clean right

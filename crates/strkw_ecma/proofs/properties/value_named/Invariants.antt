@@ -3,4 +3,5 @@ use Rattle.ucd_sets.specs.Loose.{value_named}
 use Rattle.strkw_ecma.proofs.properties.value_named.Given as goal
 
 abbrev pub invariant-loop-spelling : goal.invariant-loop-spelling
-invariant-loop-spelling g l = value_named (map (λ row. (row.0.now, row.1)) l.rows) l.name ≡ value_named (map (λ row. (row.0.now, row.1)) (drop l.spelling-index l.rows)) l.name
+invariant-loop-spelling g l = value_named (map (λ row. (row.0.now, row.1)) l.rows) l.name
+    ≡ value_named (map (λ row. (row.0.now, row.1)) (drop l.spelling-index l.rows)) l.name

@@ -1,6 +1,6 @@
 use Rattle.std.proofs.Common.{option_map, sym, ap, ◌∙◌}
 use Rattle.std.specs.Str.{chars}
-use Rattle.strkw_ecma.specs.Shape.{outlined}
+use Rattle.strkw_ecma.specs.machine.Shape.{outlined}
 use Rattle.strkw_ecma.proofs.Exact.{small_read}
 use Rattle.strkw_ecma.proofs.reader.read.Goals as goal
 

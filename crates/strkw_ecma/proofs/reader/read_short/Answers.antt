@@ -3,24 +3,27 @@ use Rattle.std.specs.Str.{chars}
 use Rattle.std.proofs.lemmas.Iterator.{YieldsList-from_chars}
 use Rattle.std.proofs.lemmas.List.{length_push}
 use Rattle.std.proofs.lemmas.Iterator.Consumers.{YieldsList-turn, YieldsList-end}
-use Rattle.strkw_ecma.specs.Parts.{parts_of, after_char}
+use Rattle.strkw_ecma.specs.machine.Parts.{parts_of, after_char}
 use Rattle.strkw_ecma.proofs.Parts.{goes_on, stops, too_long, whole}
 use Rattle.strkw_ecma.proofs.reader.read_short.Goals as goal
 
 pub returns-then-count-eq-MAX_LENGTH : goal.returns-then-count-eq-MAX_LENGTH
 returns-then-count-eq-MAX_LENGTH c =
-    let turn = YieldsList-turn (YieldsList-from_chars c.args.source.now c.utf8.source cc) c.loop-c.yielded _ c.loop-c.yielded_by _ _ c.in-Some.c c.in-Some.is c.next.ensures.steps in
+    let turn = YieldsList-turn (YieldsList-from_chars c.args.source.now c.utf8.source cc) c.loop-c.yielded _ c.loop-c.yielded_by _ _ c.in-Some.c c.in-Some.is
+    c.next.ensures.steps in
     too_long (chars c.args.source.now) (omega (arith, turn.0, c.loop-c.invariant.counted))
 
 pub returns-in-None-2 : goal.returns-in-None-2
 returns-in-None-2 c =
-    let turn = YieldsList-turn (YieldsList-from_chars c.args.source.now c.utf8.source cc) c.loop-c.yielded _ c.loop-c.yielded_by _ _ c.in-Some.c c.in-Some.is c.next.ensures.steps in
+    let turn = YieldsList-turn (YieldsList-from_chars c.args.source.now c.utf8.source cc) c.loop-c.yielded _ c.loop-c.yielded_by _ _ c.in-Some.c c.in-Some.is
+    c.next.ensures.steps in
     stops (parts_of c.loop-c.reader) (chars c.args.source.now) (length c.loop-c.yielded) c.in-Some.c turn.0 turn.1 c.loop-c.invariant.way
     (ap (option_map parts_of) (sym c.in-None-2.is) ∙ c.in_ok-next.ensures)
 
 pub loop-c-preserved : goal.loop-c-preserved
 loop-c-preserved c =
-    let turn = YieldsList-turn (YieldsList-from_chars c.args.source.now c.utf8.source cc) c.loop-c.yielded _ c.loop-c.yielded_by _ _ c.in-Some.c c.in-Some.is c.next.ensures.steps in
+    let turn = YieldsList-turn (YieldsList-from_chars c.args.source.now c.utf8.source cc) c.loop-c.yielded _ c.loop-c.yielded_by _ _ c.in-Some.c c.in-Some.is
+    c.next.ensures.steps in
     let next = length_push c.loop-c.yielded c.in-Some.c in
     let text = chars c.args.source.now in
     let step : Some (parts_of c.in-Some-2.next) ≡ after_char (parts_of c.loop-c.reader) c.in-Some.c =
@@ -33,7 +36,8 @@ loop-c-preserved c =
 
 pub returns : goal.returns
 returns c =
-    let end = YieldsList-end (YieldsList-from_chars c.args.source.now c.utf8.source cc) c.loop-c.yielded _ c.loop-c.yielded_by _ _ c.in-None.is c.next.ensures.steps in
+    let end = YieldsList-end (YieldsList-from_chars c.args.source.now c.utf8.source cc) c.loop-c.yielded _ c.loop-c.yielded_by _ _ c.in-None.is
+    c.next.ensures.steps in
     let at_end = whole (parts_of c.loop-c.reader) (chars c.args.source.now) (length c.loop-c.yielded)
     (omega (arith, end.1)) (omega (arith, end.1, c.loop-c.invariant.short)) c.loop-c.invariant.way in
     rw at_end at c.end.ensures

@@ -1,7 +1,7 @@
 use Rattle.std.proofs.Common.{◌≡◌, length, ◌≤◌}
 use Rattle.std.specs.Str.{chars}
 use Rattle.strkw_ecma.specs.Syntax.{max_length}
-use Rattle.strkw_ecma.specs.Parts.{parts_of}
+use Rattle.strkw_ecma.specs.machine.Parts.{parts_of}
 use Rattle.strkw_ecma.proofs.Parts.{IsOnWay}
 use Rattle.strkw_ecma.proofs.reader.read_short.Given as goal
 

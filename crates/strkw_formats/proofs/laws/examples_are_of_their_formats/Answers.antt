@@ -1,5 +1,6 @@
 use Rattle.std.specs.Str.{chars}
-use Rattle.strkw_formats.specs.declared.builtin.BuiltinFormat.TheVariants.{Date, DateTime, Duration, Hostname, HostnameDraft4, Ipv4, Ipv6, Iri, IriReference, JsonPointer, RelativeJsonPointer, Time, Uri, UriReference, UriTemplate, Uuid}
+use Rattle.strkw_formats.specs.declared.builtin.BuiltinFormat.TheVariants.{Date, DateTime, Duration, Hostname, HostnameDraft4, Ipv4, Ipv6, Iri, IriReference}
+use Rattle.strkw_formats.specs.declared.builtin.BuiltinFormat.TheVariants.{JsonPointer, RelativeJsonPointer, Time, Uri, UriReference, UriTemplate, Uuid}
 use Rattle.strkw_formats.specs.Formats.{IsOfBuiltin, example_of}
 use Rattle.strkw_formats.proofs.laws.examples_are_of_their_formats.Goals as goal
 

@@ -2,4 +2,8 @@ use Rattle.std.proofs.Common.{refl}
 use Rattle.strkw_keywords.proofs.compile.compile_value.Goals as goal
 
 pub returns : goal.returns
-returns g c = record { entries = c.build.ensures.entries; are_entries = c.build.ensures.are_entries; answer = c.located.ensures _ _ refl c.build.ensures.answer }
+returns g c = record {
+  entries = c.build.ensures.entries;
+  are_entries = c.build.ensures.are_entries;
+  answer = c.locate.ensures _ _ refl c.build.ensures.answer;
+}

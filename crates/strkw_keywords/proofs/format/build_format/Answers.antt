@@ -12,4 +12,5 @@ returns-in_ok-origin_of-in-Some-builtin_format g c =
     (λ k. (goal.ContentCodec-dyn g (k.vtable, k.value)).encoded k.value)
     (λ k. (goal.ContentCodec-dyn g (k.vtable, k.value)).decoding k.value) c.args.ctx.now in
     builtin_stands g.B.Engine.RegexEngine.outcome s (view c.args.value.now)
-    c.in-Some.name.now c.in-Some-builtin_format.format _ (search rules) (search rules) (search rules) (search rules) (search rules) (search rules) (search rules)
+    c.in-Some.name.now c.in-Some-builtin_format.format _ (search rules) (search rules) (search rules) (search rules) (search rules) (search rules)
+    (search rules)

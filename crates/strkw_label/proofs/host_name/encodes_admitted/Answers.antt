@@ -5,7 +5,13 @@ use Rattle.strkw_label.proofs.host_name.encodes_admitted.Goals as goal
 
 pub returns-in-Some : goal.returns-in-Some
 returns-in-Some c = (
-  λ e. (c.in-Some.text.items, c.in-Some.ensures.scalar, c.in-Some.ensures.sound, subst IsAdmittedLabel c.as_slice.ensures.value (c.validate_unicode_label.ensures.0 e)),
+  λ e. (
+    c.in-Some.text.items,
+    c.in-Some.ensures.scalar,
+    c.in-Some.ensures.sound,
+    subst IsAdmittedLabel c.as_slice.ensures.value
+        (c.validate_unicode_label.ensures.0 e),
+  ),
   λ h. c.validate_unicode_label.ensures.1 (subst IsAdmittedLabel (sym (c.as_slice.ensures.value ∙ c.in-Some.ensures.complete h.0 h.1 c.requires h.2)) h.3),
 )
 

@@ -9,7 +9,8 @@ pub returns-then-eq_ignore_ascii_case : goal.returns-then-eq_ignore_ascii_case
 returns-then-eq_ignore_ascii_case c =
     let label = c.args.label.now in
     let rest = c.split_at.ensures.back in
-    let prefix : HasPrefix label = subst (λ l. map to_ascii_lowercase l ≡ codes "xn--") c.split_at.ensures.front (c.eq_ignore_ascii_case.ensures.test.0 c.if-eq_ignore_ascii_case.true) in
+    let prefix : HasPrefix label = subst (λ l. map to_ascii_lowercase l ≡ codes "xn--") c.split_at.ensures.front
+    (c.eq_ignore_ascii_case.ensures.test.0 c.if-eq_ignore_ascii_case.true) in
     let whole = IsXnLabel-from_prefix label prefix in (
       λ e. record {
         reserved = λ _ _. (drop 4 label, whole);

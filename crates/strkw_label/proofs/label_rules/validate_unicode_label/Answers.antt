@@ -34,10 +34,14 @@ loop-place-preserved c =
     let read : c.index-label-place.result ≡ get_or text c.loop-place.place 0 = get_or_read _ _ _ c.loop-place-test.true c.index-label-place.is 0 in
     record {
       places = below_more _ _ before.places (c.if-not-stands_well.ensures.0 refl);
-      katakana_dot = Tells-more _ _ (λ x. x == 0x30FB) _ text before.katakana_dot (now.katakana_dot ∙ ap (λ x. c.loop-place.seen.katakana_dot || (x == 0x30FB)) read);
-      kana_or_han = Tells-more _ _ is_kana_or_han _ text before.kana_or_han (now.kana_or_han ∙ ap (λ x. c.loop-place.seen.kana_or_han || is_kana_or_han x) read);
-      arabic_indic_digit = Tells-more _ _ (λ x. is_in_range 0x660 0x669 x) _ text before.arabic_indic_digit (now.arabic_indic_digit ∙ ap (λ x. c.loop-place.seen.arabic_indic_digit || is_in_range 0x660 0x669 x) read);
-      extended_digit = Tells-more _ _ (λ x. is_in_range 0x6F0 0x6F9 x) _ text before.extended_digit (now.extended_digit ∙ ap (λ x. c.loop-place.seen.extended_digit || is_in_range 0x6F0 0x6F9 x) read);
+      katakana_dot = Tells-more _ _ (λ x. x == 0x30FB) _ text before.katakana_dot
+          (now.katakana_dot ∙ ap (λ x. c.loop-place.seen.katakana_dot || (x == 0x30FB)) read);
+      kana_or_han = Tells-more _ _ is_kana_or_han _ text before.kana_or_han
+          (now.kana_or_han ∙ ap (λ x. c.loop-place.seen.kana_or_han || is_kana_or_han x) read);
+      arabic_indic_digit = Tells-more _ _ (λ x. is_in_range 0x660 0x669 x) _ text before.arabic_indic_digit
+          (now.arabic_indic_digit ∙ ap (λ x. c.loop-place.seen.arabic_indic_digit || is_in_range 0x660 0x669 x) read);
+      extended_digit = Tells-more _ _ (λ x. is_in_range 0x6F0 0x6F9 x) _ text before.extended_digit
+          (now.extended_digit ∙ ap (λ x. c.loop-place.seen.extended_digit || is_in_range 0x6F0 0x6F9 x) read);
     }
 
 pub returns : goal.returns

@@ -1,5 +1,6 @@
 use Rattle.std.proofs.Common.{refl}
-use Rattle.strkw_label.specs.Punycode.{punycode, insertions, in_order, put_in_order, insertions_after, deltas, digits_in_row, digits_from, adapt, scale, delimited, digit_char}
+use Rattle.strkw_label.specs.Punycode.{punycode, insertions, in_order, put_in_order, insertions_after, deltas, digits_in_row, digits_from, adapt, scale}
+use Rattle.strkw_label.specs.Punycode.{delimited, digit_char}
 use Rattle.strkw_label.proofs.laws.published_samples.Goals as goal
 
 pub returns-clause-chinese : goal.returns-clause-chinese

@@ -4,4 +4,5 @@ use Rattle.strkw_net.proofs.AddressLemmas.{ipv6_parsed}
 use Rattle.strkw_net.proofs.addresses.is_ipv6.Goals as goal
 
 pub returns : goal.returns
-returns c = subst (λ (x : Bool). (IsTrue x) ↔ IsIpv6 c.args.bytes.now) (sym c.is_ok.ensures.value) (ipv6_parsed c.args.bytes.now c.parse_ascii.result c.parse_ascii.ensures)
+returns c = subst (λ (x : Bool). (IsTrue x) ↔ IsIpv6 c.args.bytes.now) (sym c.is_ok.ensures.value)
+    (ipv6_parsed c.args.bytes.now c.parse_ascii.result c.parse_ascii.ensures)

@@ -16,7 +16,8 @@ returns-then-label-rest c = (
 pub loop-label-preserved : goal.loop-label-preserved
 loop-label-preserved c =
     let more = more_labels IsLabel c.loop-label.rest.now c.in-Some.label.now _ c.in-Some.ensures.0 c.if-label-rest.false c.in-Some.ensures.1
-    (take_all _ (drop (length c.in-Some.label.now + 1) c.loop-label.rest.now) (omega (arith, length-drop (length c.in-Some.label.now + 1) c.loop-label.rest.now))) in
+    (take_all _ (drop (length c.in-Some.label.now + 1) c.loop-label.rest.now)
+    (omega (arith, length-drop (length c.in-Some.label.now + 1) c.loop-label.rest.now))) in
     (λ h. c.loop-label.invariant.0 (more.0 h), λ h. more.1 (c.loop-label.invariant.1 h))
 
 pub returns : goal.returns

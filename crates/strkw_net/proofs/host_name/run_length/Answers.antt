@@ -9,5 +9,6 @@ use Rattle.strkw_net.proofs.host_name.run_length.Goals as goal
 pub returns : goal.returns
 returns c =
     let bs = c.args.bytes.now in
-    let found = position_from_yields_List (λ b. not (is_letter_digit_hyphen b)) _ _ c.position.result c.position.ensures.ran (YieldsList-from_slice bs cc) (λ x b q k. search (rules, tests)) in
+    let found = position_from_yields_List (λ b. not (is_letter_digit_hyphen b)) _ _ c.position.result c.position.ensures.ran (YieldsList-from_slice bs cc)
+    (λ x b q k. search (rules, tests)) in
     c.unwrap_or.ensures ∙ ap (λ o. unwrap_or o (length bs)) found ∙ run_by_position bs

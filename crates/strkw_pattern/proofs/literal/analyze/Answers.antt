@@ -14,13 +14,15 @@ returns-in_default-split_front c = λ is.
 
 pub returns-in_default-2 : goal.returns-in_default-2
 returns-in_default-2 c =
-    let whole : c.args.pattern.now ≡ 94 ∷ 40 ∷ c.in-Some-split_front.group.now = cc (c.in-Some.ensures, c.in-Some-split_front.ensures, c.if-start-ne94.false, c.if-first-ne40.false) in
+    let whole : c.args.pattern.now ≡ 94 ∷ 40 ∷ c.in-Some-split_front.group.now =
+    cc (c.in-Some.ensures, c.in-Some-split_front.ensures, c.if-start-ne94.false, c.if-first-ne40.false) in
     let none = rw c.in_default-2.is at c.in_ok-alternatives.ensures in
     λ is. no_literal-group c.in-Some-split_front.group.now none (rw whole at is)
 
 pub returns : goal.returns
 returns c =
-    let whole : c.args.pattern.now ≡ 94 ∷ 40 ∷ c.in-Some-split_front.group.now = cc (c.in-Some.ensures, c.in-Some-split_front.ensures, c.if-start-ne94.false, c.if-first-ne40.false) in
+    let whole : c.args.pattern.now ≡ 94 ∷ 40 ∷ c.in-Some-split_front.group.now =
+    cc (c.in-Some.ensures, c.in-Some-split_front.ensures, c.if-start-ne94.false, c.if-first-ne40.false) in
     let read = rw c.in-Some-2.is at c.in_ok-alternatives.ensures in (
       read.0,
       read.1,

@@ -9,12 +9,14 @@ use Rattle.strkw_pattern.proofs.literal.analyze_run.Goals as goal
 pub returns-then-is_empty : goal.returns-then-is_empty
 returns-then-is_empty c =
     let none = none_left _ (sym c.is_empty.ensures ∙ c.if-is_empty.true) in
-    no_run c.args.pattern.now (string_bytes c.in_ok-text.text) c.in_ok-text.rest.now c.in_ok-text.ensures (λ some. absurd (let same = ap length c.as_bytes.ensures.value in omega (arith, none, some, same)))
+    no_run c.args.pattern.now (string_bytes c.in_ok-text.text) c.in_ok-text.rest.now c.in_ok-text.ensures
+    (λ some. absurd (let same = ap length c.as_bytes.ensures.value in omega (arith, none, some, same)))
 
 pub returns-then-eq : goal.returns-then-eq
 returns-then-eq c =
     let reads = c.in_ok-text.ensures in
-    let some : 0 < length (string_bytes c.in_ok-text.text) = (let left = some_left _ (sym c.is_empty.ensures ∙ c.if-is_empty.false) in let same = ap length c.as_bytes.ensures.value in omega (arith, left, same)) in
+    let some : 0 < length (string_bytes c.in_ok-text.text) =
+    (let left = some_left _ (sym c.is_empty.ensures ∙ c.if-is_empty.false) in let same = ap length c.as_bytes.ensures.value in omega (arith, left, same)) in
     let is = (bytes_eq-Decides c.in_ok-text.rest.now c.as_slice.result.now).0 (sym c.eq.ensures ∙ c.if-eq.true) in
     (reads.0, read_some reads.0 _ reads.3 reads.1 some, reads.2 ∙ ap (λ (r : List ℕ). spelling_of reads.0 ++ r) (is ∙ c.as_slice.ensures), reads.3)
 

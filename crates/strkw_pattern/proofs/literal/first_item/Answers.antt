@@ -13,10 +13,12 @@ returns-in_err-second c =
 
 pub returns-then-is_escapable : goal.returns-then-is_escapable
 returns-then-is_escapable c =
-    let e0 : c.args.pattern.now ≡ 92 ∷ c.in_ok-second.second ∷ c.in_ok-second.rest.now = cc (c.in_ok-first.ensures, c.in_ok-second.ensures, c.if-first-ne92.false) in
+    let e0 : c.args.pattern.now ≡ 92 ∷ c.in_ok-second.second ∷ c.in_ok-second.rest.now =
+    cc (c.in_ok-first.ensures, c.in_ok-second.ensures, c.if-first-ne92.false) in
     (escaped c.in_ok-second.second, sym c.is_escapable.ensures ∙ c.if-is_escapable.true, e0, refl)
 
 pub returns-else-is_escapable : goal.returns-else-is_escapable
 returns-else-is_escapable c = λ x rest is e.
-    let e0 : c.args.pattern.now ≡ 92 ∷ c.in_ok-second.second ∷ c.in_ok-second.rest.now = cc (c.in_ok-first.ensures, c.in_ok-second.ensures, c.if-first-ne92.false) in
+    let e0 : c.args.pattern.now ≡ 92 ∷ c.in_ok-second.second ∷ c.in_ok-second.rest.now =
+    cc (c.in_ok-first.ensures, c.in_ok-second.ensures, c.if-first-ne92.false) in
     no_item-backslash c.in_ok-second.second c.in_ok-second.rest.now (sym c.is_escapable.ensures ∙ c.if-is_escapable.false) x rest is (sym e0 ∙ e)

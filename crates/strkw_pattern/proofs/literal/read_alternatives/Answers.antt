@@ -14,12 +14,14 @@ pub returns-then-is_empty : goal.returns-then-is_empty
 returns-then-is_empty c =
     let none = none_left _ (sym c.is_empty.ensures ∙ c.if-is_empty.true) in
     let same = ap length c.as_bytes.ensures.value in
-    no_group c.args.pattern.now c.loop-alternatives.rest.now (string_bytes c.in_ok-text.text) c.in_ok-text.after.now (map string_bytes c.loop-alternatives.alternatives.items) c.loop-alternatives.invariant c.in_ok-text.ensures
+    no_group c.args.pattern.now c.loop-alternatives.rest.now (string_bytes c.in_ok-text.text) c.in_ok-text.after.now
+    (map string_bytes c.loop-alternatives.alternatives.items) c.loop-alternatives.invariant c.in_ok-text.ensures
     (λ first. let some = first.some in omega (arith, none, same, some))
 
 pub returns-in_default : goal.returns-in_default
 returns-in_default c =
-    no_group c.args.pattern.now c.loop-alternatives.rest.now (string_bytes c.in_ok-text.text) c.in_ok-text.after.now (map string_bytes c.loop-alternatives.alternatives.items) c.loop-alternatives.invariant c.in_ok-text.ensures
+    no_group c.args.pattern.now c.loop-alternatives.rest.now (string_bytes c.in_ok-text.text) c.in_ok-text.after.now
+    (map string_bytes c.loop-alternatives.alternatives.items) c.loop-alternatives.invariant c.in_ok-text.ensures
     (λ first. elim first.next [
       | inl ended ↦ (let bad = sym c.in_default.ensures ∙ ended in cc bad)
       | inr more ↦ (let bad = sym c.in_default.ensures ∙ more.2 in cc bad)
@@ -29,14 +31,17 @@ pub returns-then-eq : goal.returns-then-eq
 returns-then-eq c =
     let pushed : map string_bytes c.push.new.self.items ≡ map string_bytes c.loop-alternatives.alternatives.items ++ string_bytes c.in_ok-text.text ∷ [] =
     ap (map string_bytes) c.in_ok-push.ensures.items ∙ map-append string_bytes c.loop-alternatives.alternatives.items (c.in_ok-text.text ∷ []) in
-    let some : 0 < length (string_bytes c.in_ok-text.text) = (let left = some_left _ (sym c.is_empty.ensures ∙ c.if-is_empty.false) in let same = ap length c.as_bytes.ensures.value in omega (arith, left, same)) in
+    let some : 0 < length (string_bytes c.in_ok-text.text) =
+    (let left = some_left _ (sym c.is_empty.ensures ∙ c.if-is_empty.false) in let same = ap length c.as_bytes.ensures.value in omega (arith, left, same)) in
     let is = (bytes_eq-Decides c.in-Some.next.now c.as_slice.result.now).0 (sym c.eq.ensures ∙ c.if-eq.true) in
     let ended : c.in_ok-text.after.now ≡ 41 ∷ 36 ∷ [] = cc (c.in-Some.ensures, c.if-separator-eq41.true, is, c.as_slice.ensures) in
-    rw pushed (group_done c.args.pattern.now c.loop-alternatives.rest.now (string_bytes c.in_ok-text.text) c.in_ok-text.after.now (map string_bytes c.loop-alternatives.alternatives.items) c.loop-alternatives.invariant c.in_ok-text.ensures some ended)
+    rw pushed (group_done c.args.pattern.now c.loop-alternatives.rest.now (string_bytes c.in_ok-text.text) c.in_ok-text.after.now
+    (map string_bytes c.loop-alternatives.alternatives.items) c.loop-alternatives.invariant c.in_ok-text.ensures some ended)
 
 pub returns-else-eq : goal.returns-else-eq
 returns-else-eq c =
-    no_group c.args.pattern.now c.loop-alternatives.rest.now (string_bytes c.in_ok-text.text) c.in_ok-text.after.now (map string_bytes c.loop-alternatives.alternatives.items) c.loop-alternatives.invariant c.in_ok-text.ensures
+    no_group c.args.pattern.now c.loop-alternatives.rest.now (string_bytes c.in_ok-text.text) c.in_ok-text.after.now
+    (map string_bytes c.loop-alternatives.alternatives.items) c.loop-alternatives.invariant c.in_ok-text.ensures
     (λ first. elim first.next [
       | inl ended ↦
           let next : c.in-Some.next.now ≡ 36 ∷ [] = ap (drop 1) (sym c.in-Some.ensures ∙ ended) in
@@ -50,7 +55,8 @@ returns-else-eq c =
 
 pub returns-then-separator-ne124 : goal.returns-then-separator-ne124
 returns-then-separator-ne124 c =
-    no_group c.args.pattern.now c.loop-alternatives.rest.now (string_bytes c.in_ok-text.text) c.in_ok-text.after.now (map string_bytes c.loop-alternatives.alternatives.items) c.loop-alternatives.invariant c.in_ok-text.ensures
+    no_group c.args.pattern.now c.loop-alternatives.rest.now (string_bytes c.in_ok-text.text) c.in_ok-text.after.now
+    (map string_bytes c.loop-alternatives.alternatives.items) c.loop-alternatives.invariant c.in_ok-text.ensures
     (λ first. elim first.next [
       | inl ended ↦
           let heads = ap (λ (r : List ℕ). slice_index r 0) (sym c.in-Some.ensures ∙ ended) in
@@ -64,6 +70,8 @@ pub loop-alternatives-preserved : goal.loop-alternatives-preserved
 loop-alternatives-preserved c =
     let pushed : map string_bytes c.push.new.self.items ≡ map string_bytes c.loop-alternatives.alternatives.items ++ string_bytes c.in_ok-text.text ∷ [] =
     ap (map string_bytes) c.in_ok-push.ensures.items ∙ map-append string_bytes c.loop-alternatives.alternatives.items (c.in_ok-text.text ∷ []) in
-    let some : 0 < length (string_bytes c.in_ok-text.text) = (let left = some_left _ (sym c.is_empty.ensures ∙ c.if-is_empty.false) in let same = ap length c.as_bytes.ensures.value in omega (arith, left, same)) in
+    let some : 0 < length (string_bytes c.in_ok-text.text) =
+    (let left = some_left _ (sym c.is_empty.ensures ∙ c.if-is_empty.false) in let same = ap length c.as_bytes.ensures.value in omega (arith, left, same)) in
     let follows : c.in_ok-text.after.now ≡ 124 ∷ c.in-Some.next.now = cc (c.in-Some.ensures, c.if-separator-ne124.false) in
-    rw pushed (continues_step c.args.pattern.now c.loop-alternatives.rest.now (string_bytes c.in_ok-text.text) c.in_ok-text.after.now c.in-Some.next.now (map string_bytes c.loop-alternatives.alternatives.items) c.loop-alternatives.invariant c.in_ok-text.ensures some follows)
+    rw pushed (continues_step c.args.pattern.now c.loop-alternatives.rest.now (string_bytes c.in_ok-text.text) c.in_ok-text.after.now c.in-Some.next.now
+    (map string_bytes c.loop-alternatives.alternatives.items) c.loop-alternatives.invariant c.in_ok-text.ensures some follows)

@@ -18,5 +18,8 @@ range_from-rest-requires c =
 
 pub loop-rest-preserved : goal.loop-rest-preserved
 loop-rest-preserved c =
-    let solid : list_all is_solid (take 32 c.loop-rest.rest.now) ≡ true = rw (← c.as_bytes.ensures.value) (sym c.are_solid.ensures ∙ c.if-are_solid.true) in
-    (c.range_from-rest.utf8, c.loop-rest.invariant.1 ∙ behind_block c.loop-rest.rest.now solid ∙ ap (λ t. list_any is_ecma_whitespace (chars t)) (sym c.range_from-rest.ensures.value))
+    let solid : list_all is_solid (take 32 c.loop-rest.rest.now) ≡ true = rw (← c.as_bytes.ensures.value) (sym c.are_solid.ensures ∙ c.if-are_solid.true) in (
+      c.range_from-rest.utf8,
+      c.loop-rest.invariant.1 ∙ behind_block c.loop-rest.rest.now solid
+          ∙ ap (λ t. list_any is_ecma_whitespace (chars t)) (sym c.range_from-rest.ensures.value),
+    )

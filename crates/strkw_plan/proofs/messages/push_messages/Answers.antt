@@ -2,8 +2,8 @@ use Rattle.std.proofs.Common.{rules, ◌≡◌, ◌<◌, ◌^◌, None, Some, ar
 use Rattle.strkw_keywords.specs.Demands.{IsInUse}
 use Rattle.strkw_keywords.specs.Handed.{lists_of}
 use Rattle.strkw_keywords.specs.Validators.{demands_in}
-use Rattle.strkw_cli.specs.Compiled.{keywords_assertions}
-use Rattle.strkw_cli.proofs.Many.{in_use_at}
+use Rattle.strkw_object.specs.Compiled.{keywords_assertions}
+use Rattle.strkw_object.proofs.Many.{in_use_at}
 use Rattle.strkw_plan.proofs.MessageLemmas.{no_more_than_bytes, nothing_said, nothing_yet, said_by_all, said_by_more}
 use Rattle.strkw_plan.proofs.messages.push_messages.Goals as goal
 

@@ -2,7 +2,7 @@ use Rattle.std.proofs.Common.{Some, take, string_bytes}
 use Rattle.strkw_keywords.specs.Handed.{lists_of}
 use Rattle.strkw_keywords.specs.Errors.{NodeReports}
 use Rattle.strkw_keywords.specs.Validators.{assertions_in}
-use Rattle.strkw_cli.specs.Answer.{root_site}
+use Rattle.strkw_report.specs.Standings.{root_site}
 use Rattle.strkw_plan.specs.Messages.{AppendsMessages}
 use Rattle.strkw_plan.proofs.messages.push_messages.Given as goal
 

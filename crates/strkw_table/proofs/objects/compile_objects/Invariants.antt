@@ -11,7 +11,8 @@ use Rattle.strkw_table.proofs.objects.compile_objects.Given as goal
 -- what is left are schemas of the plan, found by their names; and each name that is not left has its object
 abbrev pub invariant-loop-name : goal.invariant-loop-name
 invariant-loop-name g l =
-    let s = rules_settings g.B.EngineBuilder.takes g.B.EngineBuilder.outcome (λ b. (goal.Format-dyn g b).admits b.1) (λ b. (goal.MediaTypeCheck-dyn g b).accepted b.1)
+    let s = rules_settings g.B.EngineBuilder.takes g.B.EngineBuilder.outcome (λ b. (goal.Format-dyn g b).admits b.1)
+    (λ b. (goal.MediaTypeCheck-dyn g b).accepted b.1)
     (λ b. (goal.ContentCodec-dyn g b).encoded b.1) (λ b. (goal.ContentCodec-dyn g b).decoding b.1) l.fn.rules l.fn.plan.draft in
     let all = members_view l.fn.plan.schemas.now.entries in
     let rest = members_view l.name-iterator in record {

@@ -6,8 +6,16 @@ use Rattle.strkw_table.proofs.rows.check_next.Goals as goal
 pub returns-clause-record : goal.returns-clause-record
 returns-clause-record g c text source =
     let wide : length (fields_of c.read.new.row) ≡ length c.args.columns.now = search rules in
-    let (messages, said, count, out) = c.in_ok-count.ensures.messages in
-    (c.in-Some.line, messages, rw c.in-Some.is at (c.in_ok-line.ensures.record text source), wide, rw c.in-Some.is at c.in_ok-line.ensures.within, said, count, out)
+    let (messages, said, count, out) = c.in_ok-count.ensures.messages in (
+      c.in-Some.line,
+      messages,
+      rw c.in-Some.is at (c.in_ok-line.ensures.record text source),
+      wide,
+      rw c.in-Some.is at c.in_ok-line.ensures.within,
+      said,
+      count,
+      out,
+    )
 
 pub returns-then-len-columns-clause-fault : goal.returns-then-len-columns-clause-fault
 returns-then-len-columns-clause-fault g c text source =

@@ -20,7 +20,8 @@ loop-at-preserved g c =
     let (more, last, more_count, more_out) = c.in_ok-more.ensures in
     let sum : c.in_ok-count.count ≡ c.loop-at.count + c.in_ok-more.more = search rules in (
       messages ++ more,
-      of_first-more (ColumnMessages g.E.RegexEngine.outcome lists) c.args.columns.now c.args.line (fields_of c.args.row.now) c.loop-at.at messages more first last,
+      of_first-more (ColumnMessages g.E.RegexEngine.outcome lists) c.args.columns.now c.args.line (fields_of c.args.row.now) c.loop-at.at messages more first
+          last,
       rw (sum, count, more_count) (sym (length-append messages more)),
       joined (string_bytes c.args.out.now) (string_bytes c.loop-at.out) (string_bytes c.check_field.new.out) messages more out more_out,
     )

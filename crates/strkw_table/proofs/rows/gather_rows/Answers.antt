@@ -9,7 +9,8 @@ use Rattle.strkw_records.specs.Reading.{limits_of, place_of}
 use Rattle.strkw_records.specs.Records.{LinedRecord}
 use Rattle.strkw_table.specs.Faults.{IsWhyOfNext}
 use Rattle.strkw_table.proofs.FaultLemmas.{why_behind}
-use Rattle.strkw_table.proofs.RowLemmas.{all_records, first_records-more, first_records-none, gathered, have_shape-more, have_shape-none, of_records-more, of_records-none}
+use Rattle.strkw_table.proofs.RowLemmas.{all_records, first_records-more, first_records-none, gathered, have_shape-more, have_shape-none, of_records-more}
+use Rattle.strkw_table.proofs.RowLemmas.{of_records-none}
 use Rattle.strkw_table.proofs.rows.gather_rows.Goals as goal
 
 pub loop-turn-init : goal.loop-turn-init
@@ -95,6 +96,8 @@ returns-in_err-more-clause-fault g c text source =
     let (records, messages, written, left, at_left, first, width, all_said, appends, joined, row_count, count) = all text source in
     let wrote : List ℕ → Type 0 = λ lines. (put : List ℕ)
     × Appends (g.W.Write.contents c.args.writer.now) (g.W.Write.contents c.loop-turn.writer) put × (lines ≡ put ++ string_bytes c.check_next.new.out) in
-    rw told (why_behind says (limits_of c.args.reader.now) c.args.columns.now (place_of c.args.reader.now) text wrote records messages (place_of c.loop-turn.reader) left why first width all_said
+    rw told (why_behind says (limits_of c.args.reader.now) c.args.columns.now (place_of c.args.reader.now) text wrote records messages
+    (place_of c.loop-turn.reader) left why first width all_said
     (λ explained. (written, appends, joined ∙ ap (λ l. written ++ l) (sym (c.in_err-more.ensures.unsaid explained))))
-    (subst (λ limits. IsWhyOfNext limits (length c.args.columns.now) (place_of c.loop-turn.reader) left why) limited (c.in_err-more.ensures.fault left at_left)))
+    (subst (λ limits. IsWhyOfNext limits (length c.args.columns.now) (place_of c.loop-turn.reader) left why) limited
+    (c.in_err-more.ensures.fault left at_left)))

@@ -26,7 +26,8 @@ use Rattle.strkw_table.proofs.table.check_table.Goals as goal
 pub check_rows-requires : goal.check_rows-requires
 check_rows-requires g c =
     let outcome = g.B.Engine.RegexEngine.outcome in
-    let s = rules_settings g.B.EngineBuilder.takes g.B.EngineBuilder.outcome (λ b. (goal.Format-dyn g b).admits b.1) (λ b. (goal.MediaTypeCheck-dyn g b).accepted b.1)
+    let s = rules_settings g.B.EngineBuilder.takes g.B.EngineBuilder.outcome (λ b. (goal.Format-dyn g b).admits b.1)
+    (λ b. (goal.MediaTypeCheck-dyn g b).accepted b.1)
     (λ b. (goal.ContentCodec-dyn g b).encoded b.1) (λ b. (goal.ContentCodec-dyn g b).decoding b.1) c.args.rules.now c.in_ok-plan.plan.draft in
     let schemas = members_view c.in_ok-plan.plan.schemas.now.entries in
     record {
@@ -37,7 +38,8 @@ check_rows-requires g c =
 
 pub returns-in_err-objects-clause-why : goal.returns-in_err-objects-clause-why
 returns-in_err-objects-clause-why g c =
-    let settings = rules_settings g.B.EngineBuilder.takes g.B.EngineBuilder.outcome (λ b. (goal.Format-dyn g b).admits b.1) (λ b. (goal.MediaTypeCheck-dyn g b).accepted b.1)
+    let settings = rules_settings g.B.EngineBuilder.takes g.B.EngineBuilder.outcome (λ b. (goal.Format-dyn g b).admits b.1)
+    (λ b. (goal.MediaTypeCheck-dyn g b).accepted b.1)
     (λ b. (goal.ContentCodec-dyn g b).encoded b.1) (λ b. (goal.ContentCodec-dyn g b).decoding b.1) c.args.rules.now in
     let e = c.in_err-objects.field-0.0 in
     let gives : IfErr c.from_residual-in_err-objects.result (GivesOfPlan e) = search rules in
@@ -46,7 +48,8 @@ returns-in_err-objects-clause-why g c =
 
 pub returns-in_err-require_header-clause-why : goal.returns-in_err-require_header-clause-why
 returns-in_err-require_header-clause-why g c =
-    let settings = rules_settings g.B.EngineBuilder.takes g.B.EngineBuilder.outcome (λ b. (goal.Format-dyn g b).admits b.1) (λ b. (goal.MediaTypeCheck-dyn g b).accepted b.1)
+    let settings = rules_settings g.B.EngineBuilder.takes g.B.EngineBuilder.outcome (λ b. (goal.Format-dyn g b).admits b.1)
+    (λ b. (goal.MediaTypeCheck-dyn g b).accepted b.1)
     (λ b. (goal.ContentCodec-dyn g b).encoded b.1) (λ b. (goal.ContentCodec-dyn g b).decoding b.1) c.args.rules.now in
     let told : c.from_residual-in_err-require_header.result ≡ Err c.in_err-require_header.field-0.0 = search rules in
     rw told (if_err-no_plan {T = ⊤} settings (view c.args.plan.now) (Err c.in_err-require_header.field-0.0)
@@ -56,7 +59,8 @@ pub returns-clause-messages : goal.returns-clause-messages
 returns-clause-messages g c text source =
     let outcome = g.B.Engine.RegexEngine.outcome in
     let plan = plan_view c.in_ok-plan.plan in
-    let s = rules_settings g.B.EngineBuilder.takes g.B.EngineBuilder.outcome (λ b. (goal.Format-dyn g b).admits b.1) (λ b. (goal.MediaTypeCheck-dyn g b).accepted b.1)
+    let s = rules_settings g.B.EngineBuilder.takes g.B.EngineBuilder.outcome (λ b. (goal.Format-dyn g b).admits b.1)
+    (λ b. (goal.MediaTypeCheck-dyn g b).accepted b.1)
     (λ b. (goal.ContentCodec-dyn g b).encoded b.1) (λ b. (goal.ContentCodec-dyn g b).decoding b.1) c.args.rules.now plan.draft in
     let fields = fields_of c.read.new.row in
     let columns = c.in_ok-columns.columns.items in
@@ -66,7 +70,8 @@ returns-clause-messages g c text source =
     let limits = record_limits plan.limits in
     let given : limits_of c.in_ok-reader.reader ≡ limits = c.in_ok-reader.ensures.limits ∙ c.record_limits-limits.ensures in
     let keeps : limits_of c.read.new.self ≡ limits = c.in_ok-read.ensures.limits ∙ given in
-    let within : AreWithin limits fields = subst (λ l. AreWithin l fields) given ((if_some (c.in_ok-read.field-0) _ c.in_ok-read.ensures.within (search rules)).1) in
+    let within : AreWithin limits fields = subst (λ l. AreWithin l fields) given
+    ((if_some (c.in_ok-read.field-0) _ c.in_ok-read.ensures.within (search rules)).1) in
     let names : LinedRecord = record { line = line; fields = fields } in
     IfOk-weaker c.check_rows.result _ _ (λ x h.
     let (records, messages, are, width, said, appends, rows, errors) = h in (
@@ -94,7 +99,8 @@ returns-clause-messages g c text source =
 
 pub returns-in_err-read-clause-fault : goal.returns-in_err-read-clause-fault
 returns-in_err-read-clause-fault g c text source =
-    let settings = rules_settings g.B.EngineBuilder.takes g.B.EngineBuilder.outcome (λ b. (goal.Format-dyn g b).admits b.1) (λ b. (goal.MediaTypeCheck-dyn g b).accepted b.1)
+    let settings = rules_settings g.B.EngineBuilder.takes g.B.EngineBuilder.outcome (λ b. (goal.Format-dyn g b).admits b.1)
+    (λ b. (goal.MediaTypeCheck-dyn g b).accepted b.1)
     (λ b. (goal.ContentCodec-dyn g b).encoded b.1) (λ b. (goal.ContentCodec-dyn g b).decoding b.1) c.args.rules.now in
     let e = c.in_err-read.field-0.0 in
     let wrote = Appends (g.W.Write.contents c.args.writer.now) (g.W.Write.contents c.args.writer.now) in
@@ -107,7 +113,8 @@ returns-in_err-read-clause-fault g c text source =
 
 pub returns-in_err-require_header-clause-fault : goal.returns-in_err-require_header-clause-fault
 returns-in_err-require_header-clause-fault g c text source =
-    let settings = rules_settings g.B.EngineBuilder.takes g.B.EngineBuilder.outcome (λ b. (goal.Format-dyn g b).admits b.1) (λ b. (goal.MediaTypeCheck-dyn g b).accepted b.1)
+    let settings = rules_settings g.B.EngineBuilder.takes g.B.EngineBuilder.outcome (λ b. (goal.Format-dyn g b).admits b.1)
+    (λ b. (goal.MediaTypeCheck-dyn g b).accepted b.1)
     (λ b. (goal.ContentCodec-dyn g b).encoded b.1) (λ b. (goal.ContentCodec-dyn g b).decoding b.1) c.args.rules.now in
     let fields = fields_of c.read.new.row in
     let why = c.in_err-require_header.field-0.0 in
@@ -122,7 +129,8 @@ returns-in_err-require_header-clause-fault g c text source =
 
 pub returns-clause-fault : goal.returns-clause-fault
 returns-clause-fault g c text source =
-    let settings = rules_settings g.B.EngineBuilder.takes g.B.EngineBuilder.outcome (λ b. (goal.Format-dyn g b).admits b.1) (λ b. (goal.MediaTypeCheck-dyn g b).accepted b.1)
+    let settings = rules_settings g.B.EngineBuilder.takes g.B.EngineBuilder.outcome (λ b. (goal.Format-dyn g b).admits b.1)
+    (λ b. (goal.MediaTypeCheck-dyn g b).accepted b.1)
     (λ b. (goal.ContentCodec-dyn g b).encoded b.1) (λ b. (goal.ContentCodec-dyn g b).decoding b.1) c.args.rules.now in
     let outcome = g.B.Engine.RegexEngine.outcome in
     let plan = plan_view c.in_ok-plan.plan in
@@ -138,12 +146,14 @@ returns-clause-fault g c text source =
     let limits = record_limits plan.limits in
     let given : limits_of c.in_ok-reader.reader ≡ limits = c.in_ok-reader.ensures.limits ∙ c.record_limits-limits.ensures in
     let keeps : limits_of c.read.new.self ≡ limits = c.in_ok-read.ensures.limits ∙ given in
-    let within : AreWithin limits fields = subst (λ l. AreWithin l fields) given ((if_some (c.in_ok-read.field-0) _ c.in_ok-read.ensures.within (search rules)).1) in
+    let within : AreWithin limits fields = subst (λ l. AreWithin l fields) given
+    ((if_some (c.in_ok-read.field-0) _ c.in_ok-read.ensures.within (search rules)).1) in
     let names : LinedRecord = record { line = line; fields = fields } in
     let messages = of_records-along (ColumnMessages outcome s.lists) (MessagesOf s plan.schemas) columns fields
     (λ n at field m q. column_fields outcome s plan.schemas (get_by_text c.in_ok-objects.objects) c.in_ok-objects.ensures.compiled fields columns
     c.in_ok-columns.ensures n at field m q) same in
-    IfErr-weaker c.check_rows.result _ _ (λ why h. why_under_header settings (view c.args.plan.now) (strip_bom text) wrote plan names (place_of c.read.new.self) rest why
+    IfErr-weaker c.check_rows.result _ _ (λ why h. why_under_header settings (view c.args.plan.now) (strip_bom text) wrote plan names (place_of c.read.new.self)
+    rest why
     c.in_ok-plan.ensures.plan c.in_ok-require_header.ensures.few c.in_ok-require_header.ensures.named c.in_ok-require_header.ensures.distinct within header
     (why_along limits (ColumnMessages outcome s.lists) (MessagesOf s plan.schemas) columns fields same messages (place_of c.read.new.self) rest wrote why h))
     (subst (λ l. IfErr c.check_rows.result (IsWhyOfRows (ColumnMessages outcome s.lists) l columns (place_of c.read.new.self) rest wrote)) keeps

@@ -5,7 +5,8 @@ use Rattle.strkw_time.proofs.date.is_full_date.Goals as goal
 pub returns : goal.returns
 returns c =
     let by_places = full_date_by_places c.args.bytes.now c.in-Some.year c.in-Some-parse_two_digits.month c.in-Some-parse_two_digits-2.day
-    c.if-bytes-ne10.false c.if-bytes-ne45.false c.if-bytes-ne45-2.false c.in-Some.ensures c.in-Some-parse_two_digits.ensures c.in-Some-parse_two_digits-2.ensures in
+    c.if-bytes-ne10.false c.if-bytes-ne45.false c.if-bytes-ne45-2.false c.in-Some.ensures c.in-Some-parse_two_digits.ensures
+    c.in-Some-parse_two_digits-2.ensures in
     (λ t. by_places.0 (c.is_day.ensures.0 t), λ d. c.is_day.ensures.1 (by_places.1 d))
 
 pub returns-in_default : goal.returns-in_default

@@ -15,9 +15,19 @@ returns-then-not-is_separator c = nope (λ d. false≢true (sym c.if-not-is_sepa
 pub returns-then-is_full_date : goal.returns-then-is_full_date
 returns-then-is_full_date c =
     let at = date_time_at c.args.bytes.now in (
-      λ t. at.1 (omega arith, c.is_separator.ensures.0 c.if-not-is_separator.false, c.is_full_date.ensures.0 c.if-is_full_date.true, subst IsFullTime (take_rest c.args.bytes.now 11) (c.is_full_time.ensures.0 t)),
+      λ t. at.1 (
+        omega arith,
+        c.is_separator.ensures.0 c.if-not-is_separator.false,
+        c.is_full_date.ensures.0 c.if-is_full_date.true,
+        subst IsFullTime
+            (take_rest c.args.bytes.now 11) (c.is_full_time.ensures.0 t),
+      ),
       λ d. c.is_full_time.ensures.1 (subst IsFullTime (sym (take_rest c.args.bytes.now 11)) (at.0 d).3),
     )
 
 pub returns-else-is_full_date : goal.returns-else-is_full_date
-returns-else-is_full_date c = (λ t. absurd (false≢true (sym c.if-is_full_date.false ∙ t)), λ d. c.is_full_date.ensures.1 ((date_time_at c.args.bytes.now).0 d).2)
+returns-else-is_full_date c = (
+  λ t. absurd (false≢true (sym c.if-is_full_date.false ∙ t)),
+  λ d. c.is_full_date.ensures.1
+      ((date_time_at c.args.bytes.now).0 d).2,
+)

@@ -8,7 +8,8 @@ pub returns-clause-some : goal.returns-clause-some
 returns-clause-some c =
     let s = c.split_digits.ensures in
     let run = digits_run c.in-Some.after.now c.split_digits.result.0.now c.split_digits.result.1.now s.joined s.digits s.stops in
-    fraction_found c.args.bytes.now c.in-Some.after.now c.split_digits.result.1.now c.in-Some.ensures run (λ e. omega (arith, e, ap length s.joined, length-append c.split_digits.result.0.now c.split_digits.result.1.now))
+    fraction_found c.args.bytes.now c.in-Some.after.now c.split_digits.result.1.now c.in-Some.ensures run
+    (λ e. omega (arith, e, ap length s.joined, length-append c.split_digits.result.0.now c.split_digits.result.1.now))
 
 pub returns-clause-ends : goal.returns-clause-ends
 returns-clause-ends c = λ r f ends.

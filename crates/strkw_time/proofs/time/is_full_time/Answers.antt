@@ -45,7 +45,8 @@ returns-then-second-lt60 c = (
     second = c.in-Some-parse_two_digits-2.second;
     offset = c.in-Some-read_offset.offset;
     spelled = full_time_spelled c.args.bytes.now _ c.in-Some-after_fraction.zone.now _ _ _ _ c.if-bytes-lt9.false c.if-bytes-ne58.false c.if-bytes-ne58-2.false
-        c.in-Some.ensures c.in-Some-parse_two_digits.ensures c.in-Some-parse_two_digits-2.ensures (take_rest c.args.bytes.now 8) c.in-Some-after_fraction.ensures.some c.in-Some-read_offset.ensures.some;
+        c.in-Some.ensures c.in-Some-parse_two_digits.ensures c.in-Some-parse_two_digits-2.ensures (take_rest c.args.bytes.now 8)
+        c.in-Some-after_fraction.ensures.some c.in-Some-read_offset.ensures.some;
     hour_fits = omega arith;
     minute_fits = omega arith;
     second_fits = omega arith;
@@ -64,8 +65,10 @@ returns-else-second-lt60 c =
         minute = c.in-Some-parse_two_digits.minute;
         second = c.in-Some-parse_two_digits-2.second;
         offset = c.in-Some-read_offset.offset;
-        spelled = full_time_spelled c.args.bytes.now _ c.in-Some-after_fraction.zone.now _ _ _ _ c.if-bytes-lt9.false c.if-bytes-ne58.false c.if-bytes-ne58-2.false
-            c.in-Some.ensures c.in-Some-parse_two_digits.ensures c.in-Some-parse_two_digits-2.ensures (take_rest c.args.bytes.now 8) c.in-Some-after_fraction.ensures.some c.in-Some-read_offset.ensures.some;
+        spelled = full_time_spelled c.args.bytes.now _ c.in-Some-after_fraction.zone.now _ _ _ _ c.if-bytes-lt9.false c.if-bytes-ne58.false
+            c.if-bytes-ne58-2.false
+            c.in-Some.ensures c.in-Some-parse_two_digits.ensures c.in-Some-parse_two_digits-2.ensures (take_rest c.args.bytes.now 8)
+            c.in-Some-after_fraction.ensures.some c.in-Some-read_offset.ensures.some;
         hour_fits = omega arith;
         minute_fits = omega arith;
         second_fits = omega arith;
@@ -75,11 +78,14 @@ returns-else-second-lt60 c =
           let p = time_places bs t in
           let z = zone_of bs _ t (take_rest bs 8) in
           let zone = c.in-Some-after_fraction.ensures.ends z.zone z.starts z.ends in
-          let offset : t.offset ≡ c.in-Some-read_offset.offset = offset_same z.zone t.offset c.in-Some-read_offset.offset z.is (subst (IsTimeOffset c.in-Some-read_offset.offset) zone c.in-Some-read_offset.ensures.some) in
+          let offset : t.offset ≡ c.in-Some-read_offset.offset =
+          offset_same z.zone t.offset c.in-Some-read_offset.offset z.is
+          (subst (IsTimeOffset c.in-Some-read_offset.offset) zone c.in-Some-read_offset.ensures.some) in
           let hour : t.hour ≡ c.in-Some.hour = p.hour_at.1 ∙ sym c.in-Some.ensures.1 in
           let minute : t.minute ≡ c.in-Some-parse_two_digits.minute = p.minute_at.1 ∙ sym c.in-Some-parse_two_digits.ensures.1 in
           let sixty : t.second ≡ 60 = p.second_at.1 ∙ sym c.in-Some-parse_two_digits-2.ensures.1 ∙ omega arith in
           let now = t.leap_second sixty in
-          let same : int_rem_euclid (pos (60 * t.hour + t.minute) -ℤ t.offset) (pos 1440) ≡ int_rem_euclid (pos (60 * c.in-Some.hour + c.in-Some-parse_two_digits.minute) -ℤ c.in-Some-read_offset.offset) (pos 1440) = cc in
+          let same : int_rem_euclid (pos (60 * t.hour + t.minute) -ℤ t.offset) (pos 1440)
+          ≡ int_rem_euclid (pos (60 * c.in-Some.hour + c.in-Some-parse_two_digits.minute) -ℤ c.in-Some-read_offset.offset) (pos 1440) = cc in
           c.is_last_minute.ensures.1 (ap last passed ∙ (sym same ∙ now)),
     )

@@ -6,12 +6,14 @@ use Rattle.strkw_time.proofs.time.read_offset.Goals as goal
 
 pub returns-in_err-hour-clause-none : goal.returns-in_err-hour-clause-none
 returns-in_err-hour-clause-none c =
-    let none : (offset : ℤ) → IsTimeOffset offset c.args.bytes.now → ⊥ = λ offset o. c.in_err-hour.ensures (offset_digits offset c.args.bytes.now o c.if-bytes-ne6.false).0 in
+    let none : (offset : ℤ) → IsTimeOffset offset c.args.bytes.now → ⊥ =
+    λ offset o. c.in_err-hour.ensures (offset_digits offset c.args.bytes.now o c.if-bytes-ne6.false).0 in
     rw c.from_residual.ensures none
 
 pub returns-in_err-minute-clause-none : goal.returns-in_err-minute-clause-none
 returns-in_err-minute-clause-none c =
-    let none : (offset : ℤ) → IsTimeOffset offset c.args.bytes.now → ⊥ = λ offset o. c.in_err-minute.ensures (offset_digits offset c.args.bytes.now o c.if-bytes-ne6.false).1 in
+    let none : (offset : ℤ) → IsTimeOffset offset c.args.bytes.now → ⊥ =
+    λ offset o. c.in_err-minute.ensures (offset_digits offset c.args.bytes.now o c.if-bytes-ne6.false).1 in
     rw c.from_residual-in_err-minute.ensures none
 
 pub returns-in-43-clause-some : goal.returns-in-43-clause-some
@@ -19,7 +21,14 @@ returns-in-43-clause-some c = inr (record {
   sign = 43;
   hour = c.in_ok-hour.hour;
   minute = c.in_ok-minute.minute;
-  spelled = (numoffset_at 43 c.in_ok-hour.hour c.in_ok-minute.minute c.args.bytes.now).1 (record { size = c.if-bytes-ne6.false; sign_at = c.in-43.is; colon = c.if-bytes-ne58.false; hour_at = c.in_ok-hour.ensures; minute_at = c.in_ok-minute.ensures });
+  spelled = (numoffset_at 43 c.in_ok-hour.hour c.in_ok-minute.minute c.args.bytes.now).1
+      (record {
+        size = c.if-bytes-ne6.false;
+        sign_at = c.in-43.is;
+        colon = c.if-bytes-ne58.false;
+        hour_at = c.in_ok-hour.ensures;
+        minute_at = c.in_ok-minute.ensures;
+      });
   hour_fits = omega arith;
   minute_fits = omega arith;
   minutes_east = inl (refl, omega (arith, ints));
@@ -30,7 +39,14 @@ returns-in-45-clause-some c = inr (record {
   sign = 45;
   hour = c.in_ok-hour.hour;
   minute = c.in_ok-minute.minute;
-  spelled = (numoffset_at 45 c.in_ok-hour.hour c.in_ok-minute.minute c.args.bytes.now).1 (record { size = c.if-bytes-ne6.false; sign_at = c.in-45.is; colon = c.if-bytes-ne58.false; hour_at = c.in_ok-hour.ensures; minute_at = c.in_ok-minute.ensures });
+  spelled = (numoffset_at 45 c.in_ok-hour.hour c.in_ok-minute.minute c.args.bytes.now).1
+      (record {
+        size = c.if-bytes-ne6.false;
+        sign_at = c.in-45.is;
+        colon = c.if-bytes-ne58.false;
+        hour_at = c.in_ok-hour.ensures;
+        minute_at = c.in_ok-minute.ensures;
+      });
   hour_fits = omega arith;
   minute_fits = omega arith;
   minutes_east = inr (refl, omega (arith, ints));

@@ -13,12 +13,16 @@ pub returns-in-Some : goal.returns-in-Some
 returns-in-Some c =
     let s = c.args.syntax in
     let K = alphabet s in
-    let run = run_wider (Encoded (is_reg_name_char K)) (Encoded (is_userinfo_char K)) _ _ _ (name_in_userinfo K) c.skip-after_name.ensures.run c.after_userinfo.ensures in
-    carry c.is_host_and_tail.ensures (userinfo_at (is_userinfo_char K) (no_percent s UserinfoChar) (no_at_in_userinfo s) (HostAndTail K) (host_run s) _ _ _ run c.in-Some.ensures.cases)
+    let run = run_wider (Encoded (is_reg_name_char K)) (Encoded (is_userinfo_char K)) _ _ _ (name_in_userinfo K) c.skip-after_name.ensures.run
+    c.after_userinfo.ensures in
+    carry c.is_host_and_tail.ensures (userinfo_at (is_userinfo_char K) (no_percent s UserinfoChar) (no_at_in_userinfo s) (HostAndTail K) (host_run s) _ _ _ run
+    c.in-Some.ensures.cases)
 
 pub returns-in-None : goal.returns-in-None
 returns-in-None c =
     let s = c.args.syntax in
     let K = alphabet s in
-    let run = run_wider (Encoded (is_reg_name_char K)) (Encoded (is_userinfo_char K)) _ _ _ (name_in_userinfo K) c.skip-after_name.ensures.run c.after_userinfo.ensures in
-    carry c.is_host_and_tail-in-None.ensures (userinfo_off (is_userinfo_char K) (no_percent s UserinfoChar) (no_at_in_userinfo s) (HostAndTail K) (host_run s) _ _ run c.in-None.ensures.cases)
+    let run = run_wider (Encoded (is_reg_name_char K)) (Encoded (is_userinfo_char K)) _ _ _ (name_in_userinfo K) c.skip-after_name.ensures.run
+    c.after_userinfo.ensures in
+    carry c.is_host_and_tail-in-None.ensures (userinfo_off (is_userinfo_char K) (no_percent s UserinfoChar) (no_at_in_userinfo s) (HostAndTail K) (host_run s) _
+    _ run c.in-None.ensures.cases)

@@ -8,8 +8,10 @@ returns-in-None c = nope (no_address_then (PortAndTail (alphabet c.args.syntax))
 
 pub returns-then-is_bracketed_address : goal.returns-then-is_bracketed_address
 returns-then-is_bracketed_address c =
-    carry (kept_first c.is_bracketed_address.ensures c.if-is_bracketed_address.true c.is_port_and_tail.ensures) (address_then c.ipv6_has_no_bracket.ensures (PortAndTail (alphabet c.args.syntax)) _ _ _ c.in-Some.ensures.cases.0 c.in-Some.ensures.cases.1)
+    carry (kept_first c.is_bracketed_address.ensures c.if-is_bracketed_address.true c.is_port_and_tail.ensures)
+    (address_then c.ipv6_has_no_bracket.ensures (PortAndTail (alphabet c.args.syntax)) _ _ _ c.in-Some.ensures.cases.0 c.in-Some.ensures.cases.1)
 
 pub returns-else-is_bracketed_address : goal.returns-else-is_bracketed_address
 returns-else-is_bracketed_address c =
-    carry (lost_first c.is_bracketed_address.ensures c.if-is_bracketed_address.false) (address_then c.ipv6_has_no_bracket.ensures (PortAndTail (alphabet c.args.syntax)) _ _ _ c.in-Some.ensures.cases.0 c.in-Some.ensures.cases.1)
+    carry (lost_first c.is_bracketed_address.ensures c.if-is_bracketed_address.false)
+    (address_then c.ipv6_has_no_bracket.ensures (PortAndTail (alphabet c.args.syntax)) _ _ _ c.in-Some.ensures.cases.0 c.in-Some.ensures.cases.1)

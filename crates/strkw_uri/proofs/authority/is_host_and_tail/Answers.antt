@@ -14,11 +14,13 @@ returns-in-Some c =
     let s = c.args.syntax in
     let K = alphabet s in
     carry c.is_bracketed_address_and_tail.ensures
-    (host_at BracketedAddress IsIpv4 (PortAndTail K) (is_reg_name_char K) (no_percent s RegNameChar) (no_bracket_in_name s) (ipv4_is_name s) (port_no_bracket K) (port_stops_name s) _ _ c.in-Some.ensures.cases)
+    (host_at BracketedAddress IsIpv4 (PortAndTail K) (is_reg_name_char K) (no_percent s RegNameChar) (no_bracket_in_name s) (ipv4_is_name s) (port_no_bracket K)
+    (port_stops_name s) _ _ c.in-Some.ensures.cases)
 
 pub returns-in-None : goal.returns-in-None
 returns-in-None c =
     let s = c.args.syntax in
     let K = alphabet s in
     carry c.is_port_and_tail.ensures
-    (host_off BracketedAddress IsIpv4 (PortAndTail K) (is_reg_name_char K) (no_percent s RegNameChar) (no_bracket_in_name s) (ipv4_is_name s) (port_no_bracket K) (port_stops_name s) _ _ c.in-None.ensures.cases c.requires)
+    (host_off BracketedAddress IsIpv4 (PortAndTail K) (is_reg_name_char K) (no_percent s RegNameChar) (no_bracket_in_name s) (ipv4_is_name s)
+    (port_no_bracket K) (port_stops_name s) _ _ c.in-None.ensures.cases c.requires)

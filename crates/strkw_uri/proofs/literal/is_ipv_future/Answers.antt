@@ -10,7 +10,9 @@ use Rattle.strkw_uri.proofs.literal.is_ipv_future.Goals as goal
 pub returns-in-Some : goal.returns-in-Some
 returns-in-Some c =
     let class = is_one_of (codes "vV") in
-    carry c.is_version_and_address.ensures (free_then (OneOf class) (Repeat1 HexDigit ⨾ Literal (46 ∷ []) ⨾ Repeat1 (OneOf (is_userinfo_char uri))) _ _ (OneOf-free class) c.in-Some.ensures.cases)
+    carry c.is_version_and_address.ensures (free_then (OneOf class) (Repeat1 HexDigit ⨾ Literal (46 ∷ []) ⨾ Repeat1 (OneOf (is_userinfo_char uri))) _ _
+    (OneOf-free class) c.in-Some.ensures.cases)
 
 pub returns-in-None : goal.returns-in-None
-returns-in-None c = nope (no_start_then (OneOf (is_one_of (codes "vV"))) (Repeat1 HexDigit ⨾ Literal (46 ∷ []) ⨾ Repeat1 (OneOf (is_userinfo_char uri))) _ c.in-None.ensures.cases)
+returns-in-None c = nope (no_start_then (OneOf (is_one_of (codes "vV"))) (Repeat1 HexDigit ⨾ Literal (46 ∷ []) ⨾ Repeat1 (OneOf (is_userinfo_char uri))) _
+    c.in-None.ensures.cases)

@@ -12,7 +12,8 @@ use Rattle.strkw_uri.proofs.literal.is_version_and_address.Goals as goal
 pub returns-in-Some-strip : goal.returns-in-Some-strip
 returns-in-Some-strip c =
     let B = Repeat1 (OneOf (is_userinfo_char uri)) in
-    carry c.is_future_address.ensures (iff_trans (repeat1_dot is_ascii_hexdigit B refl _ _ _ c.in-Some.ensures.cases c.skip_class.ensures) (literal_at B 46 _ _ c.in-Some-strip.ensures.cases))
+    carry c.is_future_address.ensures (iff_trans (repeat1_dot is_ascii_hexdigit B refl _ _ _ c.in-Some.ensures.cases c.skip_class.ensures)
+    (literal_at B 46 _ _ c.in-Some-strip.ensures.cases))
 
 pub returns-in-None-strip : goal.returns-in-None-strip
 returns-in-None-strip c =
@@ -21,4 +22,5 @@ returns-in-None-strip c =
 
 pub returns-in-None : goal.returns-in-None
 returns-in-None c =
-    nope (no_start_then (Repeat1 HexDigit) (Literal (46 ∷ []) ⨾ Repeat1 (OneOf (is_userinfo_char uri))) _ (no_start_first HexDigit (Repeat HexDigit) _ c.in-None.ensures.cases))
+    nope (no_start_then (Repeat1 HexDigit) (Literal (46 ∷ []) ⨾ Repeat1 (OneOf (is_userinfo_char uri))) _
+    (no_start_first HexDigit (Repeat HexDigit) _ c.in-None.ensures.cases))

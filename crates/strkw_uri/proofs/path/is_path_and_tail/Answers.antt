@@ -10,7 +10,8 @@ use Rattle.strkw_uri.proofs.path.is_path_and_tail.Goals as goal
 pub returns-in-Some : goal.returns-in-Some
 returns-in-Some c =
     let K = alphabet c.args.syntax in
-    carry c.is_in_path_and_tail.ensures (slashes_at (is_pchar K) (QueryAndFragment K) _ _ c.in-Some.ensures.cases (λ h. tail_no_slash K _ h _ c.in-Some.ensures.cases))
+    carry c.is_in_path_and_tail.ensures (slashes_at (is_pchar K) (QueryAndFragment K) _ _ c.in-Some.ensures.cases
+    (λ h. tail_no_slash K _ h _ c.in-Some.ensures.cases))
 
 pub returns-in-None : goal.returns-in-None
 returns-in-None c =

@@ -14,14 +14,17 @@ loop-c-preserved-then-c-ne126 c = (c.in-Some.ensures.utf8, iff_trans c.loop-c.in
 pub loop-c-preserved : goal.loop-c-preserved
 loop-c-preserved c =
     let class = is_one_of (codes "01") in
-    let tilde : chars c.loop-c.rest.now ≡ 126 ∷ chars c.in-Some.after.now = c.in-Some.ensures.cases ∙ ap (λ d. d ∷ chars c.in-Some.after.now) c.if-c-ne126.false in (
+    let tilde : chars c.loop-c.rest.now ≡ 126 ∷ chars c.in-Some.after.now = c.in-Some.ensures.cases
+    ∙ ap (λ d. d ∷ chars c.in-Some.after.now) c.if-c-ne126.false in (
       c.in-Some-after_one.ensures.utf8,
-      iff_trans c.loop-c.invariant.1 (iff_trans (step_tilde _ _ tilde) (free_then (OneOf class) InPointer _ _ (OneOf-free class) c.in-Some-after_one.ensures.cases)),
+      iff_trans c.loop-c.invariant.1 (iff_trans (step_tilde _ _ tilde)
+          (free_then (OneOf class) InPointer _ _ (OneOf-free class) c.in-Some-after_one.ensures.cases)),
     )
 
 pub returns-in-None : goal.returns-in-None
 returns-in-None c =
-    let tilde : chars c.loop-c.rest.now ≡ 126 ∷ chars c.in-Some.after.now = c.in-Some.ensures.cases ∙ ap (λ d. d ∷ chars c.in-Some.after.now) c.if-c-ne126.false in
+    let tilde : chars c.loop-c.rest.now ≡ 126 ∷ chars c.in-Some.after.now = c.in-Some.ensures.cases
+    ∙ ap (λ d. d ∷ chars c.in-Some.after.now) c.if-c-ne126.false in
     carry (nope (no_start_then (OneOf (is_one_of (codes "01"))) InPointer _ c.in-None.ensures.cases)) (iff_trans c.loop-c.invariant.1 (step_tilde _ _ tilde))
 
 pub returns : goal.returns

@@ -8,7 +8,8 @@ returns-in-Some c = carry c.is_hash_or_pointer.ensures (number_zero HashOrPointe
 
 pub returns-in-Some-after_one : goal.returns-in-Some-after_one
 returns-in-Some-after_one c =
-    carry c.is_hash_or_pointer-in-Some-after_one.ensures (number_other HashOrPointer _ _ _ pointer_stops c.in-None.ensures.cases c.in-Some-after_one.ensures.cases c.skip_class.ensures)
+    carry c.is_hash_or_pointer-in-Some-after_one.ensures (number_other HashOrPointer _ _ _ pointer_stops c.in-None.ensures.cases
+    c.in-Some-after_one.ensures.cases c.skip_class.ensures)
 
 pub returns-in-None-after_one : goal.returns-in-None-after_one
 returns-in-None-after_one c = nope (no_number HashOrPointer _ c.in-None.ensures.cases c.in-None-after_one.ensures.cases)

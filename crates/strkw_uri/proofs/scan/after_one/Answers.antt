@@ -33,6 +33,7 @@ returns-in_default-clause-cases c =
     let class = is_class_char c.args.class in
     let same = ap (λ s. slice_get s 0) c.as_bytes.ensures.value in
     first_stops class (class_small c.args.class) text c.utf8.text (λ inside. elim c.in_default.branch [
-      | in_default-via-in-Some+else-contains w ↦ ap class (first_got text w.in-Some.first.now (sym (w.in-Some.ensures.value ∙ same))).is ∙ sym w.if-contains.ensures
+      | in_default-via-in-Some+else-contains w ↦ ap class (first_got text w.in-Some.first.now (sym (w.in-Some.ensures.value ∙ same))).is
+          ∙ sym w.if-contains.ensures
       | in_default-via-in_default w ↦ absurd (first_gone text (w.in_default.ensures.value ∙ same) inside)
     ])

@@ -12,4 +12,5 @@ use Rattle.strkw_uri.proofs.tail.is_fragment.Goals as goal
 pub returns : goal.returns
 returns c =
     let class = is_fragment_char (alphabet c.args.syntax) in
-    carry c.is_end.ensures (run_whole (Encoded class) _ _ (encoded_free class (no_percent c.args.syntax FragmentChar)) (nothing_stops class _ refl) c.skip.ensures)
+    carry c.is_end.ensures (run_whole (Encoded class) _ _ (encoded_free class (no_percent c.args.syntax FragmentChar)) (nothing_stops class _ refl)
+    c.skip.ensures)

@@ -9,7 +9,8 @@ use Rattle.strkw_uri.proofs.Expressions.{literal_front, brace_front, no_brace_fr
 use Rattle.strkw_uri.proofs.template.after_literal_or_expression.Goals as goal
 
 pub returns-then-is_literal_char-clause-cases : goal.returns-then-is_literal_char-clause-cases
-returns-then-is_literal_char-clause-cases c = literal_front _ _ (encoded_char is_literal_char c.in-Some.c _ _ c.in-Some.ensures.cases (sym c.if-is_literal_char.ensures))
+returns-then-is_literal_char-clause-cases c = literal_front _ _
+    (encoded_char is_literal_char c.in-Some.c _ _ c.in-Some.ensures.cases (sym c.if-is_literal_char.ensures))
 
 pub returns-then-c-eq37-clause-cases : goal.returns-then-c-eq37-clause-cases
 returns-then-c-eq37-clause-cases c =

@@ -11,7 +11,8 @@ loop-varspec-preserved c =
 pub returns-then-not-is_varspec : goal.returns-then-not-is_varspec
 returns-then-not-is_varspec c =
     let i = list_step _ _ _ c.in-Some.ensures.cases.0 c.in-Some.ensures.cases.1 in
-    carry (nope (λ h. let found : c.is_varspec.result ≡ true = c.is_varspec.ensures.1 (i.0 h).0 in let e : c.is_varspec.result ≡ false = c.if-not-is_varspec.true in cc)) c.loop-varspec.invariant.1
+    carry (nope (λ h. let found : c.is_varspec.result ≡ true = c.is_varspec.ensures.1 (i.0 h).0 in
+    let e : c.is_varspec.result ≡ false = c.if-not-is_varspec.true in cc)) c.loop-varspec.invariant.1
 
 pub returns : goal.returns
 returns c = carry c.is_varspec-2.ensures (iff_trans c.loop-varspec.invariant.1 (list_end _ c.in_default.ensures.cases))

@@ -11,4 +11,5 @@ returns-in-Some c =
 pub returns-in-None : goal.returns-in-None
 returns-in-None c =
     let K = alphabet c.args.syntax in
-    carry c.is_in_path_and_tail.ensures (only_second (literal_not (AuthorityAndTail K) 47 _ c.in-None.ensures.cases) (λ q. q.1, λ h. (c.in-None.ensures.cases, h)))
+    carry c.is_in_path_and_tail.ensures (only_second (literal_not (AuthorityAndTail K) 47 _ c.in-None.ensures.cases)
+    (λ q. q.1, λ h. (c.in-None.ensures.cases, h)))

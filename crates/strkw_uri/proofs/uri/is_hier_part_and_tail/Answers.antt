@@ -15,12 +15,14 @@ returns-in-Some c =
     let s = c.args.syntax in
     let K = alphabet s in
     carry c.is_behind_slash.ensures
-    (hier_slash (Authority K ⨾ PathAbempty K) (QueryAndFragment K) (is_pchar K) (is_pchar K) (no_slash_in_segment s) (no_slash_in_segment s) (tail_no_slash K) (AuthorityAndTail K) (authority_regroup K) _ _ c.in-Some.ensures.cases)
+    (hier_slash (Authority K ⨾ PathAbempty K) (QueryAndFragment K) (is_pchar K) (is_pchar K) (no_slash_in_segment s) (no_slash_in_segment s) (tail_no_slash K)
+    (AuthorityAndTail K) (authority_regroup K) _ _ c.in-Some.ensures.cases)
 
 pub returns-in-None : goal.returns-in-None
 returns-in-None c =
     let s = c.args.syntax in
     let K = alphabet s in
     carry c.is_in_path_and_tail.ensures
-    (iff_trans (hier_none (Authority K ⨾ PathAbempty K) (QueryAndFragment K) (is_pchar K) (is_pchar K) (no_slash_in_segment s) (no_slash_in_segment s) (tail_no_slash K) _ c.in-None.ensures.cases)
+    (iff_trans (hier_none (Authority K ⨾ PathAbempty K) (QueryAndFragment K) (is_pchar K) (is_pchar K) (no_slash_in_segment s) (no_slash_in_segment s)
+    (tail_no_slash K) _ c.in-None.ensures.cases)
     (segments_then (is_pchar K) (QueryAndFragment K) _))

@@ -17,12 +17,14 @@ returns-in-Some c =
     let s = c.args.syntax in
     let K = alphabet s in
     carry c.is_behind_slash.ensures
-    (hier_slash (Authority K ⨾ PathAbempty K) (QueryAndFragment K) (is_nc_char K) (is_pchar K) (no_slash_in_nc s) (no_slash_in_segment s) (tail_no_slash K) (AuthorityAndTail K) (authority_regroup K) _ _ c.in-Some.ensures.cases)
+    (hier_slash (Authority K ⨾ PathAbempty K) (QueryAndFragment K) (is_nc_char K) (is_pchar K) (no_slash_in_nc s) (no_slash_in_segment s) (tail_no_slash K)
+    (AuthorityAndTail K) (authority_regroup K) _ _ c.in-Some.ensures.cases)
 
 pub returns-in-None : goal.returns-in-None
 returns-in-None c =
     let s = c.args.syntax in
     let K = alphabet s in
     carry c.is_path_and_tail.ensures
-    (iff_trans (hier_none (Authority K ⨾ PathAbempty K) (QueryAndFragment K) (is_nc_char K) (is_pchar K) (no_slash_in_nc s) (no_slash_in_segment s) (tail_no_slash K) _ c.in-None.ensures.cases)
+    (iff_trans (hier_none (Authority K ⨾ PathAbempty K) (QueryAndFragment K) (is_nc_char K) (is_pchar K) (no_slash_in_nc s) (no_slash_in_segment s)
+    (tail_no_slash K) _ c.in-None.ensures.cases)
     (run_then (Encoded (is_nc_char K)) (PathAndTail K) _ _ (encoded_free (is_nc_char K) (no_percent s SegmentNcChar)) (path_stops_nc s) c.skip.ensures))

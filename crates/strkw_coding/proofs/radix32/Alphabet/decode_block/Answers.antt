@@ -10,7 +10,8 @@ pub returns-else-eq-clause-only : goal.returns-else-eq-clause-only
 returns-else-eq-clause-only c = λ p bytes some few is.
     let g = c.group_of-group.ensures.only p bytes some few is in
     let front : take c.group_of-group.result.len c.group_of-group.result.bytes ≡ p = rw g.1 (take_at p _ _ (sym g.0)) in
-    let same : c.args.block.now ≡ c.as_slice.result.now = is ∙ ap (code32 c.args.self.now.letters) (sym front) ∙ sym c.code_of-code.ensures ∙ sym c.as_slice.ensures in
+    let same : c.args.block.now ≡ c.as_slice.result.now = is ∙ ap (code32 c.args.self.now.letters) (sym front) ∙ sym c.code_of-code.ensures
+    ∙ sym c.as_slice.ensures in
     let yes : bytes_eq c.args.block.now c.as_slice.result.now ≡ true = (bytes_eq-Decides _ _).1 same in
     cc (yes, c.eq.ensures, c.if-eq.false)
 
@@ -22,7 +23,8 @@ returns-then-are_letters-clause-found c =
       few = g.few;
       five = g.five;
       are_bytes = g.are_bytes;
-      is_code = read_full c.args.self.now.letters c.args.block.now _ _ c.args.self.now.alphabet c.requires.block (sym c.are_letters.ensures ∙ c.if-are_letters.true) g.value g.len;
+      is_code = read_full c.args.self.now.letters c.args.block.now _ _ c.args.self.now.alphabet c.requires.block
+          (sym c.are_letters.ensures ∙ c.if-are_letters.true) g.value g.len;
     }
 
 pub returns-then-not-is_zero-clause-only : goal.returns-then-not-is_zero-clause-only
@@ -32,7 +34,8 @@ returns-then-not-is_zero-clause-only c = λ p bytes some few is.
     let zeros : List ℕ = replicate (5 - length p) 0 in
     let size : length zeros ≡ 5 - length p = length-replicate (5 - length p) 0 in
     let after : drop len c.group_of-group.result.bytes ≡ zeros = rw g.1 (drop_at p zeros _ (sym g.0)) in
-    let back : take (5 - len) (drop len c.group_of-group.result.bytes) ≡ zeros = ap (take (5 - len)) after ∙ take_all (5 - len) zeros (omega (arith, size, g.0)) in
+    let back : take (5 - len) (drop len c.group_of-group.result.bytes) ≡ zeros = ap (take (5 - len)) after
+    ∙ take_all (5 - len) zeros (omega (arith, size, g.0)) in
     let all : c.is_zero.result ≡ true = c.is_zero.ensures.1 (back ∙ ap (λ n. replicate n 0) (sym (ap length back ∙ size))) in
     let not_all : c.is_zero.result ≡ false = c.if-not-is_zero.true in
     cc (all, not_all)

@@ -8,12 +8,14 @@ returns-then-text-lt8 c = λ (b, bytes, is). too_short c.args.self.now.letters c
 
 pub returns-in_default : goal.returns-in_default
 returns-in_default c = λ (b, bytes, is).
-    let f = front_block c.args.self.now.letters c.args.text.now c.split_at.result.0.now c.split_at.result.1.now b c.split_at.ensures.front c.split_at.ensures.back c.requires.some bytes is in
+    let f = front_block c.args.self.now.letters c.args.text.now c.split_at.result.0.now c.split_at.result.1.now b c.split_at.ensures.front
+    c.split_at.ensures.back c.requires.some bytes is in
     c.in_default.ensures.only f.0 f.1 f.2 f.3 f.4
 
 pub returns-then-not-is_empty : goal.returns-then-not-is_empty
 returns-then-not-is_empty c = λ (b, bytes, is).
-    let f = front_block c.args.self.now.letters c.args.text.now c.split_at.result.0.now c.split_at.result.1.now b c.split_at.ensures.front c.split_at.ensures.back c.requires.some bytes is in
+    let f = front_block c.args.self.now.letters c.args.text.now c.split_at.result.0.now c.split_at.result.1.now b c.split_at.ensures.front
+    c.split_at.ensures.back c.requires.some bytes is in
     let p = c.in-Some.ensures.only f.0 f.1 f.2 f.3 f.4 in
     let found = c.in-Some.ensures.found in
     let len = length-take-le c.in-Some.group.len c.in-Some.group.bytes (omega (arith, found.five, found.few)) in

@@ -1,7 +1,7 @@
 use Rattle.std.proofs.Common.{◌≡◌, drop}
 use Rattle.strkw_ecma.specs.Program.{has_loop}
-use Rattle.strkw_ecma.specs.Shape.{instructions}
-use Rattle.strkw_ecma.specs.Machine.{written}
+use Rattle.strkw_ecma.specs.machine.Shape.{instructions}
+use Rattle.strkw_ecma.specs.machine.Machine.{written}
 use Rattle.strkw_ecma.proofs.code.Code.has_loops.Given as goal
 
 abbrev pub invariant-loop-instruction : goal.invariant-loop-instruction

@@ -2,7 +2,7 @@ use Rattle.std.proofs.Common.{◌≡◌, ℕ, List, [], ◌∷◌, ◌++◌, len
 use Rattle.strkw_ecma.specs.declared.tree.CharSet.{CharSet}
 use Rattle.strkw_ecma.specs.declared.code.Instruction.TheVariants.{Read}
 use Rattle.strkw_ecma.specs.Program.{read}
-use Rattle.strkw_ecma.specs.Machine.{Writes}
+use Rattle.strkw_ecma.specs.machine.Machine.{Writes}
 use Rattle.strkw_ecma.proofs.Written.{read_written}
 use Rattle.strkw_ecma.proofs.code.Code.read.Goals as goal
 
@@ -11,6 +11,8 @@ returns c =
     let before = c.args.self.now in
     let count : c.len-class.result ≡ length before.classes.items = c.len-class.ensures ∙ before.classes.ok.0 in
     let numbered = ap (λ (k : ℕ). before.instructions.items ++ Read k c.args.again c.args.optional ∷ []) count in
-    subst (λ (sets : List CharSet). Writes before record { classes = c.push.new.self; instructions = c.push-2.new.self } (read c.args.again c.args.optional c.args.negated sets ∷ []))
+    subst (λ (sets : List CharSet). Writes before record { classes = c.push.new.self; instructions = c.push-2.new.self }
+    (read c.args.again c.args.optional c.args.negated sets ∷ []))
     c.in_ok-from_slice.ensures.items
-    (read_written before (record { classes = c.push.new.self; instructions = c.push-2.new.self }) _ c.args.again c.args.optional c.in_ok-push.ensures.items (c.in_ok-push-2.ensures.items ∙ numbered))
+    (read_written before (record { classes = c.push.new.self; instructions = c.push-2.new.self }) _ c.args.again c.args.optional c.in_ok-push.ensures.items
+    (c.in_ok-push-2.ensures.items ∙ numbered))

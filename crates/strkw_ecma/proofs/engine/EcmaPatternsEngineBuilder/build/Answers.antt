@@ -1,9 +1,9 @@
 use Rattle.std.proofs.Common.{◌≡◌, Option, Some, MatchOption, option_map, ap, sym, subst, ◌∙◌}
 use Rattle.std.specs.Str.{chars}
-use Rattle.strkw_ecma.specs.Machine.{pattern_of}
+use Rattle.strkw_ecma.specs.machine.Machine.{pattern_of}
 use Rattle.strkw_ecma.specs.Patterns.{pattern}
-use Rattle.strkw_ecma.specs.Reading.{read_pattern}
-use Rattle.strkw_ecma.specs.Searches.{IsSearchedBy}
+use Rattle.strkw_ecma.specs.machine.Reading.{read_pattern}
+use Rattle.strkw_ecma.specs.machine.Searches.{IsSearchedBy}
 use Rattle.strkw_ecma.specs.declared.table.Table.{Table}
 use Rattle.strkw_ecma.proofs.Exact.{clean_of}
 use Rattle.strkw_ecma.proofs.engine.EcmaPatternsEngineBuilder.build.Goals as goal

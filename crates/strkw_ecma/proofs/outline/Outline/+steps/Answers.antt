@@ -2,9 +2,9 @@ use Rattle.std.proofs.Common.{◌≡◌, ◌∙◌, false, sym, ap}
 use Rattle.strkw_ecma.specs.Tree.{cat, alt}
 use Rattle.strkw_ecma.specs.Patterns.{quantified_pattern}
 use Rattle.strkw_ecma.specs.Program.{alternatives, is_empty}
-use Rattle.strkw_ecma.specs.Shape.{outlined, quantifier_of}
+use Rattle.strkw_ecma.specs.machine.Shape.{outlined, quantifier_of}
 use Rattle.strkw_ecma.specs.Size.{steps, steps_of}
-use Rattle.strkw_ecma.specs.Sizes.{capped}
+use Rattle.strkw_ecma.specs.machine.Sizes.{capped}
 use Rattle.strkw_ecma.proofs.Shapes.{outlined-Then, outlined-Or, outlined-Repeated, same_beside}
 use Rattle.strkw_ecma.proofs.Sizes.{sum_capped, both_steps, alt_steps, beside_steps}
 use Rattle.strkw_ecma.proofs.outline.Outline.+steps.Goals as goal

@@ -1,7 +1,7 @@
 use Rattle.std.proofs.Common.{◌≡◌, sym, ap, ◌∙◌, arith}
 use Rattle.std.proofs.lemmas.Result.{IfOk-weaker}
 use Rattle.strkw_ecma.specs.Program.{is_empty, program, alternatives}
-use Rattle.strkw_ecma.specs.Shape.{outlined}
+use Rattle.strkw_ecma.specs.machine.Shape.{outlined}
 use Rattle.strkw_ecma.proofs.Written.{both_written}
 use Rattle.strkw_ecma.proofs.Shapes.{shapes, outlined-Then, outlined-Or}
 use Rattle.strkw_ecma.proofs.Copies.{repeated_beside, repeats_program, program_choice}

@@ -1,7 +1,7 @@
 use Rattle.std.proofs.Common.{◌∙◌, sym, ap}
-use Rattle.strkw_ecma.specs.Sizes.{capped}
+use Rattle.strkw_ecma.specs.machine.Sizes.{capped}
 use Rattle.strkw_ecma.specs.Size.{steps}
-use Rattle.strkw_ecma.specs.Shape.{outlined}
+use Rattle.strkw_ecma.specs.machine.Shape.{outlined}
 use Rattle.strkw_ecma.proofs.Sizes.{more_capped, option_steps}
 use Rattle.strkw_ecma.proofs.outline.Outline.option_steps.Goals as goal
 

@@ -1,9 +1,9 @@
 use Rattle.std.proofs.Common.{◌≡◌, ◌∙◌, ◌-◌, sym}
 use Rattle.strkw_ecma.specs.Tree.{empty, alt, star}
 use Rattle.strkw_ecma.specs.Patterns.{repeated}
-use Rattle.strkw_ecma.specs.Sizes.{capped}
+use Rattle.strkw_ecma.specs.machine.Sizes.{capped}
 use Rattle.strkw_ecma.specs.Size.{steps}
-use Rattle.strkw_ecma.specs.Shape.{outlined}
+use Rattle.strkw_ecma.specs.machine.Shape.{outlined}
 use Rattle.strkw_ecma.proofs.Sizes.{both_steps, copies_steps}
 use Rattle.strkw_ecma.proofs.outline.Outline.repeated_steps.Goals as goal
 

@@ -1,9 +1,9 @@
 use Rattle.std.proofs.Common.{◌≡◌, ◌≤◌, ◌<◌, ◌+◌, ◌-◌, ℕ, suc, false, Bool, List, [], ◌∷◌, length, drop, drop-cons, get_or, slice_get, sym, ap, ◌∙◌, arith}
 use Rattle.strkw_ecma.specs.declared.code.Instruction.TheVariants.{Read, Turn}
 use Rattle.strkw_ecma.specs.Program.{Instruction, read_count}
-use Rattle.strkw_ecma.specs.Shape.{turned, reading}
-use Rattle.strkw_ecma.specs.Walk.{Asked, asked}
-use Rattle.strkw_ecma.specs.Machine.{program_of}
+use Rattle.strkw_ecma.specs.machine.Shape.{turned, reading}
+use Rattle.strkw_ecma.specs.machine.Walk.{Asked, asked}
+use Rattle.strkw_ecma.specs.machine.Machine.{program_of}
 use Rattle.strkw_ecma.proofs.Machines.{there, from_class, from_turn, from_end, one_read, none_read, one_mark_less, marks_are_reads, asked_reading, asked_turned}
 use Rattle.strkw_ecma.proofs.program.Program.ask.Goals as goal
 
@@ -64,7 +64,8 @@ back-preserved-in-Read c =
     from_class p (c.back.place - 1) h c.in-Read.class c.in-Read.again c.in-Read.optional (there _ _ _ _ c.as_slice-instructions.ensures.value c.in-Read.is)
     ∙ ap (λ (is : List Instruction). class_there ∷ is) rest in
     let one : 1 ≤ c.back.at =
-    one_mark_less p (c.back.place - 1) h c.in-Read.class c.in-Read.again c.in-Read.optional (there _ _ _ _ c.as_slice-instructions.ensures.value c.in-Read.is) c.back.at
+    one_mark_less p (c.back.place - 1) h c.in-Read.class c.in-Read.again c.in-Read.optional (there _ _ _ _ c.as_slice-instructions.ensures.value c.in-Read.is)
+    c.back.at
     (ap (λ (is : List Instruction). c.back.at + read_count is) rest ∙ c.back.invariant.counted) in
     let next_mark : suc (c.back.at - 1) ≡ c.back.at = omega (arith, one) in
     let marks : drop (c.back.at - 1) c.args.marks.now ≡ get_or c.args.marks.now (c.back.at - 1) false ∷ drop c.back.at c.args.marks.now =
@@ -74,9 +75,15 @@ back-preserved-in-Read c =
       within = omega (arith, c.back.invariant.within);
       counted =
           ap (λ (is : List Instruction). c.back.at - 1 + read_count is) from
-          ∙ omega (arith, one, one_read (slice_get p.code.classes.items c.in-Read.class) c.in-Read.again c.in-Read.optional (drop c.back.place (program_of p)), c.back.invariant.counted);
+          ∙ omega (
+            arith,
+            one,
+            one_read (slice_get p.code.classes.items c.in-Read.class) c.in-Read.again c.in-Read.optional (drop c.back.place (program_of p)),
+            c.back.invariant.counted,
+          );
       asked =
-          asked_reading c.args.last c.args.next (slice_get p.code.classes.items c.in-Read.class) c.in-Read.again c.in-Read.optional _ (drop c.back.place (program_of p)) (drop c.back.at c.args.marks.now) _ _ c.back.invariant.asked
+          asked_reading c.args.last c.args.next (slice_get p.code.classes.items c.in-Read.class) c.in-Read.again c.in-Read.optional _
+          (drop c.back.place (program_of p)) (drop c.back.at c.args.marks.now) _ _ c.back.invariant.asked
           (λ n rs. c.back_over_class-ahead.ensures c.args.last c.args.next c.in-Read.again n rs c.back.walk)
           ∙ sym (ap (λ (ms : List Bool). asked c.args.last c.args.next (class_there ∷ drop c.back.place (program_of p)) ms) marks)
           ∙ sym (ap (λ (is : List Instruction). asked c.args.last c.args.next is (drop (c.back.at - 1) c.args.marks.now)) from);
@@ -96,9 +103,11 @@ back-preserved c =
     ∙ ap (λ (k : ℕ). turned c.in-Turn.turn ∷ drop k (program_of p)) next in
     record {
       within = omega (arith, c.back.invariant.within);
-      counted = ap (λ (is : List Instruction). c.back.at + read_count is) from ∙ omega (arith, none_read c.in-Turn.turn (drop c.back.place (program_of p)), c.back.invariant.counted);
+      counted = ap (λ (is : List Instruction). c.back.at + read_count is) from
+          ∙ omega (arith, none_read c.in-Turn.turn (drop c.back.place (program_of p)), c.back.invariant.counted);
       asked =
-          asked_turned c.args.last c.args.next c.in-Turn.turn (drop c.back.place (program_of p)) (drop c.back.at c.args.marks.now) _ _ c.back.invariant.asked c.back_over-ahead.ensures.asked
+          asked_turned c.args.last c.args.next c.in-Turn.turn (drop c.back.place (program_of p)) (drop c.back.at c.args.marks.now) _ _ c.back.invariant.asked
+          c.back_over-ahead.ensures.asked
           ∙ sym (ap (λ (is : List Instruction). asked c.args.last c.args.next is (drop c.back.at c.args.marks.now)) from);
       around = omega (arith, c.back.invariant.around, c.back_over-ahead.ensures.around, c.back-test.true);
       again = omega (arith, c.back.invariant.again, c.back_over-ahead.ensures.again, c.back-test.true);

@@ -1,7 +1,7 @@
 use Rattle.std.proofs.Common.{◌≡◌, ◌≤◌, ◌+◌, ◌*◌, drop, length}
 use Rattle.strkw_ecma.specs.Program.{read_count}
-use Rattle.strkw_ecma.specs.Walk.{asked}
-use Rattle.strkw_ecma.specs.Machine.{program_of, asked_of}
+use Rattle.strkw_ecma.specs.machine.Walk.{asked}
+use Rattle.strkw_ecma.specs.machine.Machine.{program_of, asked_of}
 use Rattle.strkw_ecma.proofs.program.Program.ask.Given as goal
 
 abbrev pub invariant-back : goal.invariant-back

@@ -1,4 +1,5 @@
-use Rattle.std.proofs.Common.{◌≡◌, ◌≤◌, ◌<◌, ◌+◌, ℕ, suc, true, false, Bool, ◌&&◌, ◌||◌, List, [], ◌∷◌, length, drop, drop-cons, take, set, take-suc-set, drop-set-lt, take-append-drop, get_or, slice_get, Option, refl, sym, ap, ◌∙◌, arith}
+use Rattle.std.proofs.Common.{◌≡◌, ◌≤◌, ◌<◌, ◌+◌, ℕ, suc, true, false, Bool, ◌&&◌, ◌||◌, List, [], ◌∷◌, length, drop, drop-cons, take, set, take-suc-set}
+use Rattle.std.proofs.Common.{drop-set-lt, take-append-drop, get_or, slice_get, Option, refl, sym, ap, ◌∙◌, arith}
 use Rattle.std.proofs.lemmas.List.{append_assoc}
 use Rattle.strkw_ecma.specs.declared.code.Instruction.{Instruction as CodeInstruction}
 use Rattle.strkw_ecma.specs.declared.code.Instruction.TheVariants.{Read, Turn}
@@ -7,12 +8,13 @@ use Rattle.strkw_ecma.specs.declared.code.Turn.{Turn as CodeTurn}
 use Rattle.strkw_ecma.specs.declared.program.Program.{Program}
 use Rattle.strkw_ecma.specs.declared.walk.Walk.{Walk as CodeWalk}
 use Rattle.strkw_ecma.specs.Program.{Instruction, read, read_count}
-use Rattle.strkw_ecma.specs.Shape.{turned, reading}
-use Rattle.strkw_ecma.specs.Walk.{Walked, Following, over, followed}
-use Rattle.strkw_ecma.specs.Marks.{classes}
-use Rattle.strkw_ecma.specs.Machine.{pattern_of, program_of, class_reads, following_of}
+use Rattle.strkw_ecma.specs.machine.Shape.{turned, reading}
+use Rattle.strkw_ecma.specs.machine.Walk.{Walked, Following, over, followed}
+use Rattle.strkw_ecma.specs.machine.Marks.{classes}
+use Rattle.strkw_ecma.specs.machine.Machine.{pattern_of, program_of, class_reads, following_of}
 use Rattle.strkw_ecma.proofs.Programs.{with_marks}
-use Rattle.strkw_ecma.proofs.Machines.{there, one_mark_more, from_class, from_turn, from_end, none_read, marks_are_reads, few_marks, within_at, followed_reading, followed_turned}
+use Rattle.strkw_ecma.proofs.Machines.{there, one_mark_more, from_class, from_turn, from_end, none_read, marks_are_reads, few_marks, within_at}
+use Rattle.strkw_ecma.proofs.Machines.{followed_reading, followed_turned}
 use Rattle.strkw_ecma.proofs.program.Program.follow.Goals.{in-Read, in-Turn}
 use Rattle.strkw_ecma.proofs.program.Program.follow.Goals as goal
 
@@ -70,7 +72,8 @@ over-enters-requires c =
     record { around = omega (arith, end, c.args.self.now.few, c.loop-instruction.invariant.around, c.loop-instruction-test.true) }
 
 -- one instruction more is followed
-module _ (p : Program) (k at : ℕ) (within : k < length p.code.instructions.items) (last next : Option ℕ) (enters : Bool) (old : CodeWalk) (all : Walked) (marks : List Bool)
+module _ (p : Program) (k at : ℕ) (within : k < length p.code.instructions.items) (last next : Option ℕ) (enters : Bool) (old : CodeWalk) (all : Walked)
+    (marks : List Bool)
     (h : all ≡ with_marks last next (take at marks) (followed last next (drop k (program_of p)) (following_of enters old) (drop at marks))) where
   next_place : k + 1 ≡ suc k
   next_place = omega arith
@@ -84,10 +87,12 @@ module _ (p : Program) (k at : ℕ) (within : k < length p.code.instructions.ite
   turn_followed t comes new here behind =
       rw next_place
       (h
-      ∙ ap (λ (is : List Instruction). with_marks last next (take at marks) (followed last next is (following_of enters old) (drop at marks))) (from_turn p k within t here)
+      ∙ ap (λ (is : List Instruction). with_marks last next (take at marks) (followed last next is (following_of enters old) (drop at marks)))
+      (from_turn p k within t here)
       ∙ ap (with_marks last next (take at marks)) (followed_turned last next t (drop (suc k) (program_of p)) (drop at marks) _ _ behind))
 
-  pub class_followed : (class : ℕ) (again optional reads_it behind comes : Bool) (new : CodeWalk) → get_or p.code.instructions.items k (Read 0 false false) ≡ Read class again optional
+  pub class_followed : (class : ℕ) (again optional reads_it behind comes : Bool) (new : CodeWalk)
+      → get_or p.code.instructions.items k (Read 0 false false) ≡ Read class again optional
       → ((n : Bool) (rs : List CharSet) → following_of comes new ≡ over last next (read again optional n rs) (get_or marks at false) (following_of enters old))
       → reads_it ≡ class_reads next (slice_get p.code.classes.items class)
       → behind ≡ ((enters || (again && get_or marks at false)) && reads_it) → at < length marks
@@ -99,10 +104,13 @@ module _ (p : Program) (k at : ℕ) (within : k < length p.code.instructions.ite
       let walk = followed last next rest (following_of comes new) (drop (suc at) marks) in
       rw (next_place, next_mark)
       (h
-      ∙ ap (λ (is : List Instruction). with_marks last next (take at marks) (followed last next is (following_of enters old) (drop at marks))) (from_class p k within class again optional here)
-      ∙ ap (λ (ms : List Bool). with_marks last next (take at marks) (followed last next (first ∷ rest) (following_of enters old) ms)) (drop-cons marks at false marked)
+      ∙ ap (λ (is : List Instruction). with_marks last next (take at marks) (followed last next is (following_of enters old) (drop at marks)))
+      (from_class p k within class again optional here)
+      ∙ ap (λ (ms : List Bool). with_marks last next (take at marks) (followed last next (first ∷ rest) (following_of enters old) ms))
+      (drop-cons marks at false marked)
       ∙ ap (with_marks last next (take at marks))
-      (followed_reading last next (slice_get p.code.classes.items class) again optional (get_or marks at false) reads_it behind rest (drop (suc at) marks) _ _ forwards reads_is behind_is)
+      (followed_reading last next (slice_get p.code.classes.items class) again optional (get_or marks at false) reads_it behind rest (drop (suc at) marks) _ _
+      forwards reads_is behind_is)
       ∙ ap (λ (ms : List Bool). record { leaves = walk.leaves; marks = ms }) (sym (append_assoc (take at marks) (behind ∷ []) walk.marks))
       ∙ ap (λ (ms : List Bool). with_marks last next ms walk) (sym (take-suc-set marks at behind marked))
       ∙ ap (λ (ms : List Bool). with_marks last next (take (suc at) (set marks at behind)) (followed last next rest (following_of comes new) ms))
@@ -119,9 +127,11 @@ loop-instruction-preserved c =
     elim c.match-instruction.branch [
       | in-Read w ↦
           let here = there _ _ k _ items w.in-Read.is in
-          let more = one_more_mark p k _ items c.loop-instruction-test.true w.in-Read.class w.in-Read.again w.in-Read.optional w.in-Read.is at c.loop-instruction.invariant.counted in
+          let more = one_more_mark p k _ items c.loop-instruction-test.true w.in-Read.class w.in-Read.again w.in-Read.optional w.in-Read.is at
+          c.loop-instruction.invariant.counted in
           let marked : at < length c.loop-instruction.marks =
-          has_mark p k _ items c.loop-instruction-test.true w.in-Read.class w.in-Read.again w.in-Read.optional w.in-Read.is at c.loop-instruction.invariant.counted
+          has_mark p k _ items c.loop-instruction-test.true w.in-Read.class w.in-Read.again w.in-Read.optional w.in-Read.is at
+          c.loop-instruction.invariant.counted
           (length c.loop-instruction.marks) (omega (arith, c.loop-instruction.auto.marks, c.requires.fits)) in
           let there_is : w.in-Read.class < length p.code.classes.items =
           within_at (length p.code.classes.items) p.code.instructions.items k w.in-Read.class w.in-Read.again w.in-Read.optional _ within here p.within in
@@ -129,7 +139,8 @@ loop-instruction-preserved c =
           (record {
             counted = ap (λ (n : ℕ). at + 1 + read_count (drop n (program_of p))) next ∙ more;
             followed =
-                class_followed p k at within c.args.last c.args.next c.loop-instruction.enters c.loop-instruction.walk _ c.loop-instruction.marks c.loop-instruction.invariant.followed
+                class_followed p k at within c.args.last c.args.next c.loop-instruction.enters c.loop-instruction.walk _ c.loop-instruction.marks
+                c.loop-instruction.invariant.followed
                 w.in-Read.class w.in-Read.again w.in-Read.optional (get_or c.args.reads.now w.in-Read.class false) _ _ c.loop-instruction.walk here
                 (λ n rs. refl)
                 (c.requires.reads w.in-Read.class there_is) refl marked;
@@ -141,31 +152,42 @@ loop-instruction-preserved c =
           (record {
             counted =
                 ap (λ (n : ℕ). at + read_count (drop n (program_of p))) next
-                ∙ omega (arith, c.loop-instruction.invariant.counted, ap read_count (from_turn p k within w.in-Turn.turn here), none_read w.in-Turn.turn (drop (suc k) (program_of p)));
+                ∙ omega (
+                  arith,
+                  c.loop-instruction.invariant.counted,
+                  ap read_count (from_turn p k within w.in-Turn.turn here),
+                  none_read w.in-Turn.turn
+                      (drop (suc k) (program_of p)),
+                );
             followed =
-                turn_followed p k at within c.args.last c.args.next c.loop-instruction.enters c.loop-instruction.walk _ c.loop-instruction.marks c.loop-instruction.invariant.followed
+                turn_followed p k at within c.args.last c.args.next c.loop-instruction.enters c.loop-instruction.walk _ c.loop-instruction.marks
+                c.loop-instruction.invariant.followed
                 w.in-Turn.turn w.over-enters.result w.over-enters.new.self here w.over-enters.ensures.following;
             around = omega (arith, c.loop-instruction.invariant.around, w.over-enters.ensures.around);
           })
     ]
 
-module _ (p : Program) (k at : ℕ) (last next : Option ℕ) (enters : Bool) (w : CodeWalk) (all : Walked) (marks : List Bool) (end : length p.code.instructions.items ≤ k)
+module _ (p : Program) (k at : ℕ) (last next : Option ℕ) (enters : Bool) (w : CodeWalk) (all : Walked) (marks : List Bool)
+    (end : length p.code.instructions.items ≤ k)
     (h : all ≡ with_marks last next (take at marks) (followed last next (drop k (program_of p)) (following_of enters w) (drop at marks))) where
   pub all_followed : all ≡ record { leaves = enters; marks = marks }
   all_followed =
-      h ∙ ap (λ (is : List Instruction). with_marks last next (take at marks) (followed last next is (following_of enters w) (drop at marks))) (from_end p.code.classes.items p.code.instructions.items k end)
+      h ∙ ap (λ (is : List Instruction). with_marks last next (take at marks) (followed last next is (following_of enters w) (drop at marks)))
+      (from_end p.code.classes.items p.code.instructions.items k end)
       ∙ ap (λ (ms : List Bool). record { leaves = enters; marks = ms }) (take-append-drop at marks)
 
 pub returns-clause-left : goal.returns-clause-left
 returns-clause-left c =
     let end = ap length c.deref-instruction-items.ensures.value in
     sym (ap (λ (v : Walked). v.leaves)
-    (all_followed c.args.self.now c.loop-instruction.instruction-index c.loop-instruction.at c.args.last c.args.next c.loop-instruction.enters c.loop-instruction.walk _ c.loop-instruction.marks
+    (all_followed c.args.self.now c.loop-instruction.instruction-index c.loop-instruction.at c.args.last c.args.next c.loop-instruction.enters
+    c.loop-instruction.walk _ c.loop-instruction.marks
     (omega (arith, end, c.loop-instruction-test.false)) c.loop-instruction.invariant.followed))
 
 pub returns-clause-marks : goal.returns-clause-marks
 returns-clause-marks c =
     let end = ap length c.deref-instruction-items.ensures.value in
     sym (ap (λ (v : Walked). v.marks)
-    (all_followed c.args.self.now c.loop-instruction.instruction-index c.loop-instruction.at c.args.last c.args.next c.loop-instruction.enters c.loop-instruction.walk _ c.loop-instruction.marks
+    (all_followed c.args.self.now c.loop-instruction.instruction-index c.loop-instruction.at c.args.last c.args.next c.loop-instruction.enters
+    c.loop-instruction.walk _ c.loop-instruction.marks
     (omega (arith, end, c.loop-instruction-test.false)) c.loop-instruction.invariant.followed))

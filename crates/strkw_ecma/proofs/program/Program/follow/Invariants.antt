@@ -1,7 +1,7 @@
 use Rattle.std.proofs.Common.{◌≡◌, ◌≤◌, ◌+◌, ◌*◌, drop, take}
 use Rattle.strkw_ecma.specs.Program.{read_count}
-use Rattle.strkw_ecma.specs.Walk.{begun, followed}
-use Rattle.strkw_ecma.specs.Machine.{program_of, answers_of, following_of}
+use Rattle.strkw_ecma.specs.machine.Walk.{begun, followed}
+use Rattle.strkw_ecma.specs.machine.Machine.{program_of, answers_of, following_of}
 use Rattle.strkw_ecma.proofs.Programs.{with_marks}
 use Rattle.strkw_ecma.proofs.program.Program.follow.Given as goal
 

@@ -1,8 +1,8 @@
 use Rattle.std.proofs.Common.{◌≡◌, ◌≤◌, ◌++◌, List, length, sym, ap, ◌∙◌, arith}
 use Rattle.strkw_ecma.specs.Program.{Instruction, program, read_count, has_loop, asks_boundary}
-use Rattle.strkw_ecma.specs.Shape.{outlined}
+use Rattle.strkw_ecma.specs.machine.Shape.{outlined}
 use Rattle.strkw_ecma.specs.Size.{max_steps}
-use Rattle.strkw_ecma.specs.Machine.{written}
+use Rattle.strkw_ecma.specs.machine.Machine.{written}
 use Rattle.strkw_ecma.proofs.Few.{few_instructions, reads_are_classes, boundary_is_asked}
 use Rattle.strkw_ecma.proofs.Written.{instruction_count}
 use Rattle.strkw_ecma.proofs.program.Program.of.Goals as goal

@@ -1,8 +1,8 @@
 use Rattle.std.proofs.Common.{◌≡◌, ◌≤◌, true, ℕ, Bool, List, length, Option, sym, ap, ◌∙◌}
-use Rattle.strkw_ecma.specs.Marks.{leaves, step, marked, classes}
+use Rattle.strkw_ecma.specs.machine.Marks.{leaves, step, marked, classes}
 use Rattle.strkw_ecma.specs.Program.{Instruction, program, has_loop}
-use Rattle.strkw_ecma.specs.Walk.{Walked, asked, begun, followed, walked}
-use Rattle.strkw_ecma.specs.Machine.{pattern_of, program_of, answers_of}
+use Rattle.strkw_ecma.specs.machine.Walk.{Walked, asked, begun, followed, walked}
+use Rattle.strkw_ecma.specs.machine.Machine.{pattern_of, program_of, answers_of}
 use Rattle.strkw_ecma.specs.declared.program.Program.{Program}
 use Rattle.strkw_ecma.proofs.Few.{no_loops}
 use Rattle.strkw_ecma.proofs.Marked.{walk_steps}

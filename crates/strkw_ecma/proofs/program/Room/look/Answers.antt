@@ -1,7 +1,7 @@
 use Rattle.std.proofs.Common.{List, length, ap, ◌∙◌, refl, arith}
 use Rattle.std.proofs.lemmas.Option.{slice_get_read}
 use Rattle.strkw_ecma.specs.declared.tree.CharSet.{CharSet}
-use Rattle.strkw_ecma.specs.Marks.{reads}
+use Rattle.strkw_ecma.specs.machine.Marks.{reads}
 use Rattle.strkw_ecma.proofs.Machines.{one_more_class}
 use Rattle.strkw_ecma.proofs.program.Room.look.Goals as goal
 

@@ -1,5 +1,5 @@
 use Rattle.std.proofs.Common.{◌≡◌, ◌<◌, ℕ, false, get_or, slice_get}
-use Rattle.strkw_ecma.specs.Machine.{class_reads}
+use Rattle.strkw_ecma.specs.machine.Machine.{class_reads}
 use Rattle.strkw_ecma.proofs.program.Room.look.Given as goal
 
 abbrev pub invariant-loop-number : goal.invariant-loop-number

@@ -1,6 +1,6 @@
 use Rattle.std.proofs.Common.{length}
 use Rattle.std.specs.Str.{chars}
-use Rattle.strkw_ecma.specs.Parts.{parts_of}
+use Rattle.strkw_ecma.specs.machine.Parts.{parts_of}
 use Rattle.strkw_ecma.proofs.Parts.{IsOnWay}
 use Rattle.strkw_ecma.proofs.Refused.{Stands}
 use Rattle.strkw_ecma.proofs.reader.refusing.refusal_of.Given as goal

@@ -1,5 +1,5 @@
 use Rattle.std.proofs.Common.{◌≡◌, ◌+◌, ◌<◌, suc, length, drop, drop-cons, false, ap, sym, ◌∙◌, arith}
-use Rattle.strkw_ecma.specs.Walk.{below}
+use Rattle.strkw_ecma.specs.machine.Walk.{below}
 use Rattle.strkw_ecma.proofs.stack.Stack.pop.Goals as goal
 
 pub returns-clause-popped : goal.returns-clause-popped

@@ -1,5 +1,5 @@
 use Rattle.std.proofs.Common.{◌≡◌, ◌<◌, ℕ, get_or}
-use Rattle.strkw_ecma.specs.Columns.{answers}
+use Rattle.strkw_ecma.specs.machine.Columns.{answers}
 use Rattle.strkw_ecma.proofs.states.Draft.are_keys.Given as goal
 
 abbrev pub invariant-loop-k : goal.invariant-loop-k

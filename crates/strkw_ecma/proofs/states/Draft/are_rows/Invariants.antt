@@ -1,6 +1,6 @@
 use Rattle.std.proofs.Common.{◌≡◌, ◌<◌, ◌+◌, ◌*◌, ℕ, Some, length, slice_get}
-use Rattle.strkw_ecma.specs.Machine.{pattern_of}
-use Rattle.strkw_ecma.specs.Table.{IsRow}
+use Rattle.strkw_ecma.specs.machine.Machine.{pattern_of}
+use Rattle.strkw_ecma.specs.machine.Table.{IsRow}
 use Rattle.strkw_ecma.specs.declared.states.State.{State}
 use Rattle.strkw_ecma.proofs.states.Draft.are_rows.Given as goal
 

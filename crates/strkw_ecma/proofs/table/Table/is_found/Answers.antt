@@ -1,7 +1,7 @@
 use Rattle.std.proofs.Common.{◌≡◌, ◌≤◌, ◌<◌, ℕ, ◌+◌, ◌==◌, false, [], length, drop, sym, ap, ◌∙◌, drop_of_length-le, arith, rules}
 use Rattle.std.specs.Str.{chars}
 use Rattle.std.proofs.lemmas.Str.{IsCharBoundary-from_drop}
-use Rattle.strkw_ecma.specs.Table.{entry_at, found, next_row}
+use Rattle.strkw_ecma.specs.machine.Table.{entry_at, found, next_row}
 use Rattle.strkw_ecma.proofs.Bytes.{reads_byte}
 use Rattle.strkw_ecma.proofs.Walks.{turn_found, turn_next, turn_goes, walk_ends, within_table}
 use Rattle.strkw_ecma.proofs.table.Table.is_found.Goals.{then-entry-lt-NEXT_ROW, else-entry-lt-NEXT_ROW+then-entry-eq-NEXT_ROW}

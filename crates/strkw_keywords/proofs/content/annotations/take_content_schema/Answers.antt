@@ -6,7 +6,8 @@ use Rattle.strkw_keywords.proofs.content.annotations.take_content_schema.Goals a
 
 pub returns-in_err-schema-clause-compiled : goal.returns-in_err-schema-clause-compiled
 returns-in_err-schema-clause-compiled g c =
-    let there = was_there c.args.object.now c.remove.new.self c.as_str.result.now c.as_str.ensures c.remove.ensures.updates c.remove.result c.remove.ensures.value in
+    let there = was_there c.args.object.now c.remove.new.self c.as_str.result.now c.as_str.ensures c.remove.ensures.updates c.remove.result
+    c.remove.ensures.value in
     rw c.from_residual.ensures (none_compiled _ _ _ (there ∙ ap (option_map view) c.in_err-schema.was))
 
 pub returns-in_err-schema-clause-others : goal.returns-in_err-schema-clause-others
@@ -20,9 +21,11 @@ returns-then-is_overridden-clause-others g c = without c.args.object.now c.remov
 
 pub returns-clause-compiled : goal.returns-clause-compiled
 returns-clause-compiled g c =
-    let there = was_there c.args.object.now c.remove.new.self c.as_str.result.now c.as_str.ensures c.remove.ensures.updates c.remove.result c.remove.ensures.value in
+    let there = was_there c.args.object.now c.remove.new.self c.as_str.result.now c.as_str.ensures c.remove.ensures.updates c.remove.result
+    c.remove.ensures.value in
     let taken = without c.args.object.now c.remove.new.self c.as_str.result.now c.as_str.ensures c.remove.ensures.updates in
-    schema_compiled _ _ _ _ taken.left _ _ (there ∙ ap (option_map view) c.in_ok-schema.was) (sym c.if-is_overridden.ensures) (c.located.ensures _ _ refl c.build_owned_schema.ensures)
+    schema_compiled _ _ _ _ taken.left _ _ (there ∙ ap (option_map view) c.in_ok-schema.was) (sym c.if-is_overridden.ensures)
+    (c.locate.ensures _ _ refl c.build_owned_schema.ensures)
 
 pub returns-clause-others : goal.returns-clause-others
 returns-clause-others g c = without c.args.object.now c.remove.new.self c.as_str.result.now c.as_str.ensures c.remove.ensures.updates

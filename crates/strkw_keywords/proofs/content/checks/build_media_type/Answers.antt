@@ -9,4 +9,5 @@ pub returns-in_default : goal.returns-in_default
 returns-in_default g c = refused_value _ _ _ ContentMediaType _ (no_string (view c.args.value.now)) c.no_string.result (search rules) c.no_string.ensures
 
 pub returns-in_default-as_str : goal.returns-in_default-as_str
-returns-in_default-as_str g c = refused_value _ _ _ ContentEncoding _ (no_string (view c.in-Some-value.encoding.now)) c.no_string-in_default-as_str.result (search rules) c.no_string-in_default-as_str.ensures
+returns-in_default-as_str g c = refused_value _ _ _ ContentEncoding _ (no_string (view c.in-Some-value.encoding.now)) c.no_string-in_default-as_str.result
+    (search rules) c.no_string-in_default-as_str.ensures

@@ -39,7 +39,8 @@ returns-in_err-literal g c =
 
 pub returns-in-Err-Pattern : goal.returns-in-Err-Pattern
 returns-in-Err-Pattern g c =
-    regex_refused _ _ (view c.args.value.now) c.in-Some.text.now _ (search rules) (rw c.in_default-2.is at c.in_ok-literal.ensures) (search rules) (λ place. search rules)
+    regex_refused _ _ (view c.args.value.now) c.in-Some.text.now _ (search rules) (rw c.in_default-2.is at c.in_ok-literal.ensures) (search rules)
+    (λ place. search rules)
 
 pub returns : goal.returns
 returns g c = memory_refused _ _ (view c.args.value.now) _ refl

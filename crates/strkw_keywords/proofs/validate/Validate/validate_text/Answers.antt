@@ -17,4 +17,5 @@ returns-in_err-findings g c =
 pub returns-in_err-error-in-Some : goal.returns-in_err-error-in-Some
 returns-in_err-error-in-Some g c =
     let (e, is, same) = err_from_is_err_and c.from_residual-in_err-error-in-Some.result c.from_residual-in_err-error-in-Some.ensures.1 in
-    rw is (memory_verdict _ _ _ _ _ e same (λ calm none. found_is_error c.encodes_once.ensures _ _ _ _ _ _ _ c.in_ok-findings.ensures.found c.in-Some.ensures none))
+    rw is (memory_verdict _ _ _ _ _ e same (λ calm none. found_is_error c.encodes_once.ensures _ _ _ _ _ _ _ c.in_ok-findings.ensures.found c.in-Some.ensures
+    none))

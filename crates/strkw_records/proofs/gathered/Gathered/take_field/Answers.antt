@@ -5,7 +5,8 @@ use Rattle.strkw_records.specs.declared.place.Place.{Place}
 use Rattle.strkw_records.specs.Lines.{place_after}
 use Rattle.strkw_records.specs.Records.{quote}
 use Rattle.strkw_records.proofs.CountLemmas.{counts-to}
-use Rattle.strkw_records.proofs.GatherLemmas.{at_field-quoted, fails-later, field-plain, field-quoted, gathers-quotes, outside-gathers, outside-goes_on, outside-later}
+use Rattle.strkw_records.proofs.GatherLemmas.{at_field-quoted, fails-later, field-plain, field-quoted, gathers-quotes, outside-gathers, outside-goes_on}
+use Rattle.strkw_records.proofs.GatherLemmas.{outside-later}
 use Rattle.strkw_records.proofs.InputLemmas.{head-index, is_byte-false, is_byte-true}
 use Rattle.strkw_records.proofs.LineLemmas.{place_after-nil}
 use Rattle.strkw_records.proofs.OutcomeLemmas.{closed, opened}

@@ -5,7 +5,8 @@ use Rattle.csv.specs.declared.parser.State.TheVariants as st
 use Rattle.csv.specs.Records.{partial_of}
 use Rattle.strkw_records.specs.Outcomes.{front_of_field}
 use Rattle.strkw_records.proofs.CountLemmas.{counted-run, counts-none, counts-to, joins-plain, long-joins, room-none, within-end}
-use Rattle.strkw_records.proofs.GatherLemmas.{completes-end, ends-later, fails-later, gathers-moved, gathers-none, gathers-run, gathers-trans, no_head, outside-gathers}
+use Rattle.strkw_records.proofs.GatherLemmas.{completes-end, ends-later, fails-later, gathers-moved, gathers-none, gathers-run, gathers-trans, no_head}
+use Rattle.strkw_records.proofs.GatherLemmas.{outside-gathers}
 use Rattle.strkw_records.proofs.InputLemmas.{piece-front, take-length}
 use Rattle.strkw_records.proofs.gathered.Gathered.take_plain.Goals as goal
 
@@ -72,7 +73,8 @@ end_plain-requires-clause-counted g c = c.pieces.invariant.0.counted
 
 pub returns-then-count-unread-clause-counted : goal.returns-then-count-unread-clause-counted
 returns-then-count-unread-clause-counted g c =
-    IfOk-weaker c.end_plain.result _ _ (λ end k. counts-to c.args.self.now c.pieces.self c.end_plain.new.self end c.pieces.invariant.0 k) c.end_plain.ensures.counted
+    IfOk-weaker c.end_plain.result _ _ (λ end k. counts-to c.args.self.now c.pieces.self c.end_plain.new.self end c.pieces.invariant.0 k)
+    c.end_plain.ensures.counted
 
 pub returns-then-count-unread-clause-fails : goal.returns-then-count-unread-clause-fails
 returns-then-count-unread-clause-fails g c text e =
@@ -114,8 +116,10 @@ pieces-preserved g c =
           let here = gathers-moved g.R.Read.remaining c.args.input.now c.pieces.input c.peek.new.self text st.InField st.InField c.args.self.now c.pieces.self h
           kept.0 c.peek.ensures.place in
           let run = rw c.unread-unread.ensures at c.plain_run-count.ensures.run in
-          gathers-trans g.R.Read.remaining c.args.input.now c.peek.new.self c.take_plain.new.self text st.InField st.InField st.InField c.args.self.now c.pieces.self
+          gathers-trans g.R.Read.remaining c.args.input.now c.peek.new.self c.take_plain.new.self text st.InField st.InField st.InField c.args.self.now
+          c.pieces.self
           _ here
-          (gathers-run g.R.Read.remaining c.peek.new.self c.take_plain.new.self h.rest _ _ st.InField c.pieces.self _ (c.take_plain.ensures.passes h.rest kept.0) run
+          (gathers-run g.R.Read.remaining c.peek.new.self c.take_plain.new.self h.rest _ _ st.InField c.pieces.self _
+          (c.take_plain.ensures.passes h.rest kept.0) run
           refl front),
     )

@@ -4,7 +4,8 @@ use Rattle.csv.specs.declared.parser.State.TheVariants as st
 use Rattle.strkw_records.specs.Outcomes.{Gathers}
 use Rattle.strkw_records.specs.Records.{nothing, pair, quote}
 use Rattle.strkw_records.proofs.CountLemmas.{by-run, counts-later, counts-none, joins-pair, joins-quoted}
-use Rattle.strkw_records.proofs.GatherLemmas.{Quoted, fails-later, gathers-byte, gathers-moved, gathers-trans, no_head, outside-gathers, quoted-more, quoted-none, quoted-open, quoted-run, within-open}
+use Rattle.strkw_records.proofs.GatherLemmas.{Quoted, fails-later, gathers-byte, gathers-moved, gathers-trans, no_head, outside-gathers, quoted-more}
+use Rattle.strkw_records.proofs.GatherLemmas.{quoted-none, quoted-open, quoted-run, within-open}
 use Rattle.strkw_records.proofs.InputLemmas.{head-behind, head-cons, is_byte-false, is_byte-true, piece-front, positive, take-head, take-length, within-front}
 use Rattle.strkw_records.proofs.gathered.Gathered.take_quoted.Goals as goal
 
@@ -55,7 +56,8 @@ pieces-preserved-then-is_empty g c = (
       let kept = c.in_ok-peek.ensures.kept q.0.rest q.0.passes.left in
       let run = rw c.unread.ensures at c.quoted_run-count.ensures.run in
       let q1 : Quoted g.R.Read.remaining c.args.input.now c.take_run.new.input text c.args.self.now c.take_run.new.self =
-      quoted-run g.R.Read.remaining c.args.input.now c.pieces.input c.peek.new.self c.take_run.new.input text c.args.self.now c.pieces.self c.take_run.new.self q
+      quoted-run g.R.Read.remaining c.args.input.now c.pieces.input c.peek.new.self c.take_run.new.input text c.args.self.now c.pieces.self c.take_run.new.self
+      q
       kept.0
       c.peek.ensures.place _ _ (c.in_ok-take_run.ensures.passes q.0.rest kept.0) run c.take_run.ensures.fields c.in_ok-take_run.ensures.front
       in
@@ -184,7 +186,8 @@ pieces-preserved g c = (
       let kept = c.in_ok-peek.ensures.kept q.0.rest q.0.passes.left in
       let run = rw c.unread.ensures at c.quoted_run-count.ensures.run in
       let q1 : Quoted g.R.Read.remaining c.args.input.now c.take_run.new.input text c.args.self.now c.take_run.new.self =
-      quoted-run g.R.Read.remaining c.args.input.now c.pieces.input c.peek.new.self c.take_run.new.input text c.args.self.now c.pieces.self c.take_run.new.self q
+      quoted-run g.R.Read.remaining c.args.input.now c.pieces.input c.peek.new.self c.take_run.new.input text c.args.self.now c.pieces.self c.take_run.new.self
+      q
       kept.0
       c.peek.ensures.place _ _ (c.in_ok-take_run.ensures.passes q.0.rest kept.0) run c.take_run.ensures.fields c.in_ok-take_run.ensures.front
       in
@@ -221,7 +224,8 @@ pieces-preserved g c = (
       c.take_run.new.self
       c.take_run.new.self closing kept2.0 c.is_quote_next.ensures.place
       in
-      let both = gathers-trans g.R.Read.remaining c.take_run.new.input c.is_quote_next.new.self c.take_run-in-pieces.new.input q1.0.rest st.InQuoted st.AfterQuote
+      let both = gathers-trans g.R.Read.remaining c.take_run.new.input c.is_quote_next.new.self c.take_run-in-pieces.new.input q1.0.rest st.InQuoted
+      st.AfterQuote
       st.InQuoted
       c.take_run.new.self c.take_run.new.self c.take_run-in-pieces.new.self closed opening
       in

@@ -8,7 +8,12 @@ use Rattle.strkw_records.proofs.InputLemmas.{head-behind}
 use Rattle.strkw_records.proofs.gathered.Gathered.take_record.Goals as goal
 
 pub fields-init : goal.fields-init
-fields-init g c = (c.requires.front, counts-none c.args.self.now c.requires.counted, λ text e. gathers-none g.R.Read.remaining c.args.input.now c.args.input.now text st.StartField c.args.self.now e refl)
+fields-init g c = (
+  c.requires.front,
+  counts-none c.args.self.now c.requires.counted,
+  λ text e. gathers-none g.R.Read.remaining c.args.input.now c.args.input.now
+      text st.StartField c.args.self.now e refl,
+)
 
 pub returns-in-Record-clause-ok : goal.returns-in-Record-clause-ok
 returns-in-Record-clause-ok g c text e =

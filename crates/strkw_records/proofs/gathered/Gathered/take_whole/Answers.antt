@@ -2,12 +2,19 @@ use Rattle.std.proofs.Common.{arith, refl}
 use Rattle.csv.proofs.WriteFacts.{slice-end}
 use Rattle.strkw_records.specs.Lines.{HasNoLineByte}
 use Rattle.strkw_records.proofs.CountLemmas.{counted-whole, counts-later, counts-none, within-whole}
-use Rattle.strkw_records.proofs.FrontLemmas.{no_front, no_line-comma, no_line-front, pushed, takes_fields-front, takes_fields-none, takes_last-front, within-comma}
+use Rattle.strkw_records.proofs.FrontLemmas.{no_front, no_line-comma, no_line-front, pushed, takes_fields-front, takes_fields-none, takes_last-front}
+use Rattle.strkw_records.proofs.FrontLemmas.{within-comma}
 use Rattle.strkw_records.proofs.gathered.Gathered.take_whole.Goals as goal
 
 pub fields-init : goal.fields-init
 unfolding HasNoLineByte
-fields-init c = record { within = omega arith; counts = counts-none c.args.self.now c.requires.counted; front = c.requires.front; plain = tt; takes = takes_fields-none c.args.self.now }
+fields-init c = record {
+  within = omega arith;
+  counts = counts-none c.args.self.now c.requires.counted;
+  front = c.requires.front;
+  plain = tt;
+  takes = takes_fields-none c.args.self.now;
+}
 
 pub returns-then-rest-front-ne44-clause-plain : goal.returns-then-rest-front-ne44-clause-plain
 returns-then-rest-front-ne44-clause-plain c =

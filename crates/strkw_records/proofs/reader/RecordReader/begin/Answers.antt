@@ -6,5 +6,11 @@ pub returns-in_err-skip_mark-clause-fails : goal.returns-in_err-skip_mark-clause
 returns-in_err-skip_mark-clause-fails g c text =
     let (x, is, same) = err_from_is_err_and c.from_residual.result c.from_residual.ensures.1 in
     rw (is, same) (explains-fails g.R.Read.remaining c.args.self.now
-    (record { alloc = c.args.self.now.alloc; input = c.skip_mark.new.self; gathered = c.args.self.now.gathered; limits = c.args.self.now.limits; has_begun = c.args.self.now.has_begun }) text _
+    (record {
+      alloc = c.args.self.now.alloc;
+      input = c.skip_mark.new.self;
+      gathered = c.args.self.now.gathered;
+      limits = c.args.self.now.limits;
+      has_begun = c.args.self.now.has_begun;
+    }) text _
     (c.in_err-skip_mark.ensures.fails text))

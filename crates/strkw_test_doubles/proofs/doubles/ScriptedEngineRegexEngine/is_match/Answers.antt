@@ -9,7 +9,10 @@ pub returns-in-NoMatch : goal.returns-in-NoMatch
 returns-in-NoMatch c = record { answer = rw (encodes-chars c.args.text.now c.utf8.text, ← c.as_str.ensures.value) (sym c.outcome_in.ensures ∙ c.in-NoMatch.is) }
 
 pub returns-in-BacktrackLimit : goal.returns-in-BacktrackLimit
-returns-in-BacktrackLimit c = record { answer = rw (encodes-chars c.args.text.now c.utf8.text, ← c.as_str.ensures.value) (sym c.outcome_in.ensures ∙ c.in-BacktrackLimit.is) }
+returns-in-BacktrackLimit c = record {
+  answer = rw (encodes-chars c.args.text.now c.utf8.text, ← c.as_str.ensures.value)
+      (sym c.outcome_in.ensures ∙ c.in-BacktrackLimit.is);
+}
 
 pub returns-in-Failed : goal.returns-in-Failed
 returns-in-Failed c = record { answer = rw (encodes-chars c.args.text.now c.utf8.text, ← c.as_str.ensures.value) (sym c.outcome_in.ensures ∙ c.in-Failed.is) }

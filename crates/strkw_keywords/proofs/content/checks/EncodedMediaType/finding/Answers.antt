@@ -10,5 +10,6 @@ returns-then-branch g c =
 
 pub returns : goal.returns
 returns g c =
-    decodes_badly (choice_of c.args.self.now.codec) (choice_of c.args.self.now.media_type) _ c.args.text.now c.as_str.result.now c.chosen_media_type.result.now _ _
+    decodes_badly (choice_of c.args.self.now.codec) (choice_of c.args.self.now.media_type) _ c.args.text.now c.as_str.result.now c.chosen_media_type.result.now
+    _ _
     (search rules) c.in-Ok-Some.ensures.text c.if-branch.false c.in_ok-accepts-in-Ok-Some.ensures c.chosen_media_type.ensures

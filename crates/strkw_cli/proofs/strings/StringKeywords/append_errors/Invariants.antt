@@ -1,9 +1,0 @@
-use Rattle.std.proofs.Common.{Some, take}
-use Rattle.strkw_keywords.specs.Handed.{lists_of}
-use Rattle.strkw_keywords.specs.Errors.{NodeReports, Appends}
-use Rattle.strkw_keywords.specs.Validators.{assertions_in}
-use Rattle.strkw_cli.proofs.strings.StringKeywords.append_errors.Given as goal
-
-abbrev pub invariant-loop-validator : goal.invariant-loop-validator
-invariant-loop-validator g l =
-    Appends (NodeReports (assertions_in g.E.RegexEngine.outcome (take l.validator-index l.self.validators.items)) (lists_of (λ b. (goal.Format-dyn g b).admits b.1) (λ b. (goal.MediaTypeCheck-dyn g b).accepted b.1) (λ b. (goal.ContentCodec-dyn g b).encoded b.1) (λ b. (goal.ContentCodec-dyn g b).decoding b.1) l.checks) l.site (Some l.text)) l.initial.errors.items l.errors.items

@@ -1,9 +1,0 @@
-use Rattle.std.proofs.Common.{take}
-use Rattle.strkw_keywords.specs.Handed.{lists_of}
-use Rattle.strkw_keywords.specs.Demands.{IsInUse}
-use Rattle.strkw_keywords.specs.Validators.{demands_in}
-use Rattle.strkw_cli.proofs.strings.StringKeywords.uses.Given as goal
-
-abbrev pub invariant-loop-validator : goal.invariant-loop-validator
-invariant-loop-validator g l =
-    IsInUse (demands_in g.E.RegexEngine.outcome (take l.validator-index l.self.validators.items)) (lists_of (λ b. (goal.Format-dyn g b).admits b.1) (λ b. (goal.MediaTypeCheck-dyn g b).accepted b.1) (λ b. (goal.ContentCodec-dyn g b).encoded b.1) (λ b. (goal.ContentCodec-dyn g b).decoding b.1) l.checks)

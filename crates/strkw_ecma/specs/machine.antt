@@ -1,0 +1,19 @@
+-- How a pattern is read and a text searched: what the code holds, step by step.
+pub mod Marks
+pub mod Shape
+pub mod Walk
+pub mod Machine
+pub mod Sizes
+pub mod CodeReading
+pub mod PropertyReading
+pub mod CodeParts
+pub mod Reading
+pub mod Search
+pub mod Counted
+pub mod Outcomes
+pub mod Engine
+pub mod Parts
+pub mod RefusalParts
+pub mod Columns
+pub mod Table
+pub mod Searches

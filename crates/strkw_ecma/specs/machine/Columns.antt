@@ -1,0 +1,54 @@
+-- Columns of a table: characters about which the classes of a pattern give the same answers share
+-- one.
+use Rattle.std.specs.Prelude.{◌≡◌, ℕ, suc, ◌+◌, ◌*◌, ◌<◌, ◌==◌, Bool, true, false, ◌||◌, List, []}
+use Rattle.std.specs.Prelude.{◌∷◌, length, get_or, Vec, Option, Some, None, option_map}
+use Rattle.std.specs.Prelude.{if◌then◌else◌}
+use Rattle.std.specs.declared.alloc.Global.{Global}
+use Rattle.strkw_ecma.specs.Tree.{Pattern, empty, class, look, cat, alt, star, plus, in_sets}
+use Rattle.strkw_ecma.specs.Program.{asks_word}
+use Rattle.strkw_ecma.specs.Sets.{word_characters}
+use Rattle.strkw_ecma.specs.declared.tree.CharSet.{CharSet}
+
+-- whether the sets of each class have the character, as digits behind those of n
+abbrev pub answers : ℕ → List (Vec CharSet Global) → ℕ → ℕ
+answers n [] c = n
+answers n (k ∷ ks) c = answers (2 * n + (if in_sets k.items c then 1 else 0)) ks c
+
+-- the first place of a number
+abbrev pub place_of : List ℕ → ℕ → Option ℕ
+place_of [] n = None
+place_of (k ∷ ks) n = if k == n then Some 0 else option_map suc (place_of ks n)
+
+-- the column of a character is the place of the answers about it, where they have one
+abbrev pub column_of : List (Vec CharSet Global) → List ℕ → ℕ → Option ℕ
+column_of classes keys c = place_of keys (answers 0 classes c)
+
+-- of characters from 0 on, the columns
+abbrev pub AreColumns : List (Vec CharSet Global) → List ℕ → List ℕ → Type 0
+AreColumns classes keys columns = (c : ℕ) → c < length columns
+    → column_of classes keys c ≡ Some (get_or columns c 0)
+
+-- the answers tell whether a character is in these sets
+abbrev pub TellsSets : List (Vec CharSet Global) → List CharSet → Type 0
+TellsSets classes rs = (c d : ℕ) → answers 0 classes c ≡ answers 0 classes d
+    → in_sets rs c ≡ in_sets rs d
+
+-- `\b` or `\B` stands in the pattern
+abbrev pub has_boundary : Pattern → Bool
+has_boundary empty = false
+has_boundary (class m n rs) = false
+has_boundary (look l) = asks_word l
+has_boundary (cat p q) = has_boundary p || has_boundary q
+has_boundary (alt p q) = has_boundary p || has_boundary q
+has_boundary (star p) = has_boundary p
+has_boundary (plus p) = has_boundary p
+
+-- the answers tell all that a pattern asks about a character
+abbrev pub Tells : List (Vec CharSet Global) → Pattern → Type 0
+Tells classes empty = Unit {0}
+Tells classes (class m n rs) = TellsSets classes rs
+Tells classes (look l) = asks_word l ≡ true → TellsSets classes word_characters
+Tells classes (cat p q) = Tells classes p × Tells classes q
+Tells classes (alt p q) = Tells classes p × Tells classes q
+Tells classes (star p) = Tells classes p
+Tells classes (plus p) = Tells classes p

@@ -1,0 +1,89 @@
+-- The marks of a pattern: at a place of the text they stand at the classes that have just read the
+-- character before it.
+use Rattle.std.specs.Prelude.{◌≡◌, ℕ, ◌+◌, ◌≤◌, get_or, drop, Bool, true, false, ◌&&◌, ◌||◌, not}
+use Rattle.std.specs.Prelude.{◌⊎◌, List, [], ◌∷◌, ◌++◌, length, Option, Some, None}
+use Rattle.strkw_ecma.specs.Tree.{Pattern, empty, class, look, cat, alt, star, plus, is_member}
+use Rattle.strkw_ecma.specs.Meaning.{Rounds, holds, Matches}
+use Rattle.strkw_ecma.specs.declared.tree.CharSet.{CharSet}
+
+-- there is a character, and the class has it
+abbrev pub reads : Option ℕ → Bool → List CharSet → Bool
+reads None n rs = false
+reads (Some c) n rs = is_member n rs c
+
+module _ (b a : Option ℕ) where
+  -- Between the characters b and a: does a way through the pattern end here that went on from a
+  -- mark or, where `enters` holds, began here?
+  abbrev pub leaves : Pattern → Bool → Bool
+  leaves empty enters = enters
+  leaves (class m n rs) enters = m
+  leaves (look l) enters = enters && holds l b a
+  leaves (cat p q) enters = leaves q (leaves p enters)
+  leaves (alt p q) enters = leaves p enters || leaves q enters
+  leaves (star p) enters = enters || leaves p false
+  leaves (plus p) enters = leaves p (enters || leaves p false)
+
+  -- the marks after the character a is read
+  abbrev pub step : Pattern → Bool → Pattern
+  step empty enters = empty
+  step (class m n rs) enters = class (enters && reads a n rs) n rs
+  step (look l) enters = look l
+  step (cat p q) enters = cat (step p enters) (step q (leaves p enters))
+  step (alt p q) enters = alt (step p enters) (step q enters)
+  step (star p) enters = star (step p (enters || leaves p false))
+  step (plus p) enters = plus (step p (enters || leaves p false))
+
+-- at place i a way through the pattern goes on from some mark, and ends at j
+abbrev pub Rest : List ℕ → Pattern → ℕ → ℕ → Type 0
+Rest text empty i j = ⊥
+Rest text (class m n rs) i j = (m ≡ true) × (i ≡ j)
+Rest text (look l) i j = ⊥
+Rest text (cat p q) i j = ((l : ℕ) × Rest text p i l × Matches text q l j) ⊎ Rest text q i j
+Rest text (alt p q) i j = Rest text p i j ⊎ Rest text q i j
+Rest text (star p) i j = (l : ℕ) × Rest text p i l × Rounds (Matches text p) j l
+Rest text (plus p) i j = (l : ℕ) × Rest text p i l × Rounds (Matches text p) j l
+
+-- at place k a match is under way, or one begins at k or later
+abbrev pub Later : List ℕ → Pattern → ℕ → Type 0
+Later text p k = ((j : ℕ) × Rest text p k j)
+    ⊎ ((i j : ℕ) × (k ≤ i) × (i ≤ length text) × Matches text p i j)
+
+-- how many classes stand in a pattern
+abbrev pub classes : Pattern → ℕ
+classes empty = 0
+classes (class m n rs) = 1
+classes (look l) = 0
+classes (cat p q) = classes p + classes q
+classes (alt p q) = classes p + classes q
+classes (star p) = classes p
+classes (plus p) = classes p
+
+-- the pattern with the first marks of a list, in the order of its classes
+abbrev pub marked : List Bool → Pattern → Pattern
+marked ms empty = empty
+marked ms (class m n rs) = class (get_or ms 0 false) n rs
+marked ms (look l) = look l
+marked ms (cat p q) = cat (marked ms p) (marked (drop (classes p) ms) q)
+marked ms (alt p q) = alt (marked ms p) (marked (drop (classes p) ms) q)
+marked ms (star p) = star (marked ms p)
+marked ms (plus p) = plus (marked ms p)
+
+-- no class bears a mark
+abbrev pub is_clean : Pattern → Bool
+is_clean empty = true
+is_clean (class m n rs) = not m
+is_clean (look l) = true
+is_clean (cat p q) = is_clean p && is_clean q
+is_clean (alt p q) = is_clean p && is_clean q
+is_clean (star p) = is_clean p
+is_clean (plus p) = is_clean p
+
+-- the marks of a pattern, in the order of its classes
+abbrev pub marks_of : Pattern → List Bool
+marks_of empty = []
+marks_of (class m n rs) = m ∷ []
+marks_of (look l) = []
+marks_of (cat p q) = marks_of p ++ marks_of q
+marks_of (alt p q) = marks_of p ++ marks_of q
+marks_of (star p) = marks_of p
+marks_of (plus p) = marks_of p

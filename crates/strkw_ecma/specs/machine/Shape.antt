@@ -1,0 +1,75 @@
+-- What an outline of the code stands for, and its instructions.
+use Rattle.std.specs.Prelude.{ℕ, nat_lt, Bool, true, false, ◌&&◌, List, [], ◌∷◌, slice_get, Option}
+use Rattle.std.specs.Prelude.{Some, None}
+use Rattle.strkw_ecma.specs.Tree.{Pattern, empty, class, look, cat, alt, start, end, boundary}
+use Rattle.strkw_ecma.specs.Tree.{no_boundary}
+use Rattle.strkw_ecma.specs.Patterns.{Times, any_times, some_times, once_at_most, exact_times}
+use Rattle.strkw_ecma.specs.Patterns.{least_times, range_times, quantified_pattern}
+use Rattle.strkw_ecma.specs.Program.{Instruction, read, assert, fork, other, join, star_begin}
+use Rattle.strkw_ecma.specs.Program.{star_end, plus_begin, plus_end}
+use Rattle.strkw_ecma.specs.declared.outline.Quantifier.{Quantifier as CodeQuantifier}
+use Rattle.strkw_ecma.specs.declared.outline.Quantifier.TheVariants as quantifier
+use Rattle.strkw_ecma.specs.declared.outline.Outline.{Outline}
+use Rattle.strkw_ecma.specs.declared.outline.Outline.TheOpen.{Outline-F}
+use Rattle.strkw_ecma.specs.declared.outline.Outline.TheFolds.{fold-Outline}
+use Rattle.strkw_ecma.specs.declared.code.Class.{Class}
+use Rattle.strkw_ecma.specs.declared.code.Turn.{Turn}
+use Rattle.strkw_ecma.specs.declared.code.Turn.TheVariants as turn
+use Rattle.strkw_ecma.specs.declared.code.Instruction.{Instruction as CodeInstruction}
+use Rattle.strkw_ecma.specs.declared.code.Instruction.TheVariants as instruction
+
+abbrev pub quantifier_of : CodeQuantifier → Times
+quantifier_of quantifier.ZeroOrMore = any_times
+quantifier_of quantifier.OneOrMore = some_times
+quantifier_of quantifier.ZeroOrOne = once_at_most
+quantifier_of (quantifier.Exactly n) = exact_times n
+quantifier_of (quantifier.AtLeast n) = least_times n
+quantifier_of (quantifier.FromTo n m) = range_times n m
+
+-- one node of an outline, with the patterns of its children in their places
+abbrev pub outlined_node : Outline-F Pattern → Pattern
+outlined_node Outline-F.Empty = empty
+outlined_node (Outline-F.Class negated sets) = class false negated sets.items
+outlined_node Outline-F.Start = look start
+outlined_node Outline-F.End = look end
+outlined_node Outline-F.Boundary = look boundary
+outlined_node Outline-F.NoBoundary = look no_boundary
+outlined_node (Outline-F.Then first second) = cat first.value second.value
+outlined_node (Outline-F.Or first second) = alt first.value second.value
+outlined_node (Outline-F.Repeated q body) = quantified_pattern (quantifier_of q) body.value
+
+abbrev pub outlined : Outline → Pattern
+outlined = fold-Outline Pattern outlined_node
+
+abbrev pub turned : Turn → Instruction
+turned turn.Start = assert start
+turned turn.End = assert end
+turned turn.Boundary = assert boundary
+turned turn.NoBoundary = assert no_boundary
+turned turn.Fork = fork
+turned turn.Other = other
+turned turn.Join = join
+turned turn.StarBegin = star_begin
+turned turn.StarEnd = star_end
+turned turn.PlusBegin = plus_begin
+turned turn.PlusEnd = plus_end
+
+-- of a class, if there is one
+abbrev pub reading : Bool → Bool → Option Class → Instruction
+reading again optional None = read again optional false []
+reading again optional (Some c) = read again optional c.negated c.sets.items
+
+abbrev pub instructed : List Class → CodeInstruction → Instruction
+instructed classes (instruction.Read k again optional) =
+    reading again optional (slice_get classes k)
+instructed classes (instruction.Turn t) = turned t
+
+abbrev pub instructions : List Class → List CodeInstruction → List Instruction
+instructions classes [] = []
+instructions classes (i ∷ is) = instructed classes i ∷ instructions classes is
+
+-- each class that is read is one of so many
+abbrev pub are_within : ℕ → List CodeInstruction → Bool
+are_within n [] = true
+are_within n (instruction.Read k again optional ∷ is) = nat_lt k n && are_within n is
+are_within n (instruction.Turn t ∷ is) = are_within n is

@@ -1,0 +1,4 @@
+pub mod Reading
+pub mod Passing
+pub mod FirstTokens
+pub mod Built
