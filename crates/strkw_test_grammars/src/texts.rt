@@ -6,6 +6,7 @@ use crate::{coding, ecma, label};
 use serde_json::Value;
 use std::alloc::{AllocError, Global};
 use strkw_label::is_valid_hostname;
+use strkw_mail::is_valid_email;
 use strkw_net::{is_valid_hostname_rfc1034, is_valid_ipv4, is_valid_ipv6, is_valid_uuid};
 use strkw_pattern::{BuildRefusal, EngineBuilder, NoPatterns, contains_ecma_whitespace};
 use strkw_time::{is_valid_date, is_valid_datetime, is_valid_duration, is_valid_time};
@@ -25,6 +26,7 @@ fn by_grammar(alloc: Global, of: &str, text: &str) -> Option<bool> {
         "ipv6" => is_valid_ipv6(text),
         "hostname of RFC 1034" => is_valid_hostname_rfc1034(text),
         "uuid" => is_valid_uuid(text),
+        "email" => is_valid_email(text),
         "hostname" => is_valid_hostname(text),
         "uri" => is_valid_uri(text),
         "uri-reference" => is_valid_uri_reference(text),

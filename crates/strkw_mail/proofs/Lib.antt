@@ -1,0 +1,16 @@
+pub mod Scans
+pub mod OnlyFronts
+pub mod DotStrings
+pub mod QuotedStrings
+pub mod LocalParts
+pub mod Mailboxes
+pub mod Domains
+pub mod Numbers
+pub mod Rows
+pub mod Groups
+pub mod Colons
+pub mod Tags
+pub mod Ascii
+pub mod AsWritten
+pub mod Windows
+pub mod Examples

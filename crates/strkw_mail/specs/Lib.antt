@@ -1,0 +1,5 @@
+pub mod Characters
+pub mod AsWritten
+pub mod AddressLiteral
+pub mod Mailbox
+pub mod Scan
