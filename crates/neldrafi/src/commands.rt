@@ -1,0 +1,64 @@
+//! The command, and its subcommands: each a thin shell over a library.
+
+mod check;
+mod csv_files;
+mod formats;
+mod json_files;
+mod requests;
+pub(crate) mod text;
+
+use crate::faults::Fault;
+use crate::outcome::Outcome;
+use clap::{ArgMatches, Command};
+use std::alloc::{AllocError, Global};
+
+// The name of the command.
+const NAME: &str = "neldrafi";
+
+// The number in the file `VERSION`.
+const VERSION: &str = "0.1.0";
+
+// What it does.
+const ABOUT: &str = "Checks texts by the string keywords of JSON Schema";
+
+// What its help ends with.
+const AFTER_HELP: &str = "\
+Examples:
+  neldrafi text date 2024-02-29
+  neldrafi formats
+  neldrafi requests requests.jsonl
+  neldrafi csv plan.json people.csv
+  neldrafi json plan.json server.json
+  neldrafi check schema.json names.txt
+
+Status: 0 all valid, 1 errors, 2 faults";
+
+/// The command with its subcommands.
+pub(crate) fn command<'a>(alloc: Global) -> Result<Command<'a>, AllocError> {
+    Command::new(alloc, NAME)
+        .bin_name(NAME)?
+        .about(ABOUT)
+        .version(VERSION)
+        .after_help(AFTER_HELP)
+        .subcommand_required(true)
+        .subcommand(text::command(alloc)?)?
+        .subcommand(formats::command(alloc))?
+        .subcommand(requests::command(alloc)?)?
+        .subcommand(csv_files::command(alloc)?)?
+        .subcommand(json_files::command(alloc)?)?
+        .subcommand(check::command(alloc)?)
+}
+
+/// Runs the subcommand that the words name.
+pub(crate) fn run(rt: &HostRuntime, matches: &ArgMatches<'_>) -> Result<Outcome, Fault> {
+    match matches.subcommand() {
+        Some((text::NAME, matches)) => text::run(rt, matches),
+        Some((formats::NAME, _)) => formats::run(rt),
+        Some((requests::NAME, matches)) => requests::run(rt, matches),
+        Some((csv_files::NAME, matches)) => csv_files::run(rt, matches),
+        Some((json_files::NAME, matches)) => json_files::run(rt, matches),
+        Some((check::NAME, matches)) => check::run(rt, matches),
+        // The parser lets no other words pass.
+        _ => Err(Fault::NoSubcommand),
+    }
+}

@@ -1,0 +1,178 @@
+//! `neldrafi check`: checks each line of files by one schema object.
+
+ghost use Rattle.strkw_keywords.specs.Demands.{IsInUse};
+ghost use Rattle.strkw_keywords.specs.Handed.{lists_of};
+ghost use Rattle.strkw_object.specs.Compiled.{keywords_demands};
+ghost use Rattle.std.specs.Prelude.{decimal};
+
+use crate::faults::Fault;
+use crate::files::{FileCheck, check_files};
+use crate::inputs::{InputFault, InputFile, Line, Lines};
+use crate::options::{FILE, Wanted, draft, draft_of, files, max_errors, quiet, required};
+use crate::outcome::Outcome;
+use crate::output::{Gathered, Output};
+use crate::schemas::{compile, read_schema};
+use clap::{Arg, ArgAction, ArgMatches, Command};
+use itoa::Buffer;
+use serde_json::Value;
+use std::alloc::{AllocError, Global};
+use strkw_ecma::EcmaPatterns;
+use strkw_keywords::Checks;
+use strkw_object::StringKeywords;
+use strkw_pattern::RegexEngine;
+use strkw_plan::{InstancePlace, Rules, push_messages, push_shown};
+use strkw_report::Draft;
+
+/// The name of the subcommand.
+pub(crate) const NAME: &str = "check";
+
+// The argument for the file of the schema object.
+const SCHEMA: &str = "SCHEMA";
+
+// The option for lines of JSON.
+const JSON: &str = "json";
+
+// The option for formats that are not known.
+const IGNORE_UNKNOWN_FORMATS: &str = "ignore-unknown-formats";
+
+// What its help ends with.
+const AFTER_HELP: &str = "\
+An error is a line `LINE: KEYWORD: TEXT`, and of several files it begins with the name of
+the file. The seven string keywords of the schema object count, and no other.
+
+Examples:
+  neldrafi check schema.json names.txt
+  neldrafi check --draft 7 schema.json < names.txt
+  neldrafi check --json schema.json values.jsonl";
+
+/// What the subcommand takes.
+pub(crate) fn command<'a>(alloc: Global) -> Result<Command<'a>, AllocError> {
+    let json = Arg::new(alloc, JSON)
+        .long(JSON)
+        .action(ArgAction::SetTrue)
+        .help("Read each line as a JSON value; one that is no string is valid");
+    let ignore = Arg::new(alloc, IGNORE_UNKNOWN_FORMATS)
+        .long(IGNORE_UNKNOWN_FORMATS)
+        .action(ArgAction::SetTrue)
+        .help("Let every text pass a format that is not known");
+    Command::new(alloc, NAME)
+        .about("Checks each line of files by one schema object")
+        .after_help(AFTER_HELP)
+        .arg(required(alloc, SCHEMA, "The file of the schema object"))?
+        .arg(files(alloc))?
+        .arg(draft(alloc))?
+        .arg(ignore)?
+        .arg(json)?
+        .arg(max_errors(alloc))?
+        .arg(quiet(alloc))
+}
+
+// Where a text is: on the line of this number.
+#[derive(Clone, Copy)]
+struct LinePlace {
+    line: u64,
+}
+
+impl InstancePlace for LinePlace {
+    ghost name = { λ place. decimal place.line };
+
+    fn push_shown(&self, out: &mut String) -> Result<(), AllocError> {
+        let mut digits = Buffer::new();
+        push_shown(digits.format(self.line), out)
+    }
+}
+
+// Checks each line of a file by a schema object.
+#[derive(Drop)]
+struct LineCheck<'a> {
+    schema: &'a Value,
+    draft: Draft,
+    rules: Rules<'a, EcmaPatterns>,
+    reads_json: bool,
+}
+
+impl LineCheck<'_> {
+    // Appends the messages about a line, and answers how many they are.
+    fn check_line<E: RegexEngine>(
+        &self,
+        alloc: Global,
+        keywords: &StringKeywords<E>,
+        checks: &Checks<'_>,
+        line: Line<'_>,
+        out: &mut String,
+    ) -> Result<u64, Fault>
+        requires { IsInUse (keywords_demands E.outcome keywords.now)
+            (lists_of admits accepted encoded decoding checks.now) }
+    {
+        let place = LinePlace { line: line.number };
+        if !self.reads_json {
+            return Ok(push_messages(alloc, keywords, checks, &place, &line.text, out)?);
+        }
+        match Value::from_str(alloc, line.text) {
+            Ok(value) => Ok(push_messages(alloc, keywords, checks, &place, &value, out)?),
+            Err(error) if error.is_memory() => Err(Fault::Memory),
+            Err(error) => Err(Fault::Input(InputFault::NotJson {
+                line: line.number,
+                error,
+            })),
+        }
+    }
+
+    // Gathers and writes the messages about the lines of a file, and answers how many they are.
+    fn check_lines<E: RegexEngine>(
+        &self,
+        alloc: Global,
+        keywords: &StringKeywords<E>,
+        checks: &Checks<'_>,
+        lines: &mut Lines,
+        messages: &mut Gathered<'_, '_>,
+    ) -> Result<u64, Fault>
+        requires { IsInUse (keywords_demands E.outcome keywords.now)
+            (lists_of admits accepted encoded decoding checks.now) }
+    {
+        let mut count = 0u64;
+        for _ in 0..u64::MAX {
+            let Some(line) = lines.next_line()? else {
+                return Ok(count);
+            };
+            let more = self.check_line(alloc, keywords, checks, line, &mut messages.text)?;
+            count = count.checked_add(more).ok_or(InputFault::TooLong)?;
+            messages.write_some(lines.is_drained())?;
+        }
+        Err(Fault::Input(InputFault::TooLong))
+    }
+}
+
+impl FileCheck for LineCheck<'_> {
+    fn check(
+        &self,
+        rt: &HostRuntime,
+        file: InputFile,
+        output: &mut Output<'_>,
+    ) -> Result<u64, Fault> {
+        let alloc = rt.alloc();
+        let keywords = compile(alloc, &self.rules, self.draft, self.schema)?;
+        let mut lines = Lines::new(alloc, file)?;
+        let mut messages = Gathered::new(alloc, output);
+        let checks = &self.rules.checks;
+        let checked = self.check_lines(alloc, &keywords, checks, &mut lines, &mut messages);
+        messages.end(checked)
+    }
+}
+
+/// Runs the subcommand.
+pub(crate) fn run(rt: &HostRuntime, matches: &ArgMatches<'_>) -> Result<Outcome, Fault> {
+    let path = matches.get_str(SCHEMA).unwrap_or("");
+    let schema = read_schema(rt, path)?;
+    let mut rules = Rules::new(&EcmaPatterns);
+    rules.options.ignore_unknown_formats = matches.get_flag(IGNORE_UNKNOWN_FORMATS);
+    let check = LineCheck {
+        schema: &schema,
+        draft: draft_of(matches),
+        rules,
+        reads_json: matches.get_flag(JSON),
+    };
+    // So that a schema that is refused is told of before any file.
+    let _ = compile(rt.alloc(), &check.rules, check.draft, &schema)?;
+    check_files(rt, matches.get_strs(FILE), Wanted::of(matches), &check)
+}

@@ -1,0 +1,69 @@
+//! `neldrafi formats`: a table of the formats.
+
+use crate::drafts::{DRAFTS, draft_name};
+use crate::faults::Fault;
+use crate::outcome::Outcome;
+use crate::output::show;
+use clap::Command;
+use std::alloc::{AllocError, Global};
+use strkw_formats::{BuiltinFormat, builtin_format};
+
+/// The name of the subcommand.
+pub(crate) const NAME: &str = "formats";
+
+// What its help ends with.
+const AFTER_HELP: &str = "\
+The columns are the name, the first and the last draft that has the format, and a text of it.
+
+Examples:
+  neldrafi formats";
+
+/// What the subcommand takes.
+pub(crate) fn command<'a>(alloc: Global) -> Command<'a> {
+    Command::new(alloc, NAME)
+        .about("Lists the formats with their drafts and an example of each")
+        .after_help(AFTER_HELP)
+}
+
+// The names of the first and the last draft that has a format.
+fn drafts_of(format: BuiltinFormat) -> (&'static str, &'static str) {
+    let mut first = "";
+    let mut last = "";
+    for draft in DRAFTS {
+        if builtin_format(*draft, format.as_str()) == Some(format) {
+            last = draft_name(*draft);
+            if first.is_empty() {
+                first = last;
+            }
+        }
+    }
+    (first, last)
+}
+
+// Appends a row of the table.
+fn push_row(
+    name: &str,
+    first: &str,
+    last: &str,
+    example: &str,
+    out: &mut String,
+) -> Result<(), AllocError> {
+    writeln!(out, "{name:<21}  {first:<7}  {last:<7}  {example}")
+}
+
+// Appends the table.
+fn push_table(out: &mut String) -> Result<(), AllocError> {
+    push_row("name", "first", "last", "example", out)?;
+    for format in BuiltinFormat::VARIANTS {
+        let (first, last) = drafts_of(*format);
+        push_row(format.as_str(), first, last, format.example(), out)?;
+    }
+    Ok(())
+}
+
+/// Runs the subcommand.
+pub(crate) fn run(rt: &HostRuntime) -> Result<Outcome, Fault> {
+    let mut table = String::new(rt.alloc());
+    push_table(&mut table)?;
+    show(rt, &table)
+}

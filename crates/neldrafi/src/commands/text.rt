@@ -1,0 +1,173 @@
+//! `neldrafi text`: whether texts are of a format.
+
+use crate::drafts::draft_name;
+use crate::faults::Fault;
+use crate::inputs::{InputFile, Lines, STANDARD_INPUT};
+use crate::options::{Wanted, draft, draft_of, quiet, required};
+use crate::outcome::Outcome;
+use crate::output::{Gathered, Output};
+use clap::{Arg, ArgMatches, Command};
+use std::alloc::{AllocError, Global};
+use std::fmt;
+use strkw_formats::{BuiltinFormat, builtin_format};
+use strkw_plan::Shown;
+use strkw_report::Draft;
+use strsim::osa_distance;
+
+/// The name of the subcommand.
+pub(crate) const NAME: &str = "text";
+
+// The argument for the name of the format.
+const FORMAT: &str = "FORMAT";
+
+// The argument for the texts.
+const TEXT: &str = "TEXT";
+
+// What its help ends with.
+const AFTER_HELP: &str = "\
+It writes `valid` or `invalid` for each text, a line each.
+
+Examples:
+  neldrafi text date 2024-02-29 2023-02-29
+  neldrafi text hostname < hosts.txt
+  neldrafi text hostname -- -a";
+
+// How long a name may be for which a near one is looked for, in bytes.
+const LONGEST_NAME: usize = 64;
+
+/// No format of the draft has this name.
+#[derive(Debug, Drop)]
+pub(crate) struct FormatFault {
+    name: String,
+    draft: Draft,
+    nearest: Option<&'static str>,
+}
+
+impl fmt::Display for FormatFault {
+    fn fmt<W: fmt::Write>(&self, f: &mut fmt::Formatter<W>) -> fmt::Result {
+        let name = Shown(&self.name);
+        let draft = draft_name(self.draft);
+        write!(f, "unknown format \"{name}\" in draft {draft}")?;
+        match self.nearest {
+            Some(nearest) => write!(f, ": did you mean \"{nearest}\"?"),
+            None => Ok(()),
+        }
+    }
+}
+
+/// What the subcommand takes.
+pub(crate) fn command<'a>(alloc: Global) -> Result<Command<'a>, AllocError> {
+    let texts = Arg::new(alloc, TEXT).num_args(0usize..).help(
+        "Texts to judge; without any, each line of standard input is one",
+    );
+    Command::new(alloc, NAME)
+        .about("Says whether texts are of a format")
+        .after_help(AFTER_HELP)
+        .arg(required(
+            alloc,
+            FORMAT,
+            "The name of a format, as `neldrafi formats` lists them",
+        ))?
+        .arg(texts)?
+        .arg(draft(alloc))?
+        .arg(quiet(alloc))
+}
+
+// The first format of the draft to whose name one edit leads, where one does.
+fn nearest_format(
+    alloc: Global,
+    draft: Draft,
+    name: &str,
+) -> Result<Option<&'static str>, AllocError> {
+    if name.len() > LONGEST_NAME {
+        return Ok(None);
+    }
+    for format in BuiltinFormat::VARIANTS {
+        let other = format.as_str();
+        if builtin_format(draft, other).is_some() && osa_distance(alloc, name, other)? == 1 {
+            return Ok(Some(other));
+        }
+    }
+    Ok(None)
+}
+
+// The format of a name in a draft.
+fn format_named(alloc: Global, draft: Draft, name: &str) -> Result<BuiltinFormat, Fault> {
+    match builtin_format(draft, name) {
+        Some(format) => Ok(format),
+        None => Err(Fault::Format(FormatFault {
+            name: String::from_str(alloc, name)?,
+            draft,
+            nearest: nearest_format(alloc, draft, name)?,
+        })),
+    }
+}
+
+// The verdicts on texts, and what they come to.
+#[derive(Drop)]
+struct Verdicts<'o, 'a> {
+    format: BuiltinFormat,
+    outcome: Outcome,
+    lines: Gathered<'o, 'a>,
+}
+
+impl Verdicts<'_, '_> {
+    // Judges a text.
+    fn judge(&mut self, text: &str) -> Result<(), Fault> {
+        if self.format.is_valid(text) {
+            self.lines.text.push_str("valid\n")?;
+        } else {
+            self.lines.text.push_str("invalid\n")?;
+            self.outcome = Outcome::Errors;
+        }
+        Ok(())
+    }
+
+    // Judges each of the texts.
+    fn judge_all(&mut self, texts: &[&str]) -> Result<(), Fault> {
+        for text in texts {
+            self.judge(text)?;
+            self.lines.write_some(false)?;
+        }
+        Ok(())
+    }
+
+    // Judges each line of standard input.
+    fn judge_lines(&mut self, rt: &HostRuntime) -> Result<(), Fault> {
+        let file = InputFile::open(rt, STANDARD_INPUT)?;
+        let mut lines = Lines::new(rt.alloc(), file)?;
+        for _ in 0..u64::MAX {
+            let Some(line) = lines.next_line()? else {
+                return Ok(());
+            };
+            self.judge(line.text)?;
+            self.lines.write_some(lines.is_drained())?;
+        }
+        Ok(())
+    }
+
+    // Writes what is left, and answers what all came to. The verdicts before a fault stay written.
+    fn end(mut self, judged: Result<(), Fault>) -> Result<Outcome, Fault> {
+        match self.lines.end(judged) {
+            Ok(()) | Err(Fault::Closed) => Ok(self.outcome),
+            Err(fault) => Err(fault),
+        }
+    }
+}
+
+/// Runs the subcommand.
+pub(crate) fn run(rt: &HostRuntime, matches: &ArgMatches<'_>) -> Result<Outcome, Fault> {
+    let name = matches.get_str(FORMAT).unwrap_or("");
+    let format = format_named(rt.alloc(), draft_of(matches), name)?;
+    let mut output = Output::new(rt, "", Wanted::of(matches));
+    let mut verdicts = Verdicts {
+        format,
+        outcome: Outcome::AllValid,
+        lines: Gathered::new(rt.alloc(), &mut output),
+    };
+    let judged = match matches.get_strs(TEXT) {
+        Some(texts) => verdicts.judge_all(texts),
+        None => verdicts.judge_lines(rt),
+    };
+    verdicts.end(judged)
+}

@@ -1,0 +1,95 @@
+//! The files of a command line, checked one after the other.
+
+use crate::faults::{Fault, tell};
+use crate::inputs::{InputFile, STANDARD_INPUT};
+use crate::options::Wanted;
+use crate::outcome::Outcome;
+use crate::output::Output;
+use std::alloc::{AllocError, Global};
+use strkw_plan::Shown;
+
+/// What checks a file.
+pub(crate) trait FileCheck {
+    /// Writes a line for each error of a file, and answers how many errors there are.
+    fn check(
+        &self,
+        rt: &HostRuntime,
+        file: InputFile,
+        output: &mut Output<'_>,
+    ) -> Result<u64, Fault>;
+}
+
+// What stands before each line about a file, where several are checked.
+fn label_of(alloc: Global, path: &str, count: usize) -> Result<String, AllocError> {
+    if count < 2 {
+        return Ok(String::new(alloc));
+    }
+    let path = Shown(path);
+    format!(in alloc; "{path}: ")
+}
+
+// Opens and checks a file.
+fn check_file<C: FileCheck>(
+    rt: &HostRuntime,
+    path: &str,
+    label: &str,
+    wanted: Wanted,
+    check: &C,
+) -> Result<Outcome, Fault> {
+    let file = InputFile::open(rt, path)?;
+    let mut output = Output::new(rt, label, wanted);
+    let count = check.check(rt, file, &mut output)?;
+    Ok(Outcome::of_errors(count))
+}
+
+// Tells why the check of a file ended early, and answers what that comes to.
+fn told(rt: &HostRuntime, label: &str, wanted: Wanted, fault: &Fault) -> Outcome {
+    match fault {
+        Fault::Stopped(_) if wanted.is_quiet => Outcome::Errors,
+        Fault::Stopped(_) => {
+            tell(rt, label, fault);
+            Outcome::Errors
+        }
+        _ => {
+            let label = if fault.names_file() { "" } else { label };
+            tell(rt, label, fault);
+            Outcome::Faults
+        }
+    }
+}
+
+// Checks each of the files, and tells of their faults.
+fn check_each<C: FileCheck>(
+    rt: &HostRuntime,
+    paths: &[&str],
+    wanted: Wanted,
+    check: &C,
+) -> Result<Outcome, Fault> {
+    let mut outcome = Outcome::AllValid;
+    for path in paths {
+        let label = label_of(rt.alloc(), path, paths.len())?;
+        let one = match check_file(rt, path, &label, wanted, check) {
+            Ok(one) => one,
+            // A line was to be written, so there is an error.
+            Err(Fault::Closed) => return Ok(outcome.max(Outcome::Errors)),
+            Err(fault) if fault.ends_all() => return Err(fault),
+            Err(fault) => told(rt, &label, wanted, &fault),
+        };
+        outcome = outcome.max(one);
+    }
+    Ok(outcome)
+}
+
+/// Checks each of the files, or standard input where there are none, and tells of their faults. What comes is the worst
+/// that a file came to. The errors are those that keep the files behind from being checked.
+pub(crate) fn check_files<C: FileCheck>(
+    rt: &HostRuntime,
+    paths: Option<&[&str]>,
+    wanted: Wanted,
+    check: &C,
+) -> Result<Outcome, Fault> {
+    match paths {
+        Some(paths) => check_each(rt, paths, wanted, check),
+        None => check_each(rt, &[STANDARD_INPUT], wanted, check),
+    }
+}

@@ -1,0 +1,91 @@
+//! The arguments that several subcommands have.
+
+use crate::drafts::{DEFAULT_DRAFT_NAME, DRAFT_NAMES, draft_named};
+use clap::builder::ValueParser;
+use clap::{Arg, ArgAction, ArgMatches};
+use std::alloc::Global;
+use strkw_report::Draft;
+
+// The option for no output.
+const QUIET: &str = "quiet";
+
+// The option for so many messages.
+const MAX_ERRORS: &str = "max-errors";
+
+// The option for the draft.
+const DRAFT: &str = "draft";
+
+/// The argument for the files.
+pub(crate) const FILE: &str = "FILE";
+
+/// What is wanted of the lines of the standard output.
+#[derive(Clone, Copy)]
+pub(crate) struct Wanted {
+    /// None are written.
+    pub is_quiet: bool,
+    /// No more than so many are written about a file.
+    pub most_messages: Option<u64>,
+}
+
+impl Wanted {
+    /// All lines are written.
+    pub(crate) fn all() -> Wanted {
+        Wanted {
+            is_quiet: false,
+            most_messages: None,
+        }
+    }
+
+    /// What the options `--quiet` and `--max-errors` say.
+    pub(crate) fn of(matches: &ArgMatches<'_>) -> Wanted {
+        Wanted {
+            is_quiet: matches.get_flag(QUIET),
+            most_messages: matches.get_one::<u64>(MAX_ERRORS),
+        }
+    }
+}
+
+/// The option `--quiet`.
+pub(crate) fn quiet<'a>(alloc: Global) -> Arg<'a> {
+    Arg::new(alloc, QUIET)
+        .short('q')
+        .long(QUIET)
+        .action(ArgAction::SetTrue)
+        .help("Write nothing to standard output: the status alone tells")
+}
+
+/// The option `--max-errors`.
+pub(crate) fn max_errors<'a>(alloc: Global) -> Arg<'a> {
+    Arg::new(alloc, MAX_ERRORS)
+        .long(MAX_ERRORS)
+        .value_name("N")
+        .value_parser(ValueParser::unsigned(1, u64::MAX))
+        .help("Stop after N messages about a file")
+}
+
+/// The option `--draft`.
+pub(crate) fn draft<'a>(alloc: Global) -> Arg<'a> {
+    Arg::new(alloc, DRAFT)
+        .long(DRAFT)
+        .value_name("DRAFT")
+        .value_parser(DRAFT_NAMES)
+        .default_value(DEFAULT_DRAFT_NAME)
+        .help("The draft of JSON Schema")
+}
+
+/// The draft that the option `--draft` names.
+pub(crate) fn draft_of(matches: &ArgMatches<'_>) -> Draft {
+    draft_named(matches.get_str(DRAFT))
+}
+
+/// An argument that has to be given.
+pub(crate) fn required<'a>(alloc: Global, name: &'a str, help: &'a str) -> Arg<'a> {
+    Arg::new(alloc, name).required(true).help(help)
+}
+
+/// The files to check.
+pub(crate) fn files<'a>(alloc: Global) -> Arg<'a> {
+    Arg::new(alloc, FILE).num_args(0usize..).help(
+        "Files to check; `-` is standard input, and so is no file at all",
+    )
+}

@@ -1,0 +1,196 @@
+//! Standard output: messages with a label before each, up to so many, and none where none are wanted.
+
+use crate::faults::Fault;
+use crate::options::Wanted;
+use crate::outcome::Outcome;
+use std::alloc::{AllocError, Global};
+use std::io;
+use std::io::{ErrorKind, Write};
+
+// So many bytes are gathered before they are written.
+const GATHERED: usize = 65536;
+
+// Why nothing more can be written.
+#[derive(Clone, Copy)]
+enum Failure {
+    // Nobody reads it.
+    Closed,
+    // More lines than so many were to be written.
+    Stopped(u64),
+    // Out of memory.
+    Memory,
+    // The system says so.
+    Refused,
+}
+
+impl Failure {
+    // The failure of which an error tells.
+    fn of(error: &io::Error) -> Failure {
+        match error.kind() {
+            ErrorKind::BrokenPipe => Failure::Closed,
+            ErrorKind::OutOfMemory => Failure::Memory,
+            _ => Failure::Refused,
+        }
+    }
+}
+
+/// Standard output, as the lines about one file go to it. After a failure it takes nothing more.
+#[derive(Drop)]
+pub(crate) struct Output<'a> {
+    rt: &'a HostRuntime,
+    label: &'a str,
+    wanted: Wanted,
+    lines: u64,
+    is_in_line: bool,
+    failure: Option<Failure>,
+}
+
+impl<'a> Output<'a> {
+    /// What is written stands after the label on each line, and is what is wanted of it.
+    pub(crate) fn new(rt: &'a HostRuntime, label: &'a str, wanted: Wanted) -> Output<'a> {
+        Output {
+            rt,
+            label,
+            wanted,
+            lines: 0,
+            is_in_line: false,
+            failure: None,
+        }
+    }
+
+    /// The label of the file.
+    pub(crate) fn label(&self) -> &'a str {
+        self.label
+    }
+
+    /// The fault that tells why a write failed.
+    pub(crate) fn fault(&self) -> Fault {
+        match self.failure {
+            Some(Failure::Closed) => Fault::Closed,
+            Some(Failure::Stopped(most)) => Fault::Stopped(most),
+            Some(Failure::Memory) => Fault::Memory,
+            Some(Failure::Refused) | None => Fault::Write,
+        }
+    }
+
+    // Whether a line may begin. Counts it.
+    fn may_begin(&mut self) -> bool {
+        let Some(most) = self.wanted.most_messages else {
+            return true;
+        };
+        if self.lines < most {
+            self.lines += 1;
+            return true;
+        }
+        self.failure = Some(Failure::Stopped(most));
+        false
+    }
+
+    // Appends these bytes to those that are to be written, with the label before each line. It ends before a line that
+    // may not begin.
+    fn push_labelled(&mut self, bytes: &[u8], out: &mut Vec<u8>) -> Result<(), AllocError> {
+        for line in bytes.split_inclusive(|byte| *byte == b'\n') {
+            if !self.is_in_line {
+                if !self.may_begin() {
+                    return Ok(());
+                }
+                out.extend_from_slice(self.label.as_bytes())?;
+            }
+            out.extend_from_slice(line)?;
+            self.is_in_line = line.last() != Some(&b'\n');
+        }
+        Ok(())
+    }
+
+    // Writes bytes as they are, unless none are wanted.
+    fn put(&self, bytes: &[u8]) -> io::Result<()> {
+        if self.wanted.is_quiet {
+            return Ok(());
+        }
+        self.rt.write_all(bytes)
+    }
+
+    // Writes bytes with the label, up to so many lines.
+    fn put_labelled(&mut self, bytes: &[u8]) -> io::Result<()> {
+        if self.label.is_empty() && self.wanted.most_messages.is_none() {
+            return self.put(bytes);
+        }
+        let mut out = Vec::new(self.rt.alloc());
+        self.push_labelled(bytes, &mut out)?;
+        self.put(&out)
+    }
+}
+
+impl Write for Output<'_> {
+    fn write(&mut self, bytes: &[u8]) -> io::Result<usize> {
+        if self.failure.is_none() {
+            if let Err(e) = self.put_labelled(bytes) {
+                self.failure = Some(Failure::of(&e));
+            }
+        }
+        match self.failure {
+            None => Ok(bytes.len()),
+            Some(_) => Err(io::Error::other("nothing more is written")),
+        }
+    }
+
+    fn flush(&mut self) -> io::Result<()> {
+        Ok(())
+    }
+}
+
+/// Writes a text that was asked for, such as help. Where nobody reads it, that is as well.
+pub(crate) fn show(rt: &HostRuntime, text: &str) -> Result<Outcome, Fault> {
+    let mut output = Output::new(rt, "", Wanted::all());
+    if output.write_all(text.as_bytes()).is_ok() {
+        return Ok(Outcome::AllValid);
+    }
+    match output.fault() {
+        Fault::Closed => Ok(Outcome::AllValid),
+        fault => Err(fault),
+    }
+}
+
+/// Lines that are gathered, and written together.
+#[derive(Drop)]
+pub(crate) struct Gathered<'o, 'a> {
+    output: &'o mut Output<'a>,
+    /// The lines that are not yet written.
+    pub text: String,
+}
+
+impl<'o, 'a> Gathered<'o, 'a> {
+    /// No lines, to be written to this output.
+    pub(crate) fn new(alloc: Global, output: &'o mut Output<'a>) -> Gathered<'o, 'a> {
+        Gathered {
+            output,
+            text: String::new(alloc),
+        }
+    }
+
+    /// Writes the lines, where they are many, or where the next one has to be waited for.
+    pub(crate) fn write_some(&mut self, is_drained: bool) -> Result<(), Fault> {
+        if is_drained || GATHERED <= self.text.len() {
+            return self.write();
+        }
+        Ok(())
+    }
+
+    /// Writes the lines.
+    pub(crate) fn write(&mut self) -> Result<(), Fault> {
+        if self.output.write_all(self.text.as_bytes()).is_err() {
+            return Err(self.output.fault());
+        }
+        self.text.clear();
+        Ok(())
+    }
+
+    /// Writes what is left, and answers what the work came to. The lines before a fault of the work stay written.
+    pub(crate) fn end<T: Drop>(&mut self, worked: Result<T, Fault>) -> Result<T, Fault> {
+        if let Err(Fault::Closed | Fault::Stopped(_) | Fault::Write) = &worked {
+            return worked;
+        }
+        self.write()?;
+        worked
+    }
+}

@@ -1,0 +1,116 @@
+//! A schema object of its own, read from a file and compiled.
+
+ghost use Rattle.std.specs.Prelude.{IfOk};
+ghost use Rattle.strkw_keywords.specs.Demands.{IsInUse};
+ghost use Rattle.strkw_keywords.specs.Handed.{lists_of};
+ghost use Rattle.strkw_object.specs.Compiled.{keywords_demands};
+
+use crate::faults::Fault;
+use serde_json::Value;
+use std::alloc::{AllocError, Global};
+use std::fmt;
+use strkw_ecma::why_refused;
+use strkw_object::StringKeywords;
+use strkw_pattern::EngineBuilder;
+use strkw_plan::{
+    PlanFault, PlanFileFault, PlanKind, PlanTextFault, Rules, Shown, compile_schema, read_plan_file,
+};
+use strkw_report::{CompileError, CompileErrorKind, Draft};
+
+/// Why a schema is refused.
+#[derive(Debug, Drop)]
+pub(crate) enum SchemaFault {
+    /// Its file has no JSON, or a member twice.
+    File(PlanFileFault),
+    /// It is no object.
+    NoObject,
+    /// A keyword of it is refused.
+    Refused {
+        /// The place of the keyword.
+        place: String,
+        /// Why.
+        why: String,
+    },
+}
+
+impl fmt::Display for SchemaFault {
+    fn fmt<W: fmt::Write>(&self, f: &mut fmt::Formatter<W>) -> fmt::Result {
+        match self {
+            SchemaFault::File(
+                PlanFileFault::Text {
+                    path,
+                    fault: PlanTextFault::Twice(name),
+                },
+            ) => {
+                let (path, name) = (Shown(path), Shown(name));
+                write!(f, "`{path}`: member \"{name}\" stands twice in the schema")
+            }
+            SchemaFault::File(e) => write!(f, "{e}"),
+            SchemaFault::NoObject => f.write_str("the schema is no object"),
+            SchemaFault::Refused { place, why } => {
+                let (place, why) = (Shown(place), Shown(why));
+                write!(f, "the schema is refused at {place}: {why}")
+            }
+        }
+    }
+}
+
+/// The JSON value of the file of a schema, in which no member stands twice.
+pub(crate) fn read_schema(rt: &HostRuntime, path: &str) -> Result<Value, Fault> {
+    match read_plan_file(rt, path) {
+        Ok(schema) => Ok(schema),
+        Err(PlanFileFault::Memory) => Err(Fault::Memory),
+        Err(e) => Err(Fault::Schema(SchemaFault::File(e))),
+    }
+}
+
+/// What a schema object is compiled to under these rules.
+pub(crate) fn compile<B: EngineBuilder>(
+    alloc: Global,
+    rules: &Rules<'_, B>,
+    draft: Draft,
+    schema: &Value,
+) -> Result<StringKeywords<B::Engine>, Fault>
+    ensures in_use { let lists = lists_of admits accepted encoded decoding rules.now.checks in
+        IfOk result (λ k. IsInUse (keywords_demands B.Engine.outcome k) lists) }
+{
+    // The kind and the name would say where the schema stands in a plan. It stands in none.
+    match compile_schema(alloc, rules, PlanKind::Places, draft, "", schema) {
+        Ok(keywords) => Ok(keywords),
+        Err(fault) => Err(fault_of_schema(alloc, &fault)),
+    }
+}
+
+// The fault that tells why a schema is refused.
+fn fault_of_schema(alloc: Global, fault: &PlanFault) -> Fault {
+    match fault {
+        PlanFault::NoObject(_) => Fault::Schema(SchemaFault::NoObject),
+        PlanFault::Refused { refusal, .. } => match refused(alloc, refusal) {
+            Ok(fault) => Fault::Schema(fault),
+            Err(_) => Fault::Memory,
+        },
+        _ => Fault::Memory,
+    }
+}
+
+// The same, of a keyword that is refused.
+fn refused(alloc: Global, refusal: &CompileError) -> Result<SchemaFault, AllocError> {
+    Ok(SchemaFault::Refused {
+        place: String::from_str(alloc, refusal.location.as_str())?,
+        why: why_of(alloc, refusal)?,
+    })
+}
+
+// Why a keyword is refused.
+fn why_of(alloc: Global, refusal: &CompileError) -> Result<String, AllocError> {
+    match &refusal.kind {
+        CompileErrorKind::UnknownFormat { name, .. } => {
+            format!(in alloc; "unknown format \"{name}\"")
+        }
+        CompileErrorKind::Regex { pattern } => match why_refused(alloc, pattern)? {
+            Some(why) => format!(in alloc; "the pattern \"{pattern}\" is not taken: {why}"),
+            None => format!(in alloc; "the pattern \"{pattern}\" is not taken"),
+        },
+        _ => refusal.text(alloc),
+    }
+}

@@ -1,0 +1,46 @@
+//! What is told of words that are no command.
+
+use crate::faults::Fault;
+use clap::Error;
+use clap::error::ErrorKind;
+use std::alloc::{AllocError, Global};
+
+// What the texts of the parser's errors begin with.
+const ERROR: &str = "error: ";
+
+// What a line of advice in them begins with.
+const TIP: &str = "tip: ";
+
+/// The fault that tells what is wrong with the words, on one line.
+pub(crate) fn fault_of(alloc: Global, error: &Error) -> Fault {
+    if error.kind() == ErrorKind::OutOfMemory {
+        return Fault::Memory;
+    }
+    match one_line(alloc, error) {
+        Ok(text) => Fault::Usage(text),
+        Err(_) => Fault::Memory,
+    }
+}
+
+// The first paragraph of an error's text and its advice, on one line.
+fn one_line(alloc: Global, error: &Error) -> Result<String, AllocError> {
+    let text = error.to_string(alloc)?;
+    let text = text.as_str();
+    let mut line = String::new(alloc);
+    let mut is_first = true;
+    for part in text.strip_prefix(ERROR).unwrap_or(text).lines() {
+        let part = part.trim();
+        if part.is_empty() {
+            is_first = false;
+        } else if part.starts_with(TIP) {
+            line.push_str("; ")?;
+            line.push_str(part)?;
+        } else if is_first {
+            if !line.is_empty() {
+                line.push_str(" ")?;
+            }
+            line.push_str(part)?;
+        }
+    }
+    Ok(line)
+}
