@@ -1,7 +1,7 @@
 """Calls the library from Python: every row of a table, also as texts by one schema, a file of requests against its stored
 answers, and, where the package jsonschema is installed, a schema by its FormatChecker.
 
-caller.py FORMATS REQUESTS ANSWERS; status 1 where something is not as it is stored.
+caller.py FORMATS REQUESTS ANSWERS; status 1 where something is not as it is stored, 2 where it cannot be asked.
 """
 import sys
 from pathlib import Path
@@ -80,4 +80,11 @@ def main():
 
 
 if __name__ == "__main__":
-    main()
+    if len(sys.argv) != 4:
+        print("caller.py FORMATS REQUESTS ANSWERS", file=sys.stderr)
+        sys.exit(2)
+    try:
+        main()
+    except OSError as why:
+        print(f"caller.py: {why}", file=sys.stderr)
+        sys.exit(2)

@@ -15,13 +15,17 @@ be left out:
     executables   the same, for files that can be run; the folder is the first place on PATH
     folders, fifos, links     names of folders and fifos, and names of further links to files
     environment   variables to their values
-    to            where standard output goes: "full" for /dev/full, "closed" for a pipe that nobody reads
+    then          bytes of standard input behind `input`, each of which comes only once more output has come
+    shell         how the program is run, as words of `sh` in which "$@" is the program with its arguments
+    to            where standard output goes: "full" for /dev/full, "closed" for a pipe that nobody reads, "closing" for
+                  one that nobody reads any more once something of the output has come
     status, output, errors    what the run has to end with and to write, exactly: 0 and no bytes where nothing is said
     leaves        names to bytes: the files that the run adds or changes; all others have to be there as before
 
-Bytes are a string, as UTF-8 (`"a\\r\\n\\u0000"`), or an array of strings and single bytes (`["a,", 0xff, "\\n"]`). In
-`errors` the word `{program}` is the program's own name. The table `[every]` has keys for all rows of a file; a row's own
-tables are added to its. The last line is `N passed, M failed`; the gate counts it.
+Bytes are a string, as UTF-8 (`"a\\r\\n\\u0000"`), or an array of strings, single bytes and bytes some times over
+(`["a,", 0xff, "\\n", { times = 9, of = "b\\n" }]`). In `errors` the word `{program}` is the program's own name.
+The table `[every]` has keys for all rows of a file; a row's own tables are added to its. The last line is
+`N passed, M failed`; the gate counts it.
 """
 import os
 import signal
@@ -30,8 +34,10 @@ import sys
 import tempfile
 import tomllib
 from concurrent.futures import ThreadPoolExecutor
+from contextlib import suppress
 from dataclasses import dataclass, field, fields
 from pathlib import Path
+from threading import Event, Thread
 
 TOP = Path(__file__).resolve().parent.parent
 ROWS = TOP / "tools" / "programs"
@@ -44,6 +50,8 @@ class Row:
     name: str
     arguments: list = field(default_factory=list)
     input: object = ""
+    then: list = field(default_factory=list)
+    shell: str = ""
     files: dict = field(default_factory=dict)
     executables: dict = field(default_factory=dict)
     folders: list = field(default_factory=list)
@@ -58,8 +66,11 @@ class Row:
 
 
 def bytes_of(value):
-    parts = value if isinstance(value, list) else [value]
-    return b"".join(part.encode() if isinstance(part, str) else bytes([part]) for part in parts)
+    if isinstance(value, list):
+        return b"".join(map(bytes_of, value))
+    if isinstance(value, dict):
+        return bytes_of(value["of"]) * value["times"]
+    return value.encode() if isinstance(value, str) else bytes([value])
 
 
 def rows_of(text):
@@ -112,21 +123,69 @@ def output_of(row):
     return subprocess.PIPE
 
 
+class Talk:
+    """What a run is given, and what it writes."""
+
+    def __init__(self, run, row):
+        self.written, self.errors = bytearray(), bytearray()
+        self.has_come = Event()
+        self.is_closing = row.to == "closing"
+        parts = [bytes_of(row.input), *map(bytes_of, row.then)]
+        self.threads = [Thread(target=self.give, args=[run.stdin, parts]), Thread(target=self.hear, args=[run.stderr])]
+        self.threads += [Thread(target=self.take, args=[run.stdout])] if run.stdout else []
+        for thread in self.threads:
+            thread.start()
+
+    def give(self, stream, parts):
+        with suppress(BrokenPipeError), stream:
+            for number, part in enumerate(parts):
+                if number > 0:
+                    self.has_come.wait()
+                    self.has_come.clear()
+                stream.write(part)
+                stream.flush()
+
+    def take(self, stream):
+        with stream:
+            while piece := stream.read1():
+                self.written += piece
+                if self.is_closing:
+                    break
+                self.has_come.set()
+        self.has_come.set()
+
+    def hear(self, stream):
+        with stream:
+            self.errors += stream.read()
+
+    def end(self):
+        """Waits for the ends of all streams. Input that is still to be given comes too late."""
+        self.has_come.set()
+        for thread in self.threads:
+            thread.join()
+        return bytes(self.written), bytes(self.errors)
+
+
 def ran(row, words, folder):
     """The status, the output and the errors of the run; no status where it does not end in time."""
     path = os.pathsep.join([str(folder), os.environ.get("PATH", os.defpath)])
     environment = {"PATH": path, "LANG": "C.UTF-8", "PYTHONDONTWRITEBYTECODE": "1", **row.environment}
+    words = ["/bin/sh", "-c", row.shell, "sh", *words] if row.shell else words
     output = output_of(row)
-    with subprocess.Popen([*words, *row.arguments], cwd=folder, env=environment, stdin=subprocess.PIPE, stdout=output,
-                          stderr=subprocess.PIPE, start_new_session=True) as run:
-        if output != subprocess.PIPE:
-            os.close(output)
-        try:
-            written, errors = run.communicate(bytes_of(row.input), timeout=SECONDS_FOR_A_RUN)
-            return run.returncode, written or b"", errors
-        except subprocess.TimeoutExpired:
-            os.killpg(run.pid, signal.SIGKILL)
-            return None, b"", b"the run did not end in time"
+    run = subprocess.Popen([*words, *row.arguments], cwd=folder, env=environment, stdin=subprocess.PIPE, stdout=output,
+                           stderr=subprocess.PIPE, start_new_session=True)
+    if output != subprocess.PIPE:
+        os.close(output)
+    talk = Talk(run, row)
+    status = late = None
+    try:
+        status = run.wait(SECONDS_FOR_A_RUN)
+    except subprocess.TimeoutExpired:
+        late = b"the run did not end in time"
+        os.killpg(run.pid, signal.SIGKILL)
+        run.wait()
+    written, errors = talk.end()
+    return status, written, late or errors
 
 
 def left_in(folder):

@@ -1,24 +1,31 @@
 #!/usr/bin/env python3
-"""Runs built tests and the program with one call failing at a time: each growth, and each read and write.
+"""Runs built tests and programs with one call failing at a time: each growth, and each read and write.
 
     python3 tools/refusals.py           on the binaries that the last `rt ci` left in crates/*/out
-    python3 tools/refusals.py --gate    first `rt ci` itself, and last tools/programs.py, `tools/sizes.py --bounded`
-                                        and bindings/test; the last line counts all
+    python3 tools/refusals.py --gate    first tools/claims.py and `rt ci` itself, and last `tools/grammar_rows.py --check`,
+                                        `tools/keyword_rows.py --check`, tools/programs.py, `tools/sizes.py --bounded`,
+                                        bindings/test and bindings/test_calls; the last line counts all
+    python3 tools/refusals.py --gate --store    the same; its minutes and counts go to docs/gate.txt
 
 A *row* is a test whose name ends in `_under_refusal`. With ample memory it passes only where its calls answer what
 they are to answer. Here it is run alone, once with nothing refused, when it has to pass, and then with growth 1, 2, ..
 refused, each in a run of its own. Where a growth was refused, and only there, it may also end with the error of a call
 that was out of memory, by that error's own name; a failed assertion or another error is wrong.
 
-The program `strkw` is run in the same way with each growth refused, and with each read and write failing, interrupted
-or moving one byte. Where a call was made to fail it has to end with status 1 and the fault's text, and what it has
-written is a beginning of its output, whole answers after any fault but one of writing; otherwise the whole.
+The programs are run in the same way, on the input that is stored with each, with each growth refused, and with each
+read and write failing, interrupted or moving one byte. Where a call was made to fail a program has to end with the
+status of a fault and the fault's text, and what it has written is a beginning of its output, of `strkw` whole answers
+after any fault but one of writing; otherwise the whole. All but `strkw` may also try an interrupted call again, or do
+without a growth that was refused, and then end as if nothing had failed.
 """
+import datetime
 import os
 import re
+import resource
 import subprocess
 import sys
 import tempfile
+import time
 from pathlib import Path
 
 TOP = Path(__file__).resolve().parent.parent
@@ -27,7 +34,6 @@ TELL_AT = 9
 MOST_CALLS = 20000
 MOST_WRONG = 20
 SECONDS_FOR_A_RUN = 120
-PROGRAM = "strkw"
 ROW = re.compile(r"fn (\w+_under_refusal)\b")
 # How a row ends that answers an error, and what it says where that is out of memory: the name `AllocError`, or that of
 # a variant `Memory`.
@@ -35,13 +41,16 @@ FAILED_TEST = 101
 # `AllocFailed` is that of a box that a row makes itself.
 OUT_OF_MEMORY = {b"error: %s\nthe test failed: its result gives status 1\n" % name
                  for name in (b"AllocError", b"Memory", b"AllocFailed { .. }")}
-READ_FAULT, WRITE_FAULT = b"strkw: read failed\n", b"strkw: write failed\n"
-# How a call of the program is made to fail, and what the program then says; no text where it has to end well.
+# The programs, with the status of a fault.
+PROGRAMS = {"strkw": 1, "strkw_csv": 2, "strkw_config": 2, "neldrafi": 2}
+WRITE_FAULT = "write failed"
+MOVE_FAULTS = re.compile(WRITE_FAULT + r"|(.+: )?read failed(: .+)?|.+ cannot be read: .+")
+# How a call of a program is made to fail, and what the program then says; nothing where it has to end well.
 FAILINGS = {
-    "REFUSE_GROWTH": ("refused growths", {b"strkw: out of memory\n"}),
-    "FAIL_MOVE": ("failed reads and writes", {READ_FAULT, WRITE_FAULT}),
-    "INTERRUPT_MOVE": ("interrupted reads and writes", {READ_FAULT, WRITE_FAULT}),
-    "SHORTEN_MOVE": ("reads and writes of one byte", set()),
+    "REFUSE_GROWTH": ("refused growths", re.compile("out of memory")),
+    "FAIL_MOVE": ("failed reads and writes", MOVE_FAULTS),
+    "INTERRUPT_MOVE": ("interrupted reads and writes", MOVE_FAULTS),
+    "SHORTEN_MOVE": ("reads and writes of one byte", None),
 }
 
 
@@ -74,7 +83,8 @@ def counted(words, called):
 
 def preload(folder):
     """Builds the library that is preloaded, by the compiler of the kit."""
-    page = subprocess.run(["rt", "doc"], cwd=TOP, stdin=subprocess.DEVNULL, stdout=subprocess.PIPE, text=True, check=True)
+    page = subprocess.run(["rt", "doc"], cwd=TOP, stdin=subprocess.DEVNULL, stdout=subprocess.PIPE, text=True,
+                          check=True)
     toolchain = Path(page.stdout.split()[0]).parent / "toolchain"
     made = Path(folder) / "refuse_nth.so"
     subprocess.run(
@@ -88,12 +98,12 @@ class Run:
     """A run of a program with one call failing: its status, its output, how many such calls there were, and how many
     of them failed."""
 
-    def __init__(self, words, made, failing, nth, given=b""):
+    def __init__(self, words, made, failing, nth, given=b"", folder=TOP):
         read_end, write_end = os.pipe()
         environment = {"LD_PRELOAD": str(made), failing: str(nth), "LANG": "C.UTF-8"}
         try:
             ran = subprocess.run(
-                words, env=environment, cwd=TOP, input=given, stdout=subprocess.PIPE, stderr=subprocess.PIPE,
+                words, env=environment, cwd=folder, input=given, stdout=subprocess.PIPE, stderr=subprocess.PIPE,
                 preexec_fn=lambda: os.dup2(write_end, TELL_AT), close_fds=False, timeout=SECONDS_FOR_A_RUN)
             self.status, self.written, self.said = ran.returncode, ran.stdout, ran.stderr
         except subprocess.TimeoutExpired:
@@ -106,25 +116,22 @@ class Run:
         is_growth = failing == "REFUSE_GROWTH"
         self.calls, self.failures = (growths, refusals) if is_growth else (moves, failures)
 
-    def ended_well(self):
-        return self.status == 0 and self.failures == 0
-
     def shown(self):
         said = (self.said + self.written).decode(errors="replace").strip()[:300]
         return f"status {self.status}, {self.failures} failed of {self.calls} calls: {said}"
 
 
-def each_in_turn(name, words, made, failing, is_right, given=b""):
+def each_in_turn(name, words, made, failing, is_right, given=b"", folder=TOP):
     """Lets no call fail, and then call 1, 2, .. Answers whether each run was right."""
     what = FAILINGS[failing][0]
-    ample = Run(words, made, failing, 0, given)
-    if not (ample.ended_well() and is_right(ample) and 0 < ample.calls < MOST_CALLS):
+    ample = Run(words, made, failing, 0, given, folder)
+    if not (ample.failures == 0 and is_right(ample) and 0 < ample.calls < MOST_CALLS):
         say(f"refusals: {name}: where nothing fails: {ample.shown()}")
         return False
     wrong = whole = 0
     for nth in range(1, ample.calls + 1):
-        run = Run(words, made, failing, nth, given)
-        whole += run.status == 0
+        run = Run(words, made, failing, nth, given, folder)
+        whole += run.status == ample.status
         # A run that was aborted has told nothing, and is wrong by its status.
         if run.failures not in (1, None) or not is_right(run):
             wrong += 1
@@ -151,8 +158,9 @@ def tests(made):
         rows, built = rows_of(crate), crate / "out" / f"{crate.name}_tests"
         if not rows:
             continue
-        listed = subprocess.run([built, "--list"], stdin=subprocess.DEVNULL, stdout=subprocess.PIPE, text=True).stdout if built.exists() else ""
-        found = [line.removesuffix(": test").strip() for line in listed.splitlines()]
+        listed = subprocess.run([built, "--list"], stdin=subprocess.DEVNULL, stdout=subprocess.PIPE, text=True) \
+            if built.exists() else None
+        found = [line.removesuffix(": test").strip() for line in listed.stdout.splitlines()] if listed else []
         for test in (test for test in found if test.endswith("_under_refusal")):
             rows.discard(test.split("::")[-1])
             yield each_in_turn(f"{crate.name} {test}", [built, test], made, "REFUSE_GROWTH", is_row_right)
@@ -161,57 +169,125 @@ def tests(made):
             yield False
 
 
-def is_program_right(ample, faults):
-    """How a run of the program is judged, by its output where nothing fails and by the texts of its faults."""
-    def right(run):
-        if run.failures == 0 or not faults:
-            return run.status == 0 and run.written == ample and not run.said
-        is_whole = run.said == WRITE_FAULT or not run.written or run.written.endswith(b"\nend\n")
-        return run.status == 1 and run.said in faults and ample.startswith(run.written) and is_whole
-    return right
+class Stored:
+    """A program with a stored run: the files beside its sources."""
+
+    def __init__(self, name):
+        folder = TOP / "crates" / name
+        self.name, self.folder, self.built = name, folder / "data", folder / "out" / name
+        self.folder = self.folder if self.folder.is_dir() else folder
+        self.arguments = (folder / "args").read_text().split() if (folder / "args").exists() else []
+        self.given, self.written = (folder / "stdin").read_bytes(), (folder / "stdout").read_bytes()
+        self.status = int((folder / "status").read_text()) if (folder / "status").exists() else 0
+
+    def is_whole(self, run):
+        return run.status == self.status and run.written == self.written and not run.said
+
+    def is_faulty(self, run, faults):
+        """Whether a run ended with a fault of these texts, and has written a beginning of its output, or all of it but
+        the lines about one of several files."""
+        said = run.said.decode(errors="replace")
+        fault = said.removeprefix(f"{self.name}: ").removesuffix("\n")
+        is_told = said == f"{self.name}: {fault}\n" and faults.fullmatch(fault)
+        is_begun = self.written.startswith(run.written)
+        if self.name == "strkw" and fault != WRITE_FAULT:
+            is_begun = is_begun and (not run.written or run.written.endswith(b"\nend\n"))
+        if self.name == "neldrafi":
+            lines = iter(self.written.splitlines())
+            is_begun = is_begun or all(line in lines for line in run.written.splitlines())
+        return run.status == PROGRAMS[self.name] and is_told and is_begun
+
+    def is_right(self, failing):
+        """How a run is judged in which such a call may have failed."""
+        faults = FAILINGS[failing][1]
+        may_end_well = failing in ("REFUSE_GROWTH", "INTERRUPT_MOVE") and self.name != "strkw"
+
+        def right(run):
+            if run.failures == 0 or faults is None:
+                return self.is_whole(run)
+            return self.is_faulty(run, faults) or (may_end_well and self.is_whole(run))
+        return right
 
 
-def program(made):
-    """The program, with each call of each kind failing on each of its inputs, as whether it was right."""
-    folder = TOP / "crates" / PROGRAM
-    built = folder / "out" / PROGRAM
-    if not built.exists():
-        say(f"refusals: {PROGRAM} is not built")
-        yield False
-        return
-    requests = (TOP / "examples/requests.jsonl").read_bytes()
-    answers = subprocess.run([built], input=requests, stdout=subprocess.PIPE).stdout
-    inputs = {
-        "stored input": ((folder / "stdin").read_bytes(), (folder / "stdout").read_bytes()),
-        "examples": (requests, answers),
+def examples():
+    """The program that answers requests, with those of the examples."""
+    run = Stored("strkw")
+    run.given, run.written = (TOP / "examples/requests.jsonl").read_bytes(), (TOP / "examples/answers.txt").read_bytes()
+    return run
+
+
+def programs(made):
+    """Each program, with each call of each kind failing, as whether it was right."""
+    for stored in [*map(Stored, PROGRAMS), examples()]:
+        if not stored.built.exists():
+            say(f"refusals: {stored.name} is not built")
+            yield False
+            continue
+        for failing in FAILINGS:
+            yield each_in_turn(stored.name, [stored.built, *stored.arguments], made, failing, stored.is_right(failing),
+                               stored.given, stored.folder)
+
+
+def store(counts, began):
+    """Writes what a run of the gate took and counted."""
+    used = resource.getrusage(resource.RUSAGE_CHILDREN)
+    commit = subprocess.run(["git", "rev-parse", "--short", "HEAD"], cwd=TOP, stdout=subprocess.PIPE, text=True)
+    told = {
+        "date": datetime.date.today(),
+        "commit": commit.stdout.strip(),
+        "processors": os.cpu_count(),
+        "minutes": round((time.monotonic() - began) / 60),
+        "processor minutes": round((used.ru_utime + used.ru_stime) / 60),
+        **{called: f"{passed} passed, {failed} failed" for called, (passed, failed) in counts.items()},
     }
-    for name, (given, ample) in inputs.items():
-        for failing, (_, faults) in FAILINGS.items():
-            yield each_in_turn(f"{PROGRAM}, {name}", [built], made, failing, is_program_right(ample, faults), given)
+    head = "A run of the gate. `python3 tools/refusals.py --gate --store` writes this file at the end of a run.\n"
+    lines = "".join(f"{key}: {value}\n" for key, value in told.items())
+    (TOP / "docs/gate.txt").write_text(head + lines, encoding="utf-8")
 
 
-def main():
-    is_gate = "--gate" in sys.argv[1:]
-    counts = [counted(["rt", "ci"], "`rt ci`")] if is_gate else []
+def refusals():
+    """How many rows and runs of programs passed and failed."""
     with tempfile.TemporaryDirectory() as folder:
         try:
             made = preload(folder)
         except (OSError, subprocess.CalledProcessError, IndexError) as why:
             say(f"refusals: the library that refuses growths was not built: {why}")
-            rows, programs = [False], []
+            rows, runs = [False], []
         else:
-            rows, programs = list(tests(made)), list(program(made))
+            rows, runs = list(tests(made)), list(programs(made))
     if not rows:
         say("refusals: no row was found: run `rt ci` first")
         rows = [False]
-    say(f"refusals: {rows.count(True)} rows and {programs.count(True)} runs of the program passed, "
-        f"{rows.count(False)} and {programs.count(False)} failed")
-    counts.append(((rows + programs).count(True), (rows + programs).count(False)))
-    if is_gate:
-        counts.append(counted([sys.executable, "tools/programs.py"], "tools/programs.py"))
-        counts.append(counted([sys.executable, "tools/sizes.py", "--bounded"], "tools/sizes.py"))
-        counts.append(counted(["sh", "-c", "bindings/build && bindings/test"], "bindings/test"))
-    passed, failed = map(sum, zip(*counts))
+    say(f"refusals: {rows.count(True)} rows and {runs.count(True)} runs of programs passed, "
+        f"{rows.count(False)} and {runs.count(False)} failed")
+    return (rows + runs).count(True), (rows + runs).count(False)
+
+
+def gate():
+    """The steps of the gate by name, each with its counts. The library for C is built over what this `rt ci` proved."""
+    def asked(*words):
+        return " ".join(words), counted([sys.executable, *words], words[0])
+
+    with tempfile.NamedTemporaryFile() as begun:
+        yield asked("tools/claims.py")
+        yield "rt ci", counted(["rt", "ci"], "`rt ci`")
+        yield "tools/refusals.py", refusals()
+        yield asked("tools/grammar_rows.py", "--check")
+        yield asked("tools/keyword_rows.py", "--check")
+        yield asked("tools/programs.py")
+        yield asked("tools/sizes.py", "--bounded")
+        build_and_test = 'bindings/build --since "$1" && bindings/test'
+        yield "bindings/test", counted(["sh", "-c", build_and_test, "sh", begun.name], "bindings/test")
+        yield asked("bindings/test_calls")
+
+
+def main():
+    began = time.monotonic()
+    is_gate = "--gate" in sys.argv[1:]
+    counts = dict(gate() if is_gate else [("tools/refusals.py", refusals())])
+    passed, failed = map(sum, zip(*counts.values()))
+    if is_gate and "--store" in sys.argv[1:]:
+        store(counts, began)
     say(f"{passed} passed, {failed} failed")
     return 1 if failed else 0
 

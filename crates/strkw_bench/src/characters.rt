@@ -1,5 +1,6 @@
 //! Nanoseconds to count the characters of a text, beside the standard library's count.
 
+use crate::texts::repeated;
 use crate::timing::{self, least};
 use std::alloc::Global;
 use std::io;
@@ -24,32 +25,61 @@ impl timing::Call for Call {
 // 16 bytes, of which two are one character.
 const PART: &str = "letters zwölfte";
 
+// So many parts, and how often their characters are counted in a round.
+struct Length {
+    parts: u32,
+    calls: u32,
+}
+
+const LENGTHS: &[Length] = &[
+    Length {
+        parts: 1,
+        calls: 100_000,
+    },
+    Length {
+        parts: 4,
+        calls: 50_000,
+    },
+    Length {
+        parts: 256,
+        calls: 2_000,
+    },
+    Length {
+        parts: 4_096,
+        calls: 200,
+    },
+    Length {
+        parts: 65_536,
+        calls: 10,
+    },
+];
+
+fn time(rt: HostRuntime, name: &str, call: Call, text: &str, calls: u32) -> io::Result<()> {
+    let tenths = least(rt, &call, &[text], calls)?.tenths_a_call(calls);
+    println!(rt;
+        "{name}, {} bytes: {}.{} ns",
+        text.len(),
+        tenths / 10,
+        tenths % 10
+    )
+}
+
+fn time_length(rt: HostRuntime, row: &Length) -> io::Result<()> {
+    let text = repeated(rt.alloc(), "", PART, row.parts, "")?;
+    time(rt, "char_count", Call::Counted, &text, row.calls)?;
+    time(
+        rt,
+        "chars().count()",
+        Call::CountedByTheLibrary,
+        &text,
+        row.calls,
+    )
+}
+
 /// Times both counts on texts of 16 bytes up to a mebibyte.
 pub fn measure(rt: HostRuntime) -> io::Result<()> {
-    for (parts, calls) in [
-        (1u32, 100_000u32),
-        (4, 50_000),
-        (256, 2_000),
-        (4_096, 200),
-        (65_536, 10),
-    ] {
-        let mut text = String::new(rt.alloc());
-        for _ in 0..parts {
-            text.push_str(PART)?;
-        }
-        for (name, call) in [
-            ("char_count", Call::Counted),
-            ("chars().count()", Call::CountedByTheLibrary),
-        ] {
-            let round = least(rt, &call, &[text.as_str()], calls)?;
-            let tenths = round.tenths_a_call(calls);
-            println!(rt;
-                "{name}, {} bytes: {}.{} ns",
-                text.len(),
-                tenths / 10,
-                tenths % 10
-            )?;
-        }
+    for row in LENGTHS {
+        time_length(rt, row)?;
     }
     Ok(())
 }

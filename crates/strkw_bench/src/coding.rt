@@ -1,5 +1,6 @@
 //! Megabytes of text a second, of each check and decoder of the encodings and of the JSON check.
 
+use crate::texts::repeated;
 use crate::timing::{self, least};
 use std::alloc::Global;
 use std::io;
@@ -24,57 +25,111 @@ impl timing::Call for Call {
     }
 }
 
-fn time(rt: HostRuntime, name: &str, call: Call, text: &str) -> io::Result<()> {
-    let round = least(rt, &call, &[text], CALLS)?;
-    let bytes = (text.len() as u128).wrapping_mul(u128::from(CALLS));
-    println!(rt;
-        "{name}: {} MB/s, {} accepted",
-        round.megabytes_a_second(bytes),
-        round.accepted
-    )?;
-    Ok(())
+// A call, and what the megabyte is made of that it accepts.
+struct Megabyte {
+    name: &'static str,
+    call: Call,
+    start: &'static str,
+    piece: &'static str,
+    end: &'static str,
 }
 
-// A megabyte of a text, over and over.
-fn repeated(alloc: Global, start: &str, part: &str, end: &str) -> io::Result<String> {
-    let mut text = String::new(alloc);
-    text.push_str(start)?;
-    for _ in 0..32768 {
-        text.push_str(part)?;
-    }
-    text.push_str(end)?;
-    Ok(text)
+const MEGABYTES: &[Megabyte] = &[
+    Megabyte {
+        name: "is_base64",
+        call: Call::Check(Codec::Base64),
+        start: "",
+        piece: "VGhlIHF1aWNrIGJyb3duIGZveCBqdW1w",
+        end: "",
+    },
+    Megabyte {
+        name: "from_base64",
+        call: Call::Decode(Codec::Base64),
+        start: "",
+        piece: "VGhlIHF1aWNrIGJyb3duIGZveCBqdW1w",
+        end: "",
+    },
+    Megabyte {
+        name: "is_base64url",
+        call: Call::Check(Codec::Base64Url),
+        start: "",
+        piece: "VGhlIHF1aWNrIGJyb3duIGZveCBqdW1w",
+        end: "",
+    },
+    Megabyte {
+        name: "from_base64url",
+        call: Call::Decode(Codec::Base64Url),
+        start: "",
+        piece: "VGhlIHF1aWNrIGJyb3duIGZveCBqdW1w",
+        end: "",
+    },
+    Megabyte {
+        name: "is_base32",
+        call: Call::Check(Codec::Base32),
+        start: "",
+        piece: "KRUGKIDROVUWG2ZAMJZG653OEBTG66BA",
+        end: "",
+    },
+    Megabyte {
+        name: "from_base32",
+        call: Call::Decode(Codec::Base32),
+        start: "",
+        piece: "KRUGKIDROVUWG2ZAMJZG653OEBTG66BA",
+        end: "",
+    },
+    Megabyte {
+        name: "is_base32hex",
+        call: Call::Check(Codec::Base32Hex),
+        start: "",
+        piece: "AHK6A83HELKM6QP0C9P6UTRE41J6UU10",
+        end: "",
+    },
+    Megabyte {
+        name: "from_base32hex",
+        call: Call::Decode(Codec::Base32Hex),
+        start: "",
+        piece: "AHK6A83HELKM6QP0C9P6UTRE41J6UU10",
+        end: "",
+    },
+    Megabyte {
+        name: "is_base16",
+        call: Call::Check(Codec::Base16),
+        start: "",
+        piece: "54686520717569636B2062726f776e20",
+        end: "",
+    },
+    Megabyte {
+        name: "from_base16",
+        call: Call::Decode(Codec::Base16),
+        start: "",
+        piece: "54686520717569636B2062726f776e20",
+        end: "",
+    },
+    Megabyte {
+        name: "is_json",
+        call: Call::Json,
+        start: "[",
+        piece: "{\"name\":\"a text\",\"count\":12345},",
+        end: "null]",
+    },
+];
+
+fn time(rt: HostRuntime, row: &Megabyte) -> io::Result<()> {
+    let text = repeated(rt.alloc(), row.start, row.piece, 32768, row.end)?;
+    let round = least(rt, &row.call, &[text.as_str()], CALLS)?;
+    let bytes = (text.len() as u128).wrapping_mul(u128::from(CALLS));
+    println!(rt;
+        "{}: {} MB/s, {} accepted",
+        row.name,
+        round.megabytes_a_second(bytes),
+        round.accepted
+    )
 }
 
 /// Times each call on a megabyte of text that it accepts.
 pub fn measure(rt: HostRuntime) -> io::Result<()> {
-    let alloc = rt.alloc();
-    for (name, codec, part) in [
-        ("base64", Codec::Base64, "VGhlIHF1aWNrIGJyb3duIGZveCBqdW1w"),
-        (
-            "base64url",
-            Codec::Base64Url,
-            "VGhlIHF1aWNrIGJyb3duIGZveCBqdW1w",
-        ),
-        ("base32", Codec::Base32, "KRUGKIDROVUWG2ZAMJZG653OEBTG66BA"),
-        (
-            "base32hex",
-            Codec::Base32Hex,
-            "AHK6A83HELKM6QP0C9P6UTRE41J6UU10",
-        ),
-        ("base16", Codec::Base16, "54686520717569636B2062726f776e20"),
-    ] {
-        let text = repeated(alloc, "", part, "")?;
-        let check = format!(in alloc; "is_{name}")?;
-        time(rt, check.as_str(), Call::Check(codec), text.as_str())?;
-        let decoder = format!(in alloc; "from_{name}")?;
-        time(rt, decoder.as_str(), Call::Decode(codec), text.as_str())?;
+    for row in MEGABYTES {
+        time(rt, row)?;
     }
-    let json = repeated(
-        alloc,
-        "[",
-        "{\"name\":\"a text\",\"count\":12345},",
-        "null]",
-    )?;
-    time(rt, "is_json", Call::Json, json.as_str())
+    Ok(())
 }

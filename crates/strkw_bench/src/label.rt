@@ -1,7 +1,7 @@
 //! Nanoseconds a call of the host name predicate and of the Punycode decoder.
 ghost use Rattle.std.specs.Prelude.{◌≤◌, length};
 
-use crate::timing::{self, least};
+use crate::timing::{self, time};
 use std::alloc::Global;
 use std::io;
 use strkw_label::{decode_punycode, is_valid_hostname, validate_unicode_label};
@@ -34,54 +34,70 @@ impl timing::Call for Call {
     }
 }
 
-fn time(rt: HostRuntime, name: &str, call: Call, text: &str) -> io::Result<()> {
-    let round = least(rt, &call, &[text], CALLS)?;
-    println!(rt;
-        "{name}: {} ns, {} accepted",
-        round.tenths_a_call(CALLS) / 10,
-        round.accepted
-    )?;
-    Ok(())
+struct Row {
+    name: &'static str,
+    call: Call,
+    text: &'static str,
 }
+
+// Host names without and with Punycode labels, and payloads.
+const ROWS: &[Row] = &[
+    Row {
+        name: "ASCII host name, 15 bytes",
+        call: Call::HostName,
+        text: "www.example.com",
+    },
+    Row {
+        name: "ASCII host name, 253 bytes",
+        call: Call::HostName,
+        text: "aaaaaaaaaaaaaaaaaaaaaaaaaaaaaaaaaaaaaaaaaaaaaaaaaaaaaaaaaaaaaaa.aaaaaaaaaaaaaaaaaaaaaaaaaaaaaaaaaaaaaaaaaaaaaaaaaaaaaaaaaaaaaaa.aaaaaaaaaaaaaaaaaaaaaaaaaaaaaaaaaaaaaaaaaaaaaaaaaaaaaaaaaaaaaaa.aaaaaaaaaaaaaaaaaaaaaaaaaaaaaaaaaaaaaaaaaaaaaaaaaaaaaaaaaaaaa",
+    },
+    Row {
+        name: "mixed host name",
+        call: Call::HostName,
+        text: "www.xn--ll-0ea.example",
+    },
+    Row {
+        name: "host name of 9 and 2 Han characters",
+        call: Call::HostName,
+        text: "xn--ihqwcrb4cv8a8dqg056pqjye.xn--9krt00a",
+    },
+    Row {
+        name: "host name with 46 characters decoded",
+        call: Call::HostName,
+        text: "xn--aaaaaaaaaaaaaaaaaaaaaaaaaaaaaaaaaaaaaaaaaaaaa-fc294e",
+    },
+    Row {
+        name: "payload `ll-0ea`",
+        call: Call::Decode,
+        text: "ll-0ea",
+    },
+    Row {
+        name: "payload of 9 Han characters",
+        call: Call::Decode,
+        text: "ihqwcrb4cv8a8dqg056pqjye",
+    },
+    Row {
+        name: "59-byte payload, 1 insertion",
+        call: Call::Decode,
+        text: "aaaaaaaaaaaaaaaaaaaaaaaaaaaaaaaaaaaaaaaaaaaaaaaaaaa-6q1048b",
+    },
+    Row {
+        name: "59-byte payload, 59 insertions",
+        call: Call::Decode,
+        text: "aaaaaaaaaaaaaaaaaaaaaaaaaaaaaaaaaaaaaaaaaaaaaaaaaaaaaaaaaaa",
+    },
+    Row {
+        name: "payload of 9 Han characters, judged",
+        call: Call::DecodeAndJudge,
+        text: "ihqwcrb4cv8a8dqg056pqjye",
+    },
+];
 
 /// Times host names without and with Punycode labels, and payloads.
 pub fn measure(rt: HostRuntime) -> io::Result<()> {
-    for (name, text) in [
-        ("ASCII host name, 15 bytes", "www.example.com"),
-        (
-            "ASCII host name, 253 bytes",
-            "aaaaaaaaaaaaaaaaaaaaaaaaaaaaaaaaaaaaaaaaaaaaaaaaaaaaaaaaaaaaaaa.aaaaaaaaaaaaaaaaaaaaaaaaaaaaaaaaaaaaaaaaaaaaaaaaaaaaaaaaaaaaaaa.aaaaaaaaaaaaaaaaaaaaaaaaaaaaaaaaaaaaaaaaaaaaaaaaaaaaaaaaaaaaaaa.aaaaaaaaaaaaaaaaaaaaaaaaaaaaaaaaaaaaaaaaaaaaaaaaaaaaaaaaaaaaa",
-        ),
-        ("mixed host name", "www.xn--ll-0ea.example"),
-        (
-            "host name of 9 and 2 Han characters",
-            "xn--ihqwcrb4cv8a8dqg056pqjye.xn--9krt00a",
-        ),
-        (
-            "host name with 46 characters decoded",
-            "xn--aaaaaaaaaaaaaaaaaaaaaaaaaaaaaaaaaaaaaaaaaaaaa-fc294e",
-        ),
-    ] {
-        time(rt, name, Call::HostName, text)?;
+    for row in ROWS {
+        time(rt, row.name, &row.call, &[row.text], CALLS)?;
     }
-    for (name, text) in [
-        ("payload `ll-0ea`", "ll-0ea"),
-        ("payload of 9 Han characters", "ihqwcrb4cv8a8dqg056pqjye"),
-        (
-            "59-byte payload, 1 insertion",
-            "aaaaaaaaaaaaaaaaaaaaaaaaaaaaaaaaaaaaaaaaaaaaaaaaaaa-6q1048b",
-        ),
-        (
-            "59-byte payload, 59 insertions",
-            "aaaaaaaaaaaaaaaaaaaaaaaaaaaaaaaaaaaaaaaaaaaaaaaaaaaaaaaaaaa",
-        ),
-    ] {
-        time(rt, name, Call::Decode, text)?;
-    }
-    time(
-        rt,
-        "payload of 9 Han characters, judged",
-        Call::DecodeAndJudge,
-        "ihqwcrb4cv8a8dqg056pqjye",
-    )
+    Ok(())
 }

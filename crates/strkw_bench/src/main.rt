@@ -8,6 +8,7 @@ mod forms;
 mod label;
 mod patterns;
 mod plain_parts;
+mod texts;
 mod time_net;
 mod timing;
 mod uri;

@@ -2,9 +2,10 @@
 //! the texts are lines of the standard input: a pattern, a piece of text, how often it stands there, and what stands
 //! behind, with a tab between each two.
 
+use crate::texts::repeated;
 use crate::timing::Round;
 use regex::{Matcher, Regex};
-use std::alloc::{AllocError, Global};
+use std::alloc::Global;
 use std::io;
 use std::time::Instant;
 use strkw_ecma::{EcmaMatcher, EcmaPatterns};
@@ -59,16 +60,6 @@ fn least<S: Search>(
     Ok(least)
 }
 
-// A piece, so often, and what stands behind.
-fn text_of(alloc: Global, piece: &str, count: u32, end: &str) -> Result<String, AllocError> {
-    let mut text = String::new(alloc);
-    for _ in 0..count {
-        text.push_str(piece)?;
-    }
-    text.push_str(end)?;
-    Ok(text)
-}
-
 fn show(rt: HostRuntime, name: &str, round: Round, searches: u32) -> io::Result<()> {
     let tenths = round.tenths_a_call(searches);
     print!(rt;
@@ -115,7 +106,7 @@ pub fn measure(rt: HostRuntime) -> io::Result<()> {
             continue;
         };
         let count = count.parse::<u32>().unwrap_or(1);
-        let text = text_of(rt.alloc(), piece, count, fields.next().unwrap_or(""))?;
+        let text = repeated(rt.alloc(), "", piece, count, fields.next().unwrap_or(""))?;
         time(rt, pattern, text.as_str())?;
     }
     Ok(())

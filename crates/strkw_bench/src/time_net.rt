@@ -81,71 +81,148 @@ impl timing::Call for Call {
     }
 }
 
-fn time(rt: HostRuntime, name: &str, call: Call, text: &str) -> io::Result<()> {
-    let round = least(rt, &call, &[text], CALLS)?;
+struct Row {
+    name: &'static str,
+    call: Call,
+    text: &'static str,
+}
+
+// Texts that each recogniser accepts, and texts that it refuses.
+const ROWS: &[Row] = &[
+    Row {
+        name: "date",
+        call: Call::Date,
+        text: "2020-02-29",
+    },
+    Row {
+        name: "date refused at its day",
+        call: Call::Date,
+        text: "2023-11-31",
+    },
+    Row {
+        name: "date refused at its end",
+        call: Call::Date,
+        text: "2020-01-0-",
+    },
+    Row {
+        name: "time",
+        call: Call::Time,
+        text: "12:30:45.123Z",
+    },
+    Row {
+        name: "time with an offset",
+        call: Call::Time,
+        text: "12:30:45+01:00",
+    },
+    Row {
+        name: "leap second",
+        call: Call::Time,
+        text: "00:29:60+00:30",
+    },
+    Row {
+        name: "time with a long fraction",
+        call: Call::Time,
+        text: "12:30:45.000000000000000000000000000000000000000000000000000000Z",
+    },
+    Row {
+        name: "date-time",
+        call: Call::DateTime,
+        text: "2020-01-01T00:00:00Z",
+    },
+    Row {
+        name: "duration",
+        call: Call::Duration,
+        text: "P1Y2M3DT4H5M6S",
+    },
+    Row {
+        name: "duration of weeks",
+        call: Call::Duration,
+        text: "P2W",
+    },
+    Row {
+        name: "duration refused at its end",
+        call: Call::Duration,
+        text: "P1Y2M3DT4H5M6",
+    },
+    Row {
+        name: "duration of long numbers",
+        call: Call::Duration,
+        text: "P00000000000000000001Y00000000000000000002M00000000000000000003D",
+    },
+    Row {
+        name: "IPv4",
+        call: Call::Ipv4,
+        text: "255.255.255.255",
+    },
+    Row {
+        name: "IPv4 refused",
+        call: Call::Ipv4,
+        text: "1.2.3.256",
+    },
+    Row {
+        name: "IPv6",
+        call: Call::Ipv6,
+        text: "1:2:3:4:5:6:7:8",
+    },
+    Row {
+        name: "IPv6 with two colons",
+        call: Call::Ipv6,
+        text: "2001:db8::7",
+    },
+    Row {
+        name: "IPv6, the longest",
+        call: Call::Ipv6,
+        text: "0000:0000:0000:0000:0000:0000:255.255.255.255",
+    },
+    Row {
+        name: "IPv6 refused",
+        call: Call::Ipv6,
+        text: "1:2:3:4:5:6:7::8",
+    },
+    Row {
+        name: "host name",
+        call: Call::HostName,
+        text: "www.example.com",
+    },
+    Row {
+        name: "host name, the longest",
+        call: Call::HostName,
+        text: LONGEST_HOST_NAME,
+    },
+    Row {
+        name: "host name refused at its end",
+        call: Call::HostName,
+        text: "www.example.com-",
+    },
+    Row {
+        name: "UUID",
+        call: Call::Uuid,
+        text: "f308a72c-fa84-11eb-9a03-0242ac130003",
+    },
+    Row {
+        name: "UUID refused",
+        call: Call::Uuid,
+        text: "f308a72cfa8411eb9a030242ac130003",
+    },
+];
+
+fn time(rt: HostRuntime, row: &Row) -> io::Result<()> {
+    let round = least(rt, &row.call, &[row.text], CALLS)?;
     let tenths = round.tenths_a_call(CALLS);
     println!(rt;
-        "{name}, {} bytes: {}.{} ns, {} accepted",
-        text.len(),
+        "{}, {} bytes: {}.{} ns, {} accepted",
+        row.name,
+        row.text.len(),
         tenths / 10,
         tenths % 10,
         round.accepted
-    )?;
-    Ok(())
+    )
 }
 
 /// Times each recogniser on texts that it accepts and on texts that it refuses.
 pub fn measure(rt: HostRuntime) -> io::Result<()> {
-    for (name, call, text) in [
-        ("date", Call::Date, "2020-02-29"),
-        ("date refused at its day", Call::Date, "2023-11-31"),
-        ("date refused at its end", Call::Date, "2020-01-0-"),
-        ("time", Call::Time, "12:30:45.123Z"),
-        ("time with an offset", Call::Time, "12:30:45+01:00"),
-        ("leap second", Call::Time, "00:29:60+00:30"),
-        (
-            "time with a long fraction",
-            Call::Time,
-            "12:30:45.000000000000000000000000000000000000000000000000000000Z",
-        ),
-        ("date-time", Call::DateTime, "2020-01-01T00:00:00Z"),
-        ("duration", Call::Duration, "P1Y2M3DT4H5M6S"),
-        ("duration of weeks", Call::Duration, "P2W"),
-        (
-            "duration refused at its end",
-            Call::Duration,
-            "P1Y2M3DT4H5M6",
-        ),
-        (
-            "duration of long numbers",
-            Call::Duration,
-            "P00000000000000000001Y00000000000000000002M00000000000000000003D",
-        ),
-        ("IPv4", Call::Ipv4, "255.255.255.255"),
-        ("IPv4 refused", Call::Ipv4, "1.2.3.256"),
-        ("IPv6", Call::Ipv6, "1:2:3:4:5:6:7:8"),
-        ("IPv6 with two colons", Call::Ipv6, "2001:db8::7"),
-        (
-            "IPv6, the longest",
-            Call::Ipv6,
-            "0000:0000:0000:0000:0000:0000:255.255.255.255",
-        ),
-        ("IPv6 refused", Call::Ipv6, "1:2:3:4:5:6:7::8"),
-        ("host name", Call::HostName, "www.example.com"),
-        ("host name, the longest", Call::HostName, LONGEST_HOST_NAME),
-        (
-            "host name refused at its end",
-            Call::HostName,
-            "www.example.com-",
-        ),
-        ("UUID", Call::Uuid, "f308a72c-fa84-11eb-9a03-0242ac130003"),
-        (
-            "UUID refused",
-            Call::Uuid,
-            "f308a72cfa8411eb9a030242ac130003",
-        ),
-    ] {
-        time(rt, name, call, text)?;
+    for row in ROWS {
+        time(rt, row)?;
     }
     Ok(())
 }

@@ -67,3 +67,21 @@ pub fn least<C: Call>(rt: HostRuntime, call: &C, texts: &[&str], calls: u32) -> 
     }
     Ok(least)
 }
+
+/// Times rounds of so many calls on each of the texts. Prints nanoseconds a call, and how many texts were accepted.
+pub fn time<C: Call>(
+    rt: HostRuntime,
+    name: &str,
+    call: &C,
+    texts: &[&str],
+    calls: u32,
+) -> io::Result<()> {
+    let round = least(rt, call, texts, calls)?;
+    let tenths = round.tenths_a_call(calls);
+    println!(rt;
+        "{name}: {}.{} ns, {} accepted",
+        tenths / 10,
+        tenths % 10,
+        round.accepted
+    )
+}

@@ -60,6 +60,7 @@ fn ask(alloc: Global, row: &Value, tally: &mut Tally) -> Result<(), AllocError> 
         "characters" => sweeps::ask_characters(alloc, row, tally),
         "numbers" => sweeps::ask_numbers(alloc, row, tally),
         "counts" => sweeps::ask_counts(alloc, row, tally),
+        "sums" => sweeps::ask_sums(alloc, row, tally),
         "leap years" => time::ask_leap_years(alloc, row, tally),
         "digits" => time::ask_digits(alloc, row, tally),
         "first labels" => net::ask_first_labels(alloc, row, tally),

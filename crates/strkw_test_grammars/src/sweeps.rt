@@ -1,8 +1,8 @@
 //! Each character, each number, and more and more of a part in the places of texts.
 
-use crate::row::{flag, items, number, text, text_at};
+use crate::row::{flag, items, number, number_at, text, text_at};
 use crate::tally::Tally;
-use crate::texts::ask_one;
+use crate::texts::{accepts, ask_one};
 use serde_json::Value;
 use std::alloc::{AllocError, Global};
 
@@ -83,6 +83,43 @@ pub fn ask_counts(alloc: Global, row: &Value, tally: &mut Tally) -> Result<(), A
             let text = format!(in alloc; "{before}{parts}{after}")?;
             ask_one(alloc, of, &text, is_within(row, count), tally)?;
             parts.push_str(part)?;
+        }
+    }
+    Ok(())
+}
+
+// How many characters of a range may stand at a place, and the sum of their numbers.
+fn count_and_sum(
+    alloc: Global,
+    of: &str,
+    place: &Value,
+    range: &Value,
+) -> Result<(u64, u64), AllocError> {
+    let (before, after) = (text_at(place, 0), text_at(place, 1));
+    let (mut count, mut sum) = (0u64, 0u64);
+    for point in number_at(range, 0)..number_at(range, 1) {
+        let found = u32::try_from(point).ok().and_then(char::from_u32);
+        if let Some(character) = found {
+            let text = format!(in alloc; "{before}{character}{after}")?;
+            if accepts(alloc, of, &text)? == Some(true) {
+                count = count.wrapping_add(1);
+                sum = sum.wrapping_add(point);
+            }
+        }
+    }
+    Ok((count, sum))
+}
+
+/// How many characters of each range, and which sum they have, at each place of the row.
+pub fn ask_sums(alloc: Global, row: &Value, tally: &mut Tally) -> Result<(), AllocError> {
+    let of = text(row, "of");
+    for place in items(row, "places") {
+        for range in items(row, "rows") {
+            let (count, sum) = count_and_sum(alloc, of, place, range)?;
+            let is_expected = count == number_at(range, 2) && sum == number_at(range, 3);
+            let from = number_at(range, 0);
+            let shown = format!(in alloc; "{count} from {from} on, of the sum {sum}")?;
+            tally.count(alloc, is_expected, text_at(place, 0), &shown)?;
         }
     }
     Ok(())

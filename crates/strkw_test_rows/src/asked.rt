@@ -6,8 +6,7 @@ use serde_json::{Map, Value};
 use std::alloc::{AllocError, Global};
 use strkw_keywords::{Checks, Context, Uses, Validate, Validator};
 use strkw_object::{StringKeywords, compile_strings};
-use strkw_test_calls::compile_entry;
-use strkw_test_doubles::{Name, ScriptedBuilder, ScriptedEngine};
+use strkw_test_doubles::{Name, ScriptedBuilder, ScriptedEngine, compile_entry};
 
 /// Appends what is compiled of the object, or of the one entry that the row names, and its answers; and where a pattern
 /// was shown to the builder, how often.

@@ -1,9 +1,8 @@
 //! What the calls are lent, and whether they left it as it was.
 
-use serde_json::Value;
+use serde_json::{Map, Value};
 use std::alloc::{AllocError, Global};
 use std::cell::Cell;
-use std::test::Fail;
 use strkw_keywords::{Checks, Context, Fault, NamedFormat, Options};
 use strkw_pattern::Outcome;
 use strkw_report::{
@@ -18,7 +17,10 @@ const PATTERNS: [Row<'static>; 1] = [Row {
     outcome: Outcome::Match,
 }];
 
-pub(super) fn builder() -> ScriptedBuilder<'static> {
+/// What a schema object is compiled under.
+pub(super) type Lent<'a> = Context<'a, ScriptedBuilder<'static>>;
+
+fn builder() -> ScriptedBuilder<'static> {
     ScriptedBuilder {
         rows: &PATTERNS,
         has_memory: true,
@@ -27,21 +29,21 @@ pub(super) fn builder() -> ScriptedBuilder<'static> {
     }
 }
 
-/// A format by the name `even`, for texts of an even number of characters.
-pub(super) fn even_format(alloc: Global) -> Result<NamedFormat, AllocError> {
+// A format by the name `even`, for texts of an even number of characters.
+fn even_format(alloc: Global) -> Result<NamedFormat, AllocError> {
     Ok(NamedFormat {
         name: String::from_str(alloc, "even")?,
         check: Box::new(alloc, check_named("even"))?,
     })
 }
 
-/// A schema object under a location and a prefix that are copied. Unknown formats are refused.
-pub(super) fn context<'a>(
+// A schema object under a location and a prefix that are copied. Unknown formats are refused.
+fn context<'a>(
     alloc: Global,
     draft: Draft,
     builder: &'a ScriptedBuilder<'static>,
     formats: &'a [NamedFormat],
-) -> Result<Context<'a, ScriptedBuilder<'static>>, AllocError> {
+) -> Result<Lent<'a>, AllocError> {
     let mut options = Options::default();
     options.ignore_unknown_formats = false;
     Ok(Context {
@@ -81,12 +83,8 @@ fn are_as_lent(alloc: Global, checks: &Checks) -> bool {
     }
 }
 
-/// Whether a context is as `context` made it.
-pub(super) fn is_as_made(
-    alloc: Global,
-    ctx: &Context<'_, ScriptedBuilder<'static>>,
-    draft: Draft,
-) -> bool {
+// Whether a context is as `context` made it.
+fn is_as_made(alloc: Global, ctx: &Lent<'_>, draft: Draft) -> bool {
     ctx.draft == draft
         && ctx.location.as_str() == "/a"
         && ctx.absolute.as_deref() == Some("https://example.com")
@@ -95,48 +93,62 @@ pub(super) fn is_as_made(
         && ctx.builder.rows.len() == PATTERNS.len()
 }
 
-/// The value of a JSON text that is one.
-pub(super) fn json(alloc: Global, text: &str) -> Result<Value, Fail> {
+/// The value of a JSON text, or null where it is none.
+pub(super) fn json(alloc: Global, text: &str) -> Result<Value, AllocError> {
     match Value::from_str(alloc, text) {
         Ok(value) => Ok(value),
-        Err(error) if error.is_memory() => Err(AllocError.into()),
-        Err(_) => Err(Fail::new("no JSON")),
+        Err(error) if error.is_memory() => Err(AllocError),
+        Err(_) => Ok(Value::Null),
     }
 }
 
-/// A refusal as out of memory stands at the root, and is an error here.
-pub(super) fn no_memory_at_the_root(refusal: &CompileError) -> Result<(), Fail> {
-    if !matches!(refusal.kind, CompileErrorKind::Memory) {
-        return Ok(());
-    }
-    if refusal.location.as_str().is_empty() {
-        Err(AllocError.into())
+/// What is asked of a schema object in a draft.
+pub(super) trait Asked {
+    fn draft(&self) -> Draft;
+
+    /// The schema object, as JSON.
+    fn schema(&self) -> &'static str;
+
+    /// Whether it is answered as it is to be. Out of memory is an error.
+    fn is_answered(
+        &self,
+        alloc: Global,
+        ctx: &Lent<'_>,
+        schema: &Map<String, Value>,
+    ) -> Result<bool, AllocError>;
+}
+
+// Whether this is answered in a context as it is to be. The schema object is as it was, whatever was answered.
+fn is_answered_in<A: Asked>(alloc: Global, ctx: &Lent<'_>, asked: &A) -> Result<bool, AllocError> {
+    let text = asked.schema();
+    let (schema, before) = (json(alloc, text)?, json(alloc, text)?);
+    let answer = match schema.as_object() {
+        Some(object) => asked.is_answered(alloc, ctx, object),
+        None => Ok(false),
+    };
+    Ok(schema == before && answer?)
+}
+
+/// Whether this is answered as it is to be, in a context of its own. The context and the schema object are as they
+/// were, whatever was answered.
+pub(super) fn is_answered<A: Asked>(alloc: Global, asked: &A) -> Result<bool, AllocError> {
+    let builder = builder();
+    let formats = [even_format(alloc)?];
+    let ctx = context(alloc, asked.draft(), &builder, &formats)?;
+    let answer = is_answered_in(alloc, &ctx, asked);
+    Ok(is_as_made(alloc, &ctx, asked.draft()) && answer?)
+}
+
+/// Whether a refusal is at this place. One as out of memory is an error here, and stands at the root.
+pub(super) fn is_at(refusal: &CompileError, place: Option<&str>) -> Result<bool, AllocError> {
+    let (at, is_memory) = (
+        refusal.location.as_str(),
+        matches!(refusal.kind, CompileErrorKind::Memory),
+    );
+    if is_memory && at.is_empty() {
+        Err(AllocError)
     } else {
-        Err(Fail::new("out of memory, but not at the root"))
-    }
-}
-
-/// What a compilation was lent is as it was. A refusal as out of memory stands at the root, and is an error here.
-pub(super) fn ended_well<T>(
-    alloc: Global,
-    (ctx, draft): (&Context<'_, ScriptedBuilder<'static>>, Draft),
-    (schema, before): (&Value, &Value),
-    outcome: &Result<T, CompileError>,
-) -> Result<(), Fail> {
-    if schema != before || !is_as_made(alloc, ctx, draft) {
-        return Err(Fail::new("something lent was changed"));
-    }
-    match outcome {
-        Ok(_compiled) => Ok(()),
-        Err(refusal) => no_memory_at_the_root(refusal),
-    }
-}
-
-/// Whether an outcome is a refusal at this place, or none where there is no place.
-pub(super) fn is_at<T>(outcome: &Result<T, CompileError>, place: Option<&str>) -> bool {
-    match outcome {
-        Ok(_compiled) => place.is_none(),
-        Err(refusal) => Some(refusal.location.as_str()) == place,
+        Ok(!is_memory && Some(at) == place)
     }
 }
 

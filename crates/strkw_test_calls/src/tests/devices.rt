@@ -1,6 +1,6 @@
 //! Sources that fail at a read, sinks that fail in an answer, and the devices of a host.
 
-ghost use Rattle.std.specs.Prelude.{◌≡◌, ◌<◌, ◌≤◌, Some, length, vec_len, drop};
+ghost use Rattle.std.specs.Prelude.{◌≡◌, ◌<◌, ◌≤◌, Some, length, vec_len, drop, false, IfOk};
 
 use std::alloc::{AllocError, Global};
 use std::io;
@@ -74,16 +74,25 @@ impl Source for LineByLine {
     }
 }
 
+impl LineByLine {
+    // The script, and a failure behind so many reads.
+    fn of_script(alloc: Global, reads: usize) -> Result<LineByLine, AllocError>
+        ensures { IfOk result (λ source. source.failed ≡ false) }
+    {
+        Ok(LineByLine {
+            bytes: script().to_vec(alloc)?,
+            passed: 0,
+            reads,
+            least: usize::MAX,
+            failed: false,
+        })
+    }
+}
+
 // Whether a run over a source that fails behind so many reads answers the lines that it has read, and fails there. The
 // sixth read finds the end. Each read is for 16 KiB at least.
 fn ends_at_the_read(alloc: Global, reads: usize) -> Result<bool, AllocError> {
-    let mut source = LineByLine {
-        bytes: script().to_vec(alloc)?,
-        passed: 0,
-        reads,
-        least: usize::MAX,
-        failed: false,
-    };
+    let mut source = LineByLine::of_script(alloc, reads)?;
     let mut sink = MemorySink::new(alloc);
     let ended = run(alloc, &mut source, &mut sink);
     let (wanted, end) = if reads > 5 {
@@ -132,47 +141,70 @@ fn lines_have_a_bound(rt: HostRuntime) -> Result<(), Fail> {
     Ok(())
 }
 
-// A line of three pieces of the input, and one behind it: the bound is the length of the first, or one less.
+// A bound of lines, whether a line is longer, and what is written then.
+struct Bound {
+    longest: usize,
+    is_passed: bool,
+    written: &'static [u8],
+}
+
+// The second line of `ends_at_the_long_piece` has 150,000 bytes.
+const BOUNDS: &[Bound] = &[
+    Bound {
+        longest: 150_000,
+        is_passed: false,
+        written: b"bad request\nend\nbad request\nend\n",
+    },
+    Bound {
+        longest: 149_999,
+        is_passed: true,
+        written: b"bad request\nend\n",
+    },
+];
+
+// Whether a run with this bound ends so, over an empty line and a line of three pieces of the input.
+fn ends_at_the_long_piece(alloc: Global, row: &Bound) -> Result<bool, AllocError> {
+    let mut lines = vec![in alloc; b' '; 150_001]?;
+    lines[0] = b'\n';
+    let mut source = MemorySource::new(lines);
+    let mut sink = MemorySink::new(alloc);
+    let ended = run_bounded(alloc, row.longest, &mut source, &mut sink);
+    let wanted = if row.is_passed {
+        Err(BoundedRunFault::LongLine(row.longest))
+    } else {
+        Ok(())
+    };
+    Ok(ended == wanted && sink.bytes() == row.written)
+}
+
 #[test]
 fn a_line_of_several_pieces_has_a_bound(rt: HostRuntime) -> Result<(), Fail> {
-    for (longest, wanted, written) in [
-        (
-            150_000,
-            Ok(()),
-            &b"bad request\nend\nbad request\nend\n"[..],
-        ),
-        (
-            149_999,
-            Err(BoundedRunFault::LongLine(149_999)),
-            &b"bad request\nend\n"[..],
-        ),
-    ] {
-        let mut lines = vec![in rt.alloc(); b' '; 150_001]?;
-        lines[0] = b'\n';
-        let mut source = MemorySource::new(lines);
-        let mut sink = MemorySink::new(rt.alloc());
-        let ended = run_bounded(rt.alloc(), longest, &mut source, &mut sink);
-        assert!(rt; ended == wanted, "{longest}");
-        assert!(rt; sink.bytes() == written, "{longest}");
+    for row in BOUNDS {
+        if !ends_at_the_long_piece(rt.alloc(), row)? {
+            return Err(Fail::new(row.longest));
+        }
     }
     Ok(())
 }
 
-// A failing source ends such a run too.
+// Whether a failing source ends a run with a bound too.
+fn ends_at_the_read_within_a_bound(alloc: Global) -> Result<bool, AllocError> {
+    let mut source = LineByLine::of_script(alloc, 2)?;
+    let mut sink = MemorySink::new(alloc);
+    let ended = run_bounded(alloc, 68, &mut source, &mut sink);
+    Ok(
+        ended == Err(BoundedRunFault::Run(RunFault::Read))
+            && Some(sink.bytes()) == answers().get(..ends()[2]),
+    )
+}
+
 #[test]
 fn a_read_of_a_bounded_run_fails(rt: HostRuntime) -> Result<(), Fail> {
-    let mut source = LineByLine {
-        bytes: script().to_vec(rt.alloc())?,
-        passed: 0,
-        reads: 2,
-        least: usize::MAX,
-        failed: false,
-    };
-    let mut sink = MemorySink::new(rt.alloc());
-    let ended = run_bounded(rt.alloc(), 68, &mut source, &mut sink);
-    assert!(rt; ended == Err(BoundedRunFault::Run(RunFault::Read)));
-    assert!(rt; Some(sink.bytes()) == answers().get(..ends()[2]));
-    Ok(())
+    if ends_at_the_read_within_a_bound(rt.alloc())? {
+        Ok(())
+    } else {
+        Err(Fail::new("another ending"))
+    }
 }
 
 // A sink that takes at most seven bytes a write, and fails once it has taken so many.

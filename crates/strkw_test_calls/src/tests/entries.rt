@@ -3,281 +3,296 @@
 //! as it was.
 
 use super::context::{
-    Call, are_lent, builder, collects, context, ended_well, error_lines, even_format,
-    gives_the_first, is_as_made, is_at, json, lent_errors, root_site,
+    Asked, Call, Lent, are_lent, collects, error_lines, gives_the_first, is_answered, is_at,
+    lent_errors, root_site,
 };
-use crate::compile_entry;
-use serde_json::Value;
+use serde_json::{Map, Value};
 use std::alloc::{AllocError, Global};
 use std::test::Fail;
-use strkw_keywords::{Checks, Context, Keyword, Uses, Validate, Validator, Values, compile_among};
+use strkw_keywords::{Checks, Keyword, Uses, Validate, Values, compile_among};
 use strkw_report::{CompileError, Draft, Site};
-use strkw_test_doubles::{ScriptedBuilder, ScriptedEngine};
+use strkw_test_doubles::compile_entry;
 
-// A draft, a keyword, a schema object, and where it is refused with ample memory.
-const ENTRIES_AND_PLACES: [(Draft, Keyword, &str, Option<&str>); 15] = [
-    (
-        Draft::Draft7,
-        Keyword::ContentMediaType,
-        r#"{"contentMediaType":"application/json","contentEncoding":"base64"}"#,
-        None,
-    ),
-    (
-        Draft::Draft7,
-        Keyword::ContentMediaType,
-        r#"{"contentMediaType":["a"]}"#,
-        Some("/a/contentMediaType"),
-    ),
-    (
-        Draft::Draft7,
-        Keyword::ContentEncoding,
-        r#"{"contentEncoding":"base64"}"#,
-        None,
-    ),
-    (
-        Draft::Draft202012,
-        Keyword::ContentMediaType,
-        r#"{"contentMediaType":"a/b"}"#,
-        None,
-    ),
-    (
-        Draft::Draft202012,
-        Keyword::ContentEncoding,
-        r#"{"contentEncoding":"x"}"#,
-        None,
-    ),
-    (
-        Draft::Draft202012,
-        Keyword::ContentSchema,
-        r#"{"contentMediaType":"a/b","contentSchema":{"a":["b"]}}"#,
-        None,
-    ),
-    (
-        Draft::Draft202012,
-        Keyword::ContentSchema,
-        r#"{"contentMediaType":"a/b","contentSchema":1.5}"#,
-        Some("/a/contentSchema"),
-    ),
-    (Draft::Draft7, Keyword::Format, r#"{"format":"date"}"#, None),
-    (
-        Draft::Draft7,
-        Keyword::Format,
-        r#"{"format":"custom"}"#,
-        Some("/a/format"),
-    ),
-    (
-        Draft::Draft202012,
-        Keyword::Format,
-        r#"{"format":"custom"}"#,
-        None,
-    ),
-    (
-        Draft::Draft7,
-        Keyword::MinLength,
-        r#"{"minLength":1,"maxLength":2}"#,
-        None,
-    ),
-    (
-        Draft::Draft7,
-        Keyword::MaxLength,
-        r#"{"maxLength":-1}"#,
-        Some("/a/maxLength"),
-    ),
-    (
-        Draft::Draft7,
-        Keyword::Pattern,
-        r#"{"pattern":"^(c|b|a)$"}"#,
-        None,
-    ),
-    (Draft::Draft7, Keyword::Pattern, r#"{"pattern":"a+"}"#, None),
-    (
-        Draft::Draft7,
-        Keyword::Pattern,
-        r#"{"pattern":"b+"}"#,
-        Some("/a/pattern"),
-    ),
+// What a call makes of an entry; nothing where the entry adds nothing. The functions below take any validator: one that
+// names `Validator`, with its many variants, costs a proof of a minute and more.
+type Made<V> = Option<Result<V, CompileError>>;
+
+// An entry of a schema object, and where it is refused with ample memory.
+struct Placed {
+    draft: Draft,
+    keyword: Keyword,
+    schema: &'static str,
+    place: Option<&'static str>,
+}
+
+const PLACES: &[Placed] = &[
+    Placed {
+        draft: Draft::Draft7,
+        keyword: Keyword::ContentMediaType,
+        schema: r#"{"contentMediaType":"application/json","contentEncoding":"base64"}"#,
+        place: None,
+    },
+    Placed {
+        draft: Draft::Draft7,
+        keyword: Keyword::ContentMediaType,
+        schema: r#"{"contentMediaType":["a"]}"#,
+        place: Some("/a/contentMediaType"),
+    },
+    Placed {
+        draft: Draft::Draft7,
+        keyword: Keyword::ContentEncoding,
+        schema: r#"{"contentEncoding":"base64"}"#,
+        place: None,
+    },
+    Placed {
+        draft: Draft::Draft202012,
+        keyword: Keyword::ContentMediaType,
+        schema: r#"{"contentMediaType":"a/b"}"#,
+        place: None,
+    },
+    Placed {
+        draft: Draft::Draft202012,
+        keyword: Keyword::ContentEncoding,
+        schema: r#"{"contentEncoding":"x"}"#,
+        place: None,
+    },
+    Placed {
+        draft: Draft::Draft202012,
+        keyword: Keyword::ContentSchema,
+        schema: r#"{"contentMediaType":"a/b","contentSchema":{"a":["b"]}}"#,
+        place: None,
+    },
+    Placed {
+        draft: Draft::Draft202012,
+        keyword: Keyword::ContentSchema,
+        schema: r#"{"contentMediaType":"a/b","contentSchema":1.5}"#,
+        place: Some("/a/contentSchema"),
+    },
+    Placed {
+        draft: Draft::Draft7,
+        keyword: Keyword::Format,
+        schema: r#"{"format":"date"}"#,
+        place: None,
+    },
+    Placed {
+        draft: Draft::Draft7,
+        keyword: Keyword::Format,
+        schema: r#"{"format":"custom"}"#,
+        place: Some("/a/format"),
+    },
+    Placed {
+        draft: Draft::Draft202012,
+        keyword: Keyword::Format,
+        schema: r#"{"format":"custom"}"#,
+        place: None,
+    },
+    Placed {
+        draft: Draft::Draft7,
+        keyword: Keyword::MinLength,
+        schema: r#"{"minLength":1,"maxLength":2}"#,
+        place: None,
+    },
+    Placed {
+        draft: Draft::Draft7,
+        keyword: Keyword::MaxLength,
+        schema: r#"{"maxLength":-1}"#,
+        place: Some("/a/maxLength"),
+    },
+    Placed {
+        draft: Draft::Draft7,
+        keyword: Keyword::Pattern,
+        schema: r#"{"pattern":"^(c|b|a)$"}"#,
+        place: None,
+    },
+    Placed {
+        draft: Draft::Draft7,
+        keyword: Keyword::Pattern,
+        schema: r#"{"pattern":"a+"}"#,
+        place: None,
+    },
+    Placed {
+        draft: Draft::Draft7,
+        keyword: Keyword::Pattern,
+        schema: r#"{"pattern":"b+"}"#,
+        place: Some("/a/pattern"),
+    },
 ];
 
-type Outcome = Result<Validator<ScriptedEngine<'static>>, CompileError>;
+// By which call an entry is compiled.
+#[derive(Clone, Copy)]
+enum Compile {
+    // That of its keyword.
+    OfKeyword,
+    // The one for all keywords.
+    Among,
+}
 
-fn compiled_of(
-    alloc: Global,
-    ctx: &Context<'_, ScriptedBuilder<'static>>,
-    keyword: Keyword,
-    schema: &Value,
-) -> Result<Outcome, Fail> {
-    match compile_entry(alloc, ctx, keyword, schema.as_object().ok_or("no object")?) {
-        Some(outcome) => Ok(outcome),
-        None => Err(Fail::new("it adds nothing")),
+#[derive(Clone, Copy)]
+struct Compiling {
+    row: &'static Placed,
+    by: Compile,
+}
+
+// Whether an entry was compiled, or refused at its place.
+fn is_made_so<V: Drop>(made: Made<V>, place: Option<&str>) -> Result<bool, AllocError> {
+    match &made {
+        Some(Ok(_validator)) => Ok(place.is_none()),
+        Some(Err(refusal)) => is_at(refusal, place),
+        None => Ok(false),
     }
 }
 
-// What is compiled of an entry. A refusal as out of memory stands at the root, and leaves the context and the schema
-// object as they were; it is an error here.
-fn outcome_of(
-    alloc: Global,
-    ctx: &Context<'_, ScriptedBuilder<'static>>,
-    keyword: Keyword,
-    schema: &str,
-) -> Result<Outcome, Fail> {
-    let (schema, before, draft) = (json(alloc, schema)?, json(alloc, schema)?, ctx.draft);
-    let outcome = compiled_of(alloc, ctx, keyword, &schema)?;
-    ended_well(alloc, (ctx, draft), (&schema, &before), &outcome)?;
-    Ok(outcome)
+impl Asked for Compiling {
+    fn draft(&self) -> Draft {
+        self.row.draft
+    }
+
+    fn schema(&self) -> &'static str {
+        self.row.schema
+    }
+
+    fn is_answered(
+        &self,
+        alloc: Global,
+        ctx: &Lent<'_>,
+        schema: &Map<String, Value>,
+    ) -> Result<bool, AllocError> {
+        let (keyword, place) = (self.row.keyword, self.row.place);
+        match self.by {
+            Compile::OfKeyword => is_made_so(compile_entry(alloc, ctx, keyword, schema), place),
+            Compile::Among => {
+                let values = Values::of(schema);
+                is_made_so(compile_among(alloc, ctx, &values, keyword), place)
+            }
+        }
+    }
 }
 
-// Whether an entry is compiled, or refused at its place.
-fn is_refused_at(
-    alloc: Global,
-    draft: Draft,
-    keyword: Keyword,
-    schema: &str,
-    place: Option<&str>,
-) -> Result<bool, Fail> {
-    let builder = builder();
-    let formats = [even_format(alloc)?];
-    let ctx = context(alloc, draft, &builder, &formats)?;
-    let outcome = outcome_of(alloc, &ctx, keyword, schema)?;
-    Ok(is_at(&outcome, place))
-}
-
-// The same of an entry of the object's values.
-fn is_refused_among(
-    alloc: Global,
-    draft: Draft,
-    keyword: Keyword,
-    schema: &str,
-    place: Option<&str>,
-) -> Result<bool, Fail> {
-    let builder = builder();
-    let formats = [even_format(alloc)?];
-    let ctx = context(alloc, draft, &builder, &formats)?;
-    let (schema, before) = (json(alloc, schema)?, json(alloc, schema)?);
-    let values = Values::of(schema.as_object().ok_or("no object")?);
-    let Some(outcome) = compile_among(alloc, &ctx, &values, keyword) else {
-        return Ok(false);
-    };
-    ended_well(alloc, (&ctx, draft), (&schema, &before), &outcome)?;
-    Ok(is_at(&outcome, place))
+fn compiled(alloc: Global, by: Compile) -> Result<(), Fail> {
+    for row in PLACES {
+        if !is_answered(alloc, &Compiling { row, by })? {
+            return Err(Fail::new(row.schema));
+        }
+    }
+    Ok(())
 }
 
 #[test]
 fn compile_functions_under_refusal(rt: HostRuntime) -> Result<(), Fail> {
-    for (draft, keyword, schema, place) in ENTRIES_AND_PLACES {
-        if !is_refused_at(rt.alloc(), draft, keyword, schema, place)? {
-            return Err(Fail::new(schema));
-        }
-    }
-    Ok(())
+    compiled(rt.alloc(), Compile::OfKeyword)
 }
 
 #[test]
 fn compile_among_under_refusal(rt: HostRuntime) -> Result<(), Fail> {
-    for (draft, keyword, schema, place) in ENTRIES_AND_PLACES {
-        if !is_refused_among(rt.alloc(), draft, keyword, schema, place)? {
-            return Err(Fail::new(schema));
-        }
-    }
-    Ok(())
+    compiled(rt.alloc(), Compile::Among)
 }
 
-// A draft, a keyword, a schema object, a text, the lines of its errors, and whether a test of it takes no memory.
-const ENTRIES_AND_LINES: [(Draft, Keyword, &str, &str, &str, bool); 11] = [
-    (
-        Draft::Draft7,
-        Keyword::ContentMediaType,
-        r#"{"contentMediaType":"application/json"}"#,
-        "[{}]",
-        "",
-        false,
-    ),
-    (
-        Draft::Draft7,
-        Keyword::ContentMediaType,
-        r#"{"contentMediaType":"application/json","contentEncoding":"base64"}"#,
-        "ezp9Cg==",
-        "/a/contentMediaType: \"ezp9Cg==\" is not compliant with \"application/json\" media type\n",
-        false,
-    ),
-    (
-        Draft::Draft7,
-        Keyword::ContentEncoding,
-        r#"{"contentEncoding":"base32"}"#,
-        "MZXW6YQ=",
-        "",
-        false,
-    ),
-    (
-        Draft::Draft202012,
-        Keyword::ContentSchema,
-        r#"{"contentMediaType":"a/b","contentSchema":{"a":["b"]}}"#,
-        "x",
-        "",
-        true,
-    ),
-    (
-        Draft::Draft7,
-        Keyword::Format,
-        r#"{"format":"date"}"#,
-        "x",
-        "/a/format: \"x\" is not a \"date\"\n",
-        true,
-    ),
-    (
-        Draft::Draft7,
-        Keyword::Format,
-        r#"{"format":"even"}"#,
-        "abc",
-        "/a/format: \"abc\" is not a \"even\"\n",
-        false,
-    ),
-    (
-        Draft::Draft7,
-        Keyword::MinLength,
-        r#"{"minLength":5,"maxLength":3}"#,
-        "abcd",
-        "/a/minLength: \"abcd\" is shorter than 5 characters\n/a/maxLength: \"abcd\" is longer than 3 characters\n",
-        true,
-    ),
-    (
-        Draft::Draft7,
-        Keyword::MaxLength,
-        r#"{"maxLength":3}"#,
-        "abcd",
-        "/a/maxLength: \"abcd\" is longer than 3 characters\n",
-        true,
-    ),
-    (
-        Draft::Draft7,
-        Keyword::Pattern,
-        r#"{"pattern":"^(c|b|a)$"}"#,
-        "d",
-        "/a/pattern: \"d\" does not match \"^(c|b|a)$\"\n",
-        true,
-    ),
-    (
-        Draft::Draft7,
-        Keyword::Pattern,
-        r#"{"pattern":"a+"}"#,
-        "x",
-        "/a/pattern: \"x\" does not match \"a+\"\n",
-        false,
-    ),
-    (
-        Draft::Draft7,
-        Keyword::Pattern,
-        r#"{"pattern":"a+"}"#,
-        "aa",
-        "",
-        false,
-    ),
+// An entry of a schema object, a text, the lines of its errors, and whether a test of it takes no memory.
+struct Told {
+    draft: Draft,
+    keyword: Keyword,
+    schema: &'static str,
+    text: &'static str,
+    lines: &'static str,
+    is_quiet: bool,
+}
+
+const LINES: &[Told] = &[
+    Told {
+        draft: Draft::Draft7,
+        keyword: Keyword::ContentMediaType,
+        schema: r#"{"contentMediaType":"application/json"}"#,
+        text: "[{}]",
+        lines: "",
+        is_quiet: false,
+    },
+    Told {
+        draft: Draft::Draft7,
+        keyword: Keyword::ContentMediaType,
+        schema: r#"{"contentMediaType":"application/json","contentEncoding":"base64"}"#,
+        text: "ezp9Cg==",
+        lines: "/a/contentMediaType: \"ezp9Cg==\" is not compliant with \"application/json\" media type\n",
+        is_quiet: false,
+    },
+    Told {
+        draft: Draft::Draft7,
+        keyword: Keyword::ContentEncoding,
+        schema: r#"{"contentEncoding":"base32"}"#,
+        text: "MZXW6YQ=",
+        lines: "",
+        is_quiet: false,
+    },
+    Told {
+        draft: Draft::Draft202012,
+        keyword: Keyword::ContentSchema,
+        schema: r#"{"contentMediaType":"a/b","contentSchema":{"a":["b"]}}"#,
+        text: "x",
+        lines: "",
+        is_quiet: true,
+    },
+    Told {
+        draft: Draft::Draft7,
+        keyword: Keyword::Format,
+        schema: r#"{"format":"date"}"#,
+        text: "x",
+        lines: "/a/format: \"x\" is not a \"date\"\n",
+        is_quiet: true,
+    },
+    Told {
+        draft: Draft::Draft7,
+        keyword: Keyword::Format,
+        schema: r#"{"format":"even"}"#,
+        text: "abc",
+        lines: "/a/format: \"abc\" is not a \"even\"\n",
+        is_quiet: false,
+    },
+    Told {
+        draft: Draft::Draft7,
+        keyword: Keyword::MinLength,
+        schema: r#"{"minLength":5,"maxLength":3}"#,
+        text: "abcd",
+        lines: "/a/minLength: \"abcd\" is shorter than 5 characters\n/a/maxLength: \"abcd\" is longer than 3 characters\n",
+        is_quiet: true,
+    },
+    Told {
+        draft: Draft::Draft7,
+        keyword: Keyword::MaxLength,
+        schema: r#"{"maxLength":3}"#,
+        text: "abcd",
+        lines: "/a/maxLength: \"abcd\" is longer than 3 characters\n",
+        is_quiet: true,
+    },
+    Told {
+        draft: Draft::Draft7,
+        keyword: Keyword::Pattern,
+        schema: r#"{"pattern":"^(c|b|a)$"}"#,
+        text: "d",
+        lines: "/a/pattern: \"d\" does not match \"^(c|b|a)$\"\n",
+        is_quiet: true,
+    },
+    Told {
+        draft: Draft::Draft7,
+        keyword: Keyword::Pattern,
+        schema: r#"{"pattern":"a+"}"#,
+        text: "x",
+        lines: "/a/pattern: \"x\" does not match \"a+\"\n",
+        is_quiet: false,
+    },
+    Told {
+        draft: Draft::Draft7,
+        keyword: Keyword::Pattern,
+        schema: r#"{"pattern":"a+"}"#,
+        text: "aa",
+        lines: "",
+        is_quiet: false,
+    },
 ];
 
 // Whether a call answers as it is to; out of memory, by its own name, is an error here where the call may be refused.
-fn answers(
+fn answers<V: Validate<Value>>(
     alloc: Global,
     call: Call,
-    validator: &Validator<ScriptedEngine<'static>>,
+    validator: &V,
     checks: &Checks,
     (node, site): (&Value, &Site),
     wanted: &str,
@@ -306,45 +321,65 @@ fn answers(
     }
 }
 
-// Whether a call answers of a text as it is to. The text and the place are as they were, whatever it answered.
-fn is_answered_so(
-    alloc: Global,
+#[derive(Clone, Copy)]
+struct Asking {
+    row: &'static Told,
     call: Call,
-    validator: &Validator<ScriptedEngine<'static>>,
-    checks: &Checks,
-    (text, wanted): (&str, &str),
-) -> Result<bool, AllocError> {
-    let (node, site) = (Value::try_from_str(alloc, text)?, root_site(alloc));
-    let answer = answers(alloc, call, validator, checks, (&node, &site), wanted);
-    Ok(are_lent(&node, text, &site) && answer?)
 }
 
-// The same of an entry in a draft, which the call leaves as it was.
-fn is_asked_so(
+// Whether a call answers of a text as it is to. The text and the place are as they were, whatever it answered.
+fn is_answered_so<V: Validate<Value>>(
     alloc: Global,
-    call: Call,
-    (draft, keyword, schema): (Draft, Keyword, &str),
-    (text, wanted): (&str, &str),
-    is_quiet: bool,
-) -> Result<bool, Fail> {
-    let builder = builder();
-    let formats = [even_format(alloc)?];
-    let ctx = context(alloc, draft, &builder, &formats)?;
-    match outcome_of(alloc, &ctx, keyword, schema)? {
-        Ok(validator) => {
-            let answer = is_answered_so(alloc, call, &validator, &ctx.checks, (text, wanted));
-            let is_as_told = validator.takes_no_memory() == is_quiet;
-            Ok(is_as_told && is_as_made(alloc, &ctx, draft) && answer?)
-        }
-        Err(_refusal) => Ok(false),
+    asking: &Asking,
+    validator: &V,
+    checks: &Checks,
+) -> Result<bool, AllocError> {
+    let row = asking.row;
+    let (node, site) = (Value::try_from_str(alloc, row.text)?, root_site(alloc));
+    let lent = (&node, &site);
+    let answer = answers(alloc, asking.call, validator, checks, lent, row.lines);
+    let is_as_told = validator.takes_no_memory() == row.is_quiet;
+    Ok(is_as_told && are_lent(&node, row.text, &site) && answer?)
+}
+
+// The same of what was made of an entry.
+fn is_told_so<V: Validate<Value> + Drop>(
+    alloc: Global,
+    asking: &Asking,
+    made: Made<V>,
+    checks: &Checks,
+) -> Result<bool, AllocError> {
+    match &made {
+        Some(Ok(validator)) => is_answered_so(alloc, asking, validator, checks),
+        Some(Err(refusal)) => is_at(refusal, None),
+        None => Ok(false),
+    }
+}
+
+impl Asked for Asking {
+    fn draft(&self) -> Draft {
+        self.row.draft
+    }
+
+    fn schema(&self) -> &'static str {
+        self.row.schema
+    }
+
+    fn is_answered(
+        &self,
+        alloc: Global,
+        ctx: &Lent<'_>,
+        schema: &Map<String, Value>,
+    ) -> Result<bool, AllocError> {
+        let made = compile_entry(alloc, ctx, self.row.keyword, schema);
+        is_told_so(alloc, self, made, &ctx.checks)
     }
 }
 
 fn asked_of_entries(alloc: Global, call: Call) -> Result<(), Fail> {
-    for (draft, keyword, schema, text, wanted, is_quiet) in ENTRIES_AND_LINES {
-        let entry = (draft, keyword, schema);
-        if !is_asked_so(alloc, call, entry, (text, wanted), is_quiet)? {
-            return Err(Fail::new(schema));
+    for row in LINES {
+        if !is_answered(alloc, &Asking { row, call })? {
+            return Err(Fail::new(row.schema));
         }
     }
     Ok(())

@@ -23,33 +23,116 @@ enum Encoded {
     Nothing,
 }
 
-// An encoding, a text, and what it encodes: the vectors of RFC 4648, section 10, the byte FF, and texts with spare bits
+// A text, and what it encodes.
+struct Encoding {
+    codec: Codec,
+    text: &'static str,
+    encoded: Encoded,
+}
+
+// The vectors of RFC 4648, section 10, the byte FF, and texts with spare bits
 // that are not zero, with padding inside, with a letter of no encoding.
-const TEXTS: [(Codec, &str, Encoded); 20] = [
-    (Codec::Base64, "Zm9vYmFy", Encoded::Text("foobar")),
-    (Codec::Base64, "", Encoded::Text("")),
-    (Codec::Base64, "/w==", Encoded::NoText),
-    (Codec::Base64, "Zh==", Encoded::Nothing),
-    (Codec::Base64, "?", Encoded::Nothing),
-    (Codec::Base64Url, "PDw_Pz4-", Encoded::Text("<<??>>")),
-    (Codec::Base64Url, "_w==", Encoded::NoText),
-    (Codec::Base64Url, "/w==", Encoded::Nothing),
-    (Codec::Base32, "MZXW6YTBOI======", Encoded::Text("foobar")),
-    (Codec::Base32, "74======", Encoded::NoText),
-    (Codec::Base32, "MZ======", Encoded::Nothing),
-    (Codec::Base32, "MY=====M", Encoded::Nothing),
-    (
-        Codec::Base32Hex,
-        "CPNMUOJ1E8======",
-        Encoded::Text("foobar"),
-    ),
-    (Codec::Base32Hex, "VS======", Encoded::NoText),
-    (Codec::Base32Hex, "?", Encoded::Nothing),
-    (Codec::Base16, "666F6f", Encoded::Text("foo")),
-    (Codec::Base16, "FF", Encoded::NoText),
-    (Codec::Base16, "6", Encoded::Nothing),
-    (Codec::Base16, "\u{FB00}", Encoded::Nothing),
-    (Codec::Base16, "", Encoded::Text("")),
+const TEXTS: &[Encoding] = &[
+    Encoding {
+        codec: Codec::Base64,
+        text: "Zm9vYmFy",
+        encoded: Encoded::Text("foobar"),
+    },
+    Encoding {
+        codec: Codec::Base64,
+        text: "",
+        encoded: Encoded::Text(""),
+    },
+    Encoding {
+        codec: Codec::Base64,
+        text: "/w==",
+        encoded: Encoded::NoText,
+    },
+    Encoding {
+        codec: Codec::Base64,
+        text: "Zh==",
+        encoded: Encoded::Nothing,
+    },
+    Encoding {
+        codec: Codec::Base64,
+        text: "?",
+        encoded: Encoded::Nothing,
+    },
+    Encoding {
+        codec: Codec::Base64Url,
+        text: "PDw_Pz4-",
+        encoded: Encoded::Text("<<??>>"),
+    },
+    Encoding {
+        codec: Codec::Base64Url,
+        text: "_w==",
+        encoded: Encoded::NoText,
+    },
+    Encoding {
+        codec: Codec::Base64Url,
+        text: "/w==",
+        encoded: Encoded::Nothing,
+    },
+    Encoding {
+        codec: Codec::Base32,
+        text: "MZXW6YTBOI======",
+        encoded: Encoded::Text("foobar"),
+    },
+    Encoding {
+        codec: Codec::Base32,
+        text: "74======",
+        encoded: Encoded::NoText,
+    },
+    Encoding {
+        codec: Codec::Base32,
+        text: "MZ======",
+        encoded: Encoded::Nothing,
+    },
+    Encoding {
+        codec: Codec::Base32,
+        text: "MY=====M",
+        encoded: Encoded::Nothing,
+    },
+    Encoding {
+        codec: Codec::Base32Hex,
+        text: "CPNMUOJ1E8======",
+        encoded: Encoded::Text("foobar"),
+    },
+    Encoding {
+        codec: Codec::Base32Hex,
+        text: "VS======",
+        encoded: Encoded::NoText,
+    },
+    Encoding {
+        codec: Codec::Base32Hex,
+        text: "?",
+        encoded: Encoded::Nothing,
+    },
+    Encoding {
+        codec: Codec::Base16,
+        text: "666F6f",
+        encoded: Encoded::Text("foo"),
+    },
+    Encoding {
+        codec: Codec::Base16,
+        text: "FF",
+        encoded: Encoded::NoText,
+    },
+    Encoding {
+        codec: Codec::Base16,
+        text: "6",
+        encoded: Encoded::Nothing,
+    },
+    Encoding {
+        codec: Codec::Base16,
+        text: "\u{FB00}",
+        encoded: Encoded::Nothing,
+    },
+    Encoding {
+        codec: Codec::Base16,
+        text: "",
+        encoded: Encoded::Text(""),
+    },
 ];
 
 fn check_by_name(codec: Codec, alloc: Global, text: &str) -> Result<bool, AllocError> {
@@ -73,13 +156,9 @@ fn decode_by_name(codec: Codec, alloc: Global, text: &str) -> Result<Option<Stri
 }
 
 // Whether both calls that test a text for an encoding answer so.
-fn are_checked_so(
-    alloc: Global,
-    codec: Codec,
-    text: &str,
-    encoded: Encoded,
-) -> Result<bool, AllocError> {
-    let want = !matches!(encoded, Encoded::Nothing);
+fn are_checked_so(alloc: Global, row: &Encoding) -> Result<bool, AllocError> {
+    let (codec, text) = (row.codec, row.text);
+    let want = !matches!(row.encoded, Encoded::Nothing);
     Ok(check_by_name(codec, alloc, text)? == want && codec.is_encoded(alloc, text)? == want)
 }
 
@@ -90,19 +169,22 @@ fn are_told_so(alloc: Global, text: &str, want: bool) -> Result<bool, AllocError
 
 #[test]
 fn checks_under_refusal(rt: HostRuntime) -> Result<(), Fail> {
-    for (codec, text, encoded) in TEXTS {
-        if !are_checked_so(rt.alloc(), codec, text, encoded)? {
-            return Err(Fail::new(text));
+    for row in TEXTS {
+        if !are_checked_so(rt.alloc(), row)? {
+            return Err(Fail::new(row.text));
         }
     }
     Ok(())
 }
 
+// A text, and whether it is JSON.
+const JSON_TEXTS: &[(&str, bool)] = &[("{\"a\":[1,\"x\"]}", true), ("[1,", false), ("", false)];
+
 #[test]
 fn checks_of_json_under_refusal(rt: HostRuntime) -> Result<(), Fail> {
-    for (text, want) in [("{\"a\":[1,\"x\"]}", true), ("[1,", false), ("", false)] {
-        if !are_told_so(rt.alloc(), text, want)? {
-            return Err(Fail::new(text));
+    for (text, want) in JSON_TEXTS {
+        if !are_told_so(rt.alloc(), text, *want)? {
+            return Err(Fail::new(*text));
         }
     }
     Ok(())
@@ -122,23 +204,19 @@ fn answers(
 }
 
 // Whether both decoders answer what a text encodes.
-fn are_decoded_so(
-    alloc: Global,
-    codec: Codec,
-    text: &str,
-    encoded: Encoded,
-) -> Result<bool, DecodeError> {
+fn are_decoded_so(alloc: Global, row: &Encoding) -> Result<bool, DecodeError> {
+    let (codec, text) = (row.codec, row.text);
     Ok(
-        answers(decode_by_name(codec, alloc, text), encoded)?
-            && answers(codec.decode(alloc, text), encoded)?,
+        answers(decode_by_name(codec, alloc, text), row.encoded)?
+            && answers(codec.decode(alloc, text), row.encoded)?,
     )
 }
 
 #[test]
 fn decoders_under_refusal(rt: HostRuntime) -> Result<(), Fail> {
-    for (codec, text, encoded) in TEXTS {
-        if !are_decoded_so(rt.alloc(), codec, text, encoded)? {
-            return Err(Fail::new(text));
+    for row in TEXTS {
+        if !are_decoded_so(rt.alloc(), row)? {
+            return Err(Fail::new(row.text));
         }
     }
     Ok(())
@@ -157,35 +235,63 @@ fn matcher_of(found: PatternOptimization) -> LiteralMatcher {
 }
 
 // A pattern, what it is analyzed as, a text that matches it if it is literal, and one that does not.
-const PATTERNS: [(&str, &str, &str, &str); 7] = [
-    (
-        "^(get|put|post)$",
-        r#"Some(Alternation(["get", "post", "put"]))"#,
-        "put",
-        "patch",
-    ),
-    (
-        "^(b|a|b)$",
-        r#"Some(Alternation(["a", "b", "b"]))"#,
-        "a",
-        "ab",
-    ),
-    ("^\\$ref$", r#"Some(Exact("$ref"))"#, "$ref", "$refs"),
-    (
-        "^a long prefix, longer than what a short text takes",
-        r#"Some(Prefix("a long prefix, longer than what a short text takes"))"#,
-        "a long prefix, longer than what a short text takes and more",
-        "a long prefix",
-    ),
-    ("^\\S*$", "Some(NoWhitespace)", "", " "),
-    ("^(a|b|c^)$", "None", "", ""),
-    ("^a+", "None", "", ""),
+struct Analyzed {
+    pattern: &'static str,
+    shown: &'static str,
+    matched: &'static str,
+    unmatched: &'static str,
+}
+
+const PATTERNS: &[Analyzed] = &[
+    Analyzed {
+        pattern: "^(get|put|post)$",
+        shown: r#"Some(Alternation(["get", "post", "put"]))"#,
+        matched: "put",
+        unmatched: "patch",
+    },
+    Analyzed {
+        pattern: "^(b|a|b)$",
+        shown: r#"Some(Alternation(["a", "b", "b"]))"#,
+        matched: "a",
+        unmatched: "ab",
+    },
+    Analyzed {
+        pattern: "^\\$ref$",
+        shown: r#"Some(Exact("$ref"))"#,
+        matched: "$ref",
+        unmatched: "$refs",
+    },
+    Analyzed {
+        pattern: "^a long prefix, longer than what a short text takes",
+        shown: r#"Some(Prefix("a long prefix, longer than what a short text takes"))"#,
+        matched: "a long prefix, longer than what a short text takes and more",
+        unmatched: "a long prefix",
+    },
+    Analyzed {
+        pattern: "^\\S*$",
+        shown: "Some(NoWhitespace)",
+        matched: "",
+        unmatched: " ",
+    },
+    Analyzed {
+        pattern: "^(a|b|c^)$",
+        shown: "None",
+        matched: "",
+        unmatched: "",
+    },
+    Analyzed {
+        pattern: "^a+",
+        shown: "None",
+        matched: "",
+        unmatched: "",
+    },
 ];
 
 // Whether the matcher of a literal pattern answers so on both texts. It takes no memory.
-fn matches_so(alloc: Global, found: PatternOptimization, matched: &str, unmatched: &str) -> bool {
+fn matches_so(alloc: Global, found: PatternOptimization, row: &Analyzed) -> bool {
     let matcher = matcher_of(found);
-    matcher.is_match(alloc, matched) == Ok(true) && matcher.is_match(alloc, unmatched) == Ok(false)
+    matcher.is_match(alloc, row.matched) == Ok(true)
+        && matcher.is_match(alloc, row.unmatched) == Ok(false)
 }
 
 fn is_shown_as(
@@ -197,15 +303,11 @@ fn is_shown_as(
 }
 
 // Whether a pattern is analyzed so; where it is literal, its matcher answers so on both texts.
-fn is_analyzed_so(
-    alloc: Global,
-    (pattern, want): (&str, &str),
-    (matched, unmatched): (&str, &str),
-) -> Result<bool, AllocError> {
-    let found = analyze_pattern(alloc, pattern)?;
-    let is_shown = is_shown_as(alloc, &found, want)?;
+fn is_analyzed_so(alloc: Global, row: &Analyzed) -> Result<bool, AllocError> {
+    let found = analyze_pattern(alloc, row.pattern)?;
+    let is_shown = is_shown_as(alloc, &found, row.shown)?;
     match found {
-        Some(found) => Ok(is_shown && matches_so(alloc, found, matched, unmatched)),
+        Some(found) => Ok(is_shown && matches_so(alloc, found, row)),
         None => Ok(is_shown),
     }
 }
@@ -213,66 +315,131 @@ fn is_analyzed_so(
 // Where the analysis had memory, its matcher answers.
 #[test]
 fn analyze_pattern_under_refusal(rt: HostRuntime) -> Result<(), Fail> {
-    for (pattern, want, matched, unmatched) in PATTERNS {
-        if !is_analyzed_so(rt.alloc(), (pattern, want), (matched, unmatched))? {
-            return Err(Fail::new(pattern));
+    for row in PATTERNS {
+        if !is_analyzed_so(rt.alloc(), row)? {
+            return Err(Fail::new(row.pattern));
         }
     }
     Ok(())
 }
 
 // A pattern of ECMA-262, a text, and whether it is found there; nothing where the pattern is not taken.
-const SEARCHES: [(&str, &str, Option<bool>); 10] = [
-    ("^(a|b)*\\x2Ec", "ab.c", Some(true)),
-    ("(a+?|.)*$", "ab", Some(true)),
-    ("\\S\\d?\\b", "a1", Some(true)),
-    ("^\\P{Lu}[\\d\\p{sc=Grek}]$", "a\u{3B1}", Some(true)),
-    ("", "", Some(true)),
-    ("(a+|b?", "", None),
-    ("a**", "", None),
-    ("\\w[\\cA-\\cB\\s]{2", "", None),
-    ("[\\p{gc=Grek}]", "", None),
-    (
-        "a{0,1000}a{0,1000}a{0,1000}a{0,1000}a{0,1000}a{0,1000}",
-        "",
-        None,
-    ),
+struct Search {
+    pattern: &'static str,
+    text: &'static str,
+    found: Option<bool>,
+}
+
+const SEARCHES: &[Search] = &[
+    Search {
+        pattern: "^(a|b)*\\x2Ec",
+        text: "ab.c",
+        found: Some(true),
+    },
+    Search {
+        pattern: "(a+?|.)*$",
+        text: "ab",
+        found: Some(true),
+    },
+    Search {
+        pattern: "\\S\\d?\\b",
+        text: "a1",
+        found: Some(true),
+    },
+    Search {
+        pattern: "^\\P{Lu}[\\d\\p{sc=Grek}]$",
+        text: "a\u{3B1}",
+        found: Some(true),
+    },
+    Search {
+        pattern: "",
+        text: "",
+        found: Some(true),
+    },
+    Search {
+        pattern: "(a+|b?",
+        text: "",
+        found: None,
+    },
+    Search {
+        pattern: "a**",
+        text: "",
+        found: None,
+    },
+    Search {
+        pattern: "\\w[\\cA-\\cB\\s]{2",
+        text: "",
+        found: None,
+    },
+    Search {
+        pattern: "[\\p{gc=Grek}]",
+        text: "",
+        found: None,
+    },
+    Search {
+        pattern: "a{0,1000}a{0,1000}a{0,1000}a{0,1000}a{0,1000}a{0,1000}",
+        text: "",
+        found: None,
+    },
 ];
 
 // Whether the engine of a pattern answers so; out of memory is an error here.
-fn is_found_so(alloc: Global, pattern: &str, text: &str, want: Option<bool>) -> Result<bool, Fail> {
-    match EcmaPatterns.build(alloc, pattern) {
-        Ok(engine) => Ok(Some(engine.is_match(alloc, text)?) == want),
-        Err(BuildRefusal::Pattern) => Ok(want.is_none()),
+fn is_found_so(alloc: Global, row: &Search) -> Result<bool, Fail> {
+    match EcmaPatterns.build(alloc, row.pattern) {
+        Ok(engine) => Ok(Some(engine.is_match(alloc, row.text)?) == row.found),
+        Err(BuildRefusal::Pattern) => Ok(row.found.is_none()),
         Err(BuildRefusal::Memory) => Err(BuildRefusal::Memory.into()),
     }
 }
 
 #[test]
 fn patterns_under_refusal(rt: HostRuntime) -> Result<(), Fail> {
-    for (pattern, text, want) in SEARCHES {
-        if !is_found_so(rt.alloc(), pattern, text, want)? {
-            return Err(Fail::new(pattern));
+    for row in SEARCHES {
+        if !is_found_so(rt.alloc(), row)? {
+            return Err(Fail::new(row.pattern));
         }
     }
     Ok(())
 }
 
 // A pattern of ECMA-262, and why it is not taken; nothing where it is.
-const REFUSALS: [(&str, Option<PatternRefusal>); 6] = [
-    ("^\\P{Lu}[\\d\\p{sc=Grek}]$", None),
-    ("^(a|b)*(?=c)", Some(PatternRefusal::LookAhead)),
-    ("(?<n>a+?|.)\\k<n>", Some(PatternRefusal::BackReference)),
-    ("[\\p{gc=Grek}]", Some(PatternRefusal::Property)),
-    ("(?:abc){667}", Some(PatternRefusal::TermTooLarge)),
-    ("(a+|b?", Some(PatternRefusal::NotTaken)),
+struct Refused {
+    pattern: &'static str,
+    why: Option<PatternRefusal>,
+}
+
+const REFUSALS: &[Refused] = &[
+    Refused {
+        pattern: "^\\P{Lu}[\\d\\p{sc=Grek}]$",
+        why: None,
+    },
+    Refused {
+        pattern: "^(a|b)*(?=c)",
+        why: Some(PatternRefusal::LookAhead),
+    },
+    Refused {
+        pattern: "(?<n>a+?|.)\\k<n>",
+        why: Some(PatternRefusal::BackReference),
+    },
+    Refused {
+        pattern: "[\\p{gc=Grek}]",
+        why: Some(PatternRefusal::Property),
+    },
+    Refused {
+        pattern: "(?:abc){667}",
+        why: Some(PatternRefusal::TermTooLarge),
+    },
+    Refused {
+        pattern: "(a+|b?",
+        why: Some(PatternRefusal::NotTaken),
+    },
 ];
 
 #[test]
 fn why_refused_under_refusal(rt: HostRuntime) -> Result<(), Fail> {
-    for (pattern, want) in REFUSALS {
-        if why_refused(rt.alloc(), pattern)? != want {
-            return Err(Fail::new(pattern));
+    for row in REFUSALS {
+        if why_refused(rt.alloc(), row.pattern)? != row.why {
+            return Err(Fail::new(row.pattern));
         }
     }
     Ok(())

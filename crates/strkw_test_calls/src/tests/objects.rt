@@ -3,69 +3,146 @@
 //! that what the refused call was lent is as it was.
 
 use super::context::{
-    Call, are_lent, builder, collects, context, ended_well, error_lines, even_format,
-    gives_the_first, is_as_made, is_at, json, lent_errors, root_site,
+    Asked, Call, Lent, are_lent, collects, error_lines, gives_the_first, is_answered, is_at,
+    lent_errors, root_site,
 };
 use super::devices::{answers, ends, script};
-use serde_json::Value;
+use serde_json::{Map, Value};
 use std::alloc::{AllocError, Global};
 use std::test::Fail;
 use strkw_cli::{BoundedRunFault, MemorySink, MemorySource, RunFault, Sink, run, run_bounded};
-use strkw_keywords::{Checks, Context};
+use strkw_keywords::Checks;
 use strkw_object::{Note, StringKeywords, compile_strings};
 use strkw_report::{CompileError, Draft, Site};
-use strkw_test_doubles::{ScriptedBuilder, ScriptedEngine};
+use strkw_test_doubles::ScriptedEngine;
 
 type Keywords = StringKeywords<ScriptedEngine<'static>>;
 
-// What a schema object is compiled to. A refusal as out of memory stands at the root, and leaves the context and the
-// object as they were; it is an error here.
-fn outcome_of(
+// What is asked of what a schema object is compiled to.
+#[derive(Clone, Copy)]
+enum Question {
+    // Where it is refused with ample memory.
+    Place(Option<&'static str>),
+    // Whether a text is valid, tested with no memory.
+    Quietly(&'static str, bool),
+    // What a call answers.
+    Call(Call, &'static Told),
+}
+
+#[derive(Clone, Copy)]
+struct Asking {
+    draft: Draft,
+    schema: &'static str,
+    question: Question,
+}
+
+impl Asked for Asking {
+    fn draft(&self) -> Draft {
+        self.draft
+    }
+
+    fn schema(&self) -> &'static str {
+        self.schema
+    }
+
+    fn is_answered(
+        &self,
+        alloc: Global,
+        ctx: &Lent<'_>,
+        schema: &Map<String, Value>,
+    ) -> Result<bool, AllocError> {
+        let made = compile_strings(alloc, ctx, schema);
+        is_told_so(alloc, self.question, made, &ctx.checks)
+    }
+}
+
+// Whether what was compiled answers a question as it is to.
+fn is_told_so(
     alloc: Global,
-    ctx: &Context<'_, ScriptedBuilder<'static>>,
-    schema: &str,
-) -> Result<Result<Keywords, CompileError>, Fail> {
-    let (schema, before, draft) = (json(alloc, schema)?, json(alloc, schema)?, ctx.draft);
-    let outcome = compile_strings(alloc, ctx, schema.as_object().ok_or("no object")?);
-    ended_well(alloc, (ctx, draft), (&schema, &before), &outcome)?;
-    Ok(outcome)
+    question: Question,
+    made: Result<Keywords, CompileError>,
+    checks: &Checks,
+) -> Result<bool, AllocError> {
+    match &made {
+        Ok(keywords) => is_answered_so(alloc, question, keywords, checks),
+        Err(refusal) => match question {
+            Question::Place(place) => is_at(refusal, place),
+            Question::Quietly(..) | Question::Call(..) => is_at(refusal, None),
+        },
+    }
+}
+
+// The same of keywords.
+fn is_answered_so(
+    alloc: Global,
+    question: Question,
+    keywords: &Keywords,
+    checks: &Checks,
+) -> Result<bool, AllocError> {
+    match question {
+        Question::Place(place) => Ok(place.is_none()),
+        Question::Quietly(text, valid) => {
+            answers_quietly(alloc, keywords, checks, (text, valid))
+        }
+        Question::Call(call, row) => is_call_answered(alloc, call, keywords, checks, row),
+    }
 }
 
 // A schema object, and where it is refused with ample memory.
-fn schemas_and_places() -> [(&'static str, Option<&'static str>); 9] {
-    [
-        (
-            r#"{"minLength":1,"maxLength":2,"format":"date","pattern":"^(a|b)$"}"#,
-            None,
-        ),
-        (
-            r#"{"contentMediaType":"application/json","contentEncoding":"base64"}"#,
-            None,
-        ),
-        (r#"{"contentEncoding":["a"]}"#, Some("/a/contentEncoding")),
-        (r#"{"format":["a"]}"#, Some("/a/format")),
-        (r#"{"format":1.5}"#, Some("/a/format")),
-        (r#"{"format":"custom"}"#, Some("/a/format")),
-        (r#"{"minLength":1,"maxLength":-1}"#, Some("/a/maxLength")),
-        (r#"{"pattern":5}"#, Some("/a/pattern")),
-        (r#"{"pattern":"b+"}"#, Some("/a/pattern")),
-    ]
+struct Placed {
+    schema: &'static str,
+    place: Option<&'static str>,
 }
 
-// Whether a schema object is compiled, or refused at its place.
-fn is_refused_at(alloc: Global, schema: &str, place: Option<&str>) -> Result<bool, Fail> {
-    let builder = builder();
-    let formats = [even_format(alloc)?];
-    let ctx = context(alloc, Draft::Draft7, &builder, &formats)?;
-    let outcome = outcome_of(alloc, &ctx, schema)?;
-    Ok(is_at(&outcome, place))
-}
+const PLACES: &[Placed] = &[
+    Placed {
+        schema: r#"{"minLength":1,"maxLength":2,"format":"date","pattern":"^(a|b)$"}"#,
+        place: None,
+    },
+    Placed {
+        schema: r#"{"contentMediaType":"application/json","contentEncoding":"base64"}"#,
+        place: None,
+    },
+    Placed {
+        schema: r#"{"contentEncoding":["a"]}"#,
+        place: Some("/a/contentEncoding"),
+    },
+    Placed {
+        schema: r#"{"format":["a"]}"#,
+        place: Some("/a/format"),
+    },
+    Placed {
+        schema: r#"{"format":1.5}"#,
+        place: Some("/a/format"),
+    },
+    Placed {
+        schema: r#"{"format":"custom"}"#,
+        place: Some("/a/format"),
+    },
+    Placed {
+        schema: r#"{"minLength":1,"maxLength":-1}"#,
+        place: Some("/a/maxLength"),
+    },
+    Placed {
+        schema: r#"{"pattern":5}"#,
+        place: Some("/a/pattern"),
+    },
+    Placed {
+        schema: r#"{"pattern":"b+"}"#,
+        place: Some("/a/pattern"),
+    },
+];
 
 #[test]
 fn compile_strings_under_refusal(rt: HostRuntime) -> Result<(), Fail> {
-    for (schema, place) in schemas_and_places() {
-        if !is_refused_at(rt.alloc(), schema, place)? {
-            return Err(Fail::new(schema));
+    for row in PLACES {
+        let asking = Asking {
+            draft: Draft::Draft7,
+            schema: row.schema,
+            question: Question::Place(row.place),
+        };
+        if !is_answered(rt.alloc(), &asking)? {
+            return Err(Fail::new(row.schema));
         }
     }
     Ok(())
@@ -86,23 +163,18 @@ fn answers_quietly(
     )
 }
 
-// The same by an object whose entries take no memory.
-fn is_tested_without_memory(alloc: Global, text: &str, valid: bool) -> Result<bool, Fail> {
-    let builder = builder();
-    let formats = [even_format(alloc)?];
-    let ctx = context(alloc, Draft::Draft7, &builder, &formats)?;
-    let schema = r#"{"format":"uri","minLength":1,"pattern":"^a"}"#;
-    match outcome_of(alloc, &ctx, schema)? {
-        Ok(keywords) => Ok(answers_quietly(alloc, &keywords, &ctx.checks, (text, valid))?),
-        Err(_refusal) => Err(Fail::new("refused")),
-    }
-}
-
 // Testing a text by these takes no memory: wherever the compilation had enough, there is an answer.
+const QUIET: &str = r#"{"format":"uri","minLength":1,"pattern":"^a"}"#;
+
 #[test]
 fn is_valid_without_memory_under_refusal(rt: HostRuntime) -> Result<(), Fail> {
     for (text, valid) in [("a:", true), ("b:", false), ("", false)] {
-        if !is_tested_without_memory(rt.alloc(), text, valid)? {
+        let asking = Asking {
+            draft: Draft::Draft7,
+            schema: QUIET,
+            question: Question::Quietly(text, valid),
+        };
+        if !is_answered(rt.alloc(), &asking)? {
             return Err(Fail::new(text));
         }
     }
@@ -117,51 +189,65 @@ const FOUR_ERRORS: &str = r#"{"minLength":5,"maxLength":3,"format":"date","patte
 const FOUR_NOTES: &str =
     r#"{"minLength":5,"contentMediaType":"a","contentEncoding":"b","contentSchema":[1],"format":"c"}"#;
 
-// A draft, a schema object, a text, and the lines of its errors and of its notes.
-const OBJECTS: [(Draft, &str, &str, &str, &str); 7] = [
-    (Draft::Draft7, JSON_IN_BASE64, "e30=", "", ""),
-    (
-        Draft::Draft7,
-        JSON_IN_BASE64,
-        "ezp9Cg==",
-        "/a/contentMediaType: \"ezp9Cg==\" is not compliant with \"application/json\" media type\n",
-        "",
-    ),
-    (
-        Draft::Draft7,
-        JSON_IN_BASE64,
-        "//4=",
-        "/a/contentEncoding: \"//4=\" does not decode to UTF-8 text\n",
-        "",
-    ),
-    (
-        Draft::Draft7,
-        JSON_IN_BASE64,
-        "x",
-        "/a/contentEncoding: \"x\" is not compliant with \"base64\" content encoding\n/a/minLength: \"x\" is shorter than 2 characters\n",
-        "",
-    ),
-    (
-        Draft::Draft7,
-        FOUR_ERRORS,
-        "abcd",
-        "/a/format: \"abcd\" is not a \"date\"\n/a/minLength: \"abcd\" is shorter than 5 characters\n/a/maxLength: \"abcd\" is longer than 3 characters\n/a/pattern: \"abcd\" does not match \"^x\"\n",
-        "/a/format: \"date\"\n",
-    ),
-    (
-        Draft::Draft7,
-        r#"{"format":"even"}"#,
-        "abc",
-        "/a/format: \"abc\" is not a \"even\"\n",
-        "/a/format: \"even\"\n",
-    ),
-    (
-        Draft::Draft201909,
-        FOUR_NOTES,
-        "abcd",
-        "/a/minLength: \"abcd\" is shorter than 5 characters\n",
-        "/a/contentMediaType: \"a\"\n/a/contentEncoding: \"b\"\n/a/contentSchema: [1]\n/a/format: \"c\"\n",
-    ),
+// A schema object, a text, and the lines of its errors and of its notes.
+struct Told {
+    draft: Draft,
+    schema: &'static str,
+    text: &'static str,
+    errors: &'static str,
+    notes: &'static str,
+}
+
+const OBJECTS: &[Told] = &[
+    Told {
+        draft: Draft::Draft7,
+        schema: JSON_IN_BASE64,
+        text: "e30=",
+        errors: "",
+        notes: "",
+    },
+    Told {
+        draft: Draft::Draft7,
+        schema: JSON_IN_BASE64,
+        text: "ezp9Cg==",
+        errors: "/a/contentMediaType: \"ezp9Cg==\" is not compliant with \"application/json\" media type\n",
+        notes: "",
+    },
+    Told {
+        draft: Draft::Draft7,
+        schema: JSON_IN_BASE64,
+        text: "//4=",
+        errors: "/a/contentEncoding: \"//4=\" does not decode to UTF-8 text\n",
+        notes: "",
+    },
+    Told {
+        draft: Draft::Draft7,
+        schema: JSON_IN_BASE64,
+        text: "x",
+        errors: "/a/contentEncoding: \"x\" is not compliant with \"base64\" content encoding\n/a/minLength: \"x\" is shorter than 2 characters\n",
+        notes: "",
+    },
+    Told {
+        draft: Draft::Draft7,
+        schema: FOUR_ERRORS,
+        text: "abcd",
+        errors: "/a/format: \"abcd\" is not a \"date\"\n/a/minLength: \"abcd\" is shorter than 5 characters\n/a/maxLength: \"abcd\" is longer than 3 characters\n/a/pattern: \"abcd\" does not match \"^x\"\n",
+        notes: "/a/format: \"date\"\n",
+    },
+    Told {
+        draft: Draft::Draft7,
+        schema: r#"{"format":"even"}"#,
+        text: "abc",
+        errors: "/a/format: \"abc\" is not a \"even\"\n",
+        notes: "/a/format: \"even\"\n",
+    },
+    Told {
+        draft: Draft::Draft201909,
+        schema: FOUR_NOTES,
+        text: "abcd",
+        errors: "/a/minLength: \"abcd\" is shorter than 5 characters\n",
+        notes: "/a/contentMediaType: \"a\"\n/a/contentEncoding: \"b\"\n/a/contentSchema: [1]\n/a/format: \"c\"\n",
+    },
 ];
 
 /// The place and the value of each note.
@@ -182,69 +268,57 @@ fn answers_so(
     keywords: &Keywords,
     checks: &Checks,
     (node, site): (&Value, &Site),
-    (wanted, notes): (&str, &str),
+    row: &Told,
 ) -> Result<bool, AllocError> {
     if !keywords.uses(checks) {
         return Ok(false);
     }
     match call {
-        Call::IsValid => Ok(keywords.is_valid(alloc, node, checks)? == wanted.is_empty()),
+        Call::IsValid => Ok(keywords.is_valid(alloc, node, checks)? == row.errors.is_empty()),
         Call::Validate => {
-            gives_the_first(alloc, keywords.validate(alloc, node, site, checks), wanted)
+            gives_the_first(
+                alloc,
+                keywords.validate(alloc, node, site, checks),
+                row.errors,
+            )
         }
         Call::CollectErrors => {
             let mut errors = lent_errors(alloc)?;
             let collected = keywords.collect_errors(alloc, node, site, checks, &mut errors);
-            collects(alloc, collected, &errors, wanted)
+            collects(alloc, collected, &errors, row.errors)
         }
         Call::Evaluate => {
             let found = keywords.evaluate(alloc, node, site, checks)?;
             Ok(
-                error_lines(alloc, &found.errors)?.as_str() == wanted
-                    && note_lines(alloc, &found.notes)?.as_str() == notes,
+                error_lines(alloc, &found.errors)?.as_str() == row.errors
+                    && note_lines(alloc, &found.notes)?.as_str() == row.notes,
             )
         }
     }
 }
 
 // Whether a call answers of a text as it is to. The text and the place are as they were, whatever it answered.
-fn is_answered_so(
+fn is_call_answered(
     alloc: Global,
     call: Call,
     keywords: &Keywords,
     checks: &Checks,
-    text: &str,
-    wanted: (&str, &str),
+    row: &Told,
 ) -> Result<bool, AllocError> {
-    let (node, site) = (Value::try_from_str(alloc, text)?, root_site(alloc));
-    let answer = answers_so(alloc, call, keywords, checks, (&node, &site), wanted);
-    Ok(are_lent(&node, text, &site) && answer?)
-}
-
-// The same of an object in a draft, which the call leaves as it was.
-fn is_asked_so(
-    alloc: Global,
-    call: Call,
-    draft: Draft,
-    (schema, text): (&str, &str),
-    wanted: (&str, &str),
-) -> Result<bool, Fail> {
-    let builder = builder();
-    let formats = [even_format(alloc)?];
-    let ctx = context(alloc, draft, &builder, &formats)?;
-    match outcome_of(alloc, &ctx, schema)? {
-        Ok(keywords) => {
-            let answer = is_answered_so(alloc, call, &keywords, &ctx.checks, text, wanted);
-            Ok(is_as_made(alloc, &ctx, draft) && answer?)
-        }
-        Err(_refusal) => Ok(false),
-    }
+    let (node, site) = (Value::try_from_str(alloc, row.text)?, root_site(alloc));
+    let answer = answers_so(alloc, call, keywords, checks, (&node, &site), row);
+    Ok(are_lent(&node, row.text, &site) && answer?)
 }
 
 fn asked_of_objects(alloc: Global, call: Call) -> Result<(), Fail> {
-    for (draft, schema, text, errors, notes) in OBJECTS {
-        if !is_asked_so(alloc, call, draft, (schema, text), (errors, notes))? {
-            return Err(Fail::new(schema));
+    for row in OBJECTS {
+        let asking = Asking {
+            draft: row.draft,
+            schema: row.schema,
+            question: Question::Call(call, row),
+        };
+        if !is_answered(alloc, &asking)? {
+            return Err(Fail::new(row.schema));
         }
     }
     Ok(())

@@ -2,44 +2,87 @@
 //! growth refused in turn too: then it ends as out of memory, once it has shown that the context is as it was, and that
 //! an object has lost its value at `contentSchema` alone.
 
-use super::context::{
-    builder, context, even_format, is_as_made, is_at, json, no_memory_at_the_root, root_site,
-};
+use super::context::{Asked, Lent, is_answered, is_at, json, root_site};
 use super::objects::note_lines;
 use serde_json::{Map, Value};
 use std::alloc::{AllocError, Global};
 use std::test::Fail;
-use strkw_keywords::{Checks, Context, Uses, Validator, take_content_schema};
-use strkw_object::{Note, StringKeywords, compile_owned};
+use strkw_keywords::{Checks, Uses, take_content_schema};
+use strkw_object::{StringKeywords, compile_owned};
 use strkw_report::{CompileError, Draft};
-use strkw_test_doubles::{ScriptedBuilder, ScriptedEngine};
+use strkw_test_doubles::ScriptedEngine;
 
 type Keywords = StringKeywords<ScriptedEngine<'static>>;
 
-type Taken = Option<Result<Validator<ScriptedEngine<'static>>, CompileError>>;
-
-fn object(alloc: Global, text: &str) -> Result<Map<String, Value>, Fail> {
+// The schema object of a row, to be given up. `is_answered` has already refused a text that is none.
+fn object(alloc: Global, text: &str) -> Result<Map<String, Value>, AllocError> {
     match json(alloc, text)? {
         Value::Object(object) => Ok(object),
-        _ => Err(Fail::new("no object")),
+        _ => Ok(Map::new(alloc)),
     }
 }
 
-// What an object is compiled to. A refusal as out of memory stands at the root, and leaves the context as it was; it is
-// an error here.
-fn outcome_of(
+// A schema object, the lines of its notes, and where it is refused with ample memory.
+struct Noted {
+    schema: &'static str,
+    lines: &'static str,
+    place: Option<&'static str>,
+}
+
+const OBJECTS: &[Noted] = &[
+    Noted {
+        schema: r#"{"contentMediaType":"m","contentSchema":{"b":[1]}}"#,
+        lines: "/a/contentMediaType: \"m\"\n/a/contentSchema: {\"b\":[1]}\n",
+        place: None,
+    },
+    Noted {
+        schema: r#"{"contentSchema":[1]}"#,
+        lines: "",
+        place: None,
+    },
+    Noted {
+        schema: r#"{"contentMediaType":"m","contentSchema":1.5}"#,
+        lines: "",
+        place: Some("/a/contentSchema"),
+    },
+    Noted {
+        schema: r#"{"contentMediaType":"m","contentSchema":[1],"minLength":-1}"#,
+        lines: "",
+        place: Some("/a/minLength"),
+    },
+];
+
+impl Asked for Noted {
+    fn draft(&self) -> Draft {
+        Draft::Draft202012
+    }
+
+    fn schema(&self) -> &'static str {
+        self.schema
+    }
+
+    fn is_answered(
+        &self,
+        alloc: Global,
+        ctx: &Lent<'_>,
+        _schema: &Map<String, Value>,
+    ) -> Result<bool, AllocError> {
+        let given = object(alloc, self.schema)?;
+        is_compiled_so(alloc, self, compile_owned(alloc, ctx, given), &ctx.checks)
+    }
+}
+
+// Whether an object was compiled to what notes its lines, or refused at its place.
+fn is_compiled_so(
     alloc: Global,
-    ctx: &Context<'_, ScriptedBuilder<'static>>,
-    schema: &str,
-) -> Result<Result<Keywords, CompileError>, Fail> {
-    let outcome = compile_owned(alloc, ctx, object(alloc, schema)?);
-    if !is_as_made(alloc, ctx, Draft::Draft202012) {
-        return Err(Fail::new("the context was changed"));
+    row: &Noted,
+    made: Result<Keywords, CompileError>,
+    checks: &Checks,
+) -> Result<bool, AllocError> {
+    match &made {
+        Ok(keywords) => Ok(row.place.is_none() && notes(alloc, keywords, checks, row.lines)?),
+        Err(refusal) => is_at(refusal, row.place),
     }
-    if let Err(refusal) = &outcome {
-        no_memory_at_the_root(refusal)?;
-    }
-    Ok(outcome)
 }
 
 // Whether these lines are noted of a text, one by each validator.
@@ -58,125 +101,104 @@ fn notes(
     Ok(is_one_each && note_lines(alloc, &found.notes)?.as_str() == lines)
 }
 
-// Whether an object is compiled to what notes these lines, or refused at its place.
-fn is_compiled_so(
-    alloc: Global,
-    schema: &str,
-    lines: &str,
-    place: Option<&str>,
-) -> Result<bool, Fail> {
-    let builder = builder();
-    let formats = [even_format(alloc)?];
-    let ctx = context(alloc, Draft::Draft202012, &builder, &formats)?;
-    let outcome = outcome_of(alloc, &ctx, schema)?;
-    match &outcome {
-        Ok(keywords) => Ok(place.is_none() && notes(alloc, keywords, &ctx.checks, lines)?),
-        Err(_refusal) => Ok(is_at(&outcome, place)),
-    }
-}
-
-// A schema object, the lines of its notes, and where it is refused with ample memory.
-const OBJECTS: &[(&str, &str, Option<&str>)] = &[
-    (
-        r#"{"contentMediaType":"m","contentSchema":{"b":[1]}}"#,
-        "/a/contentMediaType: \"m\"\n/a/contentSchema: {\"b\":[1]}\n",
-        None,
-    ),
-    (r#"{"contentSchema":[1]}"#, "", None),
-    (
-        r#"{"contentMediaType":"m","contentSchema":1.5}"#,
-        "",
-        Some("/a/contentSchema"),
-    ),
-    (
-        r#"{"contentMediaType":"m","contentSchema":[1],"minLength":-1}"#,
-        "",
-        Some("/a/minLength"),
-    ),
-];
-
 #[test]
 fn compile_owned_under_refusal(rt: HostRuntime) -> Result<(), Fail> {
-    for (schema, lines, place) in OBJECTS {
-        if !is_compiled_so(rt.alloc(), schema, lines, *place)? {
-            return Err(Fail::new(schema));
+    for row in OBJECTS {
+        if !is_answered(rt.alloc(), row)? {
+            return Err(Fail::new(row.schema));
         }
     }
     Ok(())
 }
 
-// What the validator that was made of a taken value notes. A refusal as out of memory stands at the root, and is an
-// error here.
-fn note_taken(alloc: Global, taken: &Taken) -> Result<Option<Note>, Fail> {
-    match taken {
-        None => Ok(None),
-        Some(Ok(validator)) => Ok(validator.note(alloc)?),
-        Some(Err(refusal)) => {
-            no_memory_at_the_root(refusal)?;
-            Ok(None)
-        }
-    }
-}
-
-// Whether what was taken notes this value, or is refused at `contentSchema` where that is told.
-fn is_taken_as(
-    alloc: Global,
-    taken: &Taken,
-    value: Option<&str>,
-    is_refused: bool,
-) -> Result<bool, Fail> {
-    match note_taken(alloc, taken)? {
-        Some(note) => Ok(value == Some(note.value.to_string(alloc)?.as_str())),
-        None => Ok(value.is_none() && matches!(taken, Some(Err(_))) == is_refused),
-    }
-}
-
-// Whether a call takes the value at `contentSchema` of an object so, and leaves the rest of it.
-fn is_taken_so(
-    alloc: Global,
-    schema: &str,
-    left: &str,
-    (value, is_refused): (Option<&str>, bool),
-) -> Result<bool, Fail> {
-    let builder = builder();
-    let formats = [even_format(alloc)?];
-    let ctx = context(alloc, Draft::Draft202012, &builder, &formats)?;
-    let (mut object, left) = (object(alloc, schema)?, json(alloc, left)?);
-    let taken = take_content_schema(alloc, &ctx, &mut object);
-    if Value::Object(object) != left || !is_as_made(alloc, &ctx, Draft::Draft202012) {
-        return Err(Fail::new("more was changed"));
-    }
-    is_taken_as(alloc, &taken, value, is_refused)
-}
-
 // A schema object, what is left of it, the value that is noted, and whether it is refused with ample memory.
-const SCHEMAS: &[(&str, &str, Option<&str>, bool)] = &[
-    (
-        r#"{"contentMediaType":"m","contentSchema":{"b":[1]}}"#,
-        r#"{"contentMediaType":"m"}"#,
-        Some("{\"b\":[1]}"),
-        false,
-    ),
-    (r#"{"contentSchema":[1]}"#, "{}", None, false),
-    (
-        r#"{"contentMediaType":"m"}"#,
-        r#"{"contentMediaType":"m"}"#,
-        None,
-        false,
-    ),
-    (
-        r#"{"contentMediaType":"m","contentSchema":1.5}"#,
-        r#"{"contentMediaType":"m"}"#,
-        None,
-        true,
-    ),
+struct TakenFrom {
+    schema: &'static str,
+    left: &'static str,
+    value: Option<&'static str>,
+    is_refused: bool,
+}
+
+const SCHEMAS: &[TakenFrom] = &[
+    TakenFrom {
+        schema: r#"{"contentMediaType":"m","contentSchema":{"b":[1]}}"#,
+        left: r#"{"contentMediaType":"m"}"#,
+        value: Some("{\"b\":[1]}"),
+        is_refused: false,
+    },
+    TakenFrom {
+        schema: r#"{"contentSchema":[1]}"#,
+        left: "{}",
+        value: None,
+        is_refused: false,
+    },
+    TakenFrom {
+        schema: r#"{"contentMediaType":"m"}"#,
+        left: r#"{"contentMediaType":"m"}"#,
+        value: None,
+        is_refused: false,
+    },
+    TakenFrom {
+        schema: r#"{"contentMediaType":"m","contentSchema":1.5}"#,
+        left: r#"{"contentMediaType":"m"}"#,
+        value: None,
+        is_refused: true,
+    },
 ];
+
+impl Asked for TakenFrom {
+    fn draft(&self) -> Draft {
+        Draft::Draft202012
+    }
+
+    fn schema(&self) -> &'static str {
+        self.schema
+    }
+
+    // Whether a call takes the value at `contentSchema` of an object so, and leaves the rest of it.
+    fn is_answered(
+        &self,
+        alloc: Global,
+        ctx: &Lent<'_>,
+        _schema: &Map<String, Value>,
+    ) -> Result<bool, AllocError> {
+        let left = json(alloc, self.left)?;
+        let mut given = object(alloc, self.schema)?;
+        let taken = take_content_schema(alloc, ctx, &mut given);
+        Ok(Value::Object(given) == left && is_taken_so(alloc, self, taken)?)
+    }
+}
+
+// Whether what was taken notes its value, or was refused at `contentSchema`.
+fn is_taken_so<V: Uses + Drop>(
+    alloc: Global,
+    row: &TakenFrom,
+    taken: Option<Result<V, CompileError>>,
+) -> Result<bool, AllocError> {
+    match &taken {
+        None => Ok(row.value.is_none() && !row.is_refused),
+        Some(Ok(validator)) => Ok(!row.is_refused && is_noted_by(alloc, validator, row.value)?),
+        Some(Err(refusal)) => Ok(is_at(refusal, Some("/a/contentSchema"))? && row.is_refused),
+    }
+}
+
+// Whether a validator notes this value, or nothing.
+fn is_noted_by<V: Uses>(
+    alloc: Global,
+    validator: &V,
+    value: Option<&str>,
+) -> Result<bool, AllocError> {
+    match validator.note(alloc)? {
+        Some(note) => Ok(value == Some(note.value.to_string(alloc)?.as_str())),
+        None => Ok(value.is_none()),
+    }
+}
 
 #[test]
 fn take_content_schema_under_refusal(rt: HostRuntime) -> Result<(), Fail> {
-    for (schema, left, value, is_refused) in SCHEMAS {
-        if !is_taken_so(rt.alloc(), schema, left, (*value, *is_refused))? {
-            return Err(Fail::new(schema));
+    for row in SCHEMAS {
+        if !is_answered(rt.alloc(), row)? {
+            return Err(Fail::new(row.schema));
         }
     }
     Ok(())

@@ -15,77 +15,83 @@ fn to_owned(alloc: Global, text: &str) -> Result<String, AllocError> {
 }
 
 // What a text fails at, the text, and what is said.
-const ERRORS: [(Failure<'static>, &str, &str); 14] = [
-    (
-        Failure::MinLength(5),
-        "abcd",
-        "\"abcd\" is shorter than 5 characters",
-    ),
-    (
-        Failure::MinLength(1),
-        "",
-        "\"\" is shorter than 1 character",
-    ),
-    (
-        Failure::MaxLength(3),
-        "abcd",
-        "\"abcd\" is longer than 3 characters",
-    ),
-    (
-        Failure::MaxLength(1),
-        "a\"b",
-        "\"a\\\"b\" is longer than 1 character",
-    ),
-    (
-        Failure::MaxLength(0),
-        "é",
-        "\"é\" is longer than 0 characters",
-    ),
-    (
-        Failure::MinLength(u64::MAX),
-        "\n",
-        "\"\\n\" is shorter than 18446744073709551615 characters",
-    ),
-    (
-        Failure::Pattern("^foo"),
-        "barfoo",
-        "\"barfoo\" does not match \"^foo\"",
-    ),
-    (
-        Failure::Pattern("^\"\\"),
-        "x",
-        "\"x\" does not match \"^\"\\\"",
-    ),
-    (
-        Failure::BacktrackLimitExceeded("a+"),
-        "x",
-        "Error executing regex: Max limit for backtracking count exceeded",
-    ),
-    (
-        Failure::RegexEngineFailure("a+"),
-        "x",
-        "Regex engine failed to evaluate pattern 'a+'",
-    ),
-    (
-        Failure::Format("date"),
-        "abcd",
-        "\"abcd\" is not a \"date\"",
-    ),
-    (
-        Failure::ContentEncoding("base64"),
-        "{}",
-        "\"{}\" is not compliant with \"base64\" content encoding",
-    ),
-    (
-        Failure::ContentMediaType("application/json"),
-        "ezp9Cg==",
-        "\"ezp9Cg==\" is not compliant with \"application/json\" media type",
-    ),
-    (
-        Failure::FromUtf8,
-        "//4=",
-        "\"//4=\" does not decode to UTF-8 text",
-    ),
+struct Said {
+    failure: Failure<'static>,
+    text: &'static str,
+    said: &'static str,
+}
+
+const ERRORS: &[Said] = &[
+    Said {
+        failure: Failure::MinLength(5),
+        text: "abcd",
+        said: "\"abcd\" is shorter than 5 characters",
+    },
+    Said {
+        failure: Failure::MinLength(1),
+        text: "",
+        said: "\"\" is shorter than 1 character",
+    },
+    Said {
+        failure: Failure::MaxLength(3),
+        text: "abcd",
+        said: "\"abcd\" is longer than 3 characters",
+    },
+    Said {
+        failure: Failure::MaxLength(1),
+        text: "a\"b",
+        said: "\"a\\\"b\" is longer than 1 character",
+    },
+    Said {
+        failure: Failure::MaxLength(0),
+        text: "é",
+        said: "\"é\" is longer than 0 characters",
+    },
+    Said {
+        failure: Failure::MinLength(u64::MAX),
+        text: "\n",
+        said: "\"\\n\" is shorter than 18446744073709551615 characters",
+    },
+    Said {
+        failure: Failure::Pattern("^foo"),
+        text: "barfoo",
+        said: "\"barfoo\" does not match \"^foo\"",
+    },
+    Said {
+        failure: Failure::Pattern("^\"\\"),
+        text: "x",
+        said: "\"x\" does not match \"^\"\\\"",
+    },
+    Said {
+        failure: Failure::BacktrackLimitExceeded("a+"),
+        text: "x",
+        said: "Error executing regex: Max limit for backtracking count exceeded",
+    },
+    Said {
+        failure: Failure::RegexEngineFailure("a+"),
+        text: "x",
+        said: "Regex engine failed to evaluate pattern 'a+'",
+    },
+    Said {
+        failure: Failure::Format("date"),
+        text: "abcd",
+        said: "\"abcd\" is not a \"date\"",
+    },
+    Said {
+        failure: Failure::ContentEncoding("base64"),
+        text: "{}",
+        said: "\"{}\" is not compliant with \"base64\" content encoding",
+    },
+    Said {
+        failure: Failure::ContentMediaType("application/json"),
+        text: "ezp9Cg==",
+        said: "\"ezp9Cg==\" is not compliant with \"application/json\" media type",
+    },
+    Said {
+        failure: Failure::FromUtf8,
+        text: "//4=",
+        said: "\"//4=\" does not decode to UTF-8 text",
+    },
 ];
 
 // An error at the root.
@@ -116,18 +122,13 @@ fn is_said(
     }
 }
 
-// Whether a text that fails at this says so, by the failure and by the error.
-fn is_failed_so(
-    alloc: Global,
-    failure: Failure,
-    text: &str,
-    want: &str,
-) -> Result<bool, AllocError> {
-    if failure.text(alloc, text)?.as_str() != want {
+// Whether the failure and the error of a text say so.
+fn is_failed_so(alloc: Global, row: &Said) -> Result<bool, AllocError> {
+    if row.failure.text(alloc, row.text)?.as_str() != row.said {
         return Ok(false);
     }
-    let error = error_of(alloc, failure, text)?;
-    is_said(alloc, &error, text, want)
+    let error = error_of(alloc, row.failure, row.text)?;
+    is_said(alloc, &error, row.text, row.said)
 }
 
 // A row whose name ends in `_under_refusal` is run with ample memory, when it has to pass, and by `tools/refusals.py`
@@ -135,9 +136,9 @@ fn is_failed_so(
 // what that call was lent is as it was.
 #[test]
 fn texts_of_errors_under_refusal(rt: HostRuntime) -> Result<(), Fail> {
-    for (failure, text, want) in ERRORS {
-        if !is_failed_so(rt.alloc(), failure, text, want)? {
-            return Err(Fail::new(want));
+    for row in ERRORS {
+        if !is_failed_so(rt.alloc(), row)? {
+            return Err(Fail::new(row.said));
         }
     }
     Ok(())
@@ -155,7 +156,7 @@ enum Why {
 }
 
 // A refusal at the root.
-fn refusal_of(alloc: Global, why: Why) -> Result<CompileError, Fail> {
+fn refusal_of(alloc: Global, why: Why) -> Result<CompileError, AllocError> {
     let kind = match why {
         Why::NotString(text) => CompileErrorKind::NotString {
             value: json(alloc, text)?,
@@ -175,44 +176,65 @@ fn refusal_of(alloc: Global, why: Why) -> Result<CompileError, Fail> {
     Ok(CompileError { kind, location })
 }
 
-const REFUSALS: [(Why, &str); 13] = [
-    (Why::NotString("5"), "5 is not of type \"string\""),
-    (
-        Why::NotString("18446744073709551615"),
-        "18446744073709551615 is not of type \"string\"",
-    ),
-    (
-        Why::NotString("-9223372036854775808"),
-        "-9223372036854775808 is not of type \"string\"",
-    ),
-    (Why::NotString("null"), "null is not of type \"string\""),
-    (
-        Why::NotString("[ true, \"é\" ]"),
-        "[true,\"é\"] is not of type \"string\"",
-    ),
-    (
-        Why::NotString("{ \"b\": 1, \"a\": {} }"),
-        "{\"a\":{},\"b\":1} is not of type \"string\"",
-    ),
-    (
-        Why::Size,
-        "the limit is not a non-negative whole number of 64 bits",
-    ),
-    (
-        Why::UnknownFormat("custom", false),
-        "Unknown format: 'custom'. Adjust configuration to ignore unrecognized formats",
-    ),
-    (
-        Why::UnknownFormat("custom", true),
-        "Unknown format: 'custom'. The meta-schema asserts formats, so unrecognized ones cannot be ignored. Register a check for it or disable format validation",
-    ),
-    (Why::Regex("a+"), "\"a+\" is not a \"regex\""),
-    (Why::Regex("\"\\"), "\"\\\"\\\\\" is not a \"regex\""),
-    (
-        Why::FractionalNumber,
-        "the value holds a number that is no whole number of 64 bits",
-    ),
-    (Why::Memory, "out of memory"),
+// Why something is refused, and what is told of it.
+struct Refused {
+    why: Why,
+    told: &'static str,
+}
+
+const REFUSALS: &[Refused] = &[
+    Refused {
+        why: Why::NotString("5"),
+        told: "5 is not of type \"string\"",
+    },
+    Refused {
+        why: Why::NotString("18446744073709551615"),
+        told: "18446744073709551615 is not of type \"string\"",
+    },
+    Refused {
+        why: Why::NotString("-9223372036854775808"),
+        told: "-9223372036854775808 is not of type \"string\"",
+    },
+    Refused {
+        why: Why::NotString("null"),
+        told: "null is not of type \"string\"",
+    },
+    Refused {
+        why: Why::NotString("[ true, \"é\" ]"),
+        told: "[true,\"é\"] is not of type \"string\"",
+    },
+    Refused {
+        why: Why::NotString("{ \"b\": 1, \"a\": {} }"),
+        told: "{\"a\":{},\"b\":1} is not of type \"string\"",
+    },
+    Refused {
+        why: Why::Size,
+        told: "the limit is not a non-negative whole number of 64 bits",
+    },
+    Refused {
+        why: Why::UnknownFormat("custom", false),
+        told: "Unknown format: 'custom'. Adjust configuration to ignore unrecognized formats",
+    },
+    Refused {
+        why: Why::UnknownFormat("custom", true),
+        told: "Unknown format: 'custom'. The meta-schema asserts formats, so unrecognized ones cannot be ignored. Register a check for it or disable format validation",
+    },
+    Refused {
+        why: Why::Regex("a+"),
+        told: "\"a+\" is not a \"regex\"",
+    },
+    Refused {
+        why: Why::Regex("\"\\"),
+        told: "\"\\\"\\\\\" is not a \"regex\"",
+    },
+    Refused {
+        why: Why::FractionalNumber,
+        told: "the value holds a number that is no whole number of 64 bits",
+    },
+    Refused {
+        why: Why::Memory,
+        told: "out of memory",
+    },
 ];
 
 // Whether a refusal says so. Where it had no memory to say it, it says so when it is asked again, and out of memory is
@@ -229,39 +251,93 @@ fn is_told(alloc: Global, refusal: &CompileError, want: &str) -> Result<bool, Al
 }
 
 // Whether what is refused for this says so.
-fn is_refused_so(alloc: Global, why: Why, want: &str) -> Result<bool, Fail> {
-    let refusal = refusal_of(alloc, why)?;
-    Ok(is_told(alloc, &refusal, want)?)
+fn is_refused_so(alloc: Global, row: &Refused) -> Result<bool, AllocError> {
+    let refusal = refusal_of(alloc, row.why)?;
+    is_told(alloc, &refusal, row.told)
 }
 
 #[test]
 fn texts_of_refusals_under_refusal(rt: HostRuntime) -> Result<(), Fail> {
-    for (why, want) in REFUSALS {
-        if !is_refused_so(rt.alloc(), why, want)? {
-            return Err(Fail::new(want));
+    for row in REFUSALS {
+        if !is_refused_so(rt.alloc(), row)? {
+            return Err(Fail::new(row.told));
         }
     }
     Ok(())
 }
 
-// The segments of a place, and its pointer; the first ten are those of RFC 6901, section 5.
-const PLACES: [(&[&str], &str); 16] = [
-    (&[], ""),
-    (&["foo"], "/foo"),
-    (&["foo", "0"], "/foo/0"),
-    (&[""], "/"),
-    (&["a/b"], "/a~1b"),
-    (&["c%d"], "/c%d"),
-    (&["i\\j"], "/i\\j"),
-    (&["k\"l"], "/k\"l"),
-    (&[" "], "/ "),
-    (&["m~n"], "/m~0n"),
-    (&["foo", "", "bar"], "/foo//bar"),
-    (&["f~o", "b/r"], "/f~0o/b~1r"),
-    (&["~1"], "/~01"),
-    (&["~/~/"], "/~0~1~0~1"),
-    (&["é", "𝄞"], "/é/𝄞"),
-    (&["é/~𝄞"], "/é~1~0𝄞"),
+// The segments of a place, and its pointer.
+struct Joined {
+    segments: &'static [&'static str],
+    pointer: &'static str,
+}
+
+// The first ten are those of RFC 6901, section 5.
+const PLACES: &[Joined] = &[
+    Joined {
+        segments: &[],
+        pointer: "",
+    },
+    Joined {
+        segments: &["foo"],
+        pointer: "/foo",
+    },
+    Joined {
+        segments: &["foo", "0"],
+        pointer: "/foo/0",
+    },
+    Joined {
+        segments: &[""],
+        pointer: "/",
+    },
+    Joined {
+        segments: &["a/b"],
+        pointer: "/a~1b",
+    },
+    Joined {
+        segments: &["c%d"],
+        pointer: "/c%d",
+    },
+    Joined {
+        segments: &["i\\j"],
+        pointer: "/i\\j",
+    },
+    Joined {
+        segments: &["k\"l"],
+        pointer: "/k\"l",
+    },
+    Joined {
+        segments: &[" "],
+        pointer: "/ ",
+    },
+    Joined {
+        segments: &["m~n"],
+        pointer: "/m~0n",
+    },
+    Joined {
+        segments: &["foo", "", "bar"],
+        pointer: "/foo//bar",
+    },
+    Joined {
+        segments: &["f~o", "b/r"],
+        pointer: "/f~0o/b~1r",
+    },
+    Joined {
+        segments: &["~1"],
+        pointer: "/~01",
+    },
+    Joined {
+        segments: &["~/~/"],
+        pointer: "/~0~1~0~1",
+    },
+    Joined {
+        segments: &["é", "𝄞"],
+        pointer: "/é/𝄞",
+    },
+    Joined {
+        segments: &["é/~𝄞"],
+        pointer: "/é~1~0𝄞",
+    },
 ];
 
 // The place of these segments. `None` where a place was changed by a join that had no memory.
@@ -297,9 +373,9 @@ fn are_joined_to(alloc: Global, segments: &[&str], want: &str) -> Result<bool, A
 
 #[test]
 fn pointers_of_places_under_refusal(rt: HostRuntime) -> Result<(), Fail> {
-    for (segments, want) in PLACES {
-        if !are_joined_to(rt.alloc(), segments, want)? {
-            return Err(Fail::new(want));
+    for row in PLACES {
+        if !are_joined_to(rt.alloc(), row.segments, row.pointer)? {
+            return Err(Fail::new(row.pointer));
         }
     }
     Ok(())

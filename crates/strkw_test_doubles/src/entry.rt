@@ -1,5 +1,6 @@
 //! The validator of one entry of a schema object.
 
+use crate::doubles::{ScriptedBuilder, ScriptedEngine};
 use serde_json::{Map, Value};
 use std::alloc::Global;
 use strkw_keywords::{
@@ -7,7 +8,6 @@ use strkw_keywords::{
     pattern,
 };
 use strkw_report::CompileError;
-use strkw_test_doubles::{ScriptedBuilder, ScriptedEngine};
 
 /// What is compiled of the entry at a keyword. `None` where there is no such entry, or the keyword is left out, or the
 /// draft does not look at it, or it adds nothing.

@@ -1,0 +1,228 @@
+/* Calls each function of strkw.h with inputs that it takes, that it finds wrong, and that it refuses.
+
+   Each text and each room ends where its page of memory ends, and the page behind cannot be touched. A text cannot be
+   written to either. So one byte read or written too far ends the program.
+
+   calls           runs the rows; the last line is `N passed, M failed`, the status 1 where a row fails
+   calls --list    the function and the kind of each row: right, wrong or refused */
+#define _DEFAULT_SOURCE
+#include "strkw.h"
+
+#include <stdio.h>
+#include <stdlib.h>
+#include <string.h>
+#include <sys/mman.h>
+#include <unistd.h>
+
+enum { MOST = 4096 };
+
+static bool lists = false;
+static unsigned passed = 0, failed = 0;
+
+/* Counts a row, or lists it. */
+static void row(const char *function, const char *kind, const char *what, bool holds) {
+    if (lists) {
+        printf("%s %s\n", function, kind);
+    } else if (holds) {
+        passed++;
+    } else {
+        failed++;
+        printf("calls: %s, %s: %s\n", function, kind, what);
+    }
+}
+
+/* Room for so many bytes, at most MOST, at the end of pages that no others follow. */
+static uint8_t *room_of(size_t count) {
+    uint8_t *pages = mmap(NULL, 2 * MOST, PROT_READ | PROT_WRITE, MAP_PRIVATE | MAP_ANONYMOUS, -1, 0);
+    if (pages == MAP_FAILED || count > MOST || sysconf(_SC_PAGESIZE) > MOST) exit(2);
+    if (mprotect(pages + MOST, MOST, PROT_NONE) != 0) exit(2);
+    memset(pages, '?', MOST);
+    return pages + MOST - count;
+}
+
+/* These bytes, in such room, which is not to be written to. */
+static const uint8_t *bytes_of(const char *bytes, size_t count) {
+    uint8_t *room = room_of(count);
+    memcpy(room, bytes, count);
+    if (mprotect(room + count - MOST, MOST, PROT_READ) != 0) exit(2);
+    return room;
+}
+
+static const uint8_t *text_of(const char *text) { return bytes_of(text, strlen(text)); }
+
+/* Whether room was written to. */
+static bool is_written(const uint8_t *room, size_t count) {
+    for (size_t i = 0; i < count; i++)
+        if (room[i] != '?') return true;
+    return false;
+}
+
+/* Formats, with a text of each and one that is none: RFC 3339, 1123, 2673, 4291, 3987, 6901, 3986, 6570 and 9562. */
+static const struct {
+    const char *name;
+    bool (*check)(const uint8_t *, size_t);
+    const char *right, *wrong;
+} formats[] = {
+    {"is_date", strkw_is_date, "2024-02-29", "2023-02-29"},
+    {"is_date_time", strkw_is_date_time, "1985-04-12T23:20:50.52Z", "1985-04-12T24:00:00Z"},
+    {"is_duration", strkw_is_duration, "P4DT12H30M5S", "P4DT"},
+    {"is_hostname", strkw_is_hostname, "www.example.com", "-a.example"},
+    {"is_hostname_draft4", strkw_is_hostname_draft4, "ab--c", "a_b"},
+    {"is_ipv4", strkw_is_ipv4, "192.0.2.1", "192.0.2.256"},
+    {"is_ipv6", strkw_is_ipv6, "2001:db8::1", "2001:db8::1::2"},
+    {"is_iri", strkw_is_iri, "http://example.org/r\303\251sum\303\251", "/r\303\251sum\303\251"},
+    {"is_iri_reference", strkw_is_iri_reference, "/r\303\251sum\303\251", "/a b"},
+    {"is_json_pointer", strkw_is_json_pointer, "/a~1b", "/a~2b"},
+    {"is_relative_json_pointer", strkw_is_relative_json_pointer, "1/foo", "01/foo"},
+    {"is_time", strkw_is_time, "23:20:50.52Z", "23:20:50.52"},
+    {"is_uri", strkw_is_uri, "ftp://ftp.is.co.za/rfc/rfc1808.txt", "http://example.org/\303\251"},
+    {"is_uri_reference", strkw_is_uri_reference, "//example.com/a?b#c", "http://[::1"},
+    {"is_uri_template", strkw_is_uri_template, "/{var}{?q*}", "/{var"},
+    {"is_uuid", strkw_is_uuid, "f81d4fae-7dec-11d0-a765-00a0c91e6bf6", "f81d4fae7dec11d0a76500a0c91e6bf6"},
+};
+
+/* Encodings, with "foob" in each (RFC 4648, section 10) and a text that is none; and JSON (RFC 8259). */
+static const struct {
+    const char *name;
+    uint8_t (*check)(const uint8_t *, size_t);
+    const char *right, *wrong;
+} encodings[] = {
+    {"is_base64", strkw_is_base64, "Zm9vYg==", "Zm9vYg="},
+    {"is_base64url", strkw_is_base64url, "Zm9vYg==", "Zm9v+g=="},
+    {"is_base32", strkw_is_base32, "MZXW6YQ=", "MZXW6YQ"},
+    {"is_base32hex", strkw_is_base32hex, "CPNMUOG=", "CPNMUOZ="},
+    {"is_base16", strkw_is_base16, "666F6F62", "666F6F6"},
+    {"is_json", strkw_is_json, "{\"a\":[1,null]}", "{\"a\":}"},
+};
+
+static void call_formats(void) {
+    for (size_t i = 0; i < sizeof formats / sizeof *formats; i++) {
+        const char *name = formats[i].name, *right = formats[i].right, *wrong = formats[i].wrong;
+        row(name, "right", right, formats[i].check(text_of(right), strlen(right)));
+        row(name, "wrong", wrong, !formats[i].check(text_of(wrong), strlen(wrong)));
+        row(name, "refused", "NULL and a count", !formats[i].check(NULL, strlen(right)));
+        row(name, "refused", "no UTF-8", !formats[i].check(bytes_of("/\377", 2), 2));
+        row(name, "right", "an empty text", formats[i].check(NULL, 0) == formats[i].check(text_of(""), 0));
+    }
+}
+
+static void call_encodings(void) {
+    for (size_t i = 0; i < sizeof encodings / sizeof *encodings; i++) {
+        const char *name = encodings[i].name, *right = encodings[i].right, *wrong = encodings[i].wrong;
+        row(name, "right", right, encodings[i].check(text_of(right), strlen(right)) == 1);
+        row(name, "wrong", wrong, encodings[i].check(text_of(wrong), strlen(wrong)) == 0);
+        row(name, "refused", "NULL and a count", encodings[i].check(NULL, strlen(right)) == 0);
+        row(name, "refused", "no UTF-8", encodings[i].check(bytes_of("\"\377\"", 3), 3) == 0);
+        row(name, "right", "an empty text", encodings[i].check(NULL, 0) == encodings[i].check(text_of(""), 0));
+    }
+}
+
+/* strkw_answer on these requests, with room for so many bytes: what it answers, the count, and the bytes. */
+static bool answers(const char *requests, size_t room, uint8_t status, size_t count, const char *wanted) {
+    uint8_t *out = room_of(room);
+    size_t written = 77;
+    bool is_status = strkw_answer(text_of(requests), strlen(requests), out, room, &written) == status;
+    bool is_whole = wanted == NULL ? !is_written(out, room) : memcmp(out, wanted, strlen(wanted)) == 0;
+    return is_status && is_whole && written == count;
+}
+
+static void call_answer(void) {
+    static const char *request = "{\"draft\":7,\"schema\":{\"format\":\"date\"},\"instance\":\"2024-02-29\"}\n";
+    uint8_t *out = room_of(8);
+    size_t written = 77;
+    row("answer", "right", "a request", answers(request, 31, STRKW_DONE, 31, "valid\nnote /format: \"date\"\nend\n"));
+    row("answer", "right", "no request", answers("", 0, STRKW_DONE, 0, NULL));
+    row("answer", "wrong", "a line that is no request", answers("{}\n", 20, STRKW_DONE, 16, "bad request\nend\n"));
+    row("answer", "refused", "too little room", answers("{}\n", 15, STRKW_NO_ROOM, 16, NULL));
+    row("answer", "refused", "NULL and a count", strkw_answer(NULL, 3, out, 8, &written) == STRKW_NULL);
+    row("answer", "refused", "no room", strkw_answer(text_of("{}"), 2, NULL, 8, &written) == STRKW_NULL);
+    row("answer", "refused", "no count", strkw_answer(text_of("{}"), 2, out, 8, NULL) == STRKW_NULL);
+    row("answer", "refused", "nothing was written", written == 77 && !is_written(out, 8));
+}
+
+/* strkw_check on five texts: a date, one that is none, one that is no UTF-8, and two empty ones. */
+static bool checks(uint32_t draft, uint32_t options, const char *schema, uint8_t status, const char *verdicts) {
+    static const size_t ends[] = {10, 20, 21, 21, 21};
+    const void *ends_at_the_end = bytes_of((const char *)ends, sizeof ends);
+    const uint8_t *texts = bytes_of("2024-02-292023-02-29\377", 21);
+    uint8_t *room = room_of(5);
+    uint8_t answer =
+        strkw_check(draft, options, text_of(schema), strlen(schema), texts, 21, ends_at_the_end, 5, room, 5);
+    return answer == status && (verdicts == NULL ? !is_written(room, 5) : memcmp(room, verdicts, 5) == 0);
+}
+
+static bool checks_ends(size_t first, size_t second, size_t room, uint8_t status) {
+    const size_t ends[] = {first, second};
+    uint8_t *verdicts = room_of(room);
+    return strkw_check(7, 0, text_of("{}"), 2, text_of("ab"), 2, ends, 2, verdicts, room) == status
+        && is_written(verdicts, room) == (status == STRKW_DONE);
+}
+
+static void call_check(void) {
+    static const char *date = "{\"format\":\"date\"}", *other = "{\"format\":\"no-format\"}";
+    static const uint32_t as_draft = STRKW_FORMATS_AS_DRAFT, ignored = STRKW_IGNORE_UNKNOWN_FORMATS;
+    static const size_t ends[] = {2};
+    const uint8_t *object = text_of("{}");
+    uint8_t *out = room_of(1);
+    row("check", "right", "dates", checks(7, 0, date, STRKW_DONE, "\1\0\2\0\0"));
+    row("check", "right", "dates that are noted", checks(202012, as_draft, date, STRKW_DONE, "\1\1\2\1\1"));
+    row("check", "right", "a format that is ignored", checks(7, ignored, other, STRKW_DONE, "\1\1\2\1\1"));
+    row("check", "wrong", "texts that are too short", checks(4, 0, "{\"minLength\":11}", STRKW_DONE, "\0\0\2\0\0"));
+    row("check", "refused", "draft 5", checks(5, 0, date, STRKW_NO_DRAFT, NULL));
+    row("check", "refused", "option 4", checks(7, 4, date, STRKW_NO_OPTION, NULL));
+    row("check", "refused", "no object", checks(7, 0, "[]", STRKW_NO_SCHEMA, NULL));
+    row("check", "refused", "no JSON", checks(7, 0, "{", STRKW_NO_SCHEMA, NULL));
+    row("check", "refused", "an unknown format", checks(7, 0, other, STRKW_REFUSED, NULL));
+    row("check", "refused", "a limit that is none", checks(7, 0, "{\"maxLength\":-1}", STRKW_REFUSED, NULL));
+    row("check", "right", "two texts", checks_ends(1, 2, 2, STRKW_DONE));
+    row("check", "refused", "ends that fall", checks_ends(2, 1, 2, STRKW_NO_ROOM));
+    row("check", "refused", "an end past the texts", checks_ends(1, 3, 2, STRKW_NO_ROOM));
+    row("check", "refused", "room for one verdict", checks_ends(1, 2, 1, STRKW_NO_ROOM));
+    row("check", "refused", "room for three verdicts", checks_ends(1, 2, 3, STRKW_NO_ROOM));
+    row("check", "refused", "no schema", strkw_check(7, 0, NULL, 2, object, 2, ends, 1, out, 1) == STRKW_NULL);
+    row("check", "refused", "no texts", strkw_check(7, 0, object, 2, NULL, 2, ends, 1, out, 1) == STRKW_NULL);
+    row("check", "refused", "no ends", strkw_check(7, 0, object, 2, object, 2, NULL, 1, out, 1) == STRKW_NULL);
+    row("check", "refused", "no verdicts", strkw_check(7, 0, object, 2, object, 2, ends, 1, NULL, 1) == STRKW_NULL);
+    row("check", "right", "no texts are none", strkw_check(7, 0, object, 2, NULL, 0, NULL, 0, NULL, 0) == STRKW_DONE);
+}
+
+/* strkw_refusal of a schema object of draft 7, with room for so many bytes. */
+static bool tells(uint32_t draft, uint32_t options, const char *schema, size_t room, uint8_t status, size_t count,
+                  const char *wanted) {
+    uint8_t *out = room_of(room);
+    size_t written = 77;
+    bool is_status = strkw_refusal(draft, options, text_of(schema), strlen(schema), out, room, &written) == status;
+    bool is_whole = wanted == NULL ? !is_written(out, room) : memcmp(out, wanted, strlen(wanted)) == 0;
+    return is_status && is_whole && written == count;
+}
+
+static void call_refusal(void) {
+    static const char *pattern = "{\"pattern\":\"a+\"}";
+    static const char *why = "/pattern: the pattern \"a+\" is not taken: only literal patterns are";
+    const size_t count = strlen(why);
+    const uint8_t *object = text_of("{}");
+    uint8_t *out = room_of(1);
+    size_t written = 77;
+    row("refusal", "right", "no refusal", tells(7, 0, "{\"maxLength\":1}", 9, STRKW_DONE, 0, NULL));
+    row("refusal", "wrong", "a pattern", tells(7, 0, pattern, count, STRKW_REFUSED, count, why));
+    row("refusal", "wrong", "a pattern, and more room", tells(7, 0, pattern, 99, STRKW_REFUSED, count, why));
+    row("refusal", "refused", "too little room", tells(7, 0, pattern, count - 1, STRKW_NO_ROOM, count, NULL));
+    row("refusal", "refused", "draft 5", tells(5, 0, pattern, 99, STRKW_NO_DRAFT, 77, NULL));
+    row("refusal", "refused", "option 4", tells(7, 4, pattern, 99, STRKW_NO_OPTION, 77, NULL));
+    row("refusal", "refused", "no object", tells(7, 0, "[]", 99, STRKW_NO_SCHEMA, 77, NULL));
+    row("refusal", "refused", "no schema", strkw_refusal(7, 0, NULL, 2, out, 1, &written) == STRKW_NULL);
+    row("refusal", "refused", "no room", strkw_refusal(7, 0, object, 2, NULL, 1, &written) == STRKW_NULL);
+    row("refusal", "refused", "no count", strkw_refusal(7, 0, object, 2, out, 1, NULL) == STRKW_NULL);
+    row("refusal", "refused", "nothing was written", written == 77 && !is_written(out, 1));
+}
+
+int main(int count, char **words) {
+    lists = count == 2 && strcmp(words[1], "--list") == 0;
+    call_formats();
+    call_encodings();
+    call_answer();
+    call_check();
+    call_refusal();
+    if (!lists) printf("%u passed, %u failed\n", passed, failed);
+    return failed == 0 ? 0 : 1;
+}

@@ -1,0 +1,600 @@
+#!/usr/bin/env python3
+"""Makes rows of schema objects by product, with the lines that are to stand below each.
+
+    python3 tools/keyword_rows.py            writes them into crates/strkw_test_rows, below the rows by hand
+    python3 tools/keyword_rows.py --check    compares what is stored there with what it makes; the gate runs this
+
+In `stdin` and `stdout` of that crate everything below the line `# by tools/keyword_rows.py` is made here. What stands
+above is written by hand, and is not touched. `keyword_meaning.py` says what each row comes to, and `keyword_texts.py`
+has the texts; neither reads what a program answers. The last line is `N passed, M failed`, a row each.
+"""
+import sys
+from dataclasses import dataclass
+from itertools import combinations, product
+from pathlib import Path
+
+from keyword_meaning import KEYWORDS, Number, answer, compact, named_lines, parsed, said
+from keyword_texts import (DRAFTS, ENCODERS, FORMAT_NAMES, FORMATS, JSON_TEXTS, MOST, NO_ENCODINGS, NO_JSON_TEXTS,
+                           UNKNOWN_CODECS, UNKNOWN_FORMATS, UNKNOWN_MEDIA_TYPES, encoded_bytes, encodings, format_in,
+                           near)
+
+CRATE = Path(__file__).resolve().parent.parent / "crates" / "strkw_test_rows"
+MARK = "# by tools/keyword_rows.py"
+CHECKED = {"validate_formats": True, "ignore_unknown_formats": False}
+JSON = "application/json"
+
+
+@dataclass
+class Made:
+    """A row, as a line of JSON, and the lines that stand below it. A line that begins with `#` has none."""
+    line: str
+    below: list
+
+
+def escaped(text):
+    """A text of JSON in ASCII alone."""
+    units = text.encode("utf-16-be", "surrogatepass")
+    pairs = [int.from_bytes(units[i:i + 2], "big") for i in range(0, len(units), 2)]
+    return "".join(chr(it) if it < 127 else f"\\u{it:04x}" for it in pairs)
+
+
+def made(line, below):
+    """A row; a text that holds a line feed is more than one line."""
+    return Made(escaped(line), "\n".join(below).split("\n") if below else [])
+
+
+def numbered(value):
+    """The same value, with each whole number as a number of JSON."""
+    if isinstance(value, dict):
+        return {name: numbered(it) for name, it in value.items()}
+    if isinstance(value, (list, tuple)):
+        return [numbered(it) for it in value]
+    return Number(str(value)) if isinstance(value, int) and not isinstance(value, bool) else value
+
+
+def asked(draft, schema, instances=(), **more):
+    """The row of a schema object, or of its entry at `keyword`, under what else is set."""
+    row = {"draft": draft, **more, "schema": numbered(schema)}
+    if instances:
+        row["instances"] = numbered(instances)
+    return made(compact(numbered(row)), said(row))
+
+
+def named(name, texts=()):
+    return made(compact({"format": name, "texts": list(texts)}), named_lines(name, texts))
+
+
+def requested(draft, schema, instance, **more):
+    """The row of a request to `run`."""
+    row = {"draft": draft, **more, "schema": numbered(schema)}
+    line = compact(numbered({**row, "instance": instance}))
+    return made(compact({"input": [line]}), answer(row, numbered(instance)))
+
+
+# ---- values of each shape
+
+SHAPES = [parsed(it) for it in (
+    'null', 'true', 'false', '0', '1', '-1', '-0', '1.5', '5.0', '1e2', '9223372036854775808', '18446744073709551615',
+    '18446744073709551616', '-9223372036854775808', '-9223372036854775809', '""', '"x"', '[]', '["x"]', '[1.5]',
+    '{}', '{"a":1}', '{"a":[{"b":5.0}]}', '[[],{"c":18446744073709551616}]')]
+RIGHT = {"contentMediaType": JSON, "contentEncoding": "base64", "contentSchema": parsed('{"type":"object"}'),
+         "format": "date", "minLength": 2, "maxLength": 1, "pattern": "^a"}
+OTHER_INSTANCES = [parsed(it) for it in (
+    'null', 'true', 'false', '0', '-1', '1.5', '[]', '["a","b","c"]', '{}', '{"a":"b"}', '18446744073709551615')]
+
+
+def values_of_each_shape():
+    """Each keyword with a value of each shape, in each draft."""
+    for draft, keyword, shape in product(DRAFTS, KEYWORDS, SHAPES):
+        instances = ["!"] if draft in (7, 202012) or keyword in ("minLength", "maxLength") else []
+        yield asked(draft, {keyword: shape}, instances)
+    for draft, keyword, shape in product((7, 202012), KEYWORDS, SHAPES[::3]):
+        yield asked(draft, {keyword: shape}, keyword=keyword)
+
+
+def values_beside_a_media_type():
+    """The content keywords beside a media type that is known, unknown or malformed."""
+    for draft, media_type, keyword in product(DRAFTS, (JSON, "text/x", None), ("contentEncoding", "contentSchema")):
+        for shape in SHAPES if media_type == JSON else SHAPES[::5]:
+            yield asked(draft, {"contentMediaType": media_type, keyword: shape})
+
+
+def absent_keywords():
+    """An object without keywords has no errors and no notes, and an entry that is absent adds nothing."""
+    for draft in DRAFTS:
+        yield asked(draft, {}, ["", "x", *OTHER_INSTANCES])
+        for keyword in KEYWORDS:
+            yield asked(draft, {}, keyword=keyword)
+
+
+def instances_of_each_type():
+    """Only a text is looked at."""
+    for draft, keyword in product(DRAFTS, KEYWORDS):
+        yield asked(draft, {keyword: RIGHT[keyword]}, OTHER_INSTANCES, validate_formats=True)
+    for draft in DRAFTS:
+        yield asked(draft, RIGHT, [*OTHER_INSTANCES, "!"])
+
+
+# ---- names
+
+def other_names():
+    """A name that is one letter off is no keyword, and adds nothing."""
+    for draft, keyword in product(DRAFTS, KEYWORDS):
+        yield asked(draft, {name: -1 for name in near(keyword)}, ["!"])
+        if draft == 7:
+            for name in near(keyword):
+                yield asked(draft, {name: -1, "maxLength": 1}, ["ab"])
+
+
+def other_format_names():
+    """No draft has a format by a name that is one letter off, or that another standard gives."""
+    for name in FORMAT_NAMES:
+        yield named(name, [it.accepted[0] for it in FORMATS if it.name == name][:1])
+        for other in near(name):
+            assert other not in FORMAT_NAMES
+            yield named(other)
+    for name in UNKNOWN_FORMATS:
+        yield named(name)
+    for name in FORMAT_NAMES:
+        yield asked(202012, {"format": near(name)[0]}, ["!"], validate_formats=True)
+        yield asked(7, {"format": near(name)[-1]}, ignore_unknown_formats=False)
+
+
+# ---- formats
+
+OPTIONS = [{name: it for name, it in zip(("validate_formats", "ignore_unknown_formats", "formats_by_dialect"), them)
+            if it is not None} for them in product((None, True, False), (None, False), (None, True))]
+
+
+def formats_by_options():
+    """What is known and what is not, in each draft, under each choice of options."""
+    for draft, name, options in product(DRAFTS, ("date", "uuid", "custom"), OPTIONS):
+        texts = ["x"] if options.get("ignore_unknown_formats") is None else ["x", 5]
+        yield asked(draft, {"format": name}, texts, **options)
+    for draft, name in product(DRAFTS, FORMAT_NAMES):
+        for options in ({}, {"validate_formats": False}):
+            some = next(it for it in FORMATS if it.name == name)
+            yield asked(draft, {"format": name}, [some.refused[0]], **options)
+    for draft, name in product(DRAFTS, UNKNOWN_FORMATS):
+        for options in ({}, CHECKED):
+            yield asked(draft, {"format": name}, ["x"], **options)
+
+
+def texts_of_formats():
+    """Texts that the grammars derive and refuse, in each draft."""
+    for draft, name in product(DRAFTS, FORMAT_NAMES):
+        found = format_in(draft, name)
+        texts = [] if found is None else [it for it in found.accepted + found.refused if len(it) < 100]
+        if draft not in (7, 202012) and (draft, name) != (4, "hostname"):
+            texts = [it for it in texts if it in (found.accepted[0], found.refused[0])]
+        yield asked(draft, {"format": name}, texts, **CHECKED)
+    for draft, name in product(DRAFTS, FORMAT_NAMES):
+        yield asked(draft, {"format": name}, keyword="format", **CHECKED)
+    for it in FORMATS:
+        if it.last == 202012:
+            yield named(it.name, it.accepted)
+
+
+def registered_formats():
+    """A row of the caller wins over a built-in format of its name, and the first row of a name counts."""
+    for draft, name in product(DRAFTS, FORMAT_NAMES):
+        text = next(it for it in FORMATS if it.name == name).accepted[0]
+        rows = [["other", "all"], [name, "none"], [name, "all"]]
+        yield asked(draft, {"format": name}, [text], validate_formats=True, formats=rows)
+    for draft, script in product(DRAFTS, ("even", "all", "none")):
+        rows = [["Custom", "none"], ["custom", script], ["custom", "none"]]
+        for name, options in product(("custom", "CUSTOM"), ({}, CHECKED)):
+            yield asked(draft, {"format": name}, ["ab", "abc", "\u00e9\U0001f4a9", 1], formats=rows, **options)
+    for draft in DRAFTS:
+        yield asked(draft, {"format": "custom"}, ["ab"], formats=[["custom", "none"]], keyword="format", **CHECKED)
+
+
+def folding_by_windows():
+    """The lengths that a format and the limits leave (docs/DECISIONS.md)."""
+    for it in FORMATS:
+        draft = it.last if it.last < 7 else 202012
+        least, greatest = it.window
+        ends = {least - 1, least, least + 1, greatest - 1, greatest, greatest + 1, 0}
+        for end, keyword in product(sorted(n for n in ends if 0 <= n <= MOST), ("minLength", "maxLength")):
+            yield asked(draft, {"format": it.name, keyword: end}, validate_formats=True)
+    for wanted in (True, False):
+        schema = {"format": "date", "minLength": 11}
+        yield asked(202012, schema, ["x"], validate_formats=wanted)
+        yield asked(202012, schema, ["x"], validate_formats=wanted, formats=[["date", "all"]])
+        yield asked(202012, schema, ["x"], validate_formats=wanted, left_out=["minLength"])
+        yield asked(202012, schema, ["x"], validate_formats=wanted, left_out=["format"])
+
+
+# ---- lengths
+
+CHARACTERS = ("a", "\u00e9", "\u20ac", "\U0001f4a9")
+MIXED = "a\u00e9\u20ac\U0001f4a9"
+
+
+RANGES = ((0, 0), (0, 1), (1, 1), (1, 2), (2, 1), (2, 4), (3, 3), (5, 3), (1, 0), (4, 1), (32, 32), (65, 63))
+
+
+def texts_at_bounds():
+    """Texts of each width of characters at each bound, one below and one above."""
+    for draft, n in product(DRAFTS, (0, 1, 2, 31, 33)):
+        texts = [it * m for it in CHARACTERS for m in range(max(n - 1, 0), n + 2)]
+        texts = texts if n < 3 else [it for it in texts if it[0] in CHARACTERS[n % 4::2]]
+        if draft in (7, 202012) or n in (1, 2):
+            for keyword in ("minLength", "maxLength"):
+                yield asked(draft, {keyword: n}, list(dict.fromkeys(texts)))
+    for least, greatest in RANGES:
+        texts = [(MIXED * 20)[:n] for n in sorted({least - 1, least, least + 1, greatest, greatest + 1, 0}) if n >= 0]
+        schema = {"minLength": least, "maxLength": greatest}
+        for draft in DRAFTS if least < 6 else (7,):
+            yield asked(draft, schema, texts)
+        yield asked(7, schema, texts[:2], keyword="minLength")
+        yield asked(7, schema, texts[:2], keyword="maxLength")
+        for left_out in ("minLength", "maxLength"):
+            for keyword in ("minLength", "maxLength"):
+                yield asked(7, schema, texts[:3], keyword=keyword, left_out=[left_out])
+
+
+def limits_of_64_bits():
+    """Limits from 31 bits up to the greatest of 64."""
+    for n in (2 ** 31, 2 ** 32, 2 ** 53 + 1, 2 ** 63 - 1, 2 ** 63, MOST):
+        for draft in DRAFTS:
+            yield asked(draft, {"minLength": n}, ["ab"])
+            yield asked(draft, {"minLength": n, "maxLength": n}, ["ab"])
+            yield asked(draft, {"maxLength": n}, ["ab"])
+
+
+def good_beside_bad_limits():
+    """A limit that is refused does not hide the other one."""
+    bad = [parsed(it) for it in ('-1', '5.0', 'null', '"1"', '18446744073709551616')]
+    for (one, other), value, keyword in product((("minLength", "maxLength"), ("maxLength", "minLength")), bad,
+                                                ("minLength", "maxLength", None)):
+        more = {"keyword": keyword} if keyword else {}
+        yield asked(7, {one: value, other: 1}, ["ab", ""], **more)
+        yield asked(7, {one: value, other: 1}, ["ab", ""], left_out=[one], **more)
+
+
+# ---- content
+
+CODEC_ROWS = [["odd", "odd"], ["bytes", "bytes"], ["plain", "plain"], ["odd", "plain"]]
+MEDIA_TYPE_ROWS = [["text/even", "even"], ["text/even", "none"]]
+
+
+def rows_for(media_type, codec):
+    """The caller's rows, where they have such a name."""
+    named_rows = {"codecs": (codec, CODEC_ROWS), "media_types": (media_type, MEDIA_TYPE_ROWS)}
+    return {kind: rows for kind, (name, rows) in named_rows.items() if any(name == it[0] for it in rows)}
+
+
+def texts_for(codec):
+    """Some encodings of a codec, and texts that are none."""
+    if codec not in ENCODERS:
+        return ["{}", "[1,]", "!"] if codec != "plain" else ["{}", "{", ""]
+    text_of = {of: text for text, of in encodings(codec).items()}
+    return [text_of[b"{}"], text_of[b"{:}"], text_of[b"\xff\xfe"], text_of[b""], "!"]
+
+
+def content_by_product():
+    """Media types, encodings and schemas: known, unknown, registered, malformed and absent, in each draft."""
+    media_types = (None, JSON, "text/x", "text/even", parsed("5"), parsed("[1.5]"))
+    codecs = (None, *ENCODERS, "rot13", "odd", "bytes", "plain", parsed("5"), parsed("1.5"))
+    schemas = (None, parsed('{"a":1}'))
+    for draft, media_type, codec, schema in product(DRAFTS, media_types, codecs, schemas):
+        values = zip(KEYWORDS, (media_type, codec, schema))
+        members = {keyword: it for keyword, it in values if it is not None}
+        is_noted = draft > 7
+        if codec not in (None, "base64", "rot13", "odd", parsed("5")) and (schema is not None or draft not in (6, 7)):
+            continue
+        texts = texts_for(codec) if media_type in (None, JSON) else ["ab", "abc", "!"]
+        if media_type == "text/even" and codec in ENCODERS:
+            texts = texts_for(codec)
+        if media_type == JSON and codec in (None, "odd", "bytes"):
+            texts = ["{}", "{"]
+        yield asked(draft, members, texts[:1] if is_noted or draft == 4 else texts, **rows_for(media_type, codec))
+
+
+def entries_of_content():
+    """The validator of each content entry alone."""
+    for draft, keyword in product((4, 6, 202012), KEYWORDS[:3]):
+        for media_type, codec in product((None, JSON, "text/even", "text/x"), (None, "base16", "odd", "rot13")):
+            members = {name: it for name, it in zip(KEYWORDS, (media_type, codec, True)) if it is not None}
+            yield asked(draft, members, keyword=keyword, **rows_for(media_type, codec))
+
+
+def texts_of_encodings():
+    """What encoders write and what they do not, alone and as JSON, and JSON texts by themselves."""
+    for draft, codec in product((6, 7), ENCODERS):
+        wrong = NO_ENCODINGS[codec]
+        assert all(encoded_bytes(codec, it) is None for it in wrong)
+        texts = [*encodings(codec), *wrong, *(["7b7D", "666f6F"] if codec == "base16" else [])]
+        yield asked(draft, {"contentEncoding": codec}, texts)
+        yield asked(draft, {"contentMediaType": JSON, "contentEncoding": codec}, [*texts_for(codec), *wrong[1:5]])
+    for draft in (6, 7):
+        yield asked(draft, {"contentMediaType": JSON}, [*JSON_TEXTS, *NO_JSON_TEXTS])
+
+
+def other_names_of_content():
+    """Names of codecs and media types that are one letter off, or of other standards, add nothing."""
+    for draft, codec in product((6, 7, 202012), UNKNOWN_CODECS):
+        yield asked(draft, {"contentEncoding": codec}, ["!"])
+    for draft, name in product((6, 7, 202012), UNKNOWN_MEDIA_TYPES):
+        yield asked(draft, {"contentMediaType": name}, ["{:}"])
+        yield asked(draft, {"contentMediaType": name, "contentEncoding": 5})
+
+
+def content_over_built_ins():
+    """Rows over built-in names, first rows, and built-ins that are switched off."""
+    for draft, codec in product(DRAFTS, ENCODERS):
+        if draft in (4, 201909) and codec != "base64":
+            continue
+        texts = texts_for(codec)[:2]
+        for script in ("odd", "bytes", "plain"):
+            rows = [["x", "plain"], [codec, script], [codec, "bytes" if script == "odd" else "odd"]]
+            yield asked(draft, {"contentEncoding": codec}, texts, codecs=rows)
+            yield asked(draft, {"contentMediaType": JSON, "contentEncoding": codec}, ["{}", "{:}"], codecs=rows)
+        without = [it for it in ENCODERS if it != codec]
+        for gone in ([codec], without):
+            yield asked(draft, {"contentEncoding": codec}, [*texts, "!"], without_codecs=gone)
+        yield asked(draft, {"contentMediaType": JSON, "contentEncoding": codec}, ["!"], without_codecs=[codec])
+    for draft, script in product(DRAFTS, ("even", "all", "none")):
+        rows = [["x", "all"], [JSON, script], [JSON, "none"], [JSON, "all"]]
+        for schema, texts in (({"contentMediaType": JSON}, ["{}", "{:}"]),
+                              ({"contentMediaType": JSON, "contentEncoding": "base64"}, ["e30=", "ezp9", "!"])):
+            yield asked(draft, schema, texts, media_types=rows)
+            yield asked(draft, schema, texts, json_media_type=False)
+            yield asked(draft, schema, texts, media_types=rows, json_media_type=False)
+        yield asked(draft, {"contentMediaType": JSON.upper()}, ["{:}"], media_types=rows)
+
+
+def schemas_beside_media_types():
+    """A schema is noted beside each media type, and refused there where it holds a fraction."""
+    schemas = [parsed(it) for it in (
+        'true', 'false', 'null', '{}', '{"a":[1,{"b":null}]}', '"x"', '-9223372036854775808', '18446744073709551615',
+        '18446744073709551616', '{"a":[{"b":1.5}]}', '[1,[2.0]]')]
+    media_types = (JSON, "text/x", None, 5, parsed("1.5"))
+    for draft, media_type, schema in product((7, 201909, 202012), media_types, schemas):
+        if draft > 7 or media_type == JSON:
+            yield asked(draft, {"contentMediaType": media_type, "contentSchema": schema}, ["x", 5])
+    for draft, schema in product((201909, 202012), schemas):
+        yield asked(draft, {"contentEncoding": "base64", "contentSchema": schema}, ["x"])
+
+
+# ---- pattern
+
+LITERAL = (
+    ("^foo", ("foo", "foobar", "barfoo", "fo", "Foo", "")), ("^/", ("/", "/a", "a/")), ("^x-", ("x-a", "xa")),
+    (r"^\/", ("/", "a")), (r"^\$ref$", ("$ref", "$refs", "ref", "\\$ref")),
+    ("^foo$", ("foo", "foo\n", "foobar", "afoo")), ("^(b|a|b)$", ("a", "b", "ab")),
+    ("^(get|put|post)$", ("get", "put", "post", "patch", "GET", "gets", "get|put", "")),
+    (r"^(a\|b|\(c\))$", ("a|b", "(c)", "a", "b")), ("^(single)$", ("single", "singl")),
+    (r"^\S*$", ("", "hello", "hello world", "a\tb", "a\u00a0", "\u1680", "\u2028", "\u3000", "\ufeff", "\u0085",
+                "\u180e")),
+    ("^a\"b'<>$", ("a\"b'<>", "ab")), (r"^\^\.\*\+\?\(\)\[\]\{\}\\", ("^.*+?()[]{}\\", "^")),
+    ("^A-Z a_z/:@#%&=,;~!", ("A-Z a_z/:@#%&=,;~!", "A")),
+)
+NOT_LITERAL = ("", "a+", "foo", "^", "^$", "^()$", "^(a)", "^a$b", r"^\d", r"^\S*", "^\u00e9", "^(a|b|c^)$", "^a+",
+               "^a.b$", "^[a]$", "a\"b", "^a|b$", r"^\S+$", "^(a|)$", "(?<=a)b")
+
+
+def patterns():
+    """Literal patterns, which no builder is asked for, and others by each outcome of an engine."""
+    for draft, (pattern, texts) in product(DRAFTS, LITERAL):
+        yield asked(draft, {"pattern": pattern}, texts if draft in (4, 202012) else texts[:2])
+    for pattern, texts in LITERAL:
+        yield asked(7, {"pattern": pattern}, keyword="pattern", patterns=[[pattern, texts[0], "failed"]])
+    for draft, pattern in product(DRAFTS, NOT_LITERAL):
+        rows = [[pattern, "aa", "match"], ["other", "b", "match"], [pattern, "b", "backtracking"],
+                [pattern, "b", "match"], [pattern, "c", "failed"]]
+        yield asked(draft, {"pattern": pattern}, ["x"])
+        if draft == 7 or pattern == "a+":
+            yield asked(draft, {"pattern": pattern}, ["aa", "b", "c", "", 5], patterns=rows)
+            yield asked(draft, {"pattern": pattern}, ["aa"], keyword="pattern", patterns=rows)
+            yield asked(draft, {"pattern": pattern}, keyword="pattern", patterns=rows[1:2])
+            yield asked(draft, {"pattern": pattern}, ["aa"], left_out=["pattern"])
+
+
+# ---- the whole object
+
+BAD = {"contentMediaType": 1, "contentEncoding": 2, "contentSchema": parsed("[1.5]"),
+       "format": 4, "minLength": -5, "maxLength": -6, "pattern": 7}
+WHOLE = {"pattern": "^b", "maxLength": 1, "minLength": 3, "format": "date", "contentSchema": True,
+         "contentEncoding": "base16", "contentMediaType": JSON}
+
+
+def first_refusals():
+    """The first malformed entry is refused, whatever the order of the keys."""
+    for draft, some in product(DRAFTS, combinations(KEYWORDS, 2)):
+        yield asked(draft, {keyword: BAD[keyword] for keyword in reversed(some)})
+    for draft in DRAFTS:
+        for count in range(3, 8):
+            yield asked(draft, {keyword: BAD[keyword] for keyword in KEYWORDS[-count:]})
+        for keyword in KEYWORDS:
+            yield asked(draft, {**{it: RIGHT[it] for it in KEYWORDS}, keyword: BAD[keyword]}, validate_formats=True)
+            yield asked(draft, BAD, left_out=[it for it in KEYWORDS if it != keyword])
+
+
+def keywords_left_out():
+    """A keyword that is left out adds nothing; its neighbours still see its key."""
+    for draft in DRAFTS:
+        yield asked(draft, WHOLE, ["ab", "7B", "", "2020-01-01"], validate_formats=True)
+        yield asked(draft, WHOLE, ["ab"])
+        yield asked(draft, WHOLE, ["ab"], left_out=list(KEYWORDS))
+        for keyword in KEYWORDS:
+            yield asked(draft, WHOLE, ["ab"], validate_formats=True, left_out=[keyword])
+            if draft in (7, 202012):
+                yield asked(draft, WHOLE, ["ab"], left_out=[it for it in KEYWORDS if it != keyword])
+            yield asked(draft, WHOLE, keyword=keyword, left_out=[keyword])
+
+
+def places():
+    """The places of errors, notes and refusals, with segments that are escaped (RFC 6901)."""
+    segments = (["a/b"], ["~"], ["", "\u00e9~1/"], ["$defs", "0"])
+    for draft, (i, location) in product(DRAFTS, enumerate(segments)):
+        more = {"location": location, "way": segments[i - 1], "at": segments[i - 2],
+                "absolute": f"https://example.com/{i}"}
+        yield asked(draft, WHOLE, ["ab"], validate_formats=True, **more)
+        yield asked(draft, {"format": 5}, **more)
+        yield asked(draft, {"contentMediaType": JSON, "contentEncoding": 5}, **more)
+        yield asked(draft, {"minLength": 5}, ["ab"], location=location, way=["$ref"], keyword="minLength")
+
+
+def texts_in_errors():
+    """Instances and names as the texts of errors show them."""
+    signs = ["\"", "\\", "/", "\b\f\n\r\t", "\0\x01\x1f", "\x7f\x80", "\u2028", "\U0001f4a9", "'", "{x}", "a\"b\\c\nd",
+             "\n\x7f" + MIXED]
+    for draft in DRAFTS:
+        yield asked(draft, {"maxLength": 0}, signs)
+    yield asked(7, {"pattern": "^z"}, signs)
+    yield asked(7, {"contentEncoding": "base64"}, signs, codecs=[["base64", "bytes"]])
+    for name in ("a\"b", "\\", "\n", "'", "{x}", "\u00e9"):
+        for text in ("x", "a\"b"):
+            yield asked(7, {"format": name}, [text], formats=[[name, "none"]])
+            yield asked(7, {"contentMediaType": name}, [text], media_types=[[name, "none"]])
+            yield asked(7, {"contentEncoding": name}, [text], codecs=[[name, "bytes"]])
+            yield asked(7, {"contentEncoding": name, "contentMediaType": name}, [text], codecs=[[name, "odd"]],
+                        media_types=[[name, "none"]])
+            yield asked(7, {"contentEncoding": name, "contentMediaType": name}, [text], codecs=[[name, "bytes"]],
+                        media_types=[[name, "none"]])
+        yield asked(7, {"format": name}, ignore_unknown_formats=False)
+        yield asked(7, {"format": name}, formats_by_dialect=True)
+        yield asked(7, {"pattern": name})
+        yield asked(7, {"pattern": parsed(compact([name]))})
+        yield asked(7, {"pattern": name}, ["x", "y"], patterns=[[name, "x", "backtracking"], [name, "y", "failed"]])
+        every = ("format", "contentEncoding", "contentMediaType", "contentSchema")
+        yield asked(202012, {keyword: name for keyword in every}, ["x"])
+
+
+def lists_in_use():
+    """Lists are in use exactly where each row that was chosen is the first of its name, where it was."""
+    rows = {"formats": [["a", "even"], ["f", "even"], ["f", "all"]],
+            "media_types": [["a", "even"], ["m", "all"], ["m", "even"]],
+            "codecs": [["a", "odd"], ["c", "plain"], ["c", "odd"]]}
+    lent = [[0, 3, 0, 3, 0, 3], [0, 2, 0, 2, 0, 2], [0, 0, 0, 3, 0, 3], [0, 3, 0, 0, 0, 3], [0, 3, 0, 3, 0, 0],
+            [1, 3, 0, 3, 0, 3], [0, 3, 1, 3, 0, 3], [0, 3, 0, 3, 1, 3], [0, 1, 0, 1, 0, 1], [0, 0, 0, 0, 0, 0]]
+    schemas = ({"format": "f"}, {"contentMediaType": "m"}, {"contentEncoding": "c"}, {"format": "a"},
+               {"format": "date"},
+               {"contentMediaType": "m", "contentEncoding": "c"}, {"contentMediaType": JSON, "contentEncoding": "c"},
+               {"contentMediaType": "m", "contentEncoding": "base64", "format": "f"}, {"minLength": 1})
+    for draft, schema in product((6, 7, 202012), schemas):
+        yield asked(draft, schema, ["x"], lent=lent, validate_formats=True, **rows)
+        if len(schema) == 1 and draft == 7:
+            yield asked(draft, schema, keyword=next(iter(schema)), lent=lent, **rows)
+
+
+def no_drafts():
+    """A row with another number has no draft."""
+    for number in (0, 1, 3, 5, 8, 2019, 201908, 201910, 2020, 202011, 202013):
+        yield asked(number, {"minLength": 5}, ["x"])
+    for it in ('7.0', '-7', '"7"', 'null', '[7]', '18446744073709551616'):
+        yield asked(parsed(it), {"minLength": 5}, ["x"])
+
+
+# ---- requests
+
+def requests():
+    """What `run` answers: the same errors, notes and refusals, each on a line."""
+    schemas = [{keyword: RIGHT[keyword]} for keyword in KEYWORDS] + [WHOLE, {}, {"minLength": 1}]
+    for draft, schema in product(DRAFTS, schemas):
+        for instance in ("", "a\"\n\u00e9", 5) if schema != WHOLE else ("ab", "7B"):
+            yield requested(draft, schema, instance)
+    for draft, keyword in product(DRAFTS, KEYWORDS):
+        yield requested(draft, {keyword: BAD[keyword]}, "x", validate_formats=True)
+    for draft, name in product(DRAFTS, ("date", "uuid", "iri", "nonsense", "a\n'b")):
+        for options in ({}, CHECKED, {"validate_formats": False}):
+            yield requested(draft, {"format": name}, "x", **options)
+    for draft, codec in product((6, 7, 202012), ENCODERS):
+        for text in texts_for(codec):
+            yield requested(draft, {"contentMediaType": JSON, "contentEncoding": codec}, text)
+    for draft, media_type, schema in product((7, 201909, 202012), ("a/b", 5), ('{"a":1}', '[1.5]', '-0')):
+        yield requested(draft, {"contentSchema": parsed(schema), "contentMediaType": media_type}, "x")
+    yield from (requested(7, {"pattern": it}, "x") for it in NOT_LITERAL)
+    yield from (requested(7, {"pattern": it}, texts[-1]) for it, texts in LITERAL)
+    yield from (requested(7, {"maxLength": 0}, it)
+                for it in ("\b\f\n\r\t", "\0\x1f", "\x7f", "\\\"/", "\U0001f4a9", "\n\x7f" + MIXED))
+
+
+SECTIONS = (
+    ("values of each shape", values_of_each_shape), ("values beside a media type", values_beside_a_media_type),
+    ("absent keywords", absent_keywords), ("instances of each type", instances_of_each_type),
+    ("names one letter off", other_names), ("names of formats one letter off", other_format_names),
+    ("formats by options", formats_by_options), ("texts of formats", texts_of_formats),
+    ("registered formats", registered_formats), ("folding by windows", folding_by_windows),
+    ("texts at each bound", texts_at_bounds), ("limits of 64 bits", limits_of_64_bits),
+    ("good limits beside bad ones", good_beside_bad_limits), ("content by product", content_by_product),
+    ("entries of content", entries_of_content), ("texts of encodings", texts_of_encodings),
+    ("names of content one letter off", other_names_of_content), ("content over built-ins", content_over_built_ins),
+    ("schemas beside media types", schemas_beside_media_types), ("patterns", patterns),
+    ("first refusals", first_refusals), ("keywords left out", keywords_left_out), ("places", places),
+    ("texts in errors", texts_in_errors), ("lists in use", lists_in_use), ("numbers that are no drafts", no_drafts),
+    ("requests", requests),
+)
+
+
+def made_rows():
+    """All rows, each once, with a heading for each section."""
+    rows, seen = [], set()
+    for heading, section in SECTIONS:
+        rows.append(Made(f"# {heading}", []))
+        for it in section():
+            if it.line not in seen:
+                seen.add(it.line)
+                rows.append(it)
+    return rows
+
+
+# ---- what is stored
+
+def stored(name):
+    """What stands above the mark in a file, and what stands below it."""
+    front, mark, rest = (CRATE / name).read_bytes().decode().partition(MARK + "\n")
+    if not mark:
+        raise SystemExit(f"keyword_rows: {name} has no line `{MARK}`: put it where the rows are to begin")
+    return front, rest
+
+
+def stored_rows(lines):
+    """The rows below the mark of the output, each with the lines below it; `lines` are those of the input."""
+    rows, known = [], set(lines)
+    for line in stored("stdout")[1].split("\n")[:-1]:
+        if line in known:
+            rows.append(Made(line, []))
+        elif rows:
+            rows[-1].below.append(line)
+    return rows
+
+
+def write(rows):
+    """Writes the rows below the mark; what stands above it stays."""
+    for name, lines in (("stdin", [it.line for it in rows]),
+                        ("stdout", [line for it in rows for line in (it.line, *it.below)])):
+        front = stored(name)[0]
+        (CRATE / name).write_bytes((front + MARK + "\n" + "\n".join(lines) + "\n").encode())
+
+
+def check(rows):
+    """How many rows are stored as they are made, and how many are not."""
+    wanted = {it.line: it.below for it in rows}
+    given = stored("stdin")[1].split("\n")[:-1]
+    found = {it.line: it.below for it in stored_rows(wanted)}
+    wrong = [line for line in wanted if found.get(line) != wanted[line]]
+    if given != list(wanted) or list(found) != list(wanted):
+        wrong.append("other rows are stored, or in another order")
+    for line in wrong[:20]:
+        print(f"keyword_rows: {line}")
+    return len(wanted) - min(len(wrong), len(wanted)), len(wrong)
+
+
+def main():
+    rows = made_rows()
+    if sys.argv[1:] == ["--check"]:
+        passed, failed = check(rows)
+    elif not sys.argv[1:]:
+        write(rows)
+        passed, failed = len(rows), 0
+    else:
+        raise SystemExit(__doc__)
+    print(f"{passed} passed, {failed} failed")
+    return 1 if failed else 0
+
+
+if __name__ == "__main__":
+    sys.exit(main())
