@@ -57,7 +57,7 @@ static bool is_written(const uint8_t *room, size_t count) {
     return false;
 }
 
-/* Formats, with a text of each and one that is none: RFC 3339, 1123, 2673, 4291, 3987, 6901, 3986, 6570 and 9562. */
+/* Formats, with a text of each and one that is none: RFC 3339, 5321, 1123, 2673, 4291, 3987, 6901, 3986, 6570, 9562. */
 static const struct {
     const char *name;
     bool (*check)(const uint8_t *, size_t);
@@ -66,6 +66,7 @@ static const struct {
     {"is_date", strkw_is_date, "2024-02-29", "2023-02-29"},
     {"is_date_time", strkw_is_date_time, "1985-04-12T23:20:50.52Z", "1985-04-12T24:00:00Z"},
     {"is_duration", strkw_is_duration, "P4DT12H30M5S", "P4DT"},
+    {"is_email", strkw_is_email, "a.b@example.com", "a..b@example.com"},
     {"is_hostname", strkw_is_hostname, "www.example.com", "-a.example"},
     {"is_hostname_draft4", strkw_is_hostname_draft4, "ab--c", "a_b"},
     {"is_ipv4", strkw_is_ipv4, "192.0.2.1", "192.0.2.256"},
@@ -197,8 +198,8 @@ static bool tells(uint32_t draft, uint32_t options, const char *schema, size_t r
 }
 
 static void call_refusal(void) {
-    static const char *pattern = "{\"pattern\":\"a+\"}";
-    static const char *why = "/pattern: the pattern \"a+\" is not taken: only literal patterns are";
+    static const char *pattern = "{\"pattern\":\"(?=a)\"}";
+    static const char *why = "/pattern: the pattern \"(?=a)\" is not taken: it has a look-ahead";
     const size_t count = strlen(why);
     const uint8_t *object = text_of("{}");
     uint8_t *out = room_of(1);
@@ -216,6 +217,93 @@ static void call_refusal(void) {
     row("refusal", "refused", "nothing was written", written == 77 && !is_written(out, 1));
 }
 
+/* strkw_errors of a text by a schema object, with room for so many bytes. */
+static bool writes(uint32_t draft, uint32_t options, const char *schema, const char *text, size_t room, uint8_t status,
+                   size_t count, const char *wanted) {
+    uint8_t *out = room_of(room);
+    size_t written = 77;
+    uint8_t answer = strkw_errors(draft, options, text_of(schema), strlen(schema), text_of(text), strlen(text), out,
+                                  room, &written);
+    bool is_whole = wanted == NULL ? !is_written(out, room) : memcmp(out, wanted, strlen(wanted)) == 0;
+    return answer == status && is_whole && written == count;
+}
+
+static const char *DATE = "{\"format\":\"date\"}", *NO_FORMAT = "{\"format\":\"no-format\"}";
+static const char *NOTED = "note /format: \"date\"\n";
+static const char *WRONG = "error /format: \"2023-02-29\" is not a \"date\"\nnote /format: \"date\"\n";
+
+static void call_errors(void) {
+    const size_t noted = strlen(NOTED), wrong = strlen(WRONG);
+    const uint8_t *object = text_of("{}");
+    uint8_t *out = room_of(1);
+    size_t written = 77;
+    row("errors", "right", "a date", writes(7, 0, DATE, "2024-02-29", noted, STRKW_DONE, noted, NOTED));
+    row("errors", "right", "nothing to write", writes(7, 0, "{}", "a", 0, STRKW_DONE, 0, NULL));
+    row("errors", "wrong", "no date", writes(7, 0, DATE, "2023-02-29", wrong, STRKW_DONE, wrong, WRONG));
+    row("errors", "refused", "too little room",
+        writes(7, 0, DATE, "2023-02-29", wrong - 1, STRKW_NO_ROOM, wrong, NULL));
+    row("errors", "refused", "draft 5", writes(5, 0, DATE, "a", 99, STRKW_NO_DRAFT, 77, NULL));
+    row("errors", "refused", "option 4", writes(7, 4, DATE, "a", 99, STRKW_NO_OPTION, 77, NULL));
+    row("errors", "refused", "no UTF-8", writes(7, 0, DATE, "\377", 99, STRKW_NOT_UTF8, 77, NULL));
+    row("errors", "refused", "no object", writes(7, 0, "[]", "a", 99, STRKW_NO_SCHEMA, 77, NULL));
+    row("errors", "refused", "an unknown format", writes(7, 0, NO_FORMAT, "a", 99, STRKW_REFUSED, 77, NULL));
+    row("errors", "refused", "no schema", strkw_errors(7, 0, NULL, 2, object, 2, out, 1, &written) == STRKW_NULL);
+    row("errors", "refused", "no text", strkw_errors(7, 0, object, 2, NULL, 2, out, 1, &written) == STRKW_NULL);
+    row("errors", "refused", "no room", strkw_errors(7, 0, object, 2, object, 2, NULL, 1, &written) == STRKW_NULL);
+    row("errors", "refused", "no count", strkw_errors(7, 0, object, 2, object, 2, out, 1, NULL) == STRKW_NULL);
+    row("errors", "refused", "nothing was written", written == 77 && !is_written(out, 1));
+}
+
+/* strkw_schema_compile, and whether it made nothing. */
+static bool makes_none(uint32_t draft, uint32_t options, const char *schema, uint8_t status) {
+    strkw_schema *made = NULL;
+    return strkw_schema_compile(draft, options, text_of(schema), strlen(schema), &made) == status && made == NULL;
+}
+
+/* strkw_schema_check on a date and a text that is none, and strkw_schema_errors on one of them. */
+static bool checks_by(const strkw_schema *schema, const char *verdicts) {
+    static const size_t ends[] = {10, 20};
+    uint8_t *room = room_of(2);
+    return strkw_schema_check(schema, text_of("2024-02-292023-02-29"), 20, ends, 2, room, 2) == STRKW_DONE
+        && memcmp(room, verdicts, 2) == 0;
+}
+
+static bool writes_by(const strkw_schema *schema, const char *text, const char *wanted) {
+    uint8_t *out = room_of(99);
+    size_t written = 77;
+    return strkw_schema_errors(schema, text_of(text), strlen(text), out, 99, &written) == STRKW_DONE
+        && written == strlen(wanted) && memcmp(out, wanted, written) == 0;
+}
+
+static void call_schemas(void) {
+    static const size_t ends[] = {1};
+    strkw_schema *made = NULL;
+    uint8_t *out = room_of(1);
+    size_t written = 77;
+    row("schema_compile", "right", "a date",
+        strkw_schema_compile(7, 0, text_of(DATE), strlen(DATE), &made) == STRKW_DONE);
+    row("schema_check", "right", "a date", checks_by(made, "\1\0"));
+    row("schema_check", "wrong", "no date", checks_by(made, "\1\0"));
+    row("schema_errors", "right", "a date", writes_by(made, "2024-02-29", NOTED));
+    row("schema_errors", "wrong", "no date", writes_by(made, "2023-02-29", WRONG));
+    row("schema_check", "refused", "too little room",
+        strkw_schema_check(made, text_of("a"), 1, ends, 1, out, 0) == STRKW_NO_ROOM);
+    row("schema_errors", "refused", "too little room",
+        strkw_schema_errors(made, text_of("a"), 1, out, 1, &written) == STRKW_NO_ROOM);
+    row("schema_check", "refused", "no schema",
+        strkw_schema_check(NULL, text_of("a"), 1, ends, 1, out, 1) == STRKW_NULL);
+    row("schema_errors", "refused", "no schema",
+        strkw_schema_errors(NULL, text_of("a"), 1, out, 1, &written) == STRKW_NULL);
+    row("schema_compile", "wrong", "an unknown format", makes_none(7, 0, NO_FORMAT, STRKW_REFUSED));
+    row("schema_compile", "refused", "draft 5", makes_none(5, 0, DATE, STRKW_NO_DRAFT));
+    row("schema_compile", "refused", "option 4", makes_none(7, 4, DATE, STRKW_NO_OPTION));
+    row("schema_compile", "refused", "no object", makes_none(7, 0, "[]", STRKW_NO_SCHEMA));
+    row("schema_compile", "refused", "nowhere", strkw_schema_compile(7, 0, text_of("{}"), 2, NULL) == STRKW_NULL);
+    /* The sanitiser of addresses tells of one that is freed twice or not at all. */
+    strkw_schema_free(made);
+    strkw_schema_free(NULL);
+}
+
 int main(int count, char **words) {
     lists = count == 2 && strcmp(words[1], "--list") == 0;
     call_formats();
@@ -223,6 +311,8 @@ int main(int count, char **words) {
     call_answer();
     call_check();
     call_refusal();
+    call_errors();
+    call_schemas();
     if (!lists) printf("%u passed, %u failed\n", passed, failed);
     return failed == 0 ? 0 : 1;
 }

@@ -1,6 +1,10 @@
 /* The functions that strkw.h declares. Each sees to it that no pointer is NULL, and calls the proved function of
-   crates/strkw_c with `nonnull` in its name. Nothing is read or written at what is put for a NULL with a count of 0. */
+   crates/strkw_c with `nonnull` in its name. Nothing is read or written at what is put for a NULL with a count of 0.
+   A strkw_schema is kept here: the bytes of a schema object, with which each call goes to a proved function. */
 #include "strkw.h"
+
+#include <stdlib.h>
+#include <string.h>
 
 static const uint8_t no_text[1] = {0};
 static const size_t no_ends[1] = {0};
@@ -32,6 +36,7 @@ FORMAT(is_uri)
 FORMAT(is_uri_reference)
 FORMAT(is_uri_template)
 FORMAT(is_uuid)
+FORMAT(is_email)
 
 #define ENCODING(name)                                                            \
     uint8_t strkw_nonnull_##name(const uint8_t *text, size_t count);              \
@@ -78,3 +83,53 @@ uint8_t strkw_refusal(uint32_t draft, uint32_t options, const uint8_t *schema, s
     return strkw_nonnull_refusal(draft, options, text_at(schema), schema_count, out != NULL ? out : no_room, room,
                                  written);
 }
+
+uint8_t strkw_nonnull_errors(uint32_t draft, uint32_t options, const uint8_t *schema, size_t schema_count,
+                             const uint8_t *text, size_t text_count, uint8_t *out, size_t room, size_t *written);
+
+uint8_t strkw_errors(uint32_t draft, uint32_t options, const uint8_t *schema, size_t schema_count, const uint8_t *text,
+                     size_t text_count, uint8_t *out, size_t room, size_t *written) {
+    uint8_t no_room[1] = {0};
+    if (!leads(schema, schema_count) || !leads(text, text_count)) return STRKW_NULL;
+    if (!leads(out, room) || written == NULL) return STRKW_NULL;
+    return strkw_nonnull_errors(draft, options, text_at(schema), schema_count, text_at(text), text_count,
+                                out != NULL ? out : no_room, room, written);
+}
+
+struct strkw_schema {
+    uint32_t draft;
+    uint32_t options;
+    size_t count;
+    uint8_t bytes[];
+};
+
+uint8_t strkw_schema_compile(uint32_t draft, uint32_t options, const uint8_t *schema, size_t schema_count,
+                             strkw_schema **made) {
+    if (made == NULL) return STRKW_NULL;
+    uint8_t status = strkw_check(draft, options, schema, schema_count, NULL, 0, NULL, 0, NULL, 0);
+    if (status != STRKW_DONE) return status;
+    strkw_schema *kept = malloc(sizeof *kept + schema_count);
+    if (kept == NULL) return STRKW_OUT_OF_MEMORY;
+    kept->draft = draft;
+    kept->options = options;
+    kept->count = schema_count;
+    memcpy(kept->bytes, schema, schema_count);
+    *made = kept;
+    return STRKW_DONE;
+}
+
+uint8_t strkw_schema_check(const strkw_schema *schema, const uint8_t *texts, size_t texts_count, const size_t *ends,
+                           size_t ends_count, uint8_t *verdicts, size_t room) {
+    if (schema == NULL) return STRKW_NULL;
+    return strkw_check(schema->draft, schema->options, schema->bytes, schema->count, texts, texts_count, ends,
+                       ends_count, verdicts, room);
+}
+
+uint8_t strkw_schema_errors(const strkw_schema *schema, const uint8_t *text, size_t text_count, uint8_t *out,
+                            size_t room, size_t *written) {
+    if (schema == NULL) return STRKW_NULL;
+    return strkw_errors(schema->draft, schema->options, schema->bytes, schema->count, text, text_count, out, room,
+                        written);
+}
+
+void strkw_schema_free(strkw_schema *schema) { free(schema); }

@@ -1,5 +1,5 @@
-/* Calls the library from C: every row of a table, a file of requests against its stored answers, texts by one schema, why
-   a schema is refused, and NULL.
+/* Calls the library from C: every row of a table, a file of requests against its stored answers, texts by one schema,
+   why a schema is refused, the errors of a text, a schema that is kept, and NULL.
    caller FORMATS REQUESTS ANSWERS; status 0 where all is as it is stored. */
 #include "strkw.h"
 
@@ -30,6 +30,7 @@ static const struct {
     {"uri-reference", strkw_is_uri_reference},
     {"uri-template", strkw_is_uri_template},
     {"uuid", strkw_is_uuid},
+    {"email", strkw_is_email},
 };
 
 static const struct {
@@ -156,7 +157,7 @@ static void check_refusal(uint32_t options, const char *schema, const char *want
 static void check_refusals(void) {
     uint8_t out[] = {'?'};
     size_t written = 7;
-    check_refusal(0, "{\"pattern\":\"a+\"}", "/pattern: the pattern \"a+\" is not taken: only literal patterns are");
+    check_refusal(0, "{\"pattern\":\"(?=a)\"}", "/pattern: the pattern \"(?=a)\" is not taken: it has a look-ahead");
     check_refusal(0, "{\"minLength\":-1}", "/minLength: the limit is not a non-negative whole number of 64 bits");
     check_refusal(1, "{\"format\":5}", "/format: 5 is not of type \"string\"");
     check_refusal(1, "{\"format\":\"uuid\"}",
@@ -167,6 +168,46 @@ static void check_refusals(void) {
     expect(written == 7, "these leave the count as it was");
     expect(tell(7, 2, "{\"format\":\"uuid\"}", out, 1, &written) == STRKW_DONE, "nothing is refused");
     expect(written == 0 && out[0] == '?', "and nothing is written");
+}
+
+static uint8_t errors_of(uint32_t options, const char *schema, const char *text, uint8_t *out, size_t room,
+                         size_t *written) {
+    const uint8_t *object = (const uint8_t *)schema, *bytes = (const uint8_t *)text;
+    return strkw_errors(7, options, object, strlen(schema), bytes, strlen(text), out, room, written);
+}
+
+/* The errors of a date that is none, twice: by an object, and by one that is kept. */
+static void check_errors(void) {
+    static const char *schema = "{\"format\":\"date\",\"pattern\":\"^[0-9-]{4,9}$\"}";
+    static const char *want = "error /format: \"2023-02-29\" is not a \"date\"\n"
+                              "error /pattern: \"2023-02-29\" does not match \"^[0-9-]{4,9}$\"\n"
+                              "note /format: \"date\"\n";
+    const uint8_t *date = (const uint8_t *)"2023-02-29";
+    size_t count = strlen(want), written = 7;
+    uint8_t out[200] = {'?'};
+    strkw_schema *kept = NULL;
+    expect(errors_of(0, schema, "2023-02-29", out, count - 1, &written) == STRKW_NO_ROOM, "errors need room");
+    expect(written == count && out[0] == '?', "too little room writes no error");
+    expect(errors_of(0, schema, "2023-02-29", out, sizeof out, &written) == STRKW_DONE, "errors are written");
+    expect(written == count && memcmp(out, want, count) == 0, "these are the errors");
+    expect(errors_of(4, "[]", "\xFF", out, 1, &written) == STRKW_NO_OPTION, "no errors by an option that is none");
+    expect(errors_of(0, "[]", "\xFF", out, 1, &written) == STRKW_NOT_UTF8, "no errors of what is not UTF-8");
+    expect(errors_of(0, "[]", "a", out, 1, &written) == STRKW_NO_SCHEMA, "no errors by what is no object");
+    expect(errors_of(0, "{\"maxLength\":-1}", "a", out, 1, &written) == STRKW_REFUSED, "no errors by a refused object");
+    expect(written == count, "these leave the count as it was");
+    expect(strkw_schema_compile(7, 0, (const uint8_t *)"[]", 2, &kept) == STRKW_NO_SCHEMA, "no object is kept");
+    expect(strkw_schema_compile(7, 0, NULL, 2, &kept) == STRKW_NULL && kept == NULL, "nor is NULL");
+    const uint8_t *object = (const uint8_t *)schema;
+    expect(strkw_schema_compile(7, 0, object, strlen(schema), NULL) == STRKW_NULL, "nowhere to keep it");
+    expect(strkw_schema_compile(7, 0, object, strlen(schema), &kept) == STRKW_DONE, "an object is kept");
+    memset(out, '?', sizeof out);
+    expect(strkw_schema_errors(kept, date, 10, out, sizeof out, &written) == STRKW_DONE, "it has errors");
+    expect(written == count && memcmp(out, want, count) == 0, "and they are the same");
+    expect(strkw_schema_check(kept, date, 10, &(size_t){10}, 1, out, 1) == STRKW_DONE && out[0] == 0, "and a verdict");
+    expect(strkw_schema_check(NULL, date, 10, &(size_t){10}, 1, out, 1) == STRKW_NULL, "NULL has no verdict");
+    expect(strkw_schema_errors(NULL, date, 10, out, 1, &written) == STRKW_NULL, "NULL has no errors");
+    strkw_schema_free(kept);
+    strkw_schema_free(NULL);
 }
 
 /* NULL with a count of 0 is an empty text; with another count it has no format and is no encoding. */
@@ -198,6 +239,10 @@ static void check_null_apart(void) {
     expect(strkw_refusal(7, 0, NULL, 10, out, 1, &written) == STRKW_NULL, "no schema that is refused");
     expect(strkw_refusal(7, 0, object, 2, NULL, 10, &written) == STRKW_NULL, "no room for a refusal");
     expect(strkw_refusal(7, 0, object, 2, out, 1, NULL) == STRKW_NULL, "no count of a refusal");
+    expect(strkw_errors(7, 0, NULL, 10, object, 2, out, 1, &written) == STRKW_NULL, "no schema of errors");
+    expect(strkw_errors(7, 0, object, 2, NULL, 2, out, 1, &written) == STRKW_NULL, "no text that has errors");
+    expect(strkw_errors(7, 0, object, 2, object, 2, NULL, 10, &written) == STRKW_NULL, "no room for errors");
+    expect(strkw_errors(7, 0, object, 2, object, 2, out, 1, NULL) == STRKW_NULL, "no count of errors");
     expect(written == 7 && out[0] == '?', "NULL leaves all as it was");
     expect(strkw_answer(object, 2, NULL, 0, &written) == STRKW_NO_ROOM && written == 16, "NULL has no room");
     expect(strkw_answer(NULL, 0, NULL, 0, &written) == STRKW_DONE && written == 0, "NULL has no request");
@@ -219,6 +264,7 @@ int main(int argc, char **argv) {
     check_answers(argv[2], argv[3]);
     check_many();
     check_refusals();
+    check_errors();
     check_null();
     check_null_apart();
     if (!failed) printf("caller.c: %zu rows\n", rows);

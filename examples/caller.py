@@ -64,7 +64,7 @@ def check_schemas(rows):
         return None
     formats = [row for row in rows if row[0] in strkw.FORMATS]
     for name, want, text in formats:
-        validator = Draft7Validator({"format": name}, format_checker=strkw.checker())
+        validator = Draft7Validator({"format": name}, format_checker=strkw.jsonschema_format_checker())
         check(validator.is_valid(text) == (want == "yes"), f"jsonschema, {name}: {text}")
         check(validator.is_valid(5), f"jsonschema, {name}: a number")
     return len(formats)

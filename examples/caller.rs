@@ -48,6 +48,7 @@ mod strkw {
         "uri-reference" strkw_is_uri_reference,
         "uri-template" strkw_is_uri_template,
         "uuid" strkw_is_uuid,
+        "email" strkw_is_email,
         ;
         "base64" strkw_is_base64,
         "base64url" strkw_is_base64url,

@@ -42,6 +42,9 @@ from threading import Event, Thread
 TOP = Path(__file__).resolve().parent.parent
 ROWS = TOP / "tools" / "programs"
 SECONDS_FOR_A_RUN = 20
+# Between two inputs once the output is closed. Until a process that was forked for another row has begun, it holds this
+# output open too, and a write may still go through.
+SECONDS_BEHIND_THE_END = 0.5
 
 
 @dataclass
@@ -129,7 +132,7 @@ class Talk:
     def __init__(self, run, row):
         self.written, self.errors = bytearray(), bytearray()
         self.has_come = Event()
-        self.is_closing = row.to == "closing"
+        self.is_closing, self.is_closed = row.to == "closing", False
         parts = [bytes_of(row.input), *map(bytes_of, row.then)]
         self.threads = [Thread(target=self.give, args=[run.stdin, parts]), Thread(target=self.hear, args=[run.stderr])]
         self.threads += [Thread(target=self.take, args=[run.stdout])] if run.stdout else []
@@ -140,7 +143,7 @@ class Talk:
         with suppress(BrokenPipeError), stream:
             for number, part in enumerate(parts):
                 if number > 0:
-                    self.has_come.wait()
+                    self.has_come.wait(SECONDS_BEHIND_THE_END if self.is_closed else None)
                     self.has_come.clear()
                 stream.write(part)
                 stream.flush()
@@ -152,6 +155,7 @@ class Talk:
                 if self.is_closing:
                     break
                 self.has_come.set()
+        self.is_closed = True
         self.has_come.set()
 
     def hear(self, stream):

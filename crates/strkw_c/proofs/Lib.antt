@@ -1,3 +1,3 @@
-mod AppendLemmas
+mod LineLemmas
 mod TextLemmas
 mod VerdictLemmas

@@ -37,12 +37,17 @@ pub first_refusal : (s : Settings) (object : Members) (e : CompileError) → (re
 first_refusal s object e (inl none) had = absurd (had (ap (λ r. r.reason) none))
 first_refusal s object e (inr first) had = first
 
+-- the settings of two numbers that are a draft and options
+pub settings_are : (draft bits : ℕ) (d : Draft) (o : Options) → draft_numbered draft ≡ Some d → options_of bits ≡ Some o
+    → settings_of draft bits ≡ Some (settings_for d o)
+settings_are draft bits d o is_draft are_options = rw (is_draft, are_options) refl
+
 -- a failure that is a refusal, under the settings of two numbers, is the first of the bytes by what the numbers set
 pub refused_under : (draft bits : ℕ) (d : Draft) (o : Options) (failure : Failure) (why : CompileError) (bytes : List ℕ)
     → draft_numbered draft ≡ Some d → options_of bits ≡ Some o → failure ≡ Refused why → Fails failure (settings_for d o) bytes
     → (settings_of draft bits ≡ Some (settings_for d o)) × HasFirstRefusal (settings_for d o) bytes (Some (refusal_of why))
 refused_under draft bits d o failure why bytes is_draft are_options is failed =
-    let refused = subst (λ f. Fails f (settings_for d o) bytes) is failed in (rw (is_draft, are_options) refl, refused.0)
+    let refused = subst (λ f. Fails f (settings_for d o) bytes) is failed in (settings_are draft bits d o is_draft are_options, refused.0)
 
 -- a compiled object is not refused
 pub not_refused : {E : Type 0} (outcome : E → List ℕ → Outcome) (s : Settings) (object : Members) (k : StringKeywords E) → IsCompiledFrom outcome s object k

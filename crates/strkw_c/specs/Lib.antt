@@ -1,4 +1,5 @@
 pub mod Buffers
+pub mod Errors
 pub mod Refusals
 pub mod Settings
 pub mod Statuses

@@ -4,13 +4,12 @@ use Rattle.serde_json.specs.Data.{string}
 use Rattle.serde_json.specs.Written.{compact_text}
 use Rattle.strkw_report.specs.Refusals.{Reason, regex, Refusal, explanation}
 
--- a pattern is refused since it is no literal one, whatever it is as a regular expression
-abbrev pub reason_text : Reason → List ℕ
-reason_text (regex p) =
-    codes "the pattern " ++ compact_text (string p)
-    ++ codes " is not taken: only literal patterns are"
-reason_text why = explanation why
+-- the words behind a pattern say why `strkw_ecma` does not take it; which words they are is not said
+abbrev pub reason_text : List ℕ → Reason → List ℕ
+reason_text words (regex p) =
+    codes "the pattern " ++ compact_text (string p) ++ codes " is not taken: " ++ words
+reason_text words why = explanation why
 
 -- the place of the keyword, and the reason
-abbrev pub refusal_text : Refusal → List ℕ
-refusal_text r = r.location ++ codes ": " ++ reason_text r.reason
+abbrev pub refusal_text : List ℕ → Refusal → List ℕ
+refusal_text words r = r.location ++ codes ": " ++ reason_text words r.reason

@@ -2,11 +2,11 @@
 use Rattle.std.specs.Prelude.{ℕ, ◌==◌, [], Bool, true, false, Option, Some, None, option_and_then}
 use Rattle.std.specs.Prelude.{option_map, if◌then◌else◌}
 use Rattle.strkw_report.specs.declared.draft.Draft.{Draft}
-use Rattle.strkw_pattern.specs.declared.engine.Outcome.TheVariants.{NoMatch}
 use Rattle.strkw_keywords.specs.declared.options.Options.{Options}
 use Rattle.strkw_keywords.specs.Meanings.{no_lists}
 use Rattle.strkw_keywords.specs.Object.{Settings, default_options}
 use Rattle.strkw_report.specs.Drafts.{draft_numbered}
+use Rattle.strkw_ecma.specs.machine.Outcomes.{takes_pattern, pattern_outcome}
 
 -- whether formats are checked (None: the draft decides), and whether an unknown one adds nothing
 abbrev pub options_with : Option Bool → Bool → Options
@@ -23,15 +23,16 @@ options_of bits =
     else (if bits == 2 then Some (options_with (Some true) true)
     else (if bits == 3 then Some (options_with None true) else None)))
 
--- the object stands at the root, no check is registered, and the builder takes no pattern
+-- the object stands at the root, no check is registered, and the patterns are those of ECMA-262
+-- that `strkw_ecma` takes: `IsExact` of its laws says which, and what they match
 abbrev pub settings_for : Draft → Options → Settings
 settings_for draft options = record {
   draft = draft;
   place = record { schema = []; prefix = None };
   options = options;
   lists = no_lists;
-  takes = λ pattern. false;
-  outcome = λ pattern text. NoMatch;
+  takes = takes_pattern;
+  outcome = pattern_outcome;
 }
 
 -- the settings of two numbers, or that one of them is no draft or no options

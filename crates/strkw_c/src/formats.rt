@@ -1,4 +1,4 @@
-//! The sixteen formats. Bytes that are not UTF-8 have no format.
+//! The sixteen formats, and mail addresses. Bytes that are not UTF-8 have no format.
 
 ghost use Rattle.std.specs.Prelude.{◌↔◌, IsTrue};
 ghost use Rattle.std.specs.Str.{IsUtf8, chars};
@@ -10,9 +10,11 @@ ghost use Rattle.strkw_net.specs.Uuid.{IsUuid};
 ghost use Rattle.strkw_label.specs.HostName.{IsHostName};
 ghost use Rattle.strkw_uri.specs.Pointer.{IsJsonPointer, IsRelativeJsonPointer};
 ghost use Rattle.strkw_uri.specs.Template.{IsUriTemplate};
+ghost use Rattle.strkw_mail.specs.Mailbox.{IsMailbox};
 ghost use Rattle.strkw_uri.specs.Uri.{IsUri, IsUriReference, IsIri, IsIriReference};
 
 use strkw_label::is_valid_hostname;
+use strkw_mail::is_valid_email;
 use strkw_net::{is_valid_hostname_rfc1034, is_valid_ipv4, is_valid_ipv6, is_valid_uuid};
 use strkw_time::{is_valid_date, is_valid_datetime, is_valid_duration, is_valid_time};
 use strkw_uri::{
@@ -193,6 +195,17 @@ pub extern "C" fn strkw_nonnull_is_uuid(text: &[u8]) -> bool
 {
     match str::from_utf8(text) {
         Ok(text) => is_valid_uuid(text),
+        Err(_) => false,
+    }
+}
+
+/// Whether the bytes are a mail address: `Mailbox` of RFC 5321, section 4.1.2. No schema object knows it as a format.
+#[unsafe(no_mangle)]
+pub extern "C" fn strkw_nonnull_is_email(text: &[u8]) -> bool
+    ensures { IsTrue result ↔ (IsUtf8 text.now × IsMailbox (chars text.now)) }
+{
+    match str::from_utf8(text) {
+        Ok(text) => is_valid_email(text),
         Err(_) => false,
     }
 }

@@ -6,7 +6,9 @@
 mod answers;
 mod buffers;
 mod encodings;
+mod errors;
 mod formats;
+mod lines;
 mod refusals;
 mod schemas;
 mod settings;
@@ -21,13 +23,14 @@ pub use encodings::{
     strkw_nonnull_is_base16, strkw_nonnull_is_base32, strkw_nonnull_is_base32hex,
     strkw_nonnull_is_base64, strkw_nonnull_is_base64url, strkw_nonnull_is_json,
 };
+pub use errors::strkw_nonnull_errors;
 pub use formats::{
     strkw_nonnull_is_date, strkw_nonnull_is_date_time, strkw_nonnull_is_duration,
-    strkw_nonnull_is_hostname, strkw_nonnull_is_hostname_draft4, strkw_nonnull_is_ipv4,
-    strkw_nonnull_is_ipv6, strkw_nonnull_is_iri, strkw_nonnull_is_iri_reference,
-    strkw_nonnull_is_json_pointer, strkw_nonnull_is_relative_json_pointer, strkw_nonnull_is_time,
-    strkw_nonnull_is_uri, strkw_nonnull_is_uri_reference, strkw_nonnull_is_uri_template,
-    strkw_nonnull_is_uuid,
+    strkw_nonnull_is_email, strkw_nonnull_is_hostname, strkw_nonnull_is_hostname_draft4,
+    strkw_nonnull_is_ipv4, strkw_nonnull_is_ipv6, strkw_nonnull_is_iri,
+    strkw_nonnull_is_iri_reference, strkw_nonnull_is_json_pointer,
+    strkw_nonnull_is_relative_json_pointer, strkw_nonnull_is_time, strkw_nonnull_is_uri,
+    strkw_nonnull_is_uri_reference, strkw_nonnull_is_uri_template, strkw_nonnull_is_uuid,
 };
 pub use refusals::strkw_nonnull_refusal;
 pub use verdicts::strkw_nonnull_check;

@@ -1,6 +1,6 @@
 //! Why a schema object is refused.
 
-ghost use Rattle.std.specs.Prelude.{◌≡◌, ◌≢◌, ◌⊎◌, ◌↔◌, ◌≤◌, ◌++◌, [], ℕ, List, Some, None, IsSome, OnOk, false};
+ghost use Rattle.std.specs.Prelude.{◌≡◌, ◌≢◌, ◌⊎◌, ◌↔◌, ◌≤◌, ◌++◌, [], codes, ℕ, List, Some, None, IsSome, IfOk, false, string_bytes};
 ghost use Rattle.strkw_report.specs.Refusals.{Refusal, prints_float, reason_of, refusal_of, regex};
 ghost use Rattle.strkw_keywords.specs.Object.{Settings};
 ghost use Rattle.strkw_report.specs.Drafts.{draft_numbered};
@@ -14,8 +14,10 @@ use crate::buffers::put;
 use crate::schemas::{Failure, compile};
 use crate::settings::options_of;
 use crate::statuses::{DONE, NO_DRAFT, NO_OPTION, NO_ROOM, NO_SCHEMA, OUT_OF_MEMORY, REFUSED};
+use serde_json::Value;
 use std::alloc::{AllocError, Global};
-use strkw_report::{CompileError, CompileErrorKind, draft_numbered, push_json_string};
+use strkw_ecma::why_refused;
+use strkw_report::{CompileError, CompileErrorKind, draft_numbered};
 
 /// Tells why a schema object is refused, under a draft and options as `strkw_nonnull_check` has them. Status 5: it is
 /// refused, and the text of its first refusal is at the head of `out`, with its count of bytes in `written`: the JSON
@@ -42,12 +44,12 @@ pub extern "C" fn strkw_nonnull_refusal(
     ensures no_schema { result ≡ NO_SCHEMA → IsSchema schema.now None }
     ensures taken { result ≡ DONE → (s : Settings) × (settings_of draft options ≡ Some s)
         × HasFirstRefusal s schema.now None × IsPut [] out.old out.new written.new }
-    ensures told { result ≡ REFUSED → (s : Settings) × (why : Refusal)
+    ensures told { result ≡ REFUSED → (s : Settings) × (why : Refusal) × (words : List ℕ)
         × (settings_of draft options ≡ Some s) × HasFirstRefusal s schema.now (Some why)
-        × IsPut (refusal_text why) out.old out.new written.new }
-    ensures short { result ≡ NO_ROOM → (s : Settings) × (why : Refusal)
+        × IsPut (refusal_text words why) out.old out.new written.new }
+    ensures short { result ≡ NO_ROOM → (s : Settings) × (why : Refusal) × (words : List ℕ)
         × (settings_of draft options ≡ Some s) × HasFirstRefusal s schema.now (Some why)
-        × IsTooLong (refusal_text why) out.old out.new written.new }
+        × IsTooLong (refusal_text words why) out.old out.new written.new }
     ensures kept { result ≢ DONE → result ≢ NO_ROOM → result ≢ REFUSED
         → (out.new ≡ out.old) × (written.new ≡ written.old) }
 {
@@ -72,50 +74,76 @@ pub extern "C" fn strkw_nonnull_refusal(
 fn tell(alloc: Global, refusal: &CompileError, out: &mut [u8], written: &mut usize) -> u8
     requires { prints_float (reason_of refusal.now.kind) ≡ false }
     ensures status { (result ≡ OUT_OF_MEMORY) ⊎ (result ≡ NO_ROOM) ⊎ (result ≡ REFUSED) }
-    ensures told { result ≡ REFUSED
-        → IsPut (refusal_text (refusal_of refusal.now)) out.old out.new written.new }
-    ensures short { result ≡ NO_ROOM
-        → IsTooLong (refusal_text (refusal_of refusal.now)) out.old out.new written.new }
+    ensures told { result ≡ REFUSED → (words : List ℕ)
+        × IsPut (refusal_text words (refusal_of refusal.now)) out.old out.new written.new }
+    ensures short { result ≡ NO_ROOM → (words : List ℕ)
+        × IsTooLong (refusal_text words (refusal_of refusal.now)) out.old out.new written.new }
     ensures kept { result ≡ OUT_OF_MEMORY → (out.new ≡ out.old) × (written.new ≡ written.old) }
 {
-    let mut text = Vec::new(alloc);
-    let Ok(()) = push_refusal(alloc, refusal, &mut text) else {
+    let Ok(text) = refusal_text(alloc, refusal) else {
         return OUT_OF_MEMORY;
     };
-    if put(&text, out, written) {
+    if put(text.as_bytes(), out, written) {
         REFUSED
     } else {
         NO_ROOM
     }
 }
 
-// Appends the text of a refusal. Out of memory, a beginning of it may have been appended.
-fn push_refusal(alloc: Global, refusal: &CompileError, out: &mut Vec<u8>) -> Result<(), AllocError>
+// The text of a refusal: the place of the keyword, and the reason.
+fn refusal_text(alloc: Global, refusal: &CompileError) -> Result<String, AllocError>
     requires { prints_float (reason_of refusal.now.kind) ≡ false }
-    ensures { OnOk result (out.new.items ≡ out.old.items ++ refusal_text (refusal_of refusal.now)) }
+    ensures { IfOk result (λ text. (words : List ℕ)
+        × (string_bytes text ≡ refusal_text words (refusal_of refusal.now))) }
 {
-    out.extend_from_slice(refusal.location.as_str().as_bytes())?;
-    out.extend_from_slice(b": ")?;
-    push_reason(alloc, refusal, out)
+    let reason = reason_text(alloc, refusal)?;
+    placed_text(alloc, refusal.location.as_str(), &reason)
 }
 
-// Appends the reason of a refusal.
-fn push_reason(alloc: Global, refusal: &CompileError, out: &mut Vec<u8>) -> Result<(), AllocError>
+// A place, and a reason.
+fn placed_text(alloc: Global, place: &str, reason: &str) -> Result<String, AllocError>
+    ensures { IfOk result (λ text. string_bytes text ≡ place.now ++ codes ": " ++ reason.now) }
+{
+    format!(in alloc; "{place}: {reason}")
+}
+
+// The reason of a refusal.
+fn reason_text(alloc: Global, refusal: &CompileError) -> Result<String, AllocError>
     requires { prints_float (reason_of refusal.now.kind) ≡ false }
-    ensures { OnOk result
-        (out.new.items ≡ out.old.items ++ reason_text (reason_of refusal.now.kind)) }
+    ensures { IfOk result (λ text. (words : List ℕ)
+        × (string_bytes text ≡ reason_text words (reason_of refusal.now.kind))) }
 {
     let CompileErrorKind::Regex { pattern } = &refusal.kind else {
-        return out.extend_from_slice(refusal.text(alloc)?.as_bytes());
+        return refusal.text(alloc);
     };
-    push_pattern(pattern, out)
+    let words = words_about(alloc, pattern)?;
+    pattern_text(alloc, pattern, &words)
 }
 
-// Appends the reason of a pattern that is refused.
-fn push_pattern(pattern: &str, out: &mut Vec<u8>) -> Result<(), AllocError>
-    ensures { OnOk result (out.new.items ≡ out.old.items ++ reason_text (regex pattern.now)) }
+// The reason of a pattern that is refused, with the words that say why.
+fn pattern_text(alloc: Global, pattern: &str, words: &str) -> Result<String, AllocError>
+    ensures { IfOk result (λ text. string_bytes text ≡ reason_text words.now (regex pattern.now)) }
 {
-    out.extend_from_slice(b"the pattern ")?;
-    push_json_string(pattern, out)?;
-    out.extend_from_slice(b" is not taken: only literal patterns are")
+    let shown = Value::try_from_str(alloc, pattern)?.to_string(alloc)?;
+    shown_text(alloc, &shown, words)
+}
+
+// The same of a pattern that is written as JSON.
+fn shown_text(alloc: Global, shown: &str, words: &str) -> Result<String, AllocError>
+    ensures { IfOk result (λ text. string_bytes text
+        ≡ codes "the pattern " ++ shown.now ++ codes " is not taken: " ++ words.now) }
+{
+    let mut text = String::from_str(alloc, "the pattern ")?;
+    text.push_str(shown)?;
+    text.push_str(" is not taken: ")?;
+    text.push_str(words)?;
+    Ok(text)
+}
+
+// Why a pattern is not taken, in words.
+fn words_about(alloc: Global, pattern: &str) -> Result<String, AllocError> {
+    match why_refused(alloc, pattern)? {
+        Some(why) => format!(in alloc; "{why}"),
+        None => Ok(String::new(alloc)),
+    }
 }

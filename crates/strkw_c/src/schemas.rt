@@ -4,7 +4,7 @@ ghost use Rattle.std.specs.Prelude.{◌≡◌, Some, IfOk, IfErr};
 ghost use Rattle.serde_json.specs.Data.{Members};
 ghost use Rattle.serde_json.specs.View.{members_view};
 ghost use Rattle.strkw_report.specs.declared.refusal.CompileError.{CompileError};
-ghost use Rattle.strkw_pattern.specs.Matcher.{literal_outcome};
+ghost use Rattle.strkw_ecma.specs.machine.Engine.{engine_outcome};
 ghost use Rattle.strkw_keywords.specs.Meanings.{no_lists};
 ghost use Rattle.strkw_keywords.specs.Demands.{IsInUse};
 ghost use Rattle.strkw_object.specs.Compiled.{IsCompiledFrom, keywords_demands};
@@ -14,10 +14,10 @@ ghost use Rattle.strkw_c.specs.Verdicts.{IsSchema, Fails, FailsObject};
 
 use serde_json::{Map, Value};
 use std::alloc::{AllocError, Global};
+use strkw_ecma::{EcmaMatcher, EcmaPatterns};
 use strkw_json::read_value;
 use strkw_keywords::{Context, Options};
 use strkw_object::{StringKeywords, compile_strings};
-use strkw_pattern::{LiteralMatcher, NoPatterns};
 use strkw_report::{CompileError, CompileErrorKind, Draft};
 
 /// Why a schema has no verdicts.
@@ -39,16 +39,16 @@ impl From<AllocError> for Failure {
     }
 }
 
-/// The compiled object of a schema that is given by its bytes. Of patterns the literal ones are taken.
+/// The compiled object of a schema that is given by its bytes. Its patterns are those of `strkw_ecma`.
 pub(crate) fn compile(
     alloc: Global,
     draft: Draft,
     options: Options,
     schema: &[u8],
-) -> Result<StringKeywords<LiteralMatcher>, Failure>
+) -> Result<StringKeywords<EcmaMatcher>, Failure>
     ensures compiled { IfOk result (λ k. (object : Members) × IsSchema schema.now (Some object)
-        × IsCompiledFrom literal_outcome (settings_for draft options) object k) }
-    ensures in_use { IfOk result (λ k. IsInUse (keywords_demands literal_outcome k) no_lists) }
+        × IsCompiledFrom engine_outcome (settings_for draft options) object k) }
+    ensures in_use { IfOk result (λ k. IsInUse (keywords_demands engine_outcome k) no_lists) }
     ensures failed { IfErr result
         (λ failure. Fails failure (settings_for draft options) schema.now) }
 {
@@ -66,14 +66,14 @@ fn compile_object(
     draft: Draft,
     options: Options,
     object: &Map<String, Value>,
-) -> Result<StringKeywords<LiteralMatcher>, Failure>
-    ensures compiled { IfOk result (λ k. IsCompiledFrom literal_outcome
+) -> Result<StringKeywords<EcmaMatcher>, Failure>
+    ensures compiled { IfOk result (λ k. IsCompiledFrom engine_outcome
         (settings_for draft options) (members_view object.now.entries) k) }
-    ensures in_use { IfOk result (λ k. IsInUse (keywords_demands literal_outcome k) no_lists) }
+    ensures in_use { IfOk result (λ k. IsInUse (keywords_demands engine_outcome k) no_lists) }
     ensures failed { IfErr result (λ failure. FailsObject failure
         (settings_for draft options) (members_view object.now.entries)) }
 {
-    let mut ctx = Context::new(alloc, draft, &NoPatterns);
+    let mut ctx = Context::new(alloc, draft, &EcmaPatterns);
     ctx.options = options;
     match compile_strings(alloc, &ctx, object) {
         Ok(keywords) => Ok(keywords),

@@ -23,3 +23,6 @@ pub(crate) const REFUSED: u8 = 5;
 
 /// A bit of the options is none of the two.
 pub(crate) const NO_OPTION: u8 = 6;
+
+/// The text is not UTF-8. 7 is that of a pointer which is null, which no call here answers.
+pub(crate) const NOT_UTF8: u8 = 8;

@@ -1,7 +1,7 @@
 //! The calls on a schema object with each growth refused. With ample memory a row has to pass. `tools/refusals.py`
 //! runs it with each growth refused in turn too: then it ends as out of memory.
 
-use crate::{strkw_nonnull_check, strkw_nonnull_refusal};
+use crate::{strkw_nonnull_check, strkw_nonnull_errors, strkw_nonnull_refusal};
 use std::alloc::{AllocError, Global};
 use std::test::Fail;
 
@@ -16,8 +16,8 @@ const REFUSED: [(&str, &str); 4] = [
         "/maxLength: the limit is not a non-negative whole number of 64 bits",
     ),
     (
-        "{\"pattern\":\"a+\"}",
-        "/pattern: the pattern \"a+\" is not taken: only literal patterns are",
+        "{\"pattern\":\"(?=a)\"}",
+        "/pattern: the pattern \"(?=a)\" is not taken: it has a look-ahead",
     ),
     (
         "{\"contentEncoding\":[5]}",
@@ -73,8 +73,43 @@ fn verdicts_under_refusal(rt: HostRuntime) -> Result<(), Fail> {
     for (schema, want) in [
         ("{\"format\":\"date\",\"minLength\":2}", [1, 0, 2]),
         ("{\"pattern\":\"^2023\"}", [0, 1, 2]),
+        ("{\"pattern\":\"^\\\\d{3}4\"}", [1, 0, 2]),
     ] {
         if !are_judged_so(rt.alloc(), schema, want)? {
+            return Err(Fail::new(schema));
+        }
+    }
+    Ok(())
+}
+
+// Whether the text `2023-02-29` has these lines by a schema object of draft 7. Out of memory, the buffer and the count
+// are as they were.
+fn has_lines(alloc: Global, schema: &str, want: &str) -> Result<bool, AllocError> {
+    let mut out = [7u8; 128];
+    let mut written = 7;
+    let text = b"2023-02-29";
+    let schema = schema.as_bytes();
+    match strkw_nonnull_errors(alloc, 7, 0, schema, text, &mut out, &mut written) {
+        0 => Ok(out.get(..written) == Some(want.as_bytes())),
+        1 if written == 7 && out == [7u8; 128] => Err(AllocError),
+        _ => Ok(false),
+    }
+}
+
+#[test]
+fn errors_under_refusal(rt: HostRuntime) -> Result<(), Fail> {
+    for (schema, want) in [
+        (
+            "{\"format\":\"date\",\"maxLength\":5}",
+            "error /format: \"2023-02-29\" is not a \"date\"\nerror /maxLength: \"2023-02-29\" is longer than 5 characters\nnote /format: \"date\"\n",
+        ),
+        (
+            "{\"pattern\":\"a\\n*b\"}",
+            "error /pattern: \"2023-02-29\" does not match \"a *b\"\n",
+        ),
+        ("{\"minLength\":5}", ""),
+    ] {
+        if !has_lines(rt.alloc(), schema, want)? {
             return Err(Fail::new(schema));
         }
     }

@@ -18,10 +18,11 @@ use crate::settings::options_of;
 use crate::statuses::{DONE, NO_DRAFT, NO_OPTION, NO_SCHEMA, NO_TEXTS, OUT_OF_MEMORY, REFUSED};
 use crate::texts::are_ends;
 use std::alloc::{AllocError, Global};
+use strkw_ecma::EcmaMatcher;
 use strkw_keywords::{Checks, Options};
 use strkw_object::StringKeywords;
 use strkw_object::laws::compiled_errors_are_those_of_the_object;
-use strkw_pattern::{LiteralMatcher, RegexEngine};
+use strkw_pattern::RegexEngine;
 use strkw_report::{Draft, draft_numbered};
 
 const INVALID: u8 = 0;
@@ -32,10 +33,10 @@ const NOT_UTF8: u8 = 2;
 
 /// Checks many texts by one schema object, compiled once, of a draft: 4, 6, 7, 201909 or 202012. By the options 0
 /// formats are checked in every draft, and an unknown one is refused; bit 1 leaves it to the draft whether they are
-/// checked, and bit 2 lets unknown ones pass. Of patterns the literal ones are taken. The texts stand one after the
-/// other at the head of `texts`, and `ends` has the end of each. Status 0: `verdicts` has a verdict on each text in its
-/// order, 1 where it is valid, 0 where it is not, 2 where its bytes are not UTF-8. After any other status it is as it
-/// was.
+/// checked, and bit 2 lets unknown ones pass. Patterns are those of ECMA-262 that `strkw_ecma` takes. The texts stand
+/// one after the other at the head of `texts`, and `ends` has the end of each. Status 0: `verdicts` has a verdict on
+/// each text in its order, 1 where it is valid, 0 where it is not, 2 where its bytes are not UTF-8. After any other
+/// status it is as it was.
 ///
 /// The others, of which the first that holds is told: 2, an end is less than the one before it or past `texts`, or
 /// there are more or fewer verdicts than ends; 3, the draft is none of the five; 6, a bit of the options is none of the
@@ -105,7 +106,7 @@ fn check(
     ensures failed { IfErr result
         (λ failure. Fails failure (settings_for draft options) schema.now) }
 {
-    compiled_errors_are_those_of_the_object::<LiteralMatcher>();
+    compiled_errors_are_those_of_the_object::<EcmaMatcher>();
     let keywords = compile(alloc, draft, options, schema)?;
     Ok(verdicts_on(alloc, &keywords, texts, ends)?)
 }

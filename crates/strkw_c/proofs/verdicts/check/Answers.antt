@@ -1,5 +1,5 @@
 use Rattle.std.proofs.Common.{Some, []}
-use Rattle.strkw_pattern.specs.Matcher.{literal_outcome}
+use Rattle.strkw_ecma.specs.machine.Engine.{engine_outcome}
 use Rattle.strkw_keywords.specs.Meanings.{no_lists}
 use Rattle.strkw_report.specs.Standings.{root_site}
 use Rattle.strkw_c.specs.Settings.{settings_for}
@@ -16,9 +16,9 @@ returns-clause-done c =
       object,
       list,
       is_schema,
-      not_refused literal_outcome s object k of,
+      not_refused engine_outcome s object k of,
       are_texts,
-      verdicts_alike (Passes literal_outcome k) (IsValid s object)
+      verdicts_alike (Passes engine_outcome k) (IsValid s object)
           (λ text. c.compiled_errors_are_those_of_the_object.ensures s object k no_lists root_site (Some text) [] of)
           list _ verdicts,
     )

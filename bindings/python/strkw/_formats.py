@@ -1,0 +1,82 @@
+"""One text by a format or an encoding, and formats for python-jsonschema."""
+import ctypes
+from typing import TYPE_CHECKING, Iterable, Union
+
+from strkw._library import BYTES, COUNT, OUT_OF_MEMORY, WRITTEN, BytesLike, bytes_of, function, written
+
+if TYPE_CHECKING:
+    from jsonschema import FormatChecker
+
+Text = Union[str, BytesLike]
+
+FORMATS = (
+    "date", "date-time", "duration", "hostname", "ipv4", "ipv6", "iri", "iri-reference", "json-pointer",
+    "relative-json-pointer", "time", "uri", "uri-reference", "uri-template", "uuid",
+)
+ENCODINGS = ("base64", "base64url", "base32", "base32hex", "base16", "json")
+
+FORMAT_CHECKS = {
+    name: function("is-" + name, BYTES, COUNT, result=ctypes.c_bool) for name in (*FORMATS, "hostname-draft4", "email")}
+ENCODING_CHECKS = {name: function("is-" + name, BYTES, COUNT) for name in ENCODINGS}
+_ANSWER = function("answer", BYTES, COUNT, *WRITTEN)
+
+
+def is_format(name: str, text: Text) -> bool:
+    """Whether a text is of the format of this name.
+
+    >>> is_format("date", "2024-02-29"), is_format("date", "2023-02-29")
+    (True, False)
+
+    The names are FORMATS, `email` and `hostname-draft4`. `hostname` is that of draft 7 and later, and `hostname-draft4`
+    that of drafts 4 and 6. KeyError for another name. What is not UTF-8, as a lone surrogate, has no format.
+    """
+    data = bytes_of(text)
+    return FORMAT_CHECKS[name](data, len(data))
+
+
+def is_email(text: Text) -> bool:
+    """Whether a text is a mail address: Mailbox of RFC 5321, section 4.1.2.
+
+    >>> is_email("joe.bloggs@example.com"), is_email("joe bloggs@example.com")
+    (True, False)
+    """
+    return is_format("email", text)
+
+
+def is_encoded(name: str, text: Text) -> bool:
+    """Whether a text is an encoding of this name, or JSON; KeyError for a name that is none of ENCODINGS.
+
+    >>> is_encoded("base64", "YQ=="), is_encoded("json", "[1]")
+    (True, True)
+    """
+    data = bytes_of(text)
+    status = ENCODING_CHECKS[name](data, len(data))
+    if status > 1:
+        raise MemoryError
+    return status == 1
+
+
+def answer(requests: BytesLike) -> bytes:
+    """The answers to requests, one a line, as the program strkw gives them, whose patterns are literal ones alone."""
+    if isinstance(requests, str):
+        raise TypeError("requests are bytes-like, and no str")
+    data = bytes_of(requests, "requests are bytes-like")
+    return written(_ANSWER, data, len(data), room=max(256, 2 * len(data)))[1]
+
+
+def jsonschema_format_checker(names: Iterable[str] = (*FORMATS, "email")) -> "FormatChecker":
+    """A FormatChecker of the package jsonschema that knows these formats alone, by this library.
+
+    Draft7Validator({"format": "date"}, format_checker=jsonschema_format_checker()). KeyError for a name that is_format
+    does not know, ImportError where the package is not installed.
+    """
+    try:
+        from jsonschema import FormatChecker
+    except ImportError as error:
+        raise ImportError("jsonschema_format_checker needs the package jsonschema, which is not installed") from error
+
+    made = FormatChecker(formats=())
+    for name in names:
+        FORMAT_CHECKS[name]
+        made.checks(name)(lambda instance, name=name: not isinstance(instance, str) or is_format(name, instance))
+    return made

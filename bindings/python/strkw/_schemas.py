@@ -1,0 +1,218 @@
+"""Texts by a schema object."""
+import ctypes
+import json
+from itertools import accumulate
+from typing import Any, Callable, Iterable, Iterator, Literal, Mapping, Optional, Sequence, Union
+
+from strkw._formats import Text
+from strkw._library import (
+    BUFFER, BYTES, COUNT, DONE, NUMBER, OUT_OF_MEMORY, REFUSED, WRITTEN, BytesLike, bytes_of, function, written)
+
+SchemaObject = Union[Mapping[str, Any], str, BytesLike]
+Formats = Literal["checked", "as-draft"]
+UnknownFormats = Literal["refuse", "ignore"]
+Check = Callable[[str], bool]
+
+DRAFTS = (4, 6, 7, 201909, 202012)
+_KEYWORDS = (
+    "contentMediaType", "contentEncoding", "contentSchema", "format", "minLength", "maxLength", "pattern")
+_NOTING_DRAFTS = (201909, 202012)
+_FORMATS_AS_DRAFT, _IGNORE_UNKNOWN_FORMATS = 1, 2
+_VERDICTS = (False, True, None)
+
+_OBJECT = (NUMBER, NUMBER, BYTES, COUNT)
+_REFUSAL = function("refusal", *_OBJECT, *WRITTEN)
+_ERRORS = function("errors", *_OBJECT, BYTES, COUNT, *WRITTEN)
+_CHECK = function("check", *_OBJECT, BYTES, COUNT, ctypes.POINTER(COUNT), COUNT, BUFFER, COUNT)
+
+
+class ValidationError(ValueError):
+    """What is wrong with a text, as a keyword of a schema object has it."""
+
+    path: str
+    """The place of the keyword in the schema object, a JSON pointer: `/format`."""
+    keyword: str
+    """The keyword: `format`."""
+    message: str
+    """What is wrong: `"2023-02-29" is not a "date"`."""
+
+    def __init__(self, keyword: str, message: str) -> None:
+        super().__init__(keyword, message)
+        self.path, self.keyword, self.message = "/" + keyword, keyword, message
+
+    def __str__(self) -> str:
+        return f"{self.path}: {self.message}"
+
+
+def _source(schema: Any) -> bytes:
+    if isinstance(schema, Mapping):
+        schema = json.dumps(dict(schema), allow_nan=False)
+    return bytes_of(schema, "a schema is a dict, or JSON as a str or bytes-like")
+
+
+def _draft_number(draft: Any) -> int:
+    if not isinstance(draft, int) or isinstance(draft, bool):
+        raise TypeError(f"a draft is an int, and no {type(draft).__name__}")
+    if draft not in DRAFTS:
+        raise ValueError(f"the draft is none of {DRAFTS}: {draft}")
+    return draft
+
+
+def _option(name: str, value: Any, default: str, other: str, bit: int) -> int:
+    """The bit of an option that is set by its other value."""
+    if value not in (default, other):
+        raise ValueError(f"{name} is {default!r} or {other!r}, and not {value!r}")
+    return bit if value == other else 0
+
+
+def _options(formats: Any, unknown_formats: Any) -> int:
+    return (_option("formats", formats, "checked", "as-draft", _FORMATS_AS_DRAFT)
+            | _option("unknown_formats", unknown_formats, "refuse", "ignore", _IGNORE_UNKNOWN_FORMATS))
+
+
+def _why(status: int, *compiled: Any) -> str:
+    if status == REFUSED:
+        _, text = written(_REFUSAL, *compiled, room=256)
+        return f"the schema object is refused at {text.decode()}"
+    return "the schema is no JSON object"
+
+
+def _verdicts(compiled: Sequence[Any], texts: Iterable[Text]) -> list[Optional[bool]]:
+    if isinstance(texts, (str, bytes, bytearray, memoryview)):
+        raise TypeError(f"texts are a list of them, and no {type(texts).__name__}")
+    data = [bytes_of(text) for text in texts]
+    joined, count = b"".join(data), len(data)
+    ends, verdicts = (COUNT * (count + 1))(*accumulate(map(len, data))), ctypes.create_string_buffer(count + 1)
+    status = _CHECK(*compiled, joined, len(joined), ends, count, verdicts, count)
+    if status == OUT_OF_MEMORY:
+        raise MemoryError
+    if status != DONE:
+        raise ValueError(_why(status, *compiled))
+    return [_VERDICTS[verdict] for verdict in verdicts.raw[:count]]
+
+
+def check_texts(draft: int, schema: SchemaObject, texts: Iterable[Text], formats: Formats = "checked",
+                unknown_formats: UnknownFormats = "refuse") -> list[Optional[bool]]:
+    """Whether each of a list of texts is valid by one schema object, in one call that compiles it once.
+
+    >>> check_texts(7, {"format": "date", "maxLength": 10}, ["2024-02-29", "2023-02-29", b"\\xff"])
+    [True, False, None]
+
+    The draft is one of DRAFTS, the schema a dict, or JSON as a str or bytes-like, and a text a str or bytes-like.
+    Formats are checked in every draft; with formats="as-draft" drafts 2019-09 and 2020-12 do not. A format that the
+    draft or the library does not know is refused; with unknown_formats="ignore" it lets every text pass. A pattern is
+    one of ECMA-262 in Unicode mode, with no look-ahead, look-behind or back reference, and of a bounded size. An answer
+    is True or False, and None for what is not UTF-8, as a lone surrogate.
+
+    ValueError where the draft is none of DRAFTS, an option is another word, or the schema is no object or refused; it
+    says why. TypeError where an argument is of another type.
+    """
+    number, options, source = _draft_number(draft), _options(formats, unknown_formats), _source(schema)
+    return _verdicts((number, options, source, len(source)), texts)
+
+
+class Schema:
+    """A schema object of one draft, and the texts that are checked by it.
+
+    >>> name = Schema(7, {"pattern": "^[a-z]+$", "maxLength": 8})
+    >>> name.is_valid("ada")
+    True
+    >>> name.validate("Ada Lovelace")
+    Traceback (most recent call last):
+    strkw.ValidationError: /maxLength: "Ada Lovelace" is longer than 8 characters
+
+    The arguments are those of check_texts. In `checks` a caller registers formats: a name, and a function that answers
+    whether a str is of the format. It counts before the library's own format of that name, as `email`:
+
+    >>> mail = Schema(7, {"format": "email"}, checks={"email": is_email})
+    >>> mail.are_valid(["joe@example.com", "joe"])
+    [True, False]
+
+    A schema object is never changed. Threads may share one without a lock, and so may processes after a fork. Each call
+    compiles it, which takes up to 12 milliseconds for a pattern: hand many texts to one are_valid.
+    """
+
+    def __init__(self, draft: int, schema: SchemaObject, formats: Formats = "checked",
+                 unknown_formats: UnknownFormats = "refuse", checks: Optional[Mapping[str, Check]] = None) -> None:
+        number, options, source = _draft_number(draft), _options(formats, unknown_formats), _source(schema)
+        self._name, self._check = None, None
+        if checks is not None:
+            if not isinstance(checks, Mapping):
+                raise TypeError(f"checks are a dict of functions by names, and no {type(checks).__name__}")
+            source = self._take_format(source, checks, options & _FORMATS_AS_DRAFT and number in _NOTING_DRAFTS)
+        self._compiled = (number, options, source, len(source))
+        _verdicts(self._compiled, [])
+
+    def _take_format(self, source: bytes, checks: Mapping[str, Check], only_notes: bool) -> bytes:
+        """The schema object without a format that the caller registers."""
+        try:
+            members = json.loads(source)
+        except ValueError:
+            return source
+        name = members.get("format") if isinstance(members, dict) else None
+        if not isinstance(name, str) or name not in checks:
+            return source
+        if not callable(checks[name]):
+            raise TypeError(f"the check of {name!r} is a function, and no {type(checks[name]).__name__}")
+        self._name, self._check = name, None if only_notes else checks[name]
+        del members["format"]
+        return json.dumps(members).encode()
+
+    def _text(self, text: Text) -> tuple[bytes, str]:
+        data = bytes_of(text)
+        try:
+            return data, data.decode()
+        except UnicodeDecodeError:
+            raise ValueError("the text is not UTF-8") from None
+
+    def _lines(self, data: bytes, word: str) -> Iterator[tuple[str, str]]:
+        """The keyword and what stands behind it, of each line that begins with the word."""
+        status, out = written(_ERRORS, *self._compiled, data, len(data), room=256)
+        assert status == DONE
+        for line in out.decode().split("\n")[:-1]:
+            kind, place, told = line.split(" ", 2)
+            if kind == word:
+                yield place[1:-1], told
+
+    def is_valid(self, text: Text) -> bool:
+        """Whether a text is valid. ValueError where it is not UTF-8, as a lone surrogate."""
+        data, characters = self._text(text)
+        return _verdicts(self._compiled, [data])[0] is True and (self._check is None or bool(self._check(characters)))
+
+    def are_valid(self, texts: Iterable[Text]) -> list[Optional[bool]]:
+        """Whether each of a list of texts is valid, and None for what is not UTF-8."""
+        if self._check is None:
+            return _verdicts(self._compiled, texts)
+        kept = texts if isinstance(texts, (str, bytes, bytearray, memoryview)) else list(texts)
+        return [verdict and bool(self._check(bytes_of(text).decode()))
+                for verdict, text in zip(_verdicts(self._compiled, kept), kept)]
+
+    def iter_errors(self, text: Text) -> Iterator[ValidationError]:
+        """The errors of a text, in the order contentMediaType, contentEncoding, format, minLength, maxLength, pattern.
+
+        >>> [error.keyword for error in Schema(7, {"format": "date", "maxLength": 5}).iter_errors("2023-02-29")]
+        ['format', 'maxLength']
+        """
+        data, characters = self._text(text)
+        found = [ValidationError(keyword, told) for keyword, told in self._lines(data, "error")]
+        if self._check is not None and not self._check(characters):
+            shown = json.dumps(characters, ensure_ascii=False)
+            found.append(ValidationError("format", f'{shown} is not a "{self._name}"'))
+            found.sort(key=lambda error: _KEYWORDS.index(error.keyword))
+        return iter(found)
+
+    def validate(self, text: Text) -> None:
+        """Raises the first ValidationError of a text that is not valid."""
+        for error in self.iter_errors(text):
+            raise error
+
+    def annotations(self) -> dict[str, Any]:
+        """What the object notes of each text, by keyword.
+
+        >>> Schema(7, {"format": "date"}).annotations()
+        {'format': 'date'}
+        """
+        noted = {keyword: json.loads(value) for keyword, value in self._lines(b"", "note")}
+        if self._name is not None:
+            noted["format"] = self._name
+        return {keyword: noted[keyword] for keyword in _KEYWORDS if keyword in noted}
