@@ -9,7 +9,10 @@ import tempfile
 from contextlib import closing, contextmanager, suppress
 from pathlib import Path
 
-BUILT = Path(__file__).resolve().parents[1] / "crates" / "strkw" / "out" / "strkw"
+TOP = Path(__file__).resolve().parents[1]
+# The program that was built here, or that of a release.
+PLACES = [TOP / "crates" / "strkw" / "out" / "strkw", TOP / "bin" / "strkw"]
+BUILT = next((place for place in PLACES if place.exists()), PLACES[0])
 PIECE = 1 << 20
 NUMBER = re.compile(r"([0-9]{1,12})([kKmMgG]?)")
 UNITS = {"": 1, "k": 10 ** 3, "K": 2 ** 10, "m": 10 ** 6, "M": 2 ** 20, "g": 10 ** 9, "G": 2 ** 30}

@@ -17,7 +17,7 @@ LONGEST_LINE = 120
 LONGEST_README = 60
 # What the documents call by a name and is no file of the repository: examples, and what is built.
 NO_FILES = re.compile(r"crates/(NAME|my_crate)\b.*|proofs/MODULE/FUNCTION|application/json|crates/\w+/out(/\w+)?"
-                      r"|(bindings/out/)?lib\w+\.(a|so)")
+                      r"|(bindings/out/)?lib\w+\.(a|so)|rust/strkw")
 # These documents speak of what was, or of other libraries, so that a name in them may be gone.
 OF_OTHERS = {"CHANGELOG.md", "docs/DIFFERENCES.md", "bench/README.md"}
 PATH = re.compile(r"`([\w.-]+(?:/[\w.-]+)+/?|[\w-]+\.(?:rt|antt|md|py|toml|edit|jsonl|tsv|c|h|rs|so|a))`")
@@ -137,8 +137,8 @@ def names(tree, document):
 
 def quotes(tree, document):
     """The code behind the name of its file is the whole of that file."""
-    quoted = re.findall(r"`(crates/[\w/]+\.rt)`:\n\n```\w*\n(.*?)^```", tree.text[document], re.M | re.S)
-    for source, code in quoted:
+    quoted = r"`(crates/[\w/]+\.rt|examples/\w+\.(?:py|c))`:\n\n```\w*\n(.*?)^```"
+    for source, code in re.findall(quoted, tree.text[document], re.M | re.S):
         yield f"the code of {source}", code == tree.text.get(source)
 
 
@@ -255,7 +255,11 @@ def of_versions(tree):
     newest = re.search(r"^## ([\d.]+)", tree.text["CHANGELOG.md"], re.M)
     constant = re.search(r'const VERSION: &str = "(.*?)";', tree.text["crates/neldrafi/src/commands.rt"])
     state = re.search(r"Version ([\d.]+\d)", tree.text["README.md"])
-    places = {"CHANGELOG.md": newest, "the constant of neldrafi": constant, "README.md": state}
+    package = re.search(r'^__version__ = "(.*?)"', tree.text["bindings/python/strkw/__init__.py"], re.M)
+    crates = re.search(r'^version = "(.*?)"', tree.text["bindings/rust/Cargo.toml"], re.M)
+    archive = re.search(r"neldrafi-([\d.]+\d)-linux", tree.text["README.md"])
+    places = {"CHANGELOG.md": newest, "the constant of neldrafi": constant, "README.md": state,
+              "the package for Python": package, "Cargo.toml": crates, "the archive of README.md": archive}
     for place, told in places.items():
         yield f"{place} has the version {version}", told is not None and told[1] == version
     logic = re.search(r"logic (\w+)$", tree.text["README.md"], re.M)
@@ -264,7 +268,7 @@ def of_versions(tree):
 
 def of_the_gate(tree):
     """That the documents list what the gate runs, and that README.md has the minutes of the stored run."""
-    ran = set(re.findall(r'count\(.*"((?:tools|bindings)/[\w.]+)"\)', tree.text["tools/refusals.py"]))
+    ran = set(re.findall(r'(?:asked\(|, )"((?:tools|bindings)/[\w.]+)"', tree.text["tools/refusals.py"]))
     for document, (head, tail) in GATE.items():
         part = tree.text[document].partition(head)[2].partition(tail)[0]
         for script in sorted(ran):

@@ -9,6 +9,7 @@ the rules below, which are the standards' own in the notation of Python, or from
 tested: Python's codecs and its tables of Unicode. Nothing is read from the program.
 """
 import base64
+import functools
 import itertools
 import json
 import re
@@ -622,6 +623,7 @@ def label_rows():
     yield texts("label", ["".join(some_digits) for size in (1, 2, 3, 4) for some_digits in itertools.product(digits[::1 if size < 4 else 2], repeat=size)],
                 lambda text: not (re.search("[\u0660-\u0669]", text) and re.search("[\u06f0-\u06f9]", text)))
     yield from code_point_rows()
+    yield from idn_rows()
 
 
 # Characters that are admitted in Unicode 18 and were not assigned in Unicode 14, by the first edition that has them of 15.0,
@@ -692,6 +694,332 @@ def code_point_rows():
     yield "and which are characters of a host name, where the labels of both formats are read alike"
     for of, end in (("hostname of RFC 1034", 0x110000), ("hostname", 0x10000)):
         yield sums(of, [["a", "a"]], lambda point: chr(point) in LETTERS + DIGITS + "-.", 0x10000, end)
+
+
+# Internationalised host names: RFC 5890 to 5893, with the four dots of RFC 3490, section 3.1, between the labels.
+
+IDN = "idn-hostname"
+DOTS = ".\u3002\uff0e\uff61"
+# RFC 5892, section 2.6.
+EXCEPTIONS = {"PVALID": points_of("DF 3C2 6FD-6FE F0B 3007"),
+              "CONTEXTO": points_of("B7 375 5F3-5F4 30FB 660-669 6F0-6F9"),
+              "DISALLOWED": points_of("640 7FA 302E-302F 3031-3035 303B")}
+# Section 2.3 by PropList.txt and DerivedCoreProperties.txt: Default_Ignorable_Code_Point, and White_Space.
+IGNORABLE = points_of("AD 34F 61C 115F-1160 17B4-17B5 180B-180F 200B-200F 202A-202E 2060-206F 3164 FE00-FE0F FEFF FFA0 FFF0-FFF8 "
+                      "1BCA0-1BCA3 1D173-1D17A E0000-E0FFF 9-D 20 85 A0 1680 2000-200A 2028-2029 202F 205F 3000")
+# Section 2.4, the three blocks, and section 2.9 by HangulSyllableType.txt, the types L, V and T.
+IGNORABLE_BLOCKS = "20D0-20FF 1D100-1D1FF 1D200-1D24F"
+OLD_JAMO = "1100-115F 1160-11A7 11A8-11FF A960-A97C D7B0-D7C6 D7CB-D7FB"
+DISALLOWED_POINTS = IGNORABLE | points_of(IGNORABLE_BLOCKS) | points_of(OLD_JAMO)
+LETTER_DIGITS = ("Ll", "Lu", "Lo", "Nd", "Lm", "Mn", "Mc")
+# Of what is admitted since Unicode 14: what has a compatibility mapping or is a capital letter, what runs from right to left,
+# Arabic numbers and a neutral among them, and what is a nonspacing mark. All else of it runs from left to right.
+ADDED_UNSTABLE = points_of("1C89 A7CB-A7CC A7CE A7D2 A7D4 A7DA A7DC A7F1 10D50-10D65 16EA0-16EB8 1CCF0-1CCF9 1E030-1E06D "
+                           "558 58B-58C 209D-209F 107BB-107BF 1B123-1B126 1D6A6 1DF95 1DFCD-1DFFF A7DD A7E2 AB6C-AB6D 1DF40 1DF48 "
+                           "1DF4A 1DF4D 1DF51 1DF68 1DF6A 1DF6C 1DF6E 1DF72 1DF74 1DF76 1DF78 1DF7A 1DF7C 1DF7E")
+ADDED_RIGHT_TO_LEFT = points_of("88F 10940-10959 10D4A-10D65 10D6F-10D85 10EC2-10EC7 10ED9-10EEE")
+ADDED_ARABIC_NUMBERS = points_of("10D40-10D49")
+ADDED_NEUTRALS = points_of("208F")
+ADDED_NONSPACING = points_of("5C8-5C9 897 B53-B54 ECE 1ACF-1AF0 10D69-10D6D 10ECB-10ECF 10EF0-10EFF 11241 113BB-113C0 113CE 113D0 113D2 "
+                             "113E1-113E2 11B60 11B62-11B64 11B66 11DF0 11F00-11F01 11F36-11F3A 11F40 11F42 11F5A 13440 13447-13455 "
+                             "1611E-16129 1612D-1612F 1D127-1D128 1D25B-1D25C 1E08F 1E4EC-1E4EF 1E5EE-1E5EF 1E6E3 1E6E6 1E6EE-1E6EF 1E6F5")
+ADDED_VIRAMAS = points_of("113CE-113D0 11F41-11F42 1612F")
+# Marks of the class NSM in Unicode 14 that run from left to right since. The last is a spacing mark since.
+TURNED_LEFT = points_of("1B3A 1B3C 1B42 1171E")
+# Scripts.txt of Unicode 17.
+SCRIPT_RANGES = {
+    "Greek": "370-373 375-377 37A-37D 37F 384 386 388-38A 38C 38E-3A1 3A3-3E1 3F0-3FF 1D26-1D2A 1D5D-1D61 1D66-1D6A 1DBF 1F00-1F15 "
+             "1F18-1F1D 1F20-1F45 1F48-1F4D 1F50-1F57 1F59 1F5B 1F5D 1F5F-1F7D 1F80-1FB4 1FB6-1FC4 1FC6-1FD3 1FD6-1FDB 1FDD-1FEF "
+             "1FF2-1FF4 1FF6-1FFE 2126 AB65 10140-1018E 101A0 1D200-1D245",
+    "Hebrew": "591-5C7 5D0-5EA 5EF-5F4 FB1D-FB36 FB38-FB3C FB3E FB40-FB41 FB43-FB44 FB46-FB4F",
+    "Hiragana": "3041-3096 309D-309F 1B001-1B11F 1B132 1B150-1B152 1F200",
+    "Katakana": "30A1-30FA 30FD-30FF 31F0-31FF 32D0-32FE 3300-3357 FF66-FF6F FF71-FF9D 1AFF0-1AFF3 1AFF5-1AFFB 1AFFD-1AFFE 1B000 "
+                "1B120-1B122 1B155 1B164-1B167",
+    "Han": "2E80-2E99 2E9B-2EF3 2F00-2FD5 3005 3007 3021-3029 3038-303B 3400-4DBF 4E00-9FFF F900-FA6D FA70-FAD9 16FE2-16FE3 16FF0-16FF6 "
+           "20000-2A6DF 2A700-2B81D 2B820-2CEAD 2CEB0-2EBE0 2EBF0-2EE5D 2F800-2FA1D 30000-3134A 31350-33479",
+}
+# What Unicode 18 has more of each.
+ADDED_TO_SCRIPTS = {"Greek": "1DFF3-1DFF4", "Hebrew": "5C8-5C9", "Hiragana": "1B123", "Katakana": "1B124-1B128 1B168", "Han": "2B81E"}
+SCRIPT_POINTS = {script: points_of(ranges) | points_of(ADDED_TO_SCRIPTS[script]) for script, ranges in SCRIPT_RANGES.items()}
+JAPANESE = SCRIPT_POINTS["Hiragana"] | SCRIPT_POINTS["Katakana"] | SCRIPT_POINTS["Han"]
+# DerivedJoiningType.txt of Unicode 17: D, R and L; the last range of L is of Unicode 18.
+JOINING = {
+    "D": "620 626 628 62A-62E 633-63F 641-647 649-64A 66E-66F 678-687 69A-6BF 6C1-6C2 6CC 6CE 6D0-6D1 6FA-6FC 6FF 712-714 71A-71D "
+         "71F-727 729 72B 72D-72E 74E-758 75C-76A 76D-770 772 775-777 77A-77F 7CA-7EA 841-845 848 84A-853 855 860 862-865 868 886 "
+         "889-88D 88F 8A0-8A9 8AF-8B0 8B3-8B8 8BA-8C8 1807 1820-1878 1887-18A8 18AA A840-A871 10AC0-10AC4 10AD3-10AD6 10AD8-10ADC "
+         "10ADE-10AE0 10AEB-10AEE 10B80 10B82 10B86-10B88 10B8A-10B8B 10B8D 10B90 10BAD-10BAE 10D01-10D21 10D23 10EC3-10EC4 "
+         "10EC6-10EC7 10F30-10F32 10F34-10F44 10F51-10F53 10F70-10F73 10F76-10F81 10FB0 10FB2-10FB3 10FB8 10FBB-10FBC 10FBE-10FBF "
+         "10FC1 10FC4 10FCA 1E900-1E943",
+    "R": "622-625 627 629 62F-632 648 671-673 675-677 688-699 6C0 6C3-6CB 6CD 6CF 6D2-6D3 6D5 6EE-6EF 710 715-719 71E 728 72A 72C "
+         "72F 74D 759-75B 76B-76C 771 773-774 778-779 840 846-847 849 854 856-858 867 869-86A 870-882 88E 8AA-8AC 8AE 8B1-8B2 8B9 "
+         "10AC5 10AC7 10AC9-10ACA 10ACE-10AD2 10ADD 10AE1 10AE4 10AEF 10B81 10B83-10B85 10B89 10B8C 10B8E-10B8F 10B91 10BA9-10BAC "
+         "10D22 10EC2 10F33 10F54 10F74-10F75 10FB4-10FB6 10FB9-10FBA 10FBD 10FC2-10FC3 10FC9",
+    "L": "A872 10ACD 10AD7 10D00 10FCB 10ED9-10EEE",
+}
+JOINING_POINTS = {kind: points_of(ranges) for kind, ranges in JOINING.items()}
+# All of categories Mn, Me and Cf have the joining type T but these.
+NOT_TRANSPARENT = points_of("600-605 6DD 890-891 8E2 180E 200C-200D 2066-2069 110BD 110CD 1171E")
+
+
+@functools.lru_cache(None)
+def derived_property(point):
+    """RFC 5892, section 3: the first class that has the code point decides."""
+    for value, points in EXCEPTIONS.items():
+        if point in points:
+            return value
+    if point in ADDED_POINTS:
+        return "DISALLOWED" if point in ADDED_UNSTABLE or point in DISALLOWED_POINTS else "PVALID"
+    character, is_noncharacter = chr(point), 0xFDD0 <= point <= 0xFDEF or point & 0xFFFE == 0xFFFE
+    category = unicodedata.category(character)
+    if category == "Cn" and not is_noncharacter:
+        return "UNASSIGNED"
+    if character in "-0123456789abcdefghijklmnopqrstuvwxyz":
+        return "PVALID"
+    if point in (0x200C, 0x200D):
+        return "CONTEXTJ"
+    compatible = functools.partial(unicodedata.normalize, "NFKC")
+    if compatible(compatible(character).casefold()) != character or is_noncharacter or point in DISALLOWED_POINTS:
+        return "DISALLOWED"
+    return "PVALID" if category in LETTER_DIGITS else "DISALLOWED"
+
+
+def is_permitted(point):
+    return derived_property(point) in ("PVALID", "CONTEXTJ", "CONTEXTO")
+
+
+@functools.lru_cache(None)
+def direction(point):
+    """The property Bidi_Class; R stands for AL too, which no rule tells from it."""
+    if point in ADDED_RIGHT_TO_LEFT:
+        return "R"
+    if point in ADDED_ARABIC_NUMBERS:
+        return "AN"
+    if point in ADDED_NEUTRALS:
+        return "ON"
+    if point in ADDED_NONSPACING:
+        return "NSM"
+    if point in TURNED_LEFT or point in ADDED_POINTS:
+        return "L"
+    return unicodedata.bidirectional(chr(point)).replace("AL", "R")
+
+
+def is_transparent(point):
+    return point in ADDED_NONSPACING or point == 0x1E94B or unicodedata.category(chr(point)) in ("Mn", "Me", "Cf") and point not in NOT_TRANSPARENT
+
+
+def joins(points, kinds):
+    """Whether the first of the characters that is not transparent has one of these joining types."""
+    first = next((point for point in points if not is_transparent(point)), None)
+    return any(first in JOINING_POINTS[kind] for kind in kinds)
+
+
+def fits_context(points, at):
+    """RFC 5892, appendices A.1 to A.9, of the character at a place."""
+    point, before, behind = points[at], points[at - 1:at], points[at + 1:at + 2]
+    follows_virama = any(unicodedata.combining(chr(other)) == 9 or other in ADDED_VIRAMAS for other in before)
+    if point == 0x200C:
+        return follows_virama or joins(points[:at][::-1], "LD") and joins(points[at + 1:], "RD")
+    if point == 0x200D:
+        return follows_virama
+    if point == 0xB7:
+        return before == behind == [ord("l")]
+    if point == 0x375:
+        return any(other in SCRIPT_POINTS["Greek"] for other in behind)
+    if point in (0x5F3, 0x5F4):
+        return any(other in SCRIPT_POINTS["Hebrew"] for other in before)
+    if point == 0x30FB:
+        return not JAPANESE.isdisjoint(points)
+    return not (0x660 <= point <= 0x669 and any(0x6F0 <= other <= 0x6F9 for other in points))
+
+
+def is_unicode_label(label):
+    """RFC 5891, section 4.2, and RFC 5890, section 2.3.2.1."""
+    points = [ord(c) for c in label]
+    return (not label.isascii() and unicodedata.normalize("NFC", label) == label and all(map(is_permitted, points))
+            and not label.startswith("-") and not label.endswith("-") and label[2:4] != "--"
+            and not is_mark(points[0]) and all(fits_context(points, at) for at in range(len(points))))
+
+
+def to_a_label(form):
+    return "xn--" + form.encode("punycode").decode()
+
+
+# A character takes less than nine letters and digits of Punycode, so no A-label of so many is longer than 63, and no
+# name of so many in encoded form longer than 253. These are not encoded.
+SHORT_LABEL, SHORT_NAME = 6, 16
+
+
+def unicode_form(label):
+    """The form that a label stands for: an NR-LDH label and a U-label for itself, an A-label for its U-label. `None` where it is none."""
+    if whole(LABEL)(label) and label[2:4] != "--":
+        return label
+    form = label
+    if label.isascii() and label[:4].lower() == "xn--":
+        try:
+            form = label[4:].lower().encode().decode("punycode")
+        except (UnicodeError, ValueError, OverflowError):
+            return None
+        if not is_unicode_label(form) or to_a_label(form) != label.lower():
+            return None
+    is_short = len(form) <= SHORT_LABEL or len(to_a_label(form)) <= 63
+    return form if is_short and is_unicode_label(form) else None
+
+
+def keeps_bidi_rule(label):
+    """RFC 5893, section 2."""
+    classes = [direction(ord(c)) for c in label]
+    ending = next((kind for kind in reversed(classes) if kind != "NSM"), None)
+    others = {"EN", "ES", "CS", "ET", "ON", "BN", "NSM"}
+    if classes[0] == "L":
+        return set(classes) <= others | {"L"} and ending in ("L", "EN")
+    return classes[0] == "R" and set(classes) <= others | {"R", "AN"} and ending in ("R", "EN", "AN") and not {"EN", "AN"} <= set(classes)
+
+
+def is_idn_host_name(text):
+    forms = [unicode_form(label) for label in re.split(f"[{DOTS}]", text)]
+    if None in forms:
+        return False
+    is_bidi = any(direction(ord(c)) in ("R", "AN") for form in forms for c in form)
+    if is_bidi and not all(map(keeps_bidi_rule, forms)):
+        return False
+    return len(text) <= SHORT_NAME or len(".".join(form if form.isascii() else to_a_label(form) for form in forms)) <= 253
+
+
+def idn_sums(before, behind, end=0x110000):
+    """Which characters make a host name there; those that no label has are no dots, and are left out at once."""
+    return sums(IDN, [[before, behind]], lambda point: (is_permitted(point) or chr(point) in DOTS) and is_idn_host_name(before + chr(point) + behind), 0x1000, end)
+
+
+def idn_texts(candidates):
+    return texts(IDN, candidates, is_idn_host_name)
+
+
+def idn_characters(places, tried):
+    """The characters, each at each place by what the rules say of it there."""
+    for before, behind in places:
+        accepted = "".join(c for c in dict.fromkeys(tried) if is_idn_host_name(before + c + behind))
+        yield characters(IDN, accepted, [[before, behind]], tried)
+
+
+def near(ranges):
+    return ends([(min(points), max(points)) for points in map(points_of, ranges.split())])
+
+
+# A Han and a Hebrew letter: nothing composes with either, and they run in the two directions.
+WIDE_PLACES = [["\u4e00", "\u4e00"], ["\u05d0", "\u05d0"]]
+# Characters of each class that a label may have: L, R, AL, AN, EN, another EN, ES, ON and NSM.
+OF_CLASSES = "\u4e00\u05d0\u0628\u0660" + "0\u06f0-\u02b9\u05b0"
+
+
+def class_rows_of_idn():
+    yield "each exception of RFC 5892, section 2.6, alone and between letters of both directions, and the characters beside it"
+    for value in EXCEPTIONS:
+        tried = "".join(chr(point + step) for point in sorted(EXCEPTIONS[value]) for step in (-1, 0, 1))
+        yield from idn_characters(WIDE_PLACES + [["", ""], ["l", "l"], ["\u03b1", "\u03b1"], ["\u30a2", ""]], tried)
+    yield "the ends of the classes of sections 2.3 to 2.5, 2.8 and 2.9, and one off each end"
+    for ranges in (IGNORABLE_BLOCKS, OLD_JAMO, "2D 30-39 41-5A 61-7A", "200C-200D FDD0-FDEF FFFE-FFFF 1FFFE-1FFFF 10FFFE-10FFFF E0000-E0FFF",
+                   "AD 34F 61C 17B4-17B5 180B-180F 200B-200F 2060-206F 3164 FE00-FE0F FFF0-FFF8 85 1680 2000-200A 2028-2029 202F 205F 3000"):
+        yield from idn_characters(WIDE_PLACES + [["", "\u4e00"], ["\u4e00", ""]], near(ranges))
+    yield "each ASCII character beside a character past ASCII"
+    yield from idn_characters(WIDE_PLACES + [["", "\u4e00"], ["\u4e00", ""], ["xn-", "\u00fc"], ["\u00fcn-", "a"]], ASCII)
+    yield "letters that have capital or wide forms, ligatures and other mappings (section 2.2)"
+    yield idn_texts([form.format(c) for c in "\u00aa\u00b2\u00b5\u00ba\u00bc\u00c0\u00e0\u00de\u00fe\u00df\u1e9e\u0130\u0131\u0149\u017f\u01c4\u01c5\u01c6\u01f0\u0345\u0390\u03a3\u03c2\u03c3\u03d0\u03f4\u0587"
+                     "\u0675\u10a0\u10d0\u1c90\u13a0\u13f5\u13f8\uab70\uabbf\u1e96\u1f80\u1fb3\u2071\u2126\u212a\u2160\u24d0\u2c2f\u2c5f\u3131\u32d0\uf900\ufb00\ufb1d\ufb2e\ufdfa\uff21\uff41\uff10\uff66\uffdc"
+                     "\U00010400\U00010428\U0001d400\U0001d7ce\U0002f800" for form in ("{}", "\u4e00{}\u4e00", "\u05d0{}\u05d0")])
+    yield "NFC: letters and marks that compose, marks in both orders, and Hangul"
+    composed = [c for c in span(0xC0, 0x17F) + span(0x1E00, 0x1EFF) if unicodedata.normalize("NFD", c) != c]
+    yield idn_texts([form for c in composed for form in (c, unicodedata.normalize("NFD", c))])
+    marks = "\u0301\u0308\u0316\u0323\u0327\u0338"
+    yield idn_texts(["q" + one + other for one in marks for other in marks])
+    yield idn_texts(["\u1112\u1161\u11ab", "\ud558\u11ab", "\ud55c", "\ud55c\u11ab", "\uac00", "\ud7a3", "\u0958", "\u0915\u093c", "\u0928\u093c", "\u0929", "\u05d0\u05b7", "\ufb2e", "\u30cf\u3099", "\u30d0",
+                     "\u1025\u102e", "\u1026", "\U00011131\U00011127", "\U0001112e", "\u0f71\u0f72", "\u0f73", "\u2126", "\u03a9", "\u03c9\u0301", "\u03ce"])
+
+
+def label_rules_of_idn():
+    yield "marks, hyphens and dots: each at each place of a label, and each of the four dots between labels"
+    letters = ["\u4e00", "a", "-", "\u0300", "\u0903", "\u05b0"]
+    yield idn_texts(["".join(some) for size in (1, 2, 3, 4) for some in itertools.product(letters[:6 if size < 4 else 4], repeat=size)])
+    yield idn_texts([f"{one}--{other}" for one in ("a", "aa", "aaa", "\u00fc", "a\u00fc", "\u00fca", "\u00fc\u00fc", "x\u00fc", "xn\u00fc") for other in ("", "a", "\u00fc")])
+    yield idn_texts([place.format(dot) for dot in DOTS + "\u00b7\u2024\u3001\ufe12\u0589\u06d4" for place in
+                     ("a{}b", "\u00fc{}b", "a{}\u00fc", "{}a", "a{}", "{}", "a{0}{0}b", "a{0}b{0}c", "a{0}b.c", "xn--bcher-kva{}a", "\u05d0{}\u05d0", "\u05d0{}1")])
+    yield "contextual rules: each character that has one, among others of each kind, at each place (RFC 5892, appendix A)"
+    for rule in ("l\u00b7a", "\u03b1\u0375a", "\u05d0\u05f3\u05f4b\u0628", "\u30fb\u30a2\u3042\u4e00a", "\u0660\u06f0\u0628", "\u094d\u200d\u0915\u200c", "\u0628\u200c\u0627\u064b", "\u1820\u200ca\u18a9"):
+        yield idn_texts(["".join(some) for size in (1, 2, 3, 4) for some in itertools.product(rule, repeat=size)])
+    digits = [chr(point) for point in (0x65F, 0x660, 0x661, 0x668, 0x669, 0x66A, 0x6EF, 0x6F0, 0x6F1, 0x6F8, 0x6F9, 0x6FA)]
+    yield idn_texts([f"\u0628{one}{other}" for one in digits for other in digits])
+    yield "joining types: with a dual-joining letter on the one side, each of a transparent mark and an end of a type on the other"
+    for kind in JOINING:
+        yield from idn_characters([["", "\u200c\u0628"], ["\u0628\u200c", ""], ["\u0628\u064b\u200c\u064b", ""], ["", "\u064b\u200c\u0628"]], near(JOINING[kind]))
+    yield from idn_characters([["\u0628", "\u200c\u0628"], ["\u0628\u200c", "\u0628"], ["\u0628", "\u200c\u0627"], ["\u0627", "\u200c\u0628"]], "\u0640\u07fa\u0883\u0884\u0885\U0001e94b\u064b\u05b0\u0300\u200c\u200d\u05d0-0")
+    yield "scripts: the ends of each range, and one off each end"
+    yield from idn_characters([["\u0375", ""], ["\u0375", "\u03b1"], ["\u4e00\u0375", ""]], near(SCRIPT_RANGES["Greek"]))
+    yield from idn_characters([["\u05d0", "\u05f3"], ["\u05d0", "\u05f4"], ["", "\u05f3"]], near(SCRIPT_RANGES["Hebrew"]))
+    for script in ("Hiragana", "Katakana", "Han"):
+        yield from idn_characters([["\u30fb", ""], ["", "\u30fb"]], near(SCRIPT_RANGES[script]))
+
+
+def bidi_rows_of_idn():
+    yield "the Bidi rule: each row of up to four classes, alone and beside labels of both directions (RFC 5893, section 2)"
+    yield idn_texts(["".join(some) for size in (1, 2, 3) for some in itertools.product(OF_CLASSES, repeat=size)])
+    yield idn_texts([first + "".join(some) for first in OF_CLASSES[:3] for some in itertools.product(OF_CLASSES[:1] + OF_CLASSES[2:], repeat=3)])
+    labels = ["".join(some) for size in (1, 2) for some in itertools.product(OF_CLASSES, repeat=size)]
+    yield idn_texts([form.format(label) for label in labels for form in ("\u05d0.{}", "{}.\u05d0", "a.{}", "xn--4db.{}", "\u4e00{}.\u0628")])
+    yield idn_texts([".".join(some) for size in (2, 3) for some in itertools.product(["a", "1", "a1", "1a", "a-b", "\u05d0", "\u05d01", "xn--4db", "XN--BCHER-KVA", "\u00fc"], repeat=size)])
+
+
+WRONG_FORMS = ["", "a", "abc", "a-b", "-", "\u0080", "\u00dc", "b\u00dccher", "u\u0308", "bu\u0308cher", "\u0300a", "\u0903a", "\u0488a", "-\u00fc", "\u00fc-", "aa--\u00fc", "\u00fca--", "\u4e00--\u4e00", "\u30fb",
+               "a\u30fb", "a\u00b7l", "\u0375", "\u0375a", "a\u05f3", "\u200c", "a\u200cb", "\u0628\u200ca", "a\u200d", "\u0628\u0660\u06f0", "\u0640", "\u07fa", "\u302e", "\u3031\u3035", "\u303b", "\u1100", "\ua960",
+               "\u20d0a", "a\u20d0", "\U0001d165", "\u00aa", "\u3002", "a\u3002b", "\uff0e", "\u0378", "\ufdd0", "\uffff", "\ud7ff", "\ue000", "\U0010ffff", "\u00a0", "\u200b", "\u2160", "\U0001f600", "\uff41", "\ufb00",
+               "\u017f", "\u212a", "\uf900", "A\u00fc", "\u00fcA", "a b\u00fc", "a_\u00fc", "a.\u00fc", "\u05d0a", "1\u05d0", "\u0660", "\u0628a", "\u05d0-"]
+RIGHT_FORMS = ["\u00fc", "b\u00fccher", "fa\u00df", "\u4e00", "\u05d0", "\u0628", "\u0628\u0660", "\u03b1\u0375\u03b2", "\u05d0\u05f3", "\u30fb\u30a2", "l\u00b7l", "\u0915\u094d\u200d\u0937", "\u0628\u064a\u200c\u0628\u064a",
+               "\u3007", "\u0f0b", "\u06fd", "\u03c2", "a-\u00fc", "a--\u00fc", "1\u00fc", "\U00020000", "\u13a0", "\uac00", "q\u0301", "\u06f00", "xn\u00fc", "\u00fcxn--a"]
+
+
+def a_label_rows():
+    yield "A-labels: each reason for which what they encode is no U-label, in each letter case, and labels beside them (RFC 5890, section 2.3.2.1)"
+    a_labels = [to_a_label(form) for form in WRONG_FORMS + RIGHT_FORMS]
+    yield idn_texts([form for a_label in a_labels for form in (a_label, a_label.upper(), "X" + a_label[1:], a_label[:4] + a_label[4:].upper(), a_label + "a", a_label[:-1], a_label + "-", a_label.replace("xn--", "xn-"),
+                                                               a_label + ".a", "\u00fc." + a_label)])
+    yield idn_texts([text[:at] + text[at].upper() + text[at + 1:] for text in ("xn--bcher-kva", "xn--ll-0ea", "xn--fa-hia", "xn--9krt00a") for at in range(len(text))])
+    yield idn_texts([text[:at] + other + text[at + 1:] for text in ("xn--bcher-kva", "xn--4db.com") for at in range(len(text)) for other in "0a9z-Z_."])
+    yield idn_texts(["xn--" + payload for payload in ("-", "--", "---", "-a", "a-", "a--", "kva", "99999999", "9999a", "a9999a", "-kva", "bcher--kva", "bcher-kvab", "0", "z", "zz", "00000", "hb9b", "ib9b", "0y0c")])
+    yield from idn_characters([["", "n--4db"], ["x", "--4db"], ["xn", "-4db"], ["xn-", "4db"]], ASCII)
+
+
+def to_a_length(form, length):
+    """A U-label that ends so, whose A-label has that length; `None` where there is none."""
+    return next(("a" * letters + form for letters in range(64) if len(to_a_label("a" * letters + form)) == length), None)
+
+
+def size_rows():
+    yield "lengths: labels of 61 to 65 characters in encoded form, and names of 252 to 255, of NR-LDH labels, A-labels and U-labels"
+    forms = ["\u00fc", "\u00fc\u00fc", "\u4e00", "\U00020000", "\u05d0"]
+    labels = [label for form in forms for length in range(58, 70) if (label := to_a_length(form, length))]
+    yield idn_texts([text for label in labels for text in (label, to_a_label(label), to_a_label(label).upper(), label + ".b", f"a.{label}")])
+    yield idn_texts(["\u4e00" * count for count in range(1, 70)] + ["\u00fc" * count for count in range(1, 70)] + ["a" * count for count in range(60, 70)])
+    fillers = [to_a_length("\u00fc", 63), to_a_label(to_a_length("\u00fc", 63)), "a" * 63, to_a_length("\u00fc", 62)]
+    for heads in itertools.product(fillers, repeat=3):
+        used = sum(len(to_a_label(label)) if not label.isascii() else len(label) for label in heads) + 3
+        lasts = [last for size in (252, 253, 254, 255) for last in ("b" * (size - used), to_a_length("\u00e9", size - used)) if last]
+        yield idn_texts([dot.join([*heads, last]) for last in lasts for dot in DOTS[::3]])
+    yield counts(IDN, "a", 1, 63, 200, [["", ""], ["", ".\u00fc"], ["\u00fc.", ""]])
+    yield counts(IDN, "1.", 0, 126, 200, [["", "a"]])
+    yield counts(IDN, "\u3002b", 0, 126, 200, [["a", ""]])
+    yield counts(IDN, "\u00fc.", 0, (253 - 7) // 8, 60, [["", "\u00fc"]])
+    yield counts(IDN, "xn--tda.", 0, (253 - 7) // 8, 60, [["", "\u00fc"]])
+
+
+def idn_rows():
+    yield "internationalised host names: RFC 5890 to 5893"
+    yield from class_rows_of_idn()
+    yield from label_rules_of_idn()
+    yield from bidi_rows_of_idn()
+    yield from a_label_rows()
+    yield from size_rows()
+    yield "all code points, by the derived property of another edition of Unicode: between two letters of either direction; of the first 131,072 first, last and beside the characters that have contextual rules"
+    yield from (idn_sums(before, behind) for before, behind in WIDE_PLACES)
+    for before, behind in (["", "\u4e00"], ["\u05d0", ""], ["\u05d0.\u4e00", ""], ["\u0375", ""], ["\u05d0", "\u05f3"], ["\u30fb", ""], ["\u4e00", "\u200d\u4e00"], ["\u0628", "\u200c\u0628"], ["\u0628\u200c", "\u0628"]):
+        yield idn_sums(before, behind, 0x20000)
 
 
 # Patterns: ECMA-262 2024, section 22.2.1, with the flag u, and what README.md of the crate says of limits.

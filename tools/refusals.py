@@ -34,6 +34,7 @@ TELL_AT = 9
 MOST_CALLS = 20000
 MOST_WRONG = 20
 SECONDS_FOR_A_RUN = 120
+MEMORY_FOR_A_CHECK = 5 << 20  # kilobytes; the largest, that of neldrafi, takes so much
 ROW = re.compile(r"fn (\w+_under_refusal)\b")
 # How a row ends that answers an error, and what it says where that is out of memory: the name `AllocError`, or that of
 # a variant `Memory`.
@@ -263,6 +264,13 @@ def refusals():
     return (rows + runs).count(True), (rows + runs).count(False)
 
 
+def checks_at_once():
+    """How many checks `rt ci` is to run at a time: one for each processor, as far as the memory goes. By itself it counts
+    on several times the memory that a check takes, and lets the longest ones wait for the others."""
+    available = int(re.search(r"MemAvailable: *(\d+)", Path("/proc/meminfo").read_text())[1])
+    return max(1, min(len(os.sched_getaffinity(0)), available // MEMORY_FOR_A_CHECK))
+
+
 def gate():
     """The steps of the gate by name, each with its counts. The library for C is built over what this `rt ci` proved."""
     def asked(*words):
@@ -270,6 +278,7 @@ def gate():
 
     with tempfile.NamedTemporaryFile() as begun:
         yield asked("tools/claims.py")
+        os.environ.setdefault("RT_JOBS", str(checks_at_once()))
         yield "rt ci", counted(["rt", "ci"], "`rt ci`")
         yield "tools/refusals.py", refusals()
         yield asked("tools/grammar_rows.py", "--check")
@@ -279,6 +288,7 @@ def gate():
         build_and_test = 'bindings/build --since "$1" && bindings/test'
         yield "bindings/test", counted(["sh", "-c", build_and_test, "sh", begun.name], "bindings/test")
         yield asked("bindings/test_calls")
+        yield asked("tools/test_packages.py")
 
 
 def main():

@@ -1,34 +1,56 @@
 #!/usr/bin/env python3
 """Shows that each stored wrong definition is noticed by the rows or by the check.
 
-    python3 tools/wrong_definitions.py [CRATE ..]      all crates that have a folder in tools/wrong_definitions, or those named
+    python3 tools/wrong_definitions.py                 all crates that have a folder in tools/wrong_definitions
+    python3 tools/wrong_definitions.py CRATE ..        those named
+    python3 tools/wrong_definitions.py CRATE:NAME ..   single wrong definitions; * stands for any letters
 
 A proof holds a program to its definitions, and nothing of it holds the definitions to their standards. So each file
-tools/wrong_definitions/CRATE/NAME.edit changes a definition, the code and the tables of proofs together, and every crate
-is to refuse that: by a row of crates/strkw_test_grammars, whose expected values come from the standard, or else by the check,
-whose laws say the standard's own spelling.
+tools/wrong_definitions/CRATE/NAME.edit changes a definition, the code and the tables of proofs together. That is to be
+noticed by a row, whose answer is stored and comes from the standard, or else by the check, whose laws say the
+standard's own spelling. `ROWS` says which crates have the rows. `rt try` answers them without a proof, and a row
+notices the change where a line of its answer is not the stored one.
 
-A file has lines 'file: PATH', the path within the crate, each with pairs of lines 'old: TEXT' and 'new: TEXT' behind it;
-each old text stands in that file exactly once, where blanks and ends of lines count as one blank, and \\n is the end of
-a line in a new text. The edits are applied to a scratch copy, one after the other. What checks of the crates have kept is copied with them; without it the first check of each
-crate takes minutes. Not part of the gate: a minute or more for each.
+A file has lines 'file: PATH', the path from the crate's folder, each with pairs of lines 'old: TEXT' and 'new: TEXT'
+behind it. Each old text stands in that file exactly once, where blanks and ends of lines count as one blank. \\n is
+the end of a line, and \\\\n stands for a backslash and an n. Lines 'row: TEXT' may stand first: a row that notices
+the change holds the text. Such rows are asked before all others, and the rows `sums`, which take long, behind them.
+
+The edits are applied to a scratch copy, one after the other. What checks of the crates have kept is copied with them;
+without it the first check of each crate takes minutes. Not part of the gate: a minute or more for each.
 """
 import re
 import shutil
 import subprocess
 import sys
 import tempfile
+from collections import namedtuple
 from pathlib import Path
 
 TOP = Path(__file__).resolve().parent.parent
 STORED = TOP / "tools" / "wrong_definitions"
-CASES = "strkw_test_grammars"
-WRONG_ROW = re.compile(r"^(.+): \d+ WRONG of \d+$", re.MULTILINE)
-COUNTS = re.compile(r"^\d+ rows, [1-9]\d* answers, (\d+) of them wrong$", re.MULTILINE)
+GRAMMARS, KEYWORDS, FILES = "strkw_test_grammars", "strkw_test_rows", "strkw_test_files"
+# The crates whose rows ask about a crate. About any other, GRAMMARS has a part of its own for it.
+ROWS = {
+    "strkw_report": (KEYWORDS, FILES), "strkw_formats": (KEYWORDS,), "strkw_keywords": (KEYWORDS,),
+    "strkw_object": (KEYWORDS,), "strkw_cli": (KEYWORDS,),
+    "strkw_plan": (FILES,), "strkw_records": (FILES,), "strkw_table": (FILES,), "strkw_document": (FILES,),
+}
+SUMS = '{"ask":"sums"'
+ESCAPES = re.compile(r"\\\\n|\\n")
+ENDED = re.compile(r"^checked: ended status=0$", re.MULTILINE)
+# The last line of GRAMMARS.
+COUNTS = re.compile(r"\d+ rows, \d+ answers, \d+ of them wrong")
 NOT_PROVED = re.compile(r"^fn (\S+): no proof: (?!it calls)|^(?:\./)?(proofs/\S+?):.*error", re.MULTILINE)
 NOT_READ = re.compile(r"^(?:\./)?(?:src|specs)/\S+: error.*$", re.MULTILINE)
-SECONDS_FOR_A_RUN = 1800
-SECONDS_FOR_ROWS = 600
+SECONDS_FOR_A_RUN = 3600
+LIMITS_OF_ROWS = ["--steps", "20000000000", "--seconds", "600"]
+# `rt try` lets a program write 1 MiB.
+MOST_TOLD = 800_000
+LONGEST_NAMED = 160
+
+# A row, and the lines that are stored for it; the row of what a program writes before the first is empty.
+Row = namedtuple("Row", "asked lines")
 
 
 class Broken(Exception):
@@ -49,13 +71,20 @@ def lines_below(*names):
 
 
 def scratch_copy(folder, crate):
-    """A copy of what a crate and the rows need, with what checks have kept. Answers the crate's folder there."""
-    lines = lines_below(crate, CASES)
+    """A copy of what a crate and its rows need, with what checks have kept. Answers the crate's folder there."""
+    lines = lines_below(crate, *ROWS.get(crate, (GRAMMARS,)))
     shutil.copy2(TOP / "HANDLES", folder)
     (folder / "crates.txt").write_text("".join(f"{line}\n" for line in lines.values()))
     for name in lines:
         subprocess.run(["cp", "-a", TOP / "crates" / name, folder / "crates"], check=True)
     return folder / "crates" / crate
+
+
+# ---- stored edits
+
+def written(text, end_of_line):
+    """A text of an edit with its escapes read."""
+    return ESCAPES.sub(lambda found: end_of_line if found[0] == r"\n" else r"\n", text)
 
 
 def replacements(stored):
@@ -65,12 +94,17 @@ def replacements(stored):
         if line.startswith("file: "):
             path = line.removeprefix("file: ").strip()
         elif line.startswith("old: ") and path is not None:
-            old = line.removeprefix("old: ").replace("\\n", " ")
+            old = written(line.removeprefix("old: "), " ")
         elif line.startswith("new:") and old is not None:
-            yield path, old, line.removeprefix("new:").removeprefix(" ").replace("\\n", "\n")
+            yield path, old, written(line.removeprefix("new:").removeprefix(" "), "\n")
             old = None
-        elif line.strip():
+        elif line.strip() and not (line.startswith("row: ") and path is None):
             raise Broken(f"cannot read the line {line!r}")
+
+
+def texts_of_rows(stored):
+    """What stands in rows that notice a stored edit, as far as the edit says it."""
+    return [line.removeprefix("row: ") for line in stored.read_text().splitlines() if line.startswith("row: ")]
 
 
 def apply(stored, crate):
@@ -98,50 +132,113 @@ def undo(before):
         file.write_text(text)
 
 
-def output_of(words, crate, given=""):
-    ran = subprocess.run(words, cwd=crate, input=given, stdout=subprocess.PIPE, stderr=subprocess.STDOUT,
-                         text=True, errors="replace", timeout=SECONDS_FOR_A_RUN)
-    return ran.returncode, ran.stdout
+# ---- rows
+
+def rows_of(name, about):
+    """The rows of a crate with what is stored for each. GRAMMARS has those about another crate in one part."""
+    asked, lines = (lines_of((TOP / "crates" / name / file).read_text()) for file in ["stdin", "stdout"])
+    if name == GRAMMARS:
+        rows = [Row(row, [line]) for row, line in zip(asked, lines)]
+        first = asked.index(f"# {about}")
+        part = [number for number, row in enumerate(asked) if re.fullmatch(r"# strkw_\w+", row) and number > first]
+        return rows[first:part[0] if part else None]
+    rows = [Row("", [])]
+    for line in lines:
+        if len(rows) <= len(asked) and line == asked[len(rows) - 1]:
+            rows.append(Row(line, []))
+        rows[-1].lines.append(line)
+    return rows
 
 
-def rows_of(crate):
-    """The rows of a crate: those from the comment that is its name to the next crate's."""
-    parts = re.split(r"^# (strkw_\w+)\n", (crate.parent / CASES / "stdin").read_text(), flags=re.MULTILINE)
-    return dict(zip(parts[1::2], parts[2::2]))[crate.name]
+def parts_of(rows):
+    """The rows in parts of which a program can write the answers at once. Each has what is written before the first."""
+    head = [row for row in rows if not row.asked]
+    part, told = [*head], 0
+    for row in rows[len(head):]:
+        size = sum(len(line.encode()) + 1 for line in row.lines)
+        if told + size > MOST_TOLD:
+            yield part
+            part, told = [*head], 0
+        part.append(row)
+        told += size
+    yield part
 
 
-def noticed_by(crate):
-    """What notices the wrong definition that stands in a crate, or None where nothing does."""
-    _, said = output_of(["rt", "try", "--seconds", str(SECONDS_FOR_ROWS)], crate.parent / CASES, rows_of(crate))
-    counts = COUNTS.search(said)
-    if not counts:
+def lines_of(text):
+    """The lines of a text. Only a line feed ends one."""
+    return text.removesuffix("\n").split("\n")
+
+
+def output_of(words, folder, given=""):
+    ran = subprocess.run(words, cwd=folder, input=given, stdout=subprocess.PIPE, stderr=subprocess.PIPE,
+                         text=True, errors="replace", timeout=SECONDS_FOR_A_RUN, check=False)
+    return ran.returncode, ran.stdout, ran.stderr
+
+
+def row_of_another_answer(folder, rows):
+    """The first row of some, asked in the folder of their crate, of which a line is not the stored one."""
+    asked = "".join(f"{row.asked}\n" for row in rows if row.asked)
+    _, told, said = output_of(["rt", "try", *LIMITS_OF_ROWS], folder, asked)
+    lines = lines_of(told)
+    if lines == [""] or not ENDED.search(said) and "error[" in said:
         raise Broken("the rows are not answered: " + " ".join(said.split())[-300:])
-    if counts[1] != "0":
-        return "the rows: " + ", ".join(sorted(set(WRONG_ROW.findall(said))))
-    status, said = output_of(["rt", "check"], crate)
+    at = 0
+    for row in rows:
+        for line in row.lines:
+            if at == len(lines) or lines[at] != line:
+                return row.asked or line
+            at += 1
+    told_more = [line for line in lines[at:] if not COUNTS.fullmatch(line)]
+    return rows[-1].asked if told_more else None
+
+
+def noticing_row(crate, texts):
+    """What notices a wrong definition that stands in a crate: the crate of the row, and the row."""
+    names = ROWS.get(crate.name, (GRAMMARS,))
+    every = [(name, [row for row in rows_of(name, crate.name) if row.asked.startswith(SUMS) == takes_long])
+             for takes_long in (False, True) for name in names]
+    first = [(name, [row for row in rows if not row.asked or any(text in row.asked for text in texts)])
+             for name, rows in every if texts]
+    for name, rows in [(name, rows) for name, rows in first + every if any(row.asked for row in rows)]:
+        for part in parts_of(rows):
+            found = row_of_another_answer(crate.parent / name, part)
+            if found is not None:
+                return f"{name}: {found if len(found) <= LONGEST_NAMED else found[:LONGEST_NAMED] + ' ..'}"
+    return None
+
+
+# ---- judging
+
+def noticed_by(crate, texts):
+    """What notices the wrong definition that stands in a crate, or None where nothing does."""
+    row = noticing_row(crate, texts)
+    if row is not None:
+        return f"the rows of {row}"
+    status, told, said = output_of(["rt", "check"], crate)
     if status == 0:
         return None
-    unread, refused = NOT_READ.search(said), NOT_PROVED.findall(said)
+    told += said
+    unread, refused = NOT_READ.search(told), NOT_PROVED.findall(told)
     if unread:
         raise Broken("it does not compile: " + unread[0])
     if not refused:
-        raise Broken("the check gives no verdict: " + " ".join(said.split())[-300:])
+        raise Broken("the check gives no verdict: " + " ".join(told.split())[-300:])
     return "the check: " + ", ".join(sorted({function or file for function, file in refused})[:3])
 
 
-def judge(crate_name):
-    """Judges each stored edit of a crate. Answers how many were noticed, and how many were not."""
+def judge(crate_name, wanted):
+    """Judges each stored edit of a crate, or the wanted one. Answers how many were noticed, and how many were not."""
     noticed, missed = 0, 0
     with tempfile.TemporaryDirectory() as scratch:
         folder = Path(scratch)
         (folder / "crates").mkdir()
         crate = scratch_copy(folder, crate_name)
-        for stored in sorted((STORED / crate_name).glob("*.edit")):
-            name = f"{crate_name} {stored.stem}"
+        for stored in sorted((STORED / crate_name).glob(f"{wanted or '*'}.edit")):
+            name = f"{crate_name}:{stored.stem}"
             try:
                 before = apply(stored, crate)
                 try:
-                    by = noticed_by(crate)
+                    by = noticed_by(crate, texts_of_rows(stored))
                 finally:
                     undo(before)
             except (Broken, subprocess.TimeoutExpired) as why:
@@ -154,8 +251,8 @@ def judge(crate_name):
 
 
 def main():
-    crates = sys.argv[1:] or sorted(folder.name for folder in STORED.iterdir() if folder.is_dir())
-    counts = [judge(crate) for crate in crates]
+    asked = sys.argv[1:] or sorted(folder.name for folder in STORED.iterdir() if folder.is_dir())
+    counts = [judge(crate, name) for crate, _, name in (word.partition(":") for word in asked)]
     noticed, missed = (sum(column) for column in zip(*counts))
     print(f"{noticed} noticed, {missed} missed")
     return 1 if missed or not noticed else 0

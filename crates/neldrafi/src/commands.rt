@@ -2,12 +2,15 @@
 
 mod check;
 mod csv_files;
+mod explain;
 mod formats;
 mod json_files;
+mod plan;
 mod requests;
 pub(crate) mod text;
 
 use crate::faults::Fault;
+use crate::options::OutputForm;
 use crate::outcome::Outcome;
 use clap::{ArgMatches, Command};
 use std::alloc::{AllocError, Global};
@@ -30,6 +33,8 @@ Examples:
   neldrafi csv plan.json people.csv
   neldrafi json plan.json server.json
   neldrafi check schema.json names.txt
+  neldrafi explain schema.json
+  neldrafi plan people.csv
 
 Status: 0 all valid, 1 errors, 2 faults";
 
@@ -42,22 +47,34 @@ pub(crate) fn command<'a>(alloc: Global) -> Result<Command<'a>, AllocError> {
         .after_help(AFTER_HELP)
         .subcommand_required(true)
         .subcommand(text::command(alloc)?)?
-        .subcommand(formats::command(alloc))?
+        .subcommand(formats::command(alloc)?)?
         .subcommand(requests::command(alloc)?)?
         .subcommand(csv_files::command(alloc)?)?
         .subcommand(json_files::command(alloc)?)?
-        .subcommand(check::command(alloc)?)
+        .subcommand(check::command(alloc)?)?
+        .subcommand(explain::command(alloc)?)?
+        .subcommand(plan::command(alloc)?)
+}
+
+/// The form of output that the words ask for.
+pub(crate) fn form_of(matches: &ArgMatches<'_>) -> OutputForm {
+    match matches.subcommand() {
+        Some((_, matches)) => OutputForm::of(matches),
+        None => OutputForm::Text,
+    }
 }
 
 /// Runs the subcommand that the words name.
 pub(crate) fn run(rt: &HostRuntime, matches: &ArgMatches<'_>) -> Result<Outcome, Fault> {
     match matches.subcommand() {
         Some((text::NAME, matches)) => text::run(rt, matches),
-        Some((formats::NAME, _)) => formats::run(rt),
+        Some((formats::NAME, matches)) => formats::run(rt, matches),
         Some((requests::NAME, matches)) => requests::run(rt, matches),
         Some((csv_files::NAME, matches)) => csv_files::run(rt, matches),
         Some((json_files::NAME, matches)) => json_files::run(rt, matches),
         Some((check::NAME, matches)) => check::run(rt, matches),
+        Some((explain::NAME, matches)) => explain::run(rt, matches),
+        Some((plan::NAME, matches)) => plan::run(rt, matches),
         // The parser lets no other words pass.
         _ => Err(Fault::NoSubcommand),
     }

@@ -31,6 +31,17 @@ pub(crate) fn draft_name(draft: Draft) -> &'static str {
     }
 }
 
+/// The number that a plan has for a draft.
+pub(crate) fn draft_number(draft: Draft) -> u64 {
+    match draft {
+        Draft::Draft4 => 4,
+        Draft::Draft6 => 6,
+        Draft::Draft7 => 7,
+        Draft::Draft201909 => 201_909,
+        Draft::Draft202012 => 202_012,
+    }
+}
+
 /// The draft of a name. It is the last one where no name is given, or one that no draft has.
 pub(crate) fn draft_named(name: Option<&str>) -> Draft {
     for draft in DRAFTS {

@@ -4,8 +4,7 @@ use crate::commands::text::FormatFault;
 use crate::inputs::InputFault;
 use crate::schemas::SchemaFault;
 use std::alloc::{AllocError, AllocFailed};
-use std::fmt;
-use std::fmt::Display;
+use std::{fmt, io};
 use strkw_cli::RunFault;
 use strkw_document::{DocumentFault, DocumentTextFault};
 use strkw_ecma::PatternRefusal;
@@ -50,6 +49,13 @@ pub(crate) enum Fault {
     Closed,
     /// The standard output could not be written.
     Write,
+    /// The file of this path could not be written.
+    Unwritten {
+        /// The path.
+        path: String,
+        /// Why.
+        error: io::Error,
+    },
     /// Out of memory.
     Memory,
 }
@@ -131,6 +137,10 @@ impl fmt::Display for Fault {
             Fault::Stopped(most) => write!(f, "stopped after {most} messages"),
             Fault::Closed => f.write_str("the standard output is closed"),
             Fault::Write => f.write_str("write failed"),
+            Fault::Unwritten { path, error } => {
+                let path = Shown(path);
+                write!(f, "`{path}` cannot be written: {error}")
+            }
             Fault::Memory => f.write_str("out of memory"),
         }
     }
@@ -144,9 +154,4 @@ fn words_of_run(fault: &RunFault) -> &'static str {
         RunFault::Memory => "out of memory",
         RunFault::TooLong => "input too long",
     }
-}
-
-/// Tells of a fault, or of how far a check is, on a line of the standard error. The label says of which file.
-pub(crate) fn tell<D: Display>(rt: &HostRuntime, label: &str, what: &D) {
-    let _ = eprintln!(rt; "neldrafi: {label}{what}");
 }

@@ -1,10 +1,11 @@
 //! The files of a command line, checked one after the other.
 
-use crate::faults::{Fault, tell};
+use crate::faults::Fault;
 use crate::inputs::{InputFile, STANDARD_INPUT};
-use crate::options::Wanted;
+use crate::options::{OutputForm, Wanted};
 use crate::outcome::Outcome;
 use crate::output::Output;
+use crate::telling::{Notice, Subject, tell};
 use std::alloc::{AllocError, Global};
 use strkw_plan::Shown;
 
@@ -12,9 +13,10 @@ use strkw_plan::Shown;
 pub(crate) trait FileCheck {
     /// Writes a line for each error of a file, and answers how many errors there are.
     fn check(
-        &self,
+        &mut self,
         rt: &HostRuntime,
         file: InputFile,
+        subject: Subject<'_>,
         output: &mut Output<'_>,
     ) -> Result<u64, Fault>;
 }
@@ -34,25 +36,39 @@ fn check_file<C: FileCheck>(
     path: &str,
     label: &str,
     wanted: Wanted,
-    check: &C,
+    check: &mut C,
 ) -> Result<Outcome, Fault> {
     let file = InputFile::open(rt, path)?;
-    let mut output = Output::new(rt, label, wanted);
-    let count = check.check(rt, file, &mut output)?;
+    // An object of JSON names its file itself.
+    let before = match wanted.form {
+        OutputForm::Text => label,
+        OutputForm::Json => "",
+    };
+    let mut output = Output::new(rt, before, wanted);
+    let subject = Subject {
+        file: Some(path),
+        label,
+    };
+    let count = check.check(rt, file, subject, &mut output)?;
     Ok(Outcome::of_errors(count))
 }
 
 // Tells why the check of a file ended early, and answers what that comes to.
-fn told(rt: &HostRuntime, label: &str, wanted: Wanted, fault: &Fault) -> Outcome {
+fn told(rt: &HostRuntime, subject: Subject<'_>, wanted: Wanted, fault: &Fault) -> Outcome {
     match fault {
         Fault::Stopped(_) if wanted.is_quiet => Outcome::Errors,
         Fault::Stopped(_) => {
-            tell(rt, label, fault);
+            tell(rt, wanted.form, subject, Notice::Stopped, fault);
             Outcome::Errors
         }
         _ => {
-            let label = if fault.names_file() { "" } else { label };
-            tell(rt, label, fault);
+            let label = if fault.names_file() {
+                ""
+            } else {
+                subject.label
+            };
+            let subject = Subject { label, ..subject };
+            tell(rt, wanted.form, subject, Notice::Fault, fault);
             Outcome::Faults
         }
     }
@@ -63,7 +79,7 @@ fn check_each<C: FileCheck>(
     rt: &HostRuntime,
     paths: &[&str],
     wanted: Wanted,
-    check: &C,
+    check: &mut C,
 ) -> Result<Outcome, Fault> {
     let mut outcome = Outcome::AllValid;
     for path in paths {
@@ -73,7 +89,13 @@ fn check_each<C: FileCheck>(
             // A line was to be written, so there is an error.
             Err(Fault::Closed) => return Ok(outcome.max(Outcome::Errors)),
             Err(fault) if fault.ends_all() => return Err(fault),
-            Err(fault) => told(rt, &label, wanted, &fault),
+            Err(fault) => {
+                let subject = Subject {
+                    file: Some(path),
+                    label: &label,
+                };
+                told(rt, subject, wanted, &fault)
+            }
         };
         outcome = outcome.max(one);
     }
@@ -86,7 +108,7 @@ pub(crate) fn check_files<C: FileCheck>(
     rt: &HostRuntime,
     paths: Option<&[&str]>,
     wanted: Wanted,
-    check: &C,
+    check: &mut C,
 ) -> Result<Outcome, Fault> {
     match paths {
         Some(paths) => check_each(rt, paths, wanted, check),

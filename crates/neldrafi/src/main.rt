@@ -3,18 +3,27 @@
 
 mod commands;
 mod drafts;
+mod errors;
 mod faults;
 mod files;
+mod html;
 mod inputs;
+mod lines;
 mod options;
 mod outcome;
 mod output;
 mod plans;
+mod report;
 mod schemas;
+mod strip;
+mod summary;
+mod telling;
 mod usage;
 
-use crate::faults::{Fault, tell};
+use crate::faults::Fault;
+use crate::options::OutputForm;
 use crate::outcome::Outcome;
+use crate::telling::{Notice, Subject, tell};
 use std::env;
 use std::io::ErrorKind;
 use std::process::ExitCode;
@@ -28,24 +37,33 @@ fn words_of(rt: &HostRuntime) -> Result<Vec<String>, Fault> {
     }
 }
 
-// Does what the words of the command line ask for.
+// What running came to. A fault is told in this form.
+fn told(rt: &HostRuntime, form: OutputForm, ran: Result<Outcome, Fault>) -> Outcome {
+    match ran {
+        Ok(outcome) => outcome,
+        Err(fault) => {
+            tell(rt, form, Subject::none(), Notice::Fault, &fault);
+            Outcome::Faults
+        }
+    }
+}
+
+// Does what the words of the command line ask for, and tells of a fault. The errors are those of the words.
 fn answer(rt: &HostRuntime) -> Result<Outcome, Fault> {
     let words = words_of(rt)?;
     let command = commands::command(rt.alloc())?;
     match command.try_get_matches_from(words.as_slice()) {
-        Ok(matches) => commands::run(rt, &matches),
+        Ok(matches) => {
+            let ran = commands::run(rt, &matches);
+            Ok(told(rt, commands::form_of(&matches), ran))
+        }
         Err(e) if e.use_stderr() => Err(usage::fault_of(rt.alloc(), &e)),
-        Err(e) => output::show(rt, &e.to_string(rt.alloc())?),
+        Err(e) => usage::show(rt, &e),
     }
 }
 
 // Answers the command line, and ends with the status that says what came of it.
 fn main(rt: HostRuntime) -> ExitCode {
-    match answer(&rt) {
-        Ok(outcome) => outcome.status(),
-        Err(fault) => {
-            tell(&rt, "", &fault);
-            Outcome::Faults.status()
-        }
-    }
+    let answered = answer(&rt);
+    told(&rt, OutputForm::Text, answered).status()
 }

@@ -9,14 +9,58 @@ use strkw_report::Draft;
 // The option for no output.
 const QUIET: &str = "quiet";
 
-// The option for so many messages.
-const MAX_ERRORS: &str = "max-errors";
+/// The option for so many messages.
+pub(crate) const MAX_ERRORS: &str = "max-errors";
+
+// The option for the form of output.
+const OUTPUT: &str = "output";
+
+// The name of the form of text, and that of lines of JSON.
+const TEXT: &str = "text";
+
+const JSON: &str = "json";
+
+// The names of the forms.
+const FORM_NAMES: &[&str] = &[TEXT, JSON];
 
 // The option for the draft.
 const DRAFT: &str = "draft";
 
+/// The option for keywords that are let pass.
+pub(crate) const IGNORE: &str = "ignore";
+
 /// The argument for the files.
 pub(crate) const FILE: &str = "FILE";
+
+/// The form in which lines are written.
+#[derive(Clone, Copy, Debug, PartialEq, Eq)]
+pub(crate) enum OutputForm {
+    /// Lines of text.
+    Text,
+    /// An object of JSON on each line.
+    Json,
+}
+
+impl OutputForm {
+    /// What the option `--output` says.
+    pub(crate) fn of(matches: &ArgMatches<'_>) -> OutputForm {
+        if matches.get_str(OUTPUT) == Some(JSON) {
+            OutputForm::Json
+        } else {
+            OutputForm::Text
+        }
+    }
+}
+
+/// The option `--output`.
+pub(crate) fn output<'a>(alloc: Global) -> Arg<'a> {
+    Arg::new(alloc, OUTPUT)
+        .long(OUTPUT)
+        .value_name("FORM")
+        .value_parser(FORM_NAMES)
+        .default_value(TEXT)
+        .help("The form of each line: text, or an object of JSON")
+}
 
 /// What is wanted of the lines of the standard output.
 #[derive(Clone, Copy)]
@@ -25,6 +69,8 @@ pub(crate) struct Wanted {
     pub is_quiet: bool,
     /// No more than so many are written about a file.
     pub most_messages: Option<u64>,
+    /// In which form.
+    pub form: OutputForm,
 }
 
 impl Wanted {
@@ -33,14 +79,16 @@ impl Wanted {
         Wanted {
             is_quiet: false,
             most_messages: None,
+            form: OutputForm::Text,
         }
     }
 
-    /// What the options `--quiet` and `--max-errors` say.
+    /// What the options `--quiet`, `--max-errors` and `--output` say.
     pub(crate) fn of(matches: &ArgMatches<'_>) -> Wanted {
         Wanted {
             is_quiet: matches.get_flag(QUIET),
             most_messages: matches.get_one::<u64>(MAX_ERRORS),
+            form: OutputForm::of(matches),
         }
     }
 }
@@ -76,6 +124,15 @@ pub(crate) fn draft<'a>(alloc: Global) -> Arg<'a> {
 /// The draft that the option `--draft` names.
 pub(crate) fn draft_of(matches: &ArgMatches<'_>) -> Draft {
     draft_named(matches.get_str(DRAFT))
+}
+
+/// The option `--ignore`.
+pub(crate) fn ignore<'a>(alloc: Global) -> Arg<'a> {
+    Arg::new(alloc, IGNORE)
+        .long(IGNORE)
+        .value_name("KEYWORD")
+        .action(ArgAction::Append)
+        .help("Let a keyword of this name pass, of which nothing is checked")
 }
 
 /// An argument that has to be given.

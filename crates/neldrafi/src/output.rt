@@ -2,7 +2,6 @@
 
 use crate::faults::Fault;
 use crate::options::Wanted;
-use crate::outcome::Outcome;
 use std::alloc::{AllocError, Global};
 use std::io;
 use std::io::{ErrorKind, Write};
@@ -55,21 +54,6 @@ impl<'a> Output<'a> {
             lines: 0,
             is_in_line: false,
             failure: None,
-        }
-    }
-
-    /// The label of the file.
-    pub(crate) fn label(&self) -> &'a str {
-        self.label
-    }
-
-    /// The fault that tells why a write failed.
-    pub(crate) fn fault(&self) -> Fault {
-        match self.failure {
-            Some(Failure::Closed) => Fault::Closed,
-            Some(Failure::Stopped(most)) => Fault::Stopped(most),
-            Some(Failure::Memory) => Fault::Memory,
-            Some(Failure::Refused) | None => Fault::Write,
         }
     }
 
@@ -139,14 +123,31 @@ impl Write for Output<'_> {
     }
 }
 
-/// Writes a text that was asked for, such as help. Where nobody reads it, that is as well.
-pub(crate) fn show(rt: &HostRuntime, text: &str) -> Result<Outcome, Fault> {
+/// What lines are written to, and that knows why a write of it failed.
+pub(crate) trait FaultyWrite: Write {
+    /// The fault that tells why a write failed.
+    fn fault(&self) -> Fault;
+}
+
+impl FaultyWrite for Output<'_> {
+    fn fault(&self) -> Fault {
+        match self.failure {
+            Some(Failure::Closed) => Fault::Closed,
+            Some(Failure::Stopped(most)) => Fault::Stopped(most),
+            Some(Failure::Memory) => Fault::Memory,
+            Some(Failure::Refused) | None => Fault::Write,
+        }
+    }
+}
+
+/// Writes a text to standard output. That nobody reads it is no fault.
+pub(crate) fn write_text(rt: &HostRuntime, text: &str) -> Result<(), Fault> {
     let mut output = Output::new(rt, "", Wanted::all());
     if output.write_all(text.as_bytes()).is_ok() {
-        return Ok(Outcome::AllValid);
+        return Ok(());
     }
     match output.fault() {
-        Fault::Closed => Ok(Outcome::AllValid),
+        Fault::Closed => Ok(()),
         fault => Err(fault),
     }
 }

@@ -5,15 +5,17 @@ ghost use Rattle.strkw_keywords.specs.Demands.{IsInUse};
 ghost use Rattle.strkw_keywords.specs.Handed.{lists_of};
 ghost use Rattle.strkw_object.specs.Compiled.{keywords_demands};
 
+use crate::drafts::draft_number;
 use crate::faults::Fault;
-use serde_json::Value;
+use serde_json::{Value, json};
 use std::alloc::{AllocError, Global};
 use std::fmt;
 use strkw_ecma::why_refused;
 use strkw_object::StringKeywords;
 use strkw_pattern::EngineBuilder;
 use strkw_plan::{
-    PlanFault, PlanFileFault, PlanKind, PlanTextFault, Rules, Shown, compile_schema, read_plan_file,
+    PlanFault, PlanFileFault, PlanKind, PlanTextFault, Rules, Shown, compile_schema, plan_in,
+    read_plan_file,
 };
 use strkw_report::{CompileError, CompileErrorKind, Draft};
 
@@ -24,6 +26,15 @@ pub(crate) enum SchemaFault {
     File(PlanFileFault),
     /// It is no object.
     NoObject,
+    /// It has a member that is no keyword of the draft.
+    UnknownKeyword {
+        /// The name of the member.
+        keyword: String,
+        /// A keyword of the draft, where one is one edit away.
+        nearest: Option<&'static str>,
+    },
+    /// It has a keyword of this name, by which nothing is checked here.
+    UncheckedKeyword(String),
     /// A keyword of it is refused.
     Refused {
         /// The place of the keyword.
@@ -47,6 +58,21 @@ impl fmt::Display for SchemaFault {
             }
             SchemaFault::File(e) => write!(f, "{e}"),
             SchemaFault::NoObject => f.write_str("the schema is no object"),
+            SchemaFault::UnknownKeyword { keyword, nearest } => {
+                let keyword = Shown(keyword);
+                write!(f, "unknown keyword \"{keyword}\" in the schema")?;
+                match nearest {
+                    Some(nearest) => write!(f, ": did you mean \"{nearest}\"?"),
+                    None => Ok(()),
+                }
+            }
+            SchemaFault::UncheckedKeyword(keyword) => {
+                let keyword = Shown(keyword);
+                write!(
+                    f,
+                    "keyword \"{keyword}\" in the schema is not checked here: `--ignore {keyword}` lets it pass"
+                )
+            }
             SchemaFault::Refused { place, why } => {
                 let (place, why) = (Shown(place), Shown(why));
                 write!(f, "the schema is refused at {place}: {why}")
@@ -64,6 +90,32 @@ pub(crate) fn read_schema(rt: &HostRuntime, path: &str) -> Result<Value, Fault> 
     }
 }
 
+/// Refuses a schema that has another keyword than those that are checked or only annotate, and than these, whose names
+/// are let pass: as a plan of this one schema is refused.
+pub(crate) fn require_keywords(
+    alloc: Global,
+    draft: Draft,
+    ignored: &[&str],
+    schema: &Value,
+) -> Result<(), Fault> {
+    let draft = draft_number(draft);
+    let ignored = names(alloc, ignored)?;
+    let plan = json!(in alloc; {"draft": draft, "places": {"": schema}, "ignore": ignored})?;
+    match plan_in(alloc, PlanKind::Places, &plan) {
+        Ok(_) => Ok(()),
+        Err(fault) => Err(fault_of_schema(alloc, fault)),
+    }
+}
+
+// Names as an array.
+fn names(alloc: Global, names: &[&str]) -> Result<Value, AllocError> {
+    let mut values = Vec::new(alloc);
+    for name in names {
+        values.push(Value::try_from_str(alloc, name)?)?;
+    }
+    Ok(Value::Array(values))
+}
+
 /// What a schema object is compiled to under these rules.
 pub(crate) fn compile<B: EngineBuilder>(
     alloc: Global,
@@ -77,15 +129,23 @@ pub(crate) fn compile<B: EngineBuilder>(
     // The kind and the name would say where the schema stands in a plan. It stands in none.
     match compile_schema(alloc, rules, PlanKind::Places, draft, "", schema) {
         Ok(keywords) => Ok(keywords),
-        Err(fault) => Err(fault_of_schema(alloc, &fault)),
+        Err(fault) => Err(fault_of_schema(alloc, fault)),
     }
 }
 
 // The fault that tells why a schema is refused.
-fn fault_of_schema(alloc: Global, fault: &PlanFault) -> Fault {
+fn fault_of_schema(alloc: Global, fault: PlanFault) -> Fault {
     match fault {
         PlanFault::NoObject(_) => Fault::Schema(SchemaFault::NoObject),
-        PlanFault::Refused { refusal, .. } => match refused(alloc, refusal) {
+        PlanFault::UnknownKeyword {
+            keyword,
+            nearest,
+            ..
+        } => Fault::Schema(SchemaFault::UnknownKeyword { keyword, nearest }),
+        PlanFault::UncheckedKeyword { keyword, .. } => {
+            Fault::Schema(SchemaFault::UncheckedKeyword(keyword))
+        }
+        PlanFault::Refused { refusal, .. } => match refused(alloc, &refusal) {
             Ok(fault) => Fault::Schema(fault),
             Err(_) => Fault::Memory,
         },

@@ -1,6 +1,8 @@
-//! What is told of words that are no command.
+//! What the parser of the command line answers in place of a command: a fault, help, or the version.
 
 use crate::faults::Fault;
+use crate::outcome::Outcome;
+use crate::output::write_text;
 use clap::Error;
 use clap::error::ErrorKind;
 use std::alloc::{AllocError, Global};
@@ -43,4 +45,11 @@ fn one_line(alloc: Global, error: &Error) -> Result<String, AllocError> {
         }
     }
     Ok(line)
+}
+
+/// Writes the help or the version that was asked for.
+pub(crate) fn show(rt: &HostRuntime, asked: &Error) -> Result<Outcome, Fault> {
+    let text = asked.to_string(rt.alloc())?;
+    write_text(rt, &text)?;
+    Ok(Outcome::AllValid)
 }

@@ -8,9 +8,10 @@ ghost use Rattle.strkw_plan.specs.Plan.{Plan as PlanView, plan_of, plan_problem}
 ghost use Rattle.strkw_plan.specs.Rules.{rules_settings};
 ghost use Rattle.strkw_plan.specs.declared.kind.PlanKind.TheVariants.{Places};
 ghost use Rattle.strkw_document.specs.Faults.{IsWhy, IsWhyInPlan};
-ghost use Rattle.strkw_document.specs.Places.{DocumentMessages};
+ghost use Rattle.strkw_document.specs.Places.{DocumentMessages, text_form};
 
 use crate::faults::DocumentFault;
+use crate::form::{PlaceForm, PlaceLines};
 use crate::place::check_place;
 use serde_json::Value;
 use std::alloc::Global;
@@ -39,7 +40,36 @@ pub fn check_document<B: EngineBuilder, W: Write>(
         rules_settings B.takes B.outcome admits accepted encoded decoding rules.now in
         IfOk result (λ count. (p : PlanView) × (messages : List (List ℕ))
         × (plan_of Places (view plan.now) ≡ Some p)
-        × DocumentMessages (s p.draft) p.schemas (view document.now) messages
+        × DocumentMessages text_form (s p.draft) p.schemas (view document.now) messages
+        × Appends (W.contents writer.old) (W.contents writer.new) (concat messages)
+        × (count ≡ length messages)) }
+    ensures why { let s =
+        rules_settings B.takes B.outcome admits accepted encoded decoding rules.now in
+        IfErr result (λ fault. IsWhy s (view plan.now) fault) }
+    ensures unwritten { IfErr result (λ fault. (fault ≡ DocumentFault.Write)
+        ⊎ (W.contents writer.new ≡ W.contents writer.old)) }
+{
+    check_document_as(alloc, rules, plan, document, writer, &PlaceLines)
+}
+
+/// The same, in a form of the caller: each error, and each place that the document has not, is written as the form
+/// writes it.
+///
+/// Errors: as `check_document`.
+pub fn check_document_as<B: EngineBuilder, W: Write, F: PlaceForm>(
+    alloc: Global,
+    rules: &Rules<'_, B>,
+    plan: &Value,
+    document: &Value,
+    writer: &mut W,
+    form: &F,
+) -> Result<u64, DocumentFault>
+    ensures plan { OnOk result (plan_problem Places (view plan.now) ≡ None) }
+    ensures messages { let s =
+        rules_settings B.takes B.outcome admits accepted encoded decoding rules.now in
+        IfOk result (λ count. (p : PlanView) × (messages : List (List ℕ))
+        × (plan_of Places (view plan.now) ≡ Some p)
+        × DocumentMessages (F.writes form.now) (s p.draft) p.schemas (view document.now) messages
         × Appends (W.contents writer.old) (W.contents writer.new) (concat messages)
         × (count ≡ length messages)) }
     ensures why { let s =
@@ -50,7 +80,7 @@ pub fn check_document<B: EngineBuilder, W: Write>(
 {
     let plan = plan_in(alloc, PlanKind::Places, plan)?;
     let mut out = String::new(alloc);
-    let count = check_places(alloc, rules, &plan, document, &mut out)?;
+    let count = check_places(alloc, rules, &plan, document, form, &mut out)?;
     if writer.write_all(out.as_bytes()).is_err() || writer.flush().is_err() {
         return Err(DocumentFault::Write);
     }
@@ -58,18 +88,19 @@ pub fn check_document<B: EngineBuilder, W: Write>(
 }
 
 // Appends the messages about the places of a plan, and answers how many they are.
-fn check_places<B: EngineBuilder>(
+fn check_places<B: EngineBuilder, F: PlaceForm>(
     alloc: Global,
     rules: &Rules<'_, B>,
     plan: &Plan<'_>,
     document: &Value,
+    form: &F,
     out: &mut String,
 ) -> Result<u64, DocumentFault>
     ensures messages { let s =
         rules_settings B.takes B.outcome admits accepted encoded decoding rules.now in
         IfOk result (λ count. (messages : List (List ℕ))
-        × DocumentMessages (s plan.now.draft) (members_view plan.now.schemas.now.entries)
-        (view document.now) messages
+        × DocumentMessages (F.writes form.now) (s plan.now.draft)
+        (members_view plan.now.schemas.now.entries) (view document.now) messages
         × (count ≡ length messages)
         × (string_bytes out.new ≡ string_bytes out.old ++ concat messages)) }
     ensures why { let s =
@@ -79,7 +110,7 @@ fn check_places<B: EngineBuilder>(
 {
     let mut count = 0u64;
     for (place, schema) in plan.schemas.iter() {
-        let more = check_place(alloc, rules, plan.draft, place, schema, document, out)?;
+        let more = check_place(alloc, rules, plan.draft, place, schema, document, form, out)?;
         count = count.checked_add(more).ok_or(DocumentFault::TooLong)?;
     }
     Ok(count)

@@ -3,9 +3,11 @@
 
 mod document;
 mod faults;
+mod form;
 mod place;
 mod text;
 
-pub use document::check_document;
+pub use document::{check_document, check_document_as};
 pub use faults::DocumentFault;
+pub use form::{PlaceForm, PlaceLines};
 pub use text::{DocumentTextFault, read_document};

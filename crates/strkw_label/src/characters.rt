@@ -103,6 +103,13 @@ pub(crate) fn is_within(c: char, low: char, high: char) -> bool
     low <= c && c <= high
 }
 
+/// Whether two texts are one.
+pub(crate) fn are_same(a: &[char], b: &[char]) -> bool
+    ensures { IsTrue result ↔ (a.now ≡ b.now) }
+{
+    a == b
+}
+
 /// Whether `c` stands in no label.
 pub(crate) fn is_excluded(c: char) -> bool
     ensures { result ≡ spec.is_excluded c }

@@ -85,7 +85,7 @@ fn joiner_stands(label: &[char], place: usize) -> bool
 }
 
 /// Middle dot: only between two `l` (RFC 5892 appendix A.3).
-fn middle_dot_stands(label: &[char], place: usize) -> bool
+pub(crate) fn middle_dot_stands(label: &[char], place: usize) -> bool
     requires { place < length label.now }
     ensures { IsTrue result ↔ spec.MiddleDotStands label.now place }
 {

@@ -19,7 +19,7 @@ use Rattle.strkw_keywords.specs.declared.validator.Validator.{Validator}
 use Rattle.strkw_keywords.proofs.Reports.{errors_of, found_reports}
 use Rattle.strkw_report.specs.Standings.{root_site}
 use Rattle.strkw_object.proofs.Many.{nothing_asserted, report_append, in_more}
-use Rattle.strkw_plan.specs.Messages.{AppendsMessages, message}
+use Rattle.strkw_plan.specs.Messages.{AppendsSaid, message}
 use Rattle.strkw_plan.specs.Shown.{shown}
 
 -- no name of a keyword holds what a pointer escapes
@@ -32,51 +32,53 @@ plain_name MinLength = refl
 plain_name MaxLength = refl
 plain_name Pattern = refl
 
-module _ (place : List ℕ) where
-  -- the messages about errors at the place
+-- a message has bytes
+pub message_some : (place : List ℕ) (r : Report) → 0 < length (message place r)
+message_some place r =
+    let front = shown place ++ codes ": " ++ r.schema_path ++ codes ": " ++ shown (text_of r) in
+    let line : length (message place r) ≡ length front + 1 = length-append front (codes "\n") in
+    omega (arith, line)
+
+-- what is appended has as many bytes as there are messages, or more: of one message, and of two in turn
+pub one_more : (old said new : List ℕ) → new ≡ old ++ said → 0 < length said → length old + 1 ≤ length new
+one_more old said new grown some =
+    let bytes : length new ≡ length old + length said = ap (λ l. length l) grown ∙ length-append old said in
+    omega (arith, bytes, some)
+
+pub two_more : (old mid new n m : ℕ) → old + n ≤ mid → mid + m ≤ new → old + (n + m) ≤ new
+two_more old mid new n m first second = omega (arith, first, second)
+
+module _ (say : Report → List ℕ) where
+  -- what is said of errors
   abbrev said : List Report → List ℕ
-  said reports = flat_map (message place) reports
+  said reports = flat_map say reports
 
   -- ---- two calls
 
   -- what is appended for some errors, and then for others
   pub appended_more : (P Q R : List Report → Type 0) (n m : ℕ) (old mid new : List ℕ)
-      → ((early late : List Report) → P early → Q late → R (early ++ late)) → AppendsMessages P place n old mid → AppendsMessages Q place m mid new
-      → AppendsMessages R place (n + m) old new
+      → ((early late : List Report) → P early → Q late → R (early ++ late)) → AppendsSaid P say n old mid → AppendsSaid Q say m mid new
+      → AppendsSaid R say (n + m) old new
   appended_more P Q R n m old mid new both a b = record {
     reports = a.reports ++ b.reports;
     reported = both a.reports b.reports a.reported b.reported;
     counted = ap₂ (λ i j. i + j) a.counted b.counted ∙ sym (length-append a.reports b.reports);
     grown = b.grown ∙ ap (λ l. l ++ said b.reports) a.grown ∙ append_assoc old (said a.reports) (said b.reports)
-        ∙ ap (λ l. old ++ l) (sym (flat_map-append (message place) a.reports b.reports));
+        ∙ ap (λ l. old ++ l) (sym (flat_map-append say a.reports b.reports));
   }
 
   -- where P holds of an empty list of errors, nothing is appended for it
-  nothing : (P : List Report → Type 0) (old : List ℕ) → P [] → AppendsMessages P place 0 old old
+  nothing : (P : List Report → Type 0) (old : List ℕ) → P [] → AppendsSaid P say 0 old old
   nothing P old none = record { reports = []; reported = none; counted = refl; grown = sym (append-nil old) }
 
   -- nothing is said of an instance that is no text
   pub nothing_said : (assertions : List Assertion) (lists : Lists) (text : Option (List ℕ)) (old : List ℕ) → text ≡ None
-      → AppendsMessages (NodeReports assertions lists root_site text) place 0 old old
+      → AppendsSaid (NodeReports assertions lists root_site text) say 0 old old
   nothing_said assertions lists text old none = nothing (NodeReports assertions lists root_site text) old (rw none refl)
 
   -- nor by no validator
-  pub nothing_yet : (lists : Lists) (text : Option (List ℕ)) (old : List ℕ) → AppendsMessages (NodeReports [] lists root_site text) place 0 old old
+  pub nothing_yet : (lists : Lists) (text : Option (List ℕ)) (old : List ℕ) → AppendsSaid (NodeReports [] lists root_site text) say 0 old old
   nothing_yet lists text old = nothing (NodeReports [] lists root_site text) old (nothing_asserted lists root_site text)
-
-  -- each message has bytes, so they are no more than what was appended
-  some_bytes : (reports : List Report) → length reports ≤ length (said reports)
-  some_bytes [] = omega arith
-  some_bytes (r ∷ rs) =
-      let front = shown place ++ codes ": " ++ r.schema_path ++ codes ": " ++ shown (text_of r) in
-      let lines : length (said (r ∷ rs)) ≡ length (message place r) + length (said rs) = length-append (message place r) (said rs) in
-      let line : length (message place r) ≡ length front + 1 = length-append front (codes "\n") in
-      omega (arith, some_bytes rs, lines, line)
-
-  -- so what was appended has as many bytes as there are messages, or more
-  pub no_more_than_bytes : (P : List Report → Type 0) (n : ℕ) (old new : List ℕ) → AppendsMessages P place n old new → length old + n ≤ length new
-  no_more_than_bytes P n old new a =
-      omega (arith, a.counted, some_bytes a.reports, ap (λ l. length l) a.grown, length-append old (said a.reports))
 
   -- ---- one validator
 
@@ -95,7 +97,7 @@ module _ (place : List ℕ) where
   of_two : (at : Place) (ds : List Demand) (lists : Lists) (text : List ℕ) (a b : Option Finding) (n m : ℕ) (old mid new : List ℕ)
       → Finds ds lists text (listed a ++ listed b)
       → Says n (reported (standing at root_site) text a) old mid → Says m (reported (standing at root_site) text b) mid new
-      → AppendsMessages (NodeReports (placed at ds) lists root_site (Some text)) place (n + m) old new
+      → AppendsSaid (NodeReports (placed at ds) lists root_site (Some text)) say (n + m) old new
   of_two at ds lists text a b n m old mid new finds first second =
       let s = standing at root_site in
       let P = NodeReports (placed at ds) lists root_site (Some text) in
@@ -109,7 +111,7 @@ module _ (place : List ℕ) where
   pub said_of_two : (here at : Place) (ds : List Demand) (lists : Lists) (this text : List ℕ) (a b : Option Finding) (n m : ℕ) (old mid new : List ℕ)
       → here ≡ at → this ≡ text → Finds ds lists text (listed a ++ listed b)
       → Says n (reported (standing here root_site) this a) old mid → Says m (reported (standing here root_site) this b) mid new
-      → AppendsMessages (NodeReports (placed at ds) lists root_site (Some text)) place (n + m) old new
+      → AppendsSaid (NodeReports (placed at ds) lists root_site (Some text)) say (n + m) old new
   said_of_two here at ds lists this text a b n m old mid new same read finds first second =
       of_two at ds lists text a b n m old mid new finds
       (subst (λ t. Says n (reported (standing at root_site) t a) old mid) read
@@ -122,9 +124,9 @@ module _ (place : List ℕ) where
   -- what is said by one validator more
   pub said_by_more : {E : Type 0} (outcome : E → List ℕ → Outcome) (lists : Lists) (text : Option (List ℕ)) (vs : List (Validator E)) (i : ℕ) (v : Validator E)
       (n m : ℕ) (old mid new : List ℕ) → i < length vs → v ≡ get_or vs i v
-      → AppendsMessages (NodeReports (assertions_in outcome (take i vs)) lists root_site text) place n old mid
-      → AppendsMessages (NodeReports (assertions_of outcome v) lists root_site text) place m mid new
-      → AppendsMessages (NodeReports (assertions_in outcome (take (i + 1) vs)) lists root_site text) place (n + m) old new
+      → AppendsSaid (NodeReports (assertions_in outcome (take i vs)) lists root_site text) say n old mid
+      → AppendsSaid (NodeReports (assertions_of outcome v) lists root_site text) say m mid new
+      → AppendsSaid (NodeReports (assertions_in outcome (take (i + 1) vs)) lists root_site text) say (n + m) old new
   said_by_more outcome lists text vs i v n m old mid new h e a b =
       let front = assertions_in outcome (take i vs) in
       appended_more (NodeReports front lists root_site text) (NodeReports (assertions_of outcome v) lists root_site text) _ n m old mid new
@@ -133,9 +135,9 @@ module _ (place : List ℕ) where
   -- what is said by all of them is what an object says of this text
   pub said_by_all : {E : Type 0} (outcome : E → List ℕ → Outcome) (lists : Lists) (this text : Option (List ℕ)) (vs : List (Validator E)) (i : ℕ)
       (asserted : List Assertion) (n : ℕ) (old new : List ℕ) → length vs ≤ i → assertions_in outcome vs ≡ asserted → this ≡ text
-      → AppendsMessages (NodeReports (assertions_in outcome (take i vs)) lists root_site this) place n old new
-      → AppendsMessages (NodeReports asserted lists root_site text) place n old new
+      → AppendsSaid (NodeReports (assertions_in outcome (take i vs)) lists root_site this) say n old new
+      → AppendsSaid (NodeReports asserted lists root_site text) say n old new
   said_by_all outcome lists this text vs i asserted n old new past same read a =
       let whole = take_all i vs past in
-      subst (λ t. AppendsMessages (NodeReports asserted lists root_site t) place n old new) read
-      (subst (λ all. AppendsMessages (NodeReports all lists root_site this) place n old new) (ap (assertions_in outcome) whole ∙ same) a)
+      subst (λ t. AppendsSaid (NodeReports asserted lists root_site t) say n old new) read
+      (subst (λ all. AppendsSaid (NodeReports all lists root_site this) say n old new) (ap (assertions_in outcome) whole ∙ same) a)

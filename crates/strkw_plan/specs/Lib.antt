@@ -9,3 +9,4 @@ pub mod Rules
 pub mod Messages
 pub mod Compiled
 pub mod Distinct
+pub mod Found

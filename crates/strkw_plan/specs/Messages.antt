@@ -23,17 +23,27 @@ abbrev pub message : List ℕ → Report → List ℕ
 message place r =
     shown place ++ codes ": " ++ r.schema_path ++ codes ": " ++ shown (text_of r) ++ codes "\n"
 
--- the messages about an instance at a place: one for each of its errors by the schema object, in
--- their order
-abbrev pub InstanceMessages : Settings → Members → List ℕ → Option (List ℕ) → List (List ℕ) → Type 0
-InstanceMessages s schema place instance messages = (reports : List Report)
-    × Errors s schema s.lists root_site instance reports × (messages ≡ map (message place) reports)
+-- what is said of an instance: a message for each of its errors by the schema object, in their
+-- order
+abbrev pub InstanceSaid : Settings → Members → (Report → List ℕ) → Option (List ℕ)
+    → List (List ℕ) → Type 0
+InstanceSaid s schema say instance messages = (reports : List Report)
+    × Errors s schema s.lists root_site instance reports × (messages ≡ map say reports)
 
--- New is old, and behind it the messages about an instance at a place: one for each of errors that
--- have P, in their order; and so many they are.
-pub record AppendsMessages (P : List Report → Type 0) (place : List ℕ) (count : ℕ)
+-- the messages about an instance at a place
+abbrev pub InstanceMessages : Settings → Members → List ℕ → Option (List ℕ) → List (List ℕ) → Type 0
+InstanceMessages s schema place instance messages =
+    InstanceSaid s schema (message place) instance messages
+
+-- New is old, and behind it a message for each of errors that have P, in their order; and so many
+-- they are.
+pub record AppendsSaid (P : List Report → Type 0) (say : Report → List ℕ) (count : ℕ)
     (old new : List ℕ) : Type 0 where
   pub reports : List Report
   pub reported : P reports
   pub counted : count ≡ length reports
-  pub grown : new ≡ old ++ flat_map (message place) reports
+  pub grown : new ≡ old ++ flat_map say reports
+
+-- the same, of the messages about an instance at a place
+abbrev pub AppendsMessages : (List Report → Type 0) → List ℕ → ℕ → List ℕ → List ℕ → Type 0
+AppendsMessages P place count old new = AppendsSaid P (message place) count old new

@@ -12,8 +12,6 @@ mod piece;
 mod place;
 mod reader;
 mod runs;
-#[cfg(test)]
-mod tests;
 
 pub use faults::ReadFault;
 pub use limits::Limits;

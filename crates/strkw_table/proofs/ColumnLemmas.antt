@@ -15,8 +15,7 @@ use Rattle.strkw_table.specs.declared.schema_column.SchemaColumn.{SchemaColumn}
 use Rattle.strkw_table.specs.Rows.{OfField, OfFirst, OfRecords}
 use Rattle.strkw_records.specs.Records.{LinedRecord}
 use Rattle.strkw_plan.specs.Compiled.{IsCompiledFor}
-use Rattle.strkw_plan.specs.Messages.{message}
-use Rattle.strkw_table.specs.Fields.{FieldErrors, MessagesOf, field_place, schema_named}
+use Rattle.strkw_table.specs.Fields.{FieldErrors, Form, MessagesOf, schema_named}
 use Rattle.strkw_table.specs.Columns.{AreColumns, ColumnMessages, CompiledErrors, IsUsable, keywords_of}
 
 -- the names up to a place, and the name at it
@@ -129,15 +128,15 @@ module _ {E : Type 0} (outcome : E → List ℕ → Outcome) (s : Settings) (sch
   compiled_usable law (Some schema) (Some k) p = law schema k p
 
   -- the messages of a column about a field are those that its name means
-  column_messages : (name : List ℕ) (column : SchemaColumn E) (line : ℕ) (field : List ℕ) (messages : List (List ℕ)) → column.name.now ≡ name
+  column_messages : (form : Form) (name : List ℕ) (column : SchemaColumn E) (line : ℕ) (field : List ℕ) (messages : List (List ℕ)) → column.name.now ≡ name
       → keywords_of column ≡ find name
-      → ColumnMessages outcome s.lists column line field messages → MessagesOf s schemas name line field messages
-  column_messages name column line field messages named found q =
+      → ColumnMessages form outcome s.lists column line field messages → MessagesOf form s schemas name line field messages
+  column_messages form name column line field messages named found q =
       let (reports, errors, e) = q in (
         reports,
         compiled_errors (schema_named schemas name) (find name) field reports (compiled name) (rw found at errors),
         e ∙ ap
-            (λ n. map (message (field_place line n)) reports) named,
+            (λ n. map (form line n) reports) named,
       )
 
   -- each of the columns may be asked, since it was compiled where no check is registered
@@ -154,15 +153,15 @@ module _ {E : Type 0} (outcome : E → List ℕ → Outcome) (s : Settings) (sch
   columns_usable law (x ∷ xs) (c ∷ cs) p (suc n) column e = columns_usable law xs cs p.2 n column e
 
   -- the messages of the columns are those that their names mean
-  pub column_fields : (names : List (List ℕ)) (columns : List (SchemaColumn E)) → AreColumns find names columns
+  pub column_fields : (form : Form) (names : List (List ℕ)) (columns : List (SchemaColumn E)) → AreColumns find names columns
       → (n line : ℕ) (field : Option (List ℕ)) (messages : List (List ℕ))
-      → OfField (ColumnMessages outcome s.lists) line field (slice_get columns n) messages
-      → OfField (MessagesOf s schemas) line field (slice_get names n) messages
+      → OfField (ColumnMessages form outcome s.lists) line field (slice_get columns n) messages
+      → OfField (MessagesOf form s schemas) line field (slice_get names n) messages
   unfolding AreColumns
-  column_fields [] [] p n line None messages q = q
-  column_fields [] [] p n line (Some field) messages q = q
-  column_fields [] (c ∷ cs) p n line field messages q = absurd p
-  column_fields (x ∷ xs) [] p n line field messages q = absurd p
-  column_fields (x ∷ xs) (c ∷ cs) p zero line None messages q = q
-  column_fields (x ∷ xs) (c ∷ cs) p zero line (Some field) messages q = column_messages x c line field messages p.0 p.1 q
-  column_fields (x ∷ xs) (c ∷ cs) p (suc n) line field messages q = column_fields xs cs p.2 n line field messages q
+  column_fields form [] [] p n line None messages q = q
+  column_fields form [] [] p n line (Some field) messages q = q
+  column_fields form [] (c ∷ cs) p n line field messages q = absurd p
+  column_fields form (x ∷ xs) [] p n line field messages q = absurd p
+  column_fields form (x ∷ xs) (c ∷ cs) p zero line None messages q = q
+  column_fields form (x ∷ xs) (c ∷ cs) p zero line (Some field) messages q = column_messages form x c line field messages p.0 p.1 q
+  column_fields form (x ∷ xs) (c ∷ cs) p (suc n) line field messages q = column_fields form xs cs p.2 n line field messages q

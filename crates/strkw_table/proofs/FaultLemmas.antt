@@ -23,7 +23,7 @@ use Rattle.strkw_table.specs.declared.faults.TableFault.{TableFault}
 use Rattle.strkw_table.specs.declared.faults.TableFault.TheVariants as fault
 use Rattle.strkw_table.specs.Faults.{HaveColumns, IsHeader, IsNoPlanFault, IsUnexplained, IsWhy, IsWhyOfNames, IsWhyOfNext, IsWhyOfRows, IsWhyOfText}
 use Rattle.strkw_table.specs.Faults.{IsWhyUnread, record_limits}
-use Rattle.strkw_table.specs.Fields.{AreDistinct, AreNamed, MessagesOf}
+use Rattle.strkw_table.specs.Fields.{AreDistinct, AreNamed, Form, MessagesOf}
 use Rattle.strkw_table.specs.Gives.{GivesOfPlan, GivesOfReading}
 use Rattle.strkw_table.specs.Rows.{AreFirstRecords, HaveShape, OfRecords}
 
@@ -174,13 +174,13 @@ module _ {C : Type 0} (says : C → ℕ → List ℕ → List (List ℕ) → Typ
   why_written other put fault.Memory p = p
   why_written other put fault.TooLong p = p
 
-module _ (settings : Draft → Settings) (plan : Data) (text : List ℕ) (wrote : List ℕ → Type 0) where
+module _ (form : Form) (settings : Draft → Settings) (plan : Data) (text : List ℕ) (wrote : List ℕ → Type 0) where
   -- out of memory needs no reason
-  pub why_of_memory : (why : TableFault) → why ≡ fault.Memory → IsWhyOfText settings plan text wrote why
+  pub why_of_memory : (why : TableFault) → why ≡ fault.Memory → IsWhyOfText form settings plan text wrote why
   why_of_memory why e = rw e tt
 
   -- a fault of the plan comes before anything is written
-  pub why_of_plan : (e : PlanFault) (why : TableFault) → GivesOfPlan e why → wrote [] → IsWhyOfText settings plan text wrote why
+  pub why_of_plan : (e : PlanFault) (why : TableFault) → GivesOfPlan e why → wrote [] → IsWhyOfText form settings plan text wrote why
   why_of_plan (refused.NoPlan kind) why gives written = rw gives written
   why_of_plan (refused.UnknownMember kind name nearest) why gives written = rw gives written
   why_of_plan refused.NoNames why gives written = rw gives written
@@ -197,7 +197,7 @@ module _ (settings : Draft → Settings) (plan : Data) (text : List ℕ) (wrote 
 
   -- so does a fault that says why the first record is not read
   by_first : (p : Plan) (e : ReadFault) (why : TableFault) → plan_of Columns plan ≡ Some p → IsWhyUnread (record_limits p.limits) first_place text e
-      → GivesOfReading e why → wrote [] → IsWhyOfText settings plan text wrote why
+      → GivesOfReading e why → wrote [] → IsWhyOfText form settings plan text wrote why
   by_first p (read.Read e) why is q gives written = rw gives (inl (p, is, written, q))
   by_first p (read.OpenQuote line) why is q gives written = rw gives (inl (p, is, written, q))
   by_first p (read.NotUtf8 line number) why is q gives written = rw gives (inl (p, is, written, q))
@@ -210,7 +210,7 @@ module _ (settings : Draft → Settings) (plan : Data) (text : List ℕ) (wrote 
   pub why_of_first : {R : Type 0} (rem : R → Option (List ℕ)) (old new : RecordReader R) (p : Plan) (e : ReadFault) (why : TableFault)
       → plan_of Columns plan ≡ Some p
       → place_of old ≡ first_place → limits_of old ≡ record_limits p.limits
-      → Explains rem old new text e → GivesOfReading e why → wrote [] → IsWhyOfText settings plan text wrote why
+      → Explains rem old new text e → GivesOfReading e why → wrote [] → IsWhyOfText form settings plan text wrote why
   why_of_first rem old new p e why is at keeps explained gives written =
       by_first p e why is (subst (λ limits. IsWhyUnread limits first_place text e) keeps
       (subst (λ place. IsWhyUnread (limits_of old) place text e) at (unread rem old new text e explained))) gives written
@@ -218,7 +218,7 @@ module _ (settings : Draft → Settings) (plan : Data) (text : List ℕ) (wrote 
   -- and one whose names are not those of the plan
   pub why_of_names : (p : Plan) (names : List (List ℕ)) (why : TableFault) → plan_of Columns plan ≡ Some p → IsHeader text names → IsWhyOfNames p names why
       → wrote []
-      → IsWhyOfText settings plan text wrote why
+      → IsWhyOfText form settings plan text wrote why
   why_of_names p names (fault.Plan why) is header named written = cc named
   why_of_names p names (fault.Columns most found) is header named written = (written, (p, names, is, header, named))
   why_of_names p names (fault.Missing name) is header named written = (written, (p, names, is, header, named))
@@ -235,8 +235,8 @@ module _ (settings : Draft → Settings) (plan : Data) (text : List ℕ) (wrote 
       → HaveColumns p names.fields → AreNamed names.fields p.schemas
       → (p.checks_each ≡ true) ⊎ AreDistinct names.fields → AreWithin (record_limits p.limits) names.fields
       → TakesRecord first_place text names.line names.fields behind rest
-      → IsWhyOfRows (MessagesOf (settings p.draft) p.schemas) (record_limits p.limits) names.fields behind rest wrote why
-      → IsWhyOfText settings plan text wrote why
+      → IsWhyOfRows (MessagesOf form (settings p.draft) p.schemas) (record_limits p.limits) names.fields behind rest wrote why
+      → IsWhyOfText form settings plan text wrote why
   why_under_header p names behind rest (fault.Plan why) is few named each within header q = absurd q
   why_under_header p names behind rest (fault.Columns most found) is few named each within header q = absurd q
   why_under_header p names behind rest (fault.Missing name) is few named each within header q = absurd q

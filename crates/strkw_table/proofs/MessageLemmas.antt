@@ -13,8 +13,8 @@ use Rattle.strkw_object.specs.declared.strings.StringKeywords.{StringKeywords}
 use Rattle.strkw_object.specs.Compiled.{keywords_assertions}
 use Rattle.strkw_report.specs.Standings.{root_site}
 use Rattle.strkw_table.specs.declared.schema_column.SchemaColumn.{SchemaColumn}
-use Rattle.strkw_table.specs.Fields.{field_place}
-use Rattle.strkw_plan.specs.Messages.{AppendsMessages, message}
+use Rattle.strkw_table.specs.Fields.{Form, field_place}
+use Rattle.strkw_plan.specs.Messages.{AppendsSaid}
 use Rattle.strkw_plan.specs.Shown.{shown, shown_char}
 use Rattle.strkw_table.specs.Columns.{ColumnMessages, keywords_of}
 use Rattle.strkw_plan.proofs.Gathering.{concat-map}
@@ -35,23 +35,23 @@ shown_place line name digits colon =
 -- ---- the messages about it
 
 -- what is appended for a field: messages, and so many
-abbrev pub Said : {E : Type 0} → (E → List ℕ → Outcome) → Lists → SchemaColumn E → ℕ → List ℕ → ℕ → List ℕ → List ℕ → Type 0
-Said outcome lists column line field count old new = (messages : List (List ℕ)) × ColumnMessages outcome lists column line field messages
+abbrev pub Said : {E : Type 0} → Form → (E → List ℕ → Outcome) → Lists → SchemaColumn E → ℕ → List ℕ → ℕ → List ℕ → List ℕ → Type 0
+Said form outcome lists column line field count old new = (messages : List (List ℕ)) × ColumnMessages form outcome lists column line field messages
     × (count ≡ length messages) ×
     (new ≡ old ++ concat messages)
 
-module _ {E : Type 0} (outcome : E → List ℕ → Outcome) (lists : Lists) (column : SchemaColumn E) (line : ℕ) (field old : List ℕ) where
+module _ {E : Type 0} (form : Form) (outcome : E → List ℕ → Outcome) (lists : Lists) (column : SchemaColumn E) (line : ℕ) (field old : List ℕ) where
   -- nothing of a field whose column has no schema object
-  pub said_nothing : keywords_of column ≡ None → Said outcome lists column line field 0 old old
+  pub said_nothing : keywords_of column ≡ None → Said form outcome lists column line field 0 old old
   said_nothing e = ([], ([], rw e refl, refl), refl, sym (append-nil old))
 
   -- and otherwise a message for each of its errors
   pub said_errors : {F : Type 0} (result : Result ℕ F) (k : StringKeywords E) (new : List ℕ) → keywords_of column ≡ Some k
-      → IfOk result (λ count. AppendsMessages (NodeReports (keywords_assertions outcome k) lists root_site (Some field))
-      (field_place line column.name.now) count old new)
-      → IfOk result (λ count. Said outcome lists column line field count old new)
+      → IfOk result (λ count. AppendsSaid (NodeReports (keywords_assertions outcome k) lists root_site (Some field))
+      (form line column.name.now) count old new)
+      → IfOk result (λ count. Said form outcome lists column line field count old new)
   said_errors (Ok count) k new e said =
-      let say = message (field_place line column.name.now) in (
+      let say = form line column.name.now in (
         map say said.reports,
         (said.reports, rw e said.reported, refl),
         said.counted ∙ sym (length-map said.reports say),

@@ -9,9 +9,8 @@ use Rattle.strkw_keywords.specs.Errors.{NodeReports}
 use Rattle.strkw_object.specs.declared.strings.StringKeywords.{StringKeywords}
 use Rattle.strkw_object.specs.Compiled.{keywords_assertions, keywords_demands}
 use Rattle.strkw_report.specs.Standings.{root_site}
-use Rattle.strkw_plan.specs.Messages.{message}
 use Rattle.strkw_table.specs.declared.schema_column.SchemaColumn.{SchemaColumn}
-use Rattle.strkw_table.specs.Fields.{field_place}
+use Rattle.strkw_table.specs.Fields.{Form}
 use Rattle.strkw_table.specs.Rows.{Says}
 
 -- what a compiled object reports of a field
@@ -25,11 +24,12 @@ CompiledErrors outcome lists (Some k) field reports =
 abbrev pub keywords_of : {E : Type 0} → SchemaColumn E → Option (StringKeywords E)
 keywords_of column = option_map (λ k. k.now) column.keywords
 
--- the messages about a field of a column, by what was compiled for it
-abbrev pub ColumnMessages : {E : Type 0} → (E → List ℕ → Outcome) → Lists → Says (SchemaColumn E)
-ColumnMessages outcome lists column line field messages = (reports : List Report)
+-- the messages about a field of a column in a form, by what was compiled for it
+abbrev pub ColumnMessages : {E : Type 0} → Form → (E → List ℕ → Outcome) → Lists
+    → Says (SchemaColumn E)
+ColumnMessages form outcome lists column line field messages = (reports : List Report)
     × CompiledErrors outcome lists (keywords_of column) field reports
-    × (messages ≡ map (message (field_place line column.name.now)) reports)
+    × (messages ≡ map (form line column.name.now) reports)
 
 -- a column may be asked with these lists: they are in use in what was compiled for it
 abbrev pub IsUsable : {E : Type 0} → (E → List ℕ → Outcome) → Lists → SchemaColumn E → Type 0

@@ -22,7 +22,7 @@ use Rattle.strkw_records.specs.Reading.{BeginsAt}
 use Rattle.strkw_records.specs.Records.{IsFirstNotUtf8, IsOpenAt, LinedRecord, TakesRecord}
 use Rattle.strkw_table.specs.declared.faults.TableFault.{TableFault}
 use Rattle.strkw_table.specs.declared.faults.TableFault.TheVariants as fault
-use Rattle.strkw_table.specs.Fields.{AreDistinct, AreNamed, IsNamed, IsTwice, MessagesOf}
+use Rattle.strkw_table.specs.Fields.{AreDistinct, AreNamed, Form, IsNamed, IsTwice, MessagesOf}
 use Rattle.strkw_table.specs.Rows.{AreFirstRecords, HaveShape, OfRecords, Says}
 
 -- ---- by the plan
@@ -139,17 +139,17 @@ IsWhyOfNames p names why = why ≡ fault.Memory
 
 -- a text was checked by a plan up to a record of which this is said, its first record naming the
 -- columns
-abbrev pub IsCheckedTo : (Draft → Settings) → Data → List ℕ → (List ℕ → Type 0)
+abbrev pub IsCheckedTo : Form → (Draft → Settings) → Data → List ℕ → (List ℕ → Type 0)
     → (Limits → List (List ℕ) → Place → List ℕ → Type 0) → Type 0
-IsCheckedTo settings plan text wrote IsSaid = (p : Plan) × (names : LinedRecord) × (behind : Place)
-    × (rest : List ℕ)
+IsCheckedTo form settings plan text wrote IsSaid = (p : Plan) × (names : LinedRecord)
+    × (behind : Place) × (rest : List ℕ)
     × (plan_of Columns plan ≡ Some p)
     × HaveColumns p names.fields
     × AreNamed names.fields p.schemas
     × ((p.checks_each ≡ true) ⊎ AreDistinct names.fields)
     × AreWithin (record_limits p.limits) names.fields
     × TakesRecord first_place text names.line names.fields behind rest
-    × StopsAt (MessagesOf (settings p.draft) p.schemas) (record_limits p.limits) names.fields
+    × StopsAt (MessagesOf form (settings p.draft) p.schemas) (record_limits p.limits) names.fields
     behind rest wrote (IsSaid (record_limits p.limits) names.fields)
 
 -- the same of the first record, and nothing was written
@@ -163,24 +163,24 @@ IsWhyOfFirst plan text wrote why = (p : Plan) × (plan_of Columns plan ≡ Some 
     × IsWhyUnread (record_limits p.limits) first_place text why
 
 -- Why a file with this text is not checked by its plan, and what was written then: nothing but the
--- messages about the records before the one that is to blame. A fault of the plan is told by
--- `IsWhy`; of writing, memory and too many records nothing is said.
-abbrev pub IsWhyOfText : (Draft → Settings) → Data → List ℕ → (List ℕ → Type 0) → TableFault
-    → Type 0
-IsWhyOfText settings plan text wrote (fault.Plan why) = wrote []
-IsWhyOfText settings plan text wrote (fault.Missing name) =
+-- messages in a form about the records before the one that is to blame. A fault of the plan is told
+-- by `IsWhy`; of writing, memory and too many records nothing is said.
+abbrev pub IsWhyOfText : Form → (Draft → Settings) → Data → List ℕ → (List ℕ → Type 0)
+    → TableFault → Type 0
+IsWhyOfText form settings plan text wrote (fault.Plan why) = wrote []
+IsWhyOfText form settings plan text wrote (fault.Missing name) =
     wrote [] × IsWhyOfHeader plan text (fault.Missing name)
-IsWhyOfText settings plan text wrote (fault.Columns most found) =
+IsWhyOfText form settings plan text wrote (fault.Columns most found) =
     wrote [] × IsWhyOfHeader plan text (fault.Columns most found)
-IsWhyOfText settings plan text wrote (fault.Twice name first second) =
+IsWhyOfText form settings plan text wrote (fault.Twice name first second) =
     wrote [] × IsWhyOfHeader plan text (fault.Twice name first second)
-IsWhyOfText settings plan text wrote fault.NoHeader =
+IsWhyOfText form settings plan text wrote fault.NoHeader =
     wrote [] × (next_record default_config st.StartRecord [] [] text ≡ None)
-IsWhyOfText settings plan text wrote (fault.Fields line expected found) =
-    IsCheckedTo settings plan text wrote (λ limits names behind rest.
+IsWhyOfText form settings plan text wrote (fault.Fields line expected found) =
+    IsCheckedTo form settings plan text wrote (λ limits names behind rest.
     IsWhyOfNext limits (length names) behind rest (fault.Fields line expected found))
-IsWhyOfText settings plan text wrote (fault.Record why) =
+IsWhyOfText form settings plan text wrote (fault.Record why) =
     IsWhyOfFirst plan text wrote why
-    ⊎ IsCheckedTo settings plan text wrote (λ limits names behind rest.
+    ⊎ IsCheckedTo form settings plan text wrote (λ limits names behind rest.
     IsWhyUnread limits behind rest why)
-IsWhyOfText settings plan text wrote why = ⊤
+IsWhyOfText form settings plan text wrote why = ⊤

@@ -24,11 +24,20 @@ FieldErrors s (Some schema) field reports = Errors s schema s.lists root_site (S
 abbrev pub field_place : ℕ → List ℕ → List ℕ
 field_place line name = decimal line ++ codes ": " ++ name
 
--- the messages about a field of the column of this name: one for each of its errors, in their order
-abbrev pub MessagesOf : Settings → Members → Says (List ℕ)
-MessagesOf s schemas name line field messages = (reports : List Report)
+-- what is written of the errors of a field, by the line of its record and the name of its column
+abbrev pub Form : Type 0
+Form = ℕ → List ℕ → Report → List ℕ
+
+-- the form of text
+abbrev pub field_message : Form
+field_message line name = message (field_place line name)
+
+-- the messages in a form about a field of the column of this name: one for each of its errors, in
+-- their order
+abbrev pub MessagesOf : Form → Settings → Members → Says (List ℕ)
+MessagesOf form s schemas name line field messages = (reports : List Report)
     × FieldErrors s (schema_named schemas name) field reports
-    × (messages ≡ map (message (field_place line name)) reports)
+    × (messages ≡ map (form line name) reports)
 
 -- a name stands among the names
 abbrev pub IsNamed : List (List ℕ) → List ℕ → Type 0

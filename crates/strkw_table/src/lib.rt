@@ -2,6 +2,7 @@
 #![tactic(auto)]
 
 mod faults;
+mod form;
 mod header;
 mod objects;
 mod rows;
@@ -9,5 +10,6 @@ mod schema_column;
 mod table;
 
 pub use faults::TableFault;
+pub use form::{FieldForm, FieldLines};
 pub use rows::{Checked, Watch};
-pub use table::check_table;
+pub use table::{check_table, check_table_as};

@@ -16,6 +16,7 @@ ghost use Rattle.strkw_table.specs.Faults.{IsNoPlanFault, IsUnexplained, IsWhyOf
 ghost use Rattle.strkw_table.specs.Rows.{AreFirstRecords, HaveShape, OfField, OfRecord, OfRecords};
 
 use crate::faults::TableFault;
+use crate::form::FieldForm;
 use crate::schema_column::SchemaColumn;
 use csv::StringRecord;
 use std::alloc::{AllocError, Global};
@@ -43,10 +44,11 @@ pub trait Watch {
 }
 
 // Appends the messages about the field at a place, and answers how many they are.
-fn check_field<E: RegexEngine>(
+fn check_field<E: RegexEngine, F: FieldForm>(
     alloc: Global,
     columns: &[SchemaColumn<'_, E>],
     checks: &Checks<'_>,
+    form: &F,
     line: u64,
     row: &StringRecord,
     at: usize,
@@ -56,7 +58,7 @@ fn check_field<E: RegexEngine>(
         AreUsable E.outcome lists columns.now }
     ensures { let lists = lists_of admits accepted encoded decoding checks.now in
         IfOk result (λ count. (messages : List (List ℕ))
-        × OfField (ColumnMessages E.outcome lists) line (field_at (fields_of row.now) at)
+        × OfField (ColumnMessages (F.said form.now) E.outcome lists) line (field_at (fields_of row.now) at)
         (slice_get columns.now at) messages
         × (count ≡ length messages)
         × (string_bytes out.new ≡ string_bytes out.old ++ concat messages)) }
@@ -67,14 +69,15 @@ fn check_field<E: RegexEngine>(
     let Some(column) = columns.get(at) else {
         return Ok(0);
     };
-    column.push_messages(alloc, checks, line, field, out)
+    column.push_messages(alloc, checks, form, line, field, out)
 }
 
 // Appends the messages about a record, and answers how many they are.
-fn check_record<E: RegexEngine>(
+fn check_record<E: RegexEngine, F: FieldForm>(
     alloc: Global,
     columns: &[SchemaColumn<'_, E>],
     checks: &Checks<'_>,
+    form: &F,
     line: u64,
     row: &StringRecord,
     out: &mut String,
@@ -84,13 +87,13 @@ fn check_record<E: RegexEngine>(
     ensures why { IfErr result IsUnexplained }
     ensures messages { let lists = lists_of admits accepted encoded decoding checks.now in
         IfOk result (λ count. (messages : List (List ℕ))
-        × OfRecord (ColumnMessages E.outcome lists) columns.now line (fields_of row.now) messages
+        × OfRecord (ColumnMessages (F.said form.now) E.outcome lists) columns.now line (fields_of row.now) messages
         × (count ≡ length messages)
         × (string_bytes out.new ≡ string_bytes out.old ++ concat messages)) }
 {
     let mut count = 0u64;
     for at in 0..columns.len() {
-        let more = check_field(alloc, columns, checks, line, row, at, out)?;
+        let more = check_field(alloc, columns, checks, form, line, row, at, out)?;
         count = count.checked_add(more).ok_or(TableFault::TooLong)?;
     }
     Ok(count)
@@ -98,10 +101,11 @@ fn check_record<E: RegexEngine>(
 
 // Reads the next record, which has as many fields as there are columns, appends the messages about it, and answers how
 // many they are; `None` where there is no record.
-fn check_next<E: RegexEngine, R: Read>(
+fn check_next<E: RegexEngine, R: Read, F: FieldForm>(
     alloc: Global,
     columns: &[SchemaColumn<'_, E>],
     checks: &Checks<'_>,
+    form: &F,
     reader: &mut RecordReader<R>,
     row: &mut StringRecord,
     out: &mut String,
@@ -125,7 +129,7 @@ fn check_next<E: RegexEngine, R: Read>(
         × Takes R.remaining reader.old reader.new text line (fields_of row.new)
         × (length (fields_of row.new) ≡ length columns.now)
         × AreWithin (limits_of reader.old) (fields_of row.new)
-        × OfRecord (ColumnMessages E.outcome lists) columns.now line (fields_of row.new) messages
+        × OfRecord (ColumnMessages (F.said form.now) E.outcome lists) columns.now line (fields_of row.new) messages
         × (count ≡ length messages)
         × (string_bytes out.new ≡ string_bytes out.old ++ concat messages))) }
 {
@@ -139,7 +143,7 @@ fn check_next<E: RegexEngine, R: Read>(
             found: row.len(),
         });
     }
-    let count = check_record(alloc, columns, checks, line, row, out)?;
+    let count = check_record(alloc, columns, checks, form, line, row, out)?;
     Ok(Some(count))
 }
 
@@ -165,10 +169,11 @@ fn write_gathered<W: Write>(out: &mut String, writer: &mut W) -> Result<(), Tabl
 ///
 /// Errors: `Fields` and `Record`, and the messages about the records before are written all the same; `Write`,
 /// `Memory`, `TooLong`.
-pub(crate) fn check_rows<E: RegexEngine, R: Read, W: Write, P: Watch>(
+pub(crate) fn check_rows<E: RegexEngine, R: Read, W: Write, P: Watch, F: FieldForm>(
     alloc: Global,
     columns: &[SchemaColumn<'_, E>],
     checks: &Checks<'_>,
+    form: &F,
     reader: &mut RecordReader<R>,
     writer: &mut W,
     watch: &mut P,
@@ -178,20 +183,22 @@ pub(crate) fn check_rows<E: RegexEngine, R: Read, W: Write, P: Watch>(
     ensures why { IfErr result IsNoPlanFault }
     ensures fault { let lists = lists_of admits accepted encoded decoding checks.now in
         (text : List ℕ) → unread_of R.remaining reader.old ≡ Some text
-        → IfErr result (IsWhyOfRows (ColumnMessages E.outcome lists) (limits_of reader.old)
-        columns.now (place_of reader.old) text
+        → IfErr result (IsWhyOfRows (ColumnMessages (F.said form.now) E.outcome lists)
+        (limits_of reader.old) columns.now (place_of reader.old) text
         (Appends (W.contents writer.old) (W.contents writer.new))) }
     ensures messages { let lists = lists_of admits accepted encoded decoding checks.now in
         (text : List ℕ) → unread_of R.remaining reader.old ≡ Some text
         → IfOk result (λ c. (records : List LinedRecord) × (messages : List (List ℕ))
         × AreLinedRecords (place_of reader.old) text records
         × HaveShape (limits_of reader.old) (length columns.now) records
-        × OfRecords (ColumnMessages E.outcome lists) columns.now records messages
+        × OfRecords (ColumnMessages (F.said form.now) E.outcome lists) columns.now records messages
         × Appends (W.contents writer.old) (W.contents writer.new) (concat messages)
         × (c.records ≡ length records) × (c.errors ≡ length messages)) }
 {
     let mut out = String::new(alloc);
-    let checked = gather_rows(alloc, columns, checks, reader, &mut out, writer, watch);
+    let checked = gather_rows(
+        alloc, columns, checks, form, reader, &mut out, writer, watch,
+    );
     if writer.write_all(out.as_bytes()).is_err() || writer.flush().is_err() {
         return Err(TableFault::Write);
     }
@@ -199,10 +206,11 @@ pub(crate) fn check_rows<E: RegexEngine, R: Read, W: Write, P: Watch>(
 }
 
 // The same, with the last of the messages in `out`.
-fn gather_rows<E: RegexEngine, R: Read, W: Write, P: Watch>(
+fn gather_rows<E: RegexEngine, R: Read, W: Write, P: Watch, F: FieldForm>(
     alloc: Global,
     columns: &[SchemaColumn<'_, E>],
     checks: &Checks<'_>,
+    form: &F,
     reader: &mut RecordReader<R>,
     out: &mut String,
     writer: &mut W,
@@ -214,8 +222,8 @@ fn gather_rows<E: RegexEngine, R: Read, W: Write, P: Watch>(
     ensures why { IfErr result IsNoPlanFault }
     ensures fault { let lists = lists_of admits accepted encoded decoding checks.now in
         (text : List ℕ) → unread_of R.remaining reader.old ≡ Some text
-        → IfErr result (IsWhyOfRows (ColumnMessages E.outcome lists) (limits_of reader.old)
-        columns.now (place_of reader.old) text (λ lines.
+        → IfErr result (IsWhyOfRows (ColumnMessages (F.said form.now) E.outcome lists)
+        (limits_of reader.old) columns.now (place_of reader.old) text (λ lines.
         (written : List ℕ)
         × Appends (W.contents writer.old) (W.contents writer.new) written
         × (lines ≡ written ++ string_bytes out.new))) }
@@ -225,7 +233,7 @@ fn gather_rows<E: RegexEngine, R: Read, W: Write, P: Watch>(
         × (written : List ℕ)
         × AreLinedRecords (place_of reader.old) text records
         × HaveShape (limits_of reader.old) (length columns.now) records
-        × OfRecords (ColumnMessages E.outcome lists) columns.now records messages
+        × OfRecords (ColumnMessages (F.said form.now) E.outcome lists) columns.now records messages
         × Appends (W.contents writer.old) (W.contents writer.new) written
         × (concat messages ≡ written ++ string_bytes out.new)
         × (c.records ≡ length records) × (c.errors ≡ length messages)) }
@@ -236,7 +244,7 @@ fn gather_rows<E: RegexEngine, R: Read, W: Write, P: Watch>(
         errors: 0,
     };
     for turn in 0..u64::MAX {
-        let Some(more) = check_next(alloc, columns, checks, reader, &mut row, out)? else {
+        let Some(more) = check_next(alloc, columns, checks, form, reader, &mut row, out)? else {
             return Ok(checked);
         };
         checked.errors = checked.errors.checked_add(more).ok_or(TableFault::TooLong)?;

@@ -14,10 +14,11 @@ ghost use Rattle.strkw_plan.specs.Plan as written;
 ghost use Rattle.strkw_plan.specs.Plan.{plan_of, plan_problem};
 ghost use Rattle.strkw_plan.specs.declared.kind.PlanKind.TheVariants.{Columns};
 ghost use Rattle.strkw_table.specs.Faults.{HaveColumns, IsWhy, IsWhyOfNames, IsWhyOfText, record_limits};
-ghost use Rattle.strkw_table.specs.Fields.{AreDistinct, AreNamed, MessagesOf};
+ghost use Rattle.strkw_table.specs.Fields.{AreDistinct, AreNamed, MessagesOf, field_message};
 ghost use Rattle.strkw_table.specs.Rows.{HaveShape, OfRecords};
 
 use crate::faults::TableFault;
+use crate::form::{FieldForm, FieldLines};
 use crate::header::{find_twice, require_named};
 use crate::objects::{columns_of, compile_objects};
 use crate::rows::{Checked, Watch, check_rows};
@@ -64,7 +65,8 @@ pub fn check_table<B: EngineBuilder, R: Read + Drop, W: Write, P: Watch>(
         × ((p.checks_each ≡ true) ⊎ AreDistinct names.fields)
         × AreLinedRecords first_place (strip_bom text) (names ∷ records)
         × HaveShape (record_limits p.limits) (length names.fields) (names ∷ records)
-        × OfRecords (MessagesOf (settings p.draft) p.schemas) names.fields records messages
+        × OfRecords (MessagesOf field_message (settings p.draft) p.schemas) names.fields records
+        messages
         × Appends (W.contents writer.old) (W.contents writer.new) (concat messages)
         × (c.records ≡ length records) × (c.errors ≡ length messages)) }
     ensures why { let settings =
@@ -73,7 +75,47 @@ pub fn check_table<B: EngineBuilder, R: Read + Drop, W: Write, P: Watch>(
     ensures fault { let settings =
         rules_settings B.takes B.outcome admits accepted encoded decoding rules.now in
         (text : List ℕ) → R.remaining file ≡ Some text
-        → IfErr result (IsWhyOfText settings (view plan.now) (strip_bom text)
+        → IfErr result (IsWhyOfText field_message settings (view plan.now) (strip_bom text)
+        (Appends (W.contents writer.old) (W.contents writer.new))) }
+{
+    check_table_as(alloc, rules, plan, file, writer, watch, &FieldLines)
+}
+
+/// The same, in a form of the caller: each error of a field is written as the form writes it.
+///
+/// Errors: as `check_table`.
+pub fn check_table_as<B: EngineBuilder, R: Read + Drop, W: Write, P: Watch, F: FieldForm>(
+    alloc: Global,
+    rules: &Rules<'_, B>,
+    plan: &Value,
+    file: R,
+    writer: &mut W,
+    watch: &mut P,
+    form: &F,
+) -> Result<Checked, TableFault>
+    ensures plan { OnOk result (plan_problem Columns (view plan.now) ≡ None) }
+    ensures messages { let settings =
+        rules_settings B.takes B.outcome admits accepted encoded decoding rules.now in
+        (text : List ℕ) → R.remaining file ≡ Some text
+        → IfOk result (λ c. (p : written.Plan) × (names : LinedRecord)
+        × (records : List LinedRecord) × (messages : List (List ℕ))
+        × (plan_of Columns (view plan.now) ≡ Some p)
+        × HaveColumns p names.fields
+        × AreNamed names.fields p.schemas
+        × ((p.checks_each ≡ true) ⊎ AreDistinct names.fields)
+        × AreLinedRecords first_place (strip_bom text) (names ∷ records)
+        × HaveShape (record_limits p.limits) (length names.fields) (names ∷ records)
+        × OfRecords (MessagesOf (F.said form.now) (settings p.draft) p.schemas) names.fields
+        records messages
+        × Appends (W.contents writer.old) (W.contents writer.new) (concat messages)
+        × (c.records ≡ length records) × (c.errors ≡ length messages)) }
+    ensures why { let settings =
+        rules_settings B.takes B.outcome admits accepted encoded decoding rules.now in
+        IfErr result (IsWhy settings (view plan.now)) }
+    ensures fault { let settings =
+        rules_settings B.takes B.outcome admits accepted encoded decoding rules.now in
+        (text : List ℕ) → R.remaining file ≡ Some text
+        → IfErr result (IsWhyOfText (F.said form.now) settings (view plan.now) (strip_bom text)
         (Appends (W.contents writer.old) (W.contents writer.new))) }
 {
     lists_of_compile_are_in_use::<B::Engine>();
@@ -87,7 +129,15 @@ pub fn check_table<B: EngineBuilder, R: Read + Drop, W: Write, P: Watch>(
     }
     require_header(alloc, &plan, &names)?;
     let columns = columns_of(alloc, &objects, &names)?;
-    check_rows(alloc, &columns, &rules.checks, &mut reader, writer, watch)
+    check_rows(
+        alloc,
+        &columns,
+        &rules.checks,
+        form,
+        &mut reader,
+        writer,
+        watch,
+    )
 }
 
 // How long a record may be by a plan.

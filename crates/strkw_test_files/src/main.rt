@@ -12,6 +12,8 @@ mod instance_tests;
 #[cfg(test)]
 mod limit_tests;
 #[cfg(test)]
+mod record_tests;
+#[cfg(test)]
 mod table_tests;
 #[cfg(test)]
 mod tests;

@@ -5,7 +5,7 @@ use crate::tally::Tally;
 use crate::{coding, ecma, label};
 use serde_json::Value;
 use std::alloc::{AllocError, Global};
-use strkw_label::is_valid_hostname;
+use strkw_label::{is_valid_hostname, is_valid_idn_hostname};
 use strkw_mail::is_valid_email;
 use strkw_net::{is_valid_hostname_rfc1034, is_valid_ipv4, is_valid_ipv6, is_valid_uuid};
 use strkw_pattern::{BuildRefusal, EngineBuilder, NoPatterns, contains_ecma_whitespace};
@@ -48,6 +48,7 @@ fn by_grammar(alloc: Global, of: &str, text: &str) -> Option<bool> {
 pub fn accepts(alloc: Global, of: &str, text: &str) -> Result<Option<bool>, AllocError> {
     match of {
         "label" => Ok(Some(label::admits(alloc, text)?)),
+        "idn-hostname" => Ok(Some(is_valid_idn_hostname(alloc, text)?)),
         "json" => coding::is_media(alloc, text),
         "patterns of ECMA-262" => Ok(ecma::is_taken(alloc, text)),
         "base64" | "base64url" | "base32" | "base32hex" | "base16" => {

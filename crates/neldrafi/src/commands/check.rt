@@ -7,11 +7,16 @@ ghost use Rattle.std.specs.Prelude.{decimal};
 
 use crate::faults::Fault;
 use crate::files::{FileCheck, check_files};
-use crate::inputs::{InputFault, InputFile, Line, Lines};
-use crate::options::{FILE, Wanted, draft, draft_of, files, max_errors, quiet, required};
+use crate::inputs::{InputFault, InputFile, Lines};
+use crate::lines::JsonLine;
+use crate::options::{
+    FILE, IGNORE, OutputForm, Wanted, draft, draft_of, files, ignore, max_errors,
+    output as output_form, quiet, required,
+};
 use crate::outcome::Outcome;
 use crate::output::{Gathered, Output};
-use crate::schemas::{compile, read_schema};
+use crate::schemas::{compile, read_schema, require_keywords};
+use crate::telling::Subject;
 use clap::{Arg, ArgAction, ArgMatches, Command};
 use itoa::Buffer;
 use serde_json::Value;
@@ -20,8 +25,8 @@ use strkw_ecma::EcmaPatterns;
 use strkw_keywords::Checks;
 use strkw_object::StringKeywords;
 use strkw_pattern::RegexEngine;
-use strkw_plan::{InstancePlace, Rules, push_messages, push_shown};
-use strkw_report::Draft;
+use strkw_plan::{InstancePlace, MessageLine, Rules, push_messages_as, push_shown};
+use strkw_report::{Draft, Node};
 
 /// The name of the subcommand.
 pub(crate) const NAME: &str = "check";
@@ -38,10 +43,13 @@ const IGNORE_UNKNOWN_FORMATS: &str = "ignore-unknown-formats";
 // What its help ends with.
 const AFTER_HELP: &str = "\
 An error is a line `LINE: KEYWORD: TEXT`, and of several files it begins with the name of
-the file. The seven string keywords of the schema object count, and no other.
+the file. With `--output json` it is an object with `file`, `line`, `keyword`, `kind`,
+`message` and `instance`. A keyword by which nothing is checked is refused, unless
+`--ignore` names it.
 
 Examples:
   neldrafi check schema.json names.txt
+  neldrafi check --ignore type --ignore x-unit schema.json names.txt
   neldrafi check --draft 7 schema.json < names.txt
   neldrafi check --json schema.json values.jsonl";
 
@@ -51,7 +59,7 @@ pub(crate) fn command<'a>(alloc: Global) -> Result<Command<'a>, AllocError> {
         .long(JSON)
         .action(ArgAction::SetTrue)
         .help("Read each line as a JSON value; one that is no string is valid");
-    let ignore = Arg::new(alloc, IGNORE_UNKNOWN_FORMATS)
+    let ignore_formats = Arg::new(alloc, IGNORE_UNKNOWN_FORMATS)
         .long(IGNORE_UNKNOWN_FORMATS)
         .action(ArgAction::SetTrue)
         .help("Let every text pass a format that is not known");
@@ -61,9 +69,11 @@ pub(crate) fn command<'a>(alloc: Global) -> Result<Command<'a>, AllocError> {
         .arg(required(alloc, SCHEMA, "The file of the schema object"))?
         .arg(files(alloc))?
         .arg(draft(alloc))?
-        .arg(ignore)?
+        .arg(ignore(alloc))?
+        .arg(ignore_formats)?
         .arg(json)?
         .arg(max_errors(alloc))?
+        .arg(output_form(alloc))?
         .arg(quiet(alloc))
 }
 
@@ -89,30 +99,68 @@ struct LineCheck<'a> {
     draft: Draft,
     rules: Rules<'a, EcmaPatterns>,
     reads_json: bool,
+    form: OutputForm,
+}
+
+// A line of a file, as it is checked.
+#[derive(Clone, Copy)]
+struct FileLine<'a> {
+    // The path of the file.
+    file: &'a str,
+    // The number of the line, from 1.
+    number: u64,
+    // Its text.
+    text: &'a str,
 }
 
 impl LineCheck<'_> {
+    // Appends the messages about the instance on a line, and answers how many they are.
+    fn push<E: RegexEngine, N: Node>(
+        &self,
+        alloc: Global,
+        keywords: &StringKeywords<E>,
+        checks: &Checks<'_>,
+        at: FileLine<'_>,
+        instance: &N,
+        out: &mut String,
+    ) -> Result<u64, AllocError>
+        requires { IsInUse (keywords_demands E.outcome keywords.now)
+            (lists_of admits accepted encoded decoding checks.now) }
+    {
+        let (file, line) = (at.file, at.number);
+        match self.form {
+            OutputForm::Text => {
+                let place = LinePlace { line };
+                let form = MessageLine { place: &place };
+                push_messages_as(alloc, keywords, checks, &form, instance, out)
+            }
+            OutputForm::Json => {
+                let form = JsonLine { file, line };
+                push_messages_as(alloc, keywords, checks, &form, instance, out)
+            }
+        }
+    }
+
     // Appends the messages about a line, and answers how many they are.
     fn check_line<E: RegexEngine>(
         &self,
         alloc: Global,
         keywords: &StringKeywords<E>,
         checks: &Checks<'_>,
-        line: Line<'_>,
+        at: FileLine<'_>,
         out: &mut String,
     ) -> Result<u64, Fault>
         requires { IsInUse (keywords_demands E.outcome keywords.now)
             (lists_of admits accepted encoded decoding checks.now) }
     {
-        let place = LinePlace { line: line.number };
         if !self.reads_json {
-            return Ok(push_messages(alloc, keywords, checks, &place, &line.text, out)?);
+            return Ok(self.push(alloc, keywords, checks, at, &at.text, out)?);
         }
-        match Value::from_str(alloc, line.text) {
-            Ok(value) => Ok(push_messages(alloc, keywords, checks, &place, &value, out)?),
+        match Value::from_str(alloc, at.text) {
+            Ok(value) => Ok(self.push(alloc, keywords, checks, at, &value, out)?),
             Err(error) if error.is_memory() => Err(Fault::Memory),
             Err(error) => Err(Fault::Input(InputFault::NotJson {
-                line: line.number,
+                line: at.number,
                 error,
             })),
         }
@@ -124,6 +172,7 @@ impl LineCheck<'_> {
         alloc: Global,
         keywords: &StringKeywords<E>,
         checks: &Checks<'_>,
+        file: &str,
         lines: &mut Lines,
         messages: &mut Gathered<'_, '_>,
     ) -> Result<u64, Fault>
@@ -135,7 +184,9 @@ impl LineCheck<'_> {
             let Some(line) = lines.next_line()? else {
                 return Ok(count);
             };
-            let more = self.check_line(alloc, keywords, checks, line, &mut messages.text)?;
+            let (number, text) = (line.number, line.text);
+            let at = FileLine { file, number, text };
+            let more = self.check_line(alloc, keywords, checks, at, &mut messages.text)?;
             count = count.checked_add(more).ok_or(InputFault::TooLong)?;
             messages.write_some(lines.is_drained())?;
         }
@@ -145,9 +196,10 @@ impl LineCheck<'_> {
 
 impl FileCheck for LineCheck<'_> {
     fn check(
-        &self,
+        &mut self,
         rt: &HostRuntime,
         file: InputFile,
+        subject: Subject<'_>,
         output: &mut Output<'_>,
     ) -> Result<u64, Fault> {
         let alloc = rt.alloc();
@@ -155,7 +207,8 @@ impl FileCheck for LineCheck<'_> {
         let mut lines = Lines::new(alloc, file)?;
         let mut messages = Gathered::new(alloc, output);
         let checks = &self.rules.checks;
-        let checked = self.check_lines(alloc, &keywords, checks, &mut lines, &mut messages);
+        let file = subject.file.unwrap_or("");
+        let checked = self.check_lines(alloc, &keywords, checks, file, &mut lines, &mut messages);
         messages.end(checked)
     }
 }
@@ -164,15 +217,23 @@ impl FileCheck for LineCheck<'_> {
 pub(crate) fn run(rt: &HostRuntime, matches: &ArgMatches<'_>) -> Result<Outcome, Fault> {
     let path = matches.get_str(SCHEMA).unwrap_or("");
     let schema = read_schema(rt, path)?;
+    let draft = draft_of(matches);
+    require_keywords(
+        rt.alloc(),
+        draft,
+        matches.get_strs(IGNORE).unwrap_or(&[]),
+        &schema,
+    )?;
     let mut rules = Rules::new(&EcmaPatterns);
     rules.options.ignore_unknown_formats = matches.get_flag(IGNORE_UNKNOWN_FORMATS);
-    let check = LineCheck {
+    let mut check = LineCheck {
         schema: &schema,
-        draft: draft_of(matches),
+        draft,
         rules,
         reads_json: matches.get_flag(JSON),
+        form: OutputForm::of(matches),
     };
     // So that a schema that is refused is told of before any file.
     let _ = compile(rt.alloc(), &check.rules, check.draft, &schema)?;
-    check_files(rt, matches.get_strs(FILE), Wanted::of(matches), &check)
+    check_files(rt, matches.get_strs(FILE), Wanted::of(matches), &mut check)
 }

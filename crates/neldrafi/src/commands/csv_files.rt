@@ -1,19 +1,26 @@
 //! `neldrafi csv`: checks CSV files by a plan.
 
-use crate::faults::{Fault, tell};
+use crate::errors::ErrorLines;
+use crate::faults::Fault;
 use crate::files::{FileCheck, check_files};
-use crate::inputs::InputFile;
-use crate::options::{FILE, Wanted, files, max_errors, quiet, required};
+use crate::inputs::{InputFile, STANDARD_INPUT};
+use crate::lines::JsonLines;
+use crate::options::{
+    FILE, MAX_ERRORS, OutputForm, Wanted, files, max_errors, output as output_form, quiet, required,
+};
 use crate::outcome::Outcome;
-use crate::output::Output;
+use crate::output::{FaultyWrite, Output};
 use crate::plans::{fault_of_plan, read_plan_of};
+use crate::report::{FileReport, Page};
+use crate::summary::Summary;
+use crate::telling::{Notice, Subject, tell};
 use clap::{Arg, ArgAction, ArgMatches, Command};
 use serde_json::Value;
 use std::alloc::{AllocError, Global};
 use std::fmt;
 use strkw_ecma::EcmaPatterns;
 use strkw_plan::{PlanKind, Rules};
-use strkw_table::{Checked, TableFault, Watch, check_table};
+use strkw_table::{Checked, FieldForm, FieldLines, TableFault, Watch, check_table_as};
 
 /// The name of the subcommand.
 pub(crate) const NAME: &str = "csv";
@@ -24,14 +31,27 @@ const PLAN: &str = "PLAN";
 // The option by which it tells how far it is.
 const PROGRESS: &str = "progress";
 
+// The option for a table in place of the messages.
+const SUMMARY: &str = "summary";
+
+// The option for a page about the errors in place of the messages.
+const REPORT: &str = "report";
+
 // What its help ends with.
 const AFTER_HELP: &str = "\
 An error is a line `LINE: COLUMN: KEYWORD: TEXT`, and of several files it begins with the
-name of the file.
+name of the file. With `--output json` it is an object with `file`, `line`, `column`,
+`keyword`, `kind`, `message` and `instance`. `--summary` writes how many errors there are by
+each keyword in each column, and the line of the first record with one. `--report` makes a
+page of HTML in place of the messages: how many errors there are, where they are, and the
+first twenty of each kind.
 
 Examples:
   neldrafi csv plan.json people.csv
   neldrafi csv --max-errors 10 plan.json 2023.csv 2024.csv
+  neldrafi csv --output json plan.json people.csv
+  neldrafi csv --summary plan.json people.csv
+  neldrafi csv --report errors.html plan.json people.csv
   neldrafi csv --quiet plan.json < people.csv";
 
 // So many records are checked between two lines about how far the check is.
@@ -43,14 +63,28 @@ pub(crate) fn command<'a>(alloc: Global) -> Result<Command<'a>, AllocError> {
         .long(PROGRESS)
         .action(ArgAction::SetTrue)
         .help("Tell of every million records, and of all at the end, on standard error");
+    let summary = Arg::new(alloc, SUMMARY)
+        .long(SUMMARY)
+        .action(ArgAction::SetTrue)
+        .conflicts_with(MAX_ERRORS)?
+        .help("Write a table of the errors by column and keyword in place of them");
+    let report = Arg::new(alloc, REPORT)
+        .long(REPORT)
+        .value_name("PAGE")
+        .conflicts_with(SUMMARY)?
+        .conflicts_with(MAX_ERRORS)?
+        .help("Write a page of HTML about the errors to the file PAGE in place of them");
     Command::new(alloc, NAME)
         .about("Checks CSV files by a plan: a schema object for each column")
         .after_help(AFTER_HELP)
         .arg(required(alloc, PLAN, "The file of the plan"))?
         .arg(files(alloc))?
         .arg(max_errors(alloc))?
+        .arg(output_form(alloc))?
         .arg(progress)?
-        .arg(quiet(alloc))
+        .arg(quiet(alloc))?
+        .arg(summary)?
+        .arg(report)
 }
 
 // How many records and errors there are, as it is told.
@@ -69,7 +103,8 @@ impl fmt::Display for Told {
 #[derive(Drop)]
 struct Progress<'a> {
     rt: &'a HostRuntime,
-    label: &'a str,
+    form: OutputForm,
+    subject: Subject<'a>,
     is_asked: bool,
 }
 
@@ -85,7 +120,8 @@ impl Progress<'_> {
     // Tells of so many records, where that is asked.
     fn tell(&self, checked: Checked) {
         if self.is_asked {
-            tell(self.rt, self.label, &Told(checked));
+            let told = Told(checked);
+            tell(self.rt, self.form, self.subject, Notice::Progress, &told);
         }
     }
 }
@@ -94,42 +130,156 @@ impl Progress<'_> {
 #[derive(Drop)]
 struct TableCheck<'a> {
     plan: &'a Value,
+    form: OutputForm,
     asks_progress: bool,
+    asks_summary: bool,
+    // The page that is written, where one is asked for.
+    page: Option<Page>,
 }
 
-impl FileCheck for TableCheck<'_> {
-    fn check(
+impl TableCheck<'_> {
+    // Checks a file, and writes the table of its errors, also where a fault ends the check before the end of the file.
+    fn sum_up(
         &self,
         rt: &HostRuntime,
         file: InputFile,
+        subject: Subject<'_>,
         output: &mut Output<'_>,
     ) -> Result<u64, Fault> {
+        let mut errors = ErrorLines::new(rt.alloc(), Summary::new(rt.alloc()));
+        let form = JsonLines::about(subject);
+        let checked = self.check_as(rt, file, subject, &mut errors, &form);
+        errors.taker.write_table(self.form, subject, output)?;
+        Ok(checked?.errors)
+    }
+
+    // Checks a file, and puts on the page what is told of it, also where a fault ends the check before the end of the file.
+    fn report_on(
+        &self,
+        rt: &HostRuntime,
+        file: InputFile,
+        subject: Subject<'_>,
+        page: &mut Page,
+    ) -> Result<u64, Fault> {
+        let mut errors = ErrorLines::new(rt.alloc(), FileReport::new(rt.alloc()));
+        let form = JsonLines::about(subject);
+        let checked = self.check_as(rt, file, subject, &mut errors, &form);
+        let name = subject.file.unwrap_or("");
+        errors
+            .taker
+            .push_section(name, &checked, &mut page.sections)?;
+        Ok(checked?.errors)
+    }
+
+    // Checks a file, and writes its errors in the form that is wanted.
+    fn write_errors(
+        &self,
+        rt: &HostRuntime,
+        file: InputFile,
+        subject: Subject<'_>,
+        output: &mut Output<'_>,
+    ) -> Result<u64, Fault> {
+        let checked = match self.form {
+            OutputForm::Text => self.check_as(rt, file, subject, output, &FieldLines)?,
+            OutputForm::Json => {
+                let form = JsonLines::about(subject);
+                self.check_as(rt, file, subject, output, &form)?
+            }
+        };
+        Ok(checked.errors)
+    }
+
+    // Checks a file, and writes its errors in this form.
+    fn check_as<F: FieldForm, W: FaultyWrite>(
+        &self,
+        rt: &HostRuntime,
+        file: InputFile,
+        subject: Subject<'_>,
+        output: &mut W,
+        form: &F,
+    ) -> Result<Checked, Fault> {
         let mut progress = Progress {
             rt,
-            label: output.label(),
+            form: self.form,
+            subject,
             is_asked: self.asks_progress,
         };
+        let alloc = rt.alloc();
         let rules = Rules::new(&EcmaPatterns);
-        match check_table(rt.alloc(), &rules, self.plan, file, output, &mut progress) {
+        match check_table_as(alloc, &rules, self.plan, file, output, &mut progress, form) {
             Ok(checked) => {
                 progress.tell(checked);
-                Ok(checked.errors)
+                Ok(checked)
             }
             Err(TableFault::Write) => Err(output.fault()),
             Err(TableFault::Memory) => Err(Fault::Memory),
-            Err(TableFault::Plan(e)) => Err(fault_of_plan(rt.alloc(), e)),
+            Err(TableFault::Plan(e)) => Err(fault_of_plan(alloc, e)),
             Err(e) => Err(Fault::Table(e)),
         }
     }
 }
 
+impl FileCheck for TableCheck<'_> {
+    fn check(
+        &mut self,
+        rt: &HostRuntime,
+        file: InputFile,
+        subject: Subject<'_>,
+        output: &mut Output<'_>,
+    ) -> Result<u64, Fault> {
+        if let Some(mut page) = self.page.take() {
+            let errors = self.report_on(rt, file, subject, &mut page);
+            self.page = Some(page);
+            return errors;
+        }
+        if self.asks_summary {
+            return self.sum_up(rt, file, subject, output);
+        }
+        self.write_errors(rt, file, subject, output)
+    }
+}
+
+// The page, if one is to be written.
+fn page_of(alloc: Global, path: Option<&str>) -> Option<Page> {
+    match path {
+        Some(_) => Some(Page::new(alloc)),
+        None => None,
+    }
+}
+
+// Refuses a path for the page that is one of the paths that are read.
+fn require_other_path(
+    alloc: Global,
+    page: Option<&str>,
+    plan: &str,
+    files: Option<&[&str]>,
+) -> Result<(), Fault> {
+    let Some(page) = page else {
+        return Ok(());
+    };
+    let files = files.unwrap_or(&[]);
+    if page != STANDARD_INPUT && page != plan && files.iter().all(|file| *file != page) {
+        return Ok(());
+    }
+    Err(Fault::Usage(format!(in alloc; "the page cannot be written to `{page}`")?))
+}
+
 /// Runs the subcommand.
 pub(crate) fn run(rt: &HostRuntime, matches: &ArgMatches<'_>) -> Result<Outcome, Fault> {
     let path = matches.get_str(PLAN).unwrap_or("");
+    let (page, files) = (matches.get_str(REPORT), matches.get_strs(FILE));
+    require_other_path(rt.alloc(), page, path, files)?;
     let plan = read_plan_of(rt, PlanKind::Columns, path)?;
-    let check = TableCheck {
+    let mut check = TableCheck {
         plan: &plan,
+        form: OutputForm::of(matches),
         asks_progress: matches.get_flag(PROGRESS),
+        asks_summary: matches.get_flag(SUMMARY),
+        page: page_of(rt.alloc(), page),
     };
-    check_files(rt, matches.get_strs(FILE), Wanted::of(matches), &check)
+    let outcome = check_files(rt, files, Wanted::of(matches), &mut check)?;
+    if let (Some(made), Some(path)) = (&check.page, page) {
+        made.write(rt, path)?;
+    }
+    Ok(outcome)
 }

@@ -2,9 +2,12 @@
 
 use crate::drafts::{DRAFTS, draft_name};
 use crate::faults::Fault;
+use crate::lines::push_line;
+use crate::options::{OutputForm, output as output_form};
 use crate::outcome::Outcome;
-use crate::output::show;
-use clap::Command;
+use crate::output::write_text;
+use clap::{ArgMatches, Command};
+use serde_json::json;
 use std::alloc::{AllocError, Global};
 use strkw_formats::{BuiltinFormat, builtin_format};
 
@@ -14,15 +17,18 @@ pub(crate) const NAME: &str = "formats";
 // What its help ends with.
 const AFTER_HELP: &str = "\
 The columns are the name, the first and the last draft that has the format, and a text of it.
+With `--output json` each format is an object with `name`, `first`, `last` and `example`.
 
 Examples:
-  neldrafi formats";
+  neldrafi formats
+  neldrafi formats --output json";
 
 /// What the subcommand takes.
-pub(crate) fn command<'a>(alloc: Global) -> Command<'a> {
+pub(crate) fn command<'a>(alloc: Global) -> Result<Command<'a>, AllocError> {
     Command::new(alloc, NAME)
         .about("Lists the formats with their drafts and an example of each")
         .after_help(AFTER_HELP)
+        .arg(output_form(alloc))
 }
 
 // The names of the first and the last draft that has a format.
@@ -61,9 +67,29 @@ fn push_table(out: &mut String) -> Result<(), AllocError> {
     Ok(())
 }
 
+// Appends an object for each format.
+fn push_objects(alloc: Global, out: &mut String) -> Result<(), AllocError> {
+    for format in BuiltinFormat::VARIANTS {
+        let (name, example) = (format.as_str(), format.example());
+        let (first, last) = drafts_of(*format);
+        let row = json!(in alloc; {
+            "name": name,
+            "first": first,
+            "last": last,
+            "example": example
+        })?;
+        push_line(alloc, &row, out)?;
+    }
+    Ok(())
+}
+
 /// Runs the subcommand.
-pub(crate) fn run(rt: &HostRuntime) -> Result<Outcome, Fault> {
+pub(crate) fn run(rt: &HostRuntime, matches: &ArgMatches<'_>) -> Result<Outcome, Fault> {
     let mut table = String::new(rt.alloc());
-    push_table(&mut table)?;
-    show(rt, &table)
+    match OutputForm::of(matches) {
+        OutputForm::Text => push_table(&mut table)?,
+        OutputForm::Json => push_objects(rt.alloc(), &mut table)?,
+    }
+    write_text(rt, &table)?;
+    Ok(Outcome::AllValid)
 }

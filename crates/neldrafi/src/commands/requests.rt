@@ -2,9 +2,9 @@
 
 use crate::faults::Fault;
 use crate::inputs::{InputFile, STANDARD_INPUT};
-use crate::options::Wanted;
+use crate::options::{Wanted, output as output_form};
 use crate::outcome::Outcome;
-use crate::output::Output;
+use crate::output::{FaultyWrite, Output};
 use clap::{Arg, ArgMatches, Command};
 use std::alloc::{AllocError, Global};
 use strkw_cli::{HostSink, HostSource, RunFault, run as run_requests};
@@ -18,7 +18,8 @@ const FILE: &str = "FILE";
 // What its help ends with.
 const AFTER_HELP: &str = "\
 A request is a line of JSON with a draft, a schema object and an instance. The status
-is 0 where all requests are answered, whatever the answers are.
+is 0 where all requests are answered, whatever the answers are. The answers are lines of
+text; with `--output json` a fault is an object.
 
 Examples:
   neldrafi requests requests.jsonl
@@ -33,7 +34,8 @@ pub(crate) fn command<'a>(alloc: Global) -> Result<Command<'a>, AllocError> {
     Command::new(alloc, NAME)
         .about("Answers requests, one a line")
         .after_help(AFTER_HELP)
-        .arg(file)
+        .arg(file)?
+        .arg(output_form(alloc))
 }
 
 // Answers the requests of a file.

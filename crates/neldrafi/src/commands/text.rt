@@ -3,10 +3,12 @@
 use crate::drafts::draft_name;
 use crate::faults::Fault;
 use crate::inputs::{InputFile, Lines, STANDARD_INPUT};
-use crate::options::{Wanted, draft, draft_of, quiet, required};
+use crate::lines::push_line;
+use crate::options::{OutputForm, Wanted, draft, draft_of, output as output_form, quiet, required};
 use crate::outcome::Outcome;
 use crate::output::{Gathered, Output};
 use clap::{Arg, ArgMatches, Command};
+use serde_json::json;
 use std::alloc::{AllocError, Global};
 use std::fmt;
 use strkw_formats::{BuiltinFormat, builtin_format};
@@ -25,7 +27,8 @@ const TEXT: &str = "TEXT";
 
 // What its help ends with.
 const AFTER_HELP: &str = "\
-It writes `valid` or `invalid` for each text, a line each.
+It writes `valid` or `invalid` for each text, a line each. With `--output json` it writes an
+object with `record` (the number of the text, from 1), `format`, `instance` and `valid`.
 
 Examples:
   neldrafi text date 2024-02-29 2023-02-29
@@ -70,6 +73,7 @@ pub(crate) fn command<'a>(alloc: Global) -> Result<Command<'a>, AllocError> {
         ))?
         .arg(texts)?
         .arg(draft(alloc))?
+        .arg(output_form(alloc))?
         .arg(quiet(alloc))
 }
 
@@ -103,30 +107,49 @@ fn format_named(alloc: Global, draft: Draft, name: &str) -> Result<BuiltinFormat
     }
 }
 
+// Appends a verdict, as text.
+fn push_verdict(valid: bool, out: &mut String) -> Result<(), AllocError> {
+    out.push_str(if valid { "valid\n" } else { "invalid\n" })
+}
+
 // The verdicts on texts, and what they come to.
 #[derive(Drop)]
 struct Verdicts<'o, 'a> {
     format: BuiltinFormat,
+    form: OutputForm,
     outcome: Outcome,
     lines: Gathered<'o, 'a>,
 }
 
 impl Verdicts<'_, '_> {
-    // Judges a text.
-    fn judge(&mut self, text: &str) -> Result<(), Fault> {
-        if self.format.is_valid(text) {
-            self.lines.text.push_str("valid\n")?;
-        } else {
-            self.lines.text.push_str("invalid\n")?;
+    // Judges the text of this number.
+    fn judge(&mut self, alloc: Global, record: u64, text: &str) -> Result<(), Fault> {
+        let valid = self.format.is_valid(text);
+        if !valid {
             self.outcome = Outcome::Errors;
+        }
+        match self.form {
+            OutputForm::Text => push_verdict(valid, &mut self.lines.text)?,
+            OutputForm::Json => {
+                let format = self.format.as_str();
+                let verdict = json!(in alloc; {
+                    "record": record,
+                    "format": format,
+                    "instance": text,
+                    "valid": valid
+                })?;
+                push_line(alloc, &verdict, &mut self.lines.text)?;
+            }
         }
         Ok(())
     }
 
     // Judges each of the texts.
-    fn judge_all(&mut self, texts: &[&str]) -> Result<(), Fault> {
+    fn judge_all(&mut self, alloc: Global, texts: &[&str]) -> Result<(), Fault> {
+        let mut record = 0u64;
         for text in texts {
-            self.judge(text)?;
+            record = record.saturating_add(1);
+            self.judge(alloc, record, text)?;
             self.lines.write_some(false)?;
         }
         Ok(())
@@ -140,7 +163,7 @@ impl Verdicts<'_, '_> {
             let Some(line) = lines.next_line()? else {
                 return Ok(());
             };
-            self.judge(line.text)?;
+            self.judge(rt.alloc(), line.number, line.text)?;
             self.lines.write_some(lines.is_drained())?;
         }
         Ok(())
@@ -162,11 +185,12 @@ pub(crate) fn run(rt: &HostRuntime, matches: &ArgMatches<'_>) -> Result<Outcome,
     let mut output = Output::new(rt, "", Wanted::of(matches));
     let mut verdicts = Verdicts {
         format,
+        form: OutputForm::of(matches),
         outcome: Outcome::AllValid,
         lines: Gathered::new(rt.alloc(), &mut output),
     };
     let judged = match matches.get_strs(TEXT) {
-        Some(texts) => verdicts.judge_all(texts),
+        Some(texts) => verdicts.judge_all(rt.alloc(), texts),
         None => verdicts.judge_lines(rt),
     };
     verdicts.end(judged)

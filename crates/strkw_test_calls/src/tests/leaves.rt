@@ -9,6 +9,7 @@ use strkw_coding::{
     from_base64url, is_base16, is_base32, is_base32hex, is_base64, is_base64url, is_json,
 };
 use strkw_ecma::{EcmaPatterns, PatternRefusal, why_refused};
+use strkw_label::{DerivedProperty, derived_property, is_valid_idn_hostname};
 use strkw_pattern::{
     BuildRefusal, EngineBuilder, LiteralMatcher, PatternOptimization, RegexEngine, analyze_pattern,
 };
@@ -441,6 +442,59 @@ fn why_refused_under_refusal(rt: HostRuntime) -> Result<(), Fail> {
         if why_refused(rt.alloc(), row.pattern)? != row.why {
             return Err(Fail::new(row.pattern));
         }
+    }
+    Ok(())
+}
+
+// A text, and whether it is an internationalised host name.
+struct HostName {
+    text: &'static str,
+    valid: bool,
+}
+
+// A U-label, its A-label, a text that is not in NFC, one of which the quick check does not tell, no payload, a folding.
+const HOST_NAMES: &[HostName] = &[
+    HostName {
+        text: "b\u{FC}cher.example",
+        valid: true,
+    },
+    HostName {
+        text: "xn--bcher-kva.example",
+        valid: true,
+    },
+    HostName {
+        text: "bu\u{308}cher",
+        valid: false,
+    },
+    HostName {
+        text: "\u{915}\u{93C}",
+        valid: true,
+    },
+    HostName {
+        text: "xn--bcher-kvb",
+        valid: false,
+    },
+    HostName {
+        text: "\u{390}",
+        valid: true,
+    },
+];
+
+#[test]
+fn idn_host_names_under_refusal(rt: HostRuntime) -> Result<(), Fail> {
+    for row in HOST_NAMES {
+        if is_valid_idn_hostname(rt.alloc(), row.text)? != row.valid {
+            return Err(Fail::new(row.text));
+        }
+    }
+    Ok(())
+}
+
+// U+0390 folds to three characters, which compose to it again.
+#[test]
+fn derived_property_under_refusal(rt: HostRuntime) -> Result<(), Fail> {
+    if derived_property(rt.alloc(), '\u{390}')? != DerivedProperty::ProtocolValid {
+        return Err(Fail::new("U+0390"));
     }
     Ok(())
 }

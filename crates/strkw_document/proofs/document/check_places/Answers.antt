@@ -9,6 +9,7 @@ use Rattle.strkw_document.proofs.document.check_places.Goals as goal
 
 pub loop-place-init : goal.loop-place-init
 loop-place-init g c =
+    let form = g.F.PlaceForm.writes c.args.form.now in
     let all = c.args.plan.now.schemas.now.entries in
     let s =
     rules_settings g.B.EngineBuilder.takes g.B.EngineBuilder.outcome (λ b. (goal.Format-dyn g b).admits b.1)
@@ -16,7 +17,7 @@ loop-place-init g c =
     (λ b. (goal.ContentCodec-dyn g b).decoding b.1) c.args.rules.now c.args.plan.now.draft in
     let same : c.into_iter-place-iterator.result ≡ all = search rules in (
       [],
-      λ rest p. subst (λ es. DocumentMessages s (members_view es) (view c.args.document.now) rest) same p,
+      λ rest p. subst (λ es. DocumentMessages form s (members_view es) (view c.args.document.now) rest) same p,
       refl,
       sym (append-nil _),
       λ place schema is. subst (λ es. IsAmong place schema (members_view es)) same is,
@@ -36,6 +37,7 @@ returns-in_err-more-clause-why g c =
 
 pub loop-place-preserved : goal.loop-place-preserved
 loop-place-preserved g c =
+    let form = g.F.PlaceForm.writes c.args.form.now in
     let s =
     rules_settings g.B.EngineBuilder.takes g.B.EngineBuilder.outcome (λ b. (goal.Format-dyn g b).admits b.1)
     (λ b. (goal.MediaTypeCheck-dyn g b).accepted b.1) (λ b. (goal.ContentCodec-dyn g b).encoded b.1)
@@ -49,9 +51,9 @@ loop-place-preserved g c =
     let sum : c.in_ok-count.count ≡ c.loop-place.count + c.in_ok-more.more = search rules in (
       messages ++ more,
       λ rest p.
-          let all = first_place s document name (view c.in-Some.schema.now) behind more rest (rw place at said) p in
-          subst (DocumentMessages s (members_view c.args.plan.now.schemas.now.entries) document) (sym (append_assoc messages more rest))
-          (goes_on (more ++ rest) (subst (λ es. DocumentMessages s (members_view es) document (more ++ rest)) (sym c.in-Some.ensures.steps) all)),
+          let all = first_place form s document name (view c.in-Some.schema.now) behind more rest (rw place at said) p in
+          subst (DocumentMessages form s (members_view c.args.plan.now.schemas.now.entries) document) (sym (append_assoc messages more rest))
+          (goes_on (more ++ rest) (subst (λ es. DocumentMessages form s (members_view es) document (more ++ rest)) (sym c.in-Some.ensures.steps) all)),
       rw (sum, counted, more_count) (sym (length-append messages more)),
       joined (string_bytes c.args.out.now) (string_bytes c.loop-place.out) (string_bytes c.check_place.new.out) messages more grown more_grown,
       λ other schema is. among other schema (subst (λ es. IsAmong other schema (members_view es)) (sym c.in-Some.ensures.steps) (inr is)),
@@ -59,14 +61,15 @@ loop-place-preserved g c =
 
 pub returns : goal.returns
 returns g c =
+    let form = g.F.PlaceForm.writes c.args.form.now in
     let s =
     rules_settings g.B.EngineBuilder.takes g.B.EngineBuilder.outcome (λ b. (goal.Format-dyn g b).admits b.1)
     (λ b. (goal.MediaTypeCheck-dyn g b).accepted b.1) (λ b. (goal.ContentCodec-dyn g b).encoded b.1)
     (λ b. (goal.ContentCodec-dyn g b).decoding b.1) c.args.rules.now c.args.plan.now.draft in
     let document = view c.args.document.now in
     let (messages, goes_on, counted, grown, among) = c.loop-place.invariant in
-    let all = goes_on [] (subst (λ es. DocumentMessages s (members_view es) document []) (sym c.in-None.ensures.steps.0) (no_places s document)) in
+    let all = goes_on [] (subst (λ es. DocumentMessages form s (members_view es) document []) (sym c.in-None.ensures.steps.0) (no_places form s document)) in
     record {
-      messages = (messages, subst (DocumentMessages s (members_view c.args.plan.now.schemas.now.entries) document) (append-nil messages) all, counted, grown);
+      messages = (messages, subst (DocumentMessages form s (members_view c.args.plan.now.schemas.now.entries) document) (append-nil messages) all, counted, grown);
       why = tt;
     }

@@ -11,6 +11,7 @@ use Rattle.strkw_document.proofs.document.check_places.Given as goal
 -- places of the plan
 abbrev pub invariant-loop-place : goal.invariant-loop-place
 invariant-loop-place g l =
+    let form = g.F.PlaceForm.writes l.fn.form in
     let s =
     rules_settings g.B.EngineBuilder.takes g.B.EngineBuilder.outcome (λ b. (goal.Format-dyn g b).admits b.1)
     (λ b. (goal.MediaTypeCheck-dyn g b).accepted b.1) (λ b. (goal.ContentCodec-dyn g b).encoded b.1)
@@ -18,6 +19,6 @@ invariant-loop-place g l =
     let all = members_view l.fn.plan.schemas.now.entries in
     let left = members_view l.place-iterator in
     (messages : List (List ℕ))
-    × ((rest : List (List ℕ)) → DocumentMessages s left (view l.fn.document) rest → DocumentMessages s all (view l.fn.document) (messages ++ rest))
+    × ((rest : List (List ℕ)) → DocumentMessages form s left (view l.fn.document) rest → DocumentMessages form s all (view l.fn.document) (messages ++ rest))
     × (l.count ≡ length messages) × (string_bytes l.out ≡ string_bytes l.fn.out ++ concat messages)
     × ((place : List ℕ) (schema : Data) → IsAmong place schema left → IsAmong place schema all)

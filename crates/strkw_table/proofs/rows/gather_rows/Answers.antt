@@ -27,7 +27,7 @@ loop-turn-init g c =
         source,
         first_records-none (place_of c.args.reader.now) text,
         have_shape-none _ _,
-        of_records-none (ColumnMessages g.E.RegexEngine.outcome lists) c.args.columns.now,
+        of_records-none (ColumnMessages (g.F.FieldForm.said c.args.form.now) g.E.RegexEngine.outcome lists) c.args.columns.now,
         Appends-nil _,
         sym c.requires.empty,
         refl,
@@ -58,7 +58,7 @@ loop-turn-preserved g c =
             first_records-more (place_of c.args.reader.now) (place_of c.loop-turn.reader)
                 (place_of c.check_next.new.reader) text left rest records r first takes_record,
             have_shape-more _ _ records r width wide (subst (λ limits. AreWithin limits fields) limited within),
-            of_records-more (ColumnMessages g.E.RegexEngine.outcome lists) c.args.columns.now records r messages more all_said said,
+            of_records-more (ColumnMessages (g.F.FieldForm.said c.args.form.now) g.E.RegexEngine.outcome lists) c.args.columns.now records r messages more all_said said,
             Appends-trans _ _ _ written put appends appended,
             gathered messages more written (string_bytes c.loop-turn.out) (string_bytes c.check_next.new.out) put
                 (string_bytes c.write_gathered.new.out) joined more_out split,
@@ -89,7 +89,7 @@ pub returns-in_err-more-clause-fault : goal.returns-in_err-more-clause-fault
 returns-in_err-more-clause-fault g c text source =
     let lists = lists_of (λ b. (goal.Format-dyn g b).admits b.1) (λ b. (goal.MediaTypeCheck-dyn g b).accepted b.1)
     (λ b. (goal.ContentCodec-dyn g b).encoded b.1) (λ b. (goal.ContentCodec-dyn g b).decoding b.1) c.args.checks.now in
-    let says = ColumnMessages g.E.RegexEngine.outcome lists in
+    let says = ColumnMessages (g.F.FieldForm.said c.args.form.now) g.E.RegexEngine.outcome lists in
     let why = c.in_err-more.field-0.0 in
     let told : c.from_residual.result ≡ Err why = search rules in
     let (counted, limited, all) = c.loop-turn.invariant in

@@ -20,7 +20,7 @@ invariant-loop-turn g l =
     × (unread_of g.R.Read.remaining l.reader ≡ Some left)
     × AreFirstRecords (place_of l.fn.reader) text records (place_of l.reader) left
     × HaveShape (limits_of l.fn.reader) (length l.fn.columns) records
-    × OfRecords (ColumnMessages g.E.RegexEngine.outcome lists) l.fn.columns records messages
+    × OfRecords (ColumnMessages (g.F.FieldForm.said l.fn.form) g.E.RegexEngine.outcome lists) l.fn.columns records messages
     × Appends (g.W.Write.contents l.fn.writer) (g.W.Write.contents l.writer) written
     × (concat messages ≡ written ++ string_bytes l.out)
     × (l.turn ≡ length records) × (l.checked.errors ≡ length messages))

@@ -9,12 +9,12 @@ returns-in_default g c =
     let lists = lists_of (λ b. (goal.Format-dyn g b).admits b.1) (λ b. (goal.MediaTypeCheck-dyn g b).accepted b.1)
     (λ b. (goal.ContentCodec-dyn g b).encoded b.1) (λ b. (goal.ContentCodec-dyn g b).decoding b.1) c.args.checks.now in
     let none : keywords_of c.args.self.now ≡ None = search rules in
-    said_nothing g.E.RegexEngine.outcome lists c.args.self.now c.args.line c.args.field.now (string_bytes c.args.out.now) none
+    said_nothing (g.F.FieldForm.said c.args.form.now) g.E.RegexEngine.outcome lists c.args.self.now c.args.line c.args.field.now (string_bytes c.args.out.now) none
 
 pub returns : goal.returns
 returns g c =
     let lists = lists_of (λ b. (goal.Format-dyn g b).admits b.1) (λ b. (goal.MediaTypeCheck-dyn g b).accepted b.1)
     (λ b. (goal.ContentCodec-dyn g b).encoded b.1) (λ b. (goal.ContentCodec-dyn g b).decoding b.1) c.args.checks.now in
     let compiled : keywords_of c.args.self.now ≡ Some c.in-Some.keywords.now = search rules in
-    said_errors g.E.RegexEngine.outcome lists c.args.self.now c.args.line c.args.field.now (string_bytes c.args.out.now) _
-    c.in-Some.keywords.now _ compiled c.push_messages.ensures
+    said_errors (g.F.FieldForm.said c.args.form.now) g.E.RegexEngine.outcome lists c.args.self.now c.args.line c.args.field.now (string_bytes c.args.out.now) _
+    c.in-Some.keywords.now _ compiled c.push_messages_as.ensures

@@ -1,0 +1,81 @@
+//! One text by a format.
+
+use crate::errors::UnknownName;
+use std::str::FromStr;
+
+macro_rules! formats {
+    ($($(#[$doc:meta])* $variant:ident $name:literal $check:ident,)*) => {
+        /// A format of texts.
+        #[derive(Clone, Copy, Debug, PartialEq, Eq, Hash)]
+        pub enum Format {
+            $($(#[$doc])* $variant,)*
+        }
+
+        impl Format {
+            /// All of them.
+            pub const ALL: &'static [Format] = &[$(Format::$variant),*];
+
+            /// The name of the format, as `date-time`.
+            pub fn name(self) -> &'static str {
+                match self {
+                    $(Format::$variant => $name,)*
+                }
+            }
+
+            /// Whether a text is of the format.
+            pub fn is_valid(self, text: &str) -> bool {
+                let check = match self {
+                    $(Format::$variant => strkw_sys::$check,)*
+                };
+                // A slice leads to as many bytes as it counts, and the call keeps none of them.
+                unsafe { check(text.as_ptr(), text.len()) }
+            }
+        }
+    };
+}
+
+formats! {
+    /// `full-date` of RFC 3339.
+    Date "date" strkw_is_date,
+    /// `date-time` of RFC 3339.
+    DateTime "date-time" strkw_is_date_time,
+    /// `duration` of RFC 3339, appendix A.
+    Duration "duration" strkw_is_duration,
+    /// A mail address: `Mailbox` of RFC 5321, section 4.1.2. No schema object knows it.
+    Email "email" strkw_is_email,
+    /// The host names of draft 7 and later.
+    Hostname "hostname" strkw_is_hostname,
+    /// The host names of drafts 4 and 6.
+    HostnameDraft4 "hostname-draft4" strkw_is_hostname_draft4,
+    /// `dotted-quad` of RFC 2673.
+    Ipv4 "ipv4" strkw_is_ipv4,
+    /// RFC 4291, section 2.2.
+    Ipv6 "ipv6" strkw_is_ipv6,
+    /// `IRI` of RFC 3987.
+    Iri "iri" strkw_is_iri,
+    /// `IRI-reference` of RFC 3987.
+    IriReference "iri-reference" strkw_is_iri_reference,
+    /// RFC 6901.
+    JsonPointer "json-pointer" strkw_is_json_pointer,
+    /// A relative JSON pointer.
+    RelativeJsonPointer "relative-json-pointer" strkw_is_relative_json_pointer,
+    /// `full-time` of RFC 3339.
+    Time "time" strkw_is_time,
+    /// `URI` of RFC 3986.
+    Uri "uri" strkw_is_uri,
+    /// `URI-reference` of RFC 3986.
+    UriReference "uri-reference" strkw_is_uri_reference,
+    /// RFC 6570.
+    UriTemplate "uri-template" strkw_is_uri_template,
+    /// RFC 4122.
+    Uuid "uuid" strkw_is_uuid,
+}
+
+impl FromStr for Format {
+    type Err = UnknownName;
+
+    fn from_str(name: &str) -> Result<Format, UnknownName> {
+        let found = Format::ALL.iter().find(|format| format.name() == name);
+        found.copied().ok_or_else(|| UnknownName(name.to_owned()))
+    }
+}

@@ -1,0 +1,101 @@
+//! The library by this crate: the stored rows of formats and of requests, schema objects, refusals, and threads.
+
+use std::fs;
+use std::path::PathBuf;
+use std::thread;
+use strkw::{answer, CompileError, Draft, Encoding, Format, Options, Schema, UnknownName};
+
+fn stored(name: &str) -> String {
+    let folder = PathBuf::from(env!("CARGO_MANIFEST_DIR")).join("../../../examples");
+    fs::read_to_string(folder.join(name)).expect("a stored file of examples/")
+}
+
+fn schema(draft: Draft, object: &str) -> Schema {
+    Schema::compile(draft, Options::default(), object).expect("a schema object")
+}
+
+#[test]
+fn formats_and_encodings_answer_as_the_stored_rows() {
+    for row in stored("formats.tsv").split('\n').filter(|row| !row.is_empty()) {
+        let mut parts = row.splitn(3, '\t');
+        let (name, wanted, text) = (parts.next().unwrap(), parts.next().unwrap(), parts.next().unwrap());
+        let found = match name.parse::<Encoding>() {
+            Ok(encoding) => encoding.is_valid(text).unwrap(),
+            Err(_) => name.parse::<Format>().unwrap().is_valid(text),
+        };
+        assert_eq!(found, wanted == "yes", "{row}");
+    }
+}
+
+#[test]
+fn names_lead_to_formats_and_back() {
+    for format in Format::ALL {
+        assert_eq!(format.name().parse(), Ok(*format));
+    }
+    for encoding in Encoding::ALL {
+        assert_eq!(encoding.name().parse(), Ok(*encoding));
+    }
+    assert_eq!("regex".parse::<Format>(), Err(UnknownName("regex".to_owned())));
+}
+
+#[test]
+fn requests_have_the_stored_answers() {
+    let answers = answer(stored("requests.jsonl").as_bytes()).unwrap();
+    assert_eq!(String::from_utf8(answers).unwrap(), stored("answers.txt"));
+    assert_eq!(answer(b"").unwrap(), b"");
+}
+
+#[test]
+fn texts_are_valid_or_not() {
+    let date = schema(Draft::Draft7, r#"{"format": "date"}"#);
+    assert_eq!(date.are_valid(&["2024-02-29", "", "2023-02-29"]).unwrap(), [true, false, false]);
+    assert_eq!(date.are_valid::<&str>(&[]).unwrap(), Vec::<bool>::new());
+    assert!(schema(Draft::Draft4, r#"{"maxLength": 2}"#).is_valid("\u{e4}\0").unwrap());
+    assert!(!schema(Draft::Draft6, r#"{"minLength": 400}"#).is_valid("a").unwrap());
+}
+
+#[test]
+fn errors_and_notes_are_told() {
+    let object = r#"{"format": "date", "maxLength": 5, "pattern": "^[0-9]+$"}"#;
+    let report = schema(Draft::Draft202012, object).report("2023-02-29").unwrap();
+    let told: Vec<String> = report.errors.iter().map(ToString::to_string).collect();
+    let wanted = [
+        r#"/format: "2023-02-29" is not a "date""#,
+        r#"/maxLength: "2023-02-29" is longer than 5 characters"#,
+        r#"/pattern: "2023-02-29" does not match "^[0-9]+$""#,
+    ];
+    assert_eq!(told, wanted);
+    assert_eq!(report.notes, [("format".to_owned(), r#""date""#.to_owned())]);
+    let long = "a".repeat(1000);
+    let errors = schema(Draft::Draft7, r#"{"maxLength": 1}"#).errors(&long).unwrap();
+    assert_eq!(errors[0].message, format!("\"{long}\" is longer than 1 character"));
+}
+
+#[test]
+fn options_say_how_formats_are_checked() {
+    let as_draft = Options { formats_as_draft: true, ..Options::default() };
+    let date = Schema::compile(Draft::Draft202012, as_draft, r#"{"format": "date"}"#).unwrap();
+    assert!(date.is_valid("nonsense").unwrap());
+    let ignoring = Options { ignore_unknown_formats: true, ..Options::default() };
+    let mail = Schema::compile(Draft::Draft7, ignoring, r#"{"format": "email"}"#).unwrap();
+    assert!(mail.is_valid("nonsense").unwrap());
+}
+
+#[test]
+fn refusals_are_told() {
+    let compile = |object| Schema::compile(Draft::Draft7, Options::default(), object).map(|_| ());
+    assert_eq!(compile("[]"), Err(CompileError::NoObject));
+    assert_eq!(compile(""), Err(CompileError::NoObject));
+    let refused = compile(r#"{"format": "uuid"}"#).unwrap_err().to_string();
+    assert!(refused.starts_with("the schema object is refused at /format: Unknown format: 'uuid'"), "{refused}");
+}
+
+#[test]
+fn threads_share_a_schema() {
+    let slug = schema(Draft::Draft7, r#"{"pattern": "^[a-z]+(-[a-z]+)*$"}"#);
+    let ask = || (0..50).all(|_| slug.are_valid(&["a-b", "a--b"]).unwrap() == [true, false]);
+    thread::scope(|scope| {
+        let asked: Vec<_> = (0..8).map(|_| scope.spawn(ask)).collect();
+        assert!(asked.into_iter().all(|thread| thread.join().unwrap()));
+    });
+}

@@ -1,0 +1,69 @@
+-- The lines of JSON about errors.
+use Rattle.std.specs.Prelude.{ℕ, List, ◌++◌, codes}
+use Rattle.serde_json.specs.Data.{Data, object, member, no_members, string, number, unsigned}
+use Rattle.serde_json.specs.Written.{compact_text}
+use Rattle.strkw_report.specs.Kinds.{Kind, Report, text_of}
+use Rattle.strkw_report.specs.Kinds.{min_length, max_length, pattern, format, from_utf8}
+use Rattle.strkw_report.specs.Kinds.{backtrack_limit_exceeded, regex_engine_failure}
+use Rattle.strkw_report.specs.Kinds.{content_encoding, content_media_type}
+use Rattle.strkw_document.specs.Places.{Form}
+
+-- a value on a line
+abbrev pub line_of : Data → List ℕ
+line_of d = compact_text d ++ codes "\n"
+
+-- what a line names the kind of an error
+abbrev pub kind_name : Kind → List ℕ
+kind_name (min_length n) = codes "minLength"
+kind_name (max_length n) = codes "maxLength"
+kind_name (pattern p) = codes "pattern"
+kind_name (backtrack_limit_exceeded p) = codes "backtrackLimitExceeded"
+kind_name (regex_engine_failure p) = codes "regexEngineFailure"
+kind_name (format f) = codes "format"
+kind_name (content_encoding n) = codes "contentEncoding"
+kind_name (content_media_type n) = codes "contentMediaType"
+kind_name from_utf8 = codes "fromUtf8"
+
+-- an error of a field: the members are in the order of their names
+abbrev pub field_error : List ℕ → ℕ → List ℕ → Report → Data
+field_error file line column r =
+    object (member (codes "column") (string column)
+    (member (codes "file") (string file)
+    (member (codes "instance") (string r.instance)
+    (member (codes "keyword") (string r.schema_path)
+    (member (codes "kind") (string (kind_name r.kind))
+    (member (codes "line") (number (unsigned line))
+    (member (codes "message") (string (text_of r)) no_members)))))))
+
+-- an error of a line of a file
+abbrev pub line_error : List ℕ → ℕ → Report → Data
+line_error file line r =
+    object (member (codes "file") (string file)
+    (member (codes "instance") (string r.instance)
+    (member (codes "keyword") (string r.schema_path)
+    (member (codes "kind") (string (kind_name r.kind))
+    (member (codes "line") (number (unsigned line))
+    (member (codes "message") (string (text_of r)) no_members))))))
+
+-- an error of the value at a place of a document, and a place that the document has not
+abbrev pub place_error : List ℕ → List ℕ → Report → Data
+place_error file place r =
+    object (member (codes "file") (string file)
+    (member (codes "instance") (string r.instance)
+    (member (codes "keyword") (string r.schema_path)
+    (member (codes "kind") (string (kind_name r.kind))
+    (member (codes "message") (string (text_of r))
+    (member (codes "place") (string place) no_members))))))
+
+abbrev pub place_missing : List ℕ → List ℕ → Data
+place_missing file place =
+    object (member (codes "file") (string file)
+    (member (codes "kind") (string (codes "missing"))
+    (member (codes "message") (string (codes "missing"))
+    (member (codes "place") (string place) no_members))))
+
+abbrev pub document_form : List ℕ → Form
+document_form file = record {
+  said = λ place r. line_of (place_error file place r);
+  lacking = λ place. line_of (place_missing file place);
+}

@@ -1,0 +1,268 @@
+//! `neldrafi plan`: a plan that is proposed for a CSV file, from a sample of its records.
+
+use crate::drafts::draft_number;
+use crate::faults::Fault;
+use crate::inputs::{InputFile, STANDARD_INPUT};
+use crate::options::{OutputForm, draft, draft_of, output as output_form};
+use crate::outcome::Outcome;
+use crate::output::write_text;
+use clap::builder::ValueParser;
+use clap::{Arg, ArgMatches, Command};
+use csv::StringRecord;
+use serde_json::{Map, Value, json};
+use std::alloc::{AllocError, Global};
+use std::collections::BTreeMap;
+use strkw_formats::{BuiltinFormat, builtin_format};
+use strkw_records::RecordReader;
+use strkw_report::Draft;
+use strkw_table::TableFault;
+
+/// The name of the subcommand.
+pub(crate) const NAME: &str = "plan";
+
+// The argument for the file.
+const FILE: &str = "FILE";
+
+// The option for so many records.
+const RECORDS: &str = "records";
+
+// So many records are looked at where nothing is said.
+const SAMPLE: u64 = 10_000;
+
+// What its help ends with.
+const AFTER_HELP: &str = "\
+The plan has for each column the first of these formats that all its values are of:
+date-time, date, time, duration, uuid, ipv4, ipv6, uri, iri; and the lengths of its values.
+Where a column has empty values it has no format, and its description says which one the
+others are of. A plan from a sample is a start: edit it.
+
+Examples:
+  neldrafi plan people.csv > plan.json
+  neldrafi plan --draft 7 --records 1000 people.csv";
+
+// The formats that are proposed, the narrowest first. Of the others nearly each word is one.
+const PROPOSED: &[&str] = &[
+    "date-time",
+    "date",
+    "time",
+    "duration",
+    "uuid",
+    "ipv4",
+    "ipv6",
+    "uri",
+    "iri",
+];
+
+/// What the subcommand takes.
+pub(crate) fn command<'a>(alloc: Global) -> Result<Command<'a>, AllocError> {
+    let file = Arg::new(alloc, FILE)
+        .default_value(STANDARD_INPUT)
+        .hide_default_value(true)
+        .help("The CSV file; `-` is standard input, and so is no file");
+    let records = Arg::new(alloc, RECORDS)
+        .long(RECORDS)
+        .value_name("N")
+        .value_parser(ValueParser::unsigned(1, u64::MAX))
+        .help("Look at the first N records, and not at 10000");
+    Command::new(alloc, NAME)
+        .about("Proposes a plan for a CSV file from a sample of its records")
+        .after_help(AFTER_HELP)
+        .arg(file)?
+        .arg(draft(alloc))?
+        .arg(output_form(alloc))?
+        .arg(records)
+}
+
+// What was seen of a column.
+#[derive(Debug, Drop)]
+struct Column {
+    // The formats of which all values are that are not empty.
+    formats: Vec<BuiltinFormat>,
+    // How many values there are, and how many of them are empty.
+    values: u64,
+    empty: u64,
+    // The least and the greatest number of characters of a value.
+    least: u64,
+    greatest: u64,
+}
+
+// The formats of a draft that are proposed.
+fn proposed(alloc: Global, draft: Draft) -> Result<Vec<BuiltinFormat>, AllocError> {
+    let mut formats = Vec::new(alloc);
+    for name in PROPOSED {
+        if let Some(format) = builtin_format(draft, name) {
+            formats.push(format)?;
+        }
+    }
+    Ok(formats)
+}
+
+impl Column {
+    // No value was seen.
+    fn new(alloc: Global, draft: Draft) -> Result<Column, AllocError> {
+        Ok(Column {
+            formats: proposed(alloc, draft)?,
+            values: 0,
+            empty: 0,
+            least: u64::MAX,
+            greatest: 0,
+        })
+    }
+
+    // A value is seen.
+    fn see(&mut self, value: &str) {
+        let characters = value.chars().count() as u64;
+        self.values = self.values.saturating_add(1);
+        self.least = self.least.min(characters);
+        self.greatest = self.greatest.max(characters);
+        if value.is_empty() {
+            self.empty = self.empty.saturating_add(1);
+        } else {
+            self.formats.retain(|format| format.is_valid(value));
+        }
+    }
+
+    // The format that is proposed, where a value was seen that has one.
+    fn format(&self) -> Option<&'static str> {
+        if self.empty == self.values {
+            return None;
+        }
+        Some(self.formats.first()?.as_str())
+    }
+
+    // The schema object that is proposed.
+    fn schema(&self, alloc: Global) -> Result<Value, AllocError> {
+        let (least, greatest) = (self.least, self.greatest);
+        if self.values == 0 {
+            return json!(in alloc; {});
+        }
+        match self.format() {
+            None => json!(in alloc; {"minLength": least, "maxLength": greatest}),
+            Some(format) if self.empty == 0 => json!(in alloc; {
+                "format": format,
+                "minLength": least,
+                "maxLength": greatest
+            }),
+            Some(format) => {
+                let (empty, values) = (self.empty, self.values);
+                let words = format!(in alloc;
+                    "{empty} of {values} values are empty, the others {format}"
+                )?;
+                let words = words.as_str();
+                json!(in alloc; {"description": words, "maxLength": greatest})
+            }
+        }
+    }
+}
+
+// The columns of a file, by their names.
+type Columns = BTreeMap<String, Column>;
+
+// A sample of a file: its names, and what was seen of each column.
+#[derive(Drop)]
+struct Sample {
+    names: StringRecord,
+    columns: Columns,
+}
+
+impl Sample {
+    // The sample with these names, and no record.
+    fn new(alloc: Global, draft: Draft, names: StringRecord) -> Result<Sample, Fault> {
+        let mut columns = BTreeMap::new(alloc);
+        for name in names.iter() {
+            let column = Column::new(alloc, draft)?;
+            drop(columns.insert(String::from_str(alloc, name)?, column)?);
+        }
+        Ok(Sample { names, columns })
+    }
+
+    // The values of a record, which begins on a line, are seen.
+    fn see(&mut self, line: u64, row: &StringRecord) -> Result<(), Fault> {
+        if row.len() != self.names.len() {
+            return Err(Fault::Table(TableFault::Fields {
+                line,
+                expected: self.names.len(),
+                found: row.len(),
+            }));
+        }
+        for (name, value) in self.names.iter().zip(row.iter()) {
+            if let Some(column) = self.columns.get_mut(name) {
+                column.see(value);
+            }
+        }
+        Ok(())
+    }
+
+    // The plan that is proposed.
+    fn plan(&self, alloc: Global, draft: Draft) -> Result<Value, AllocError> {
+        let mut columns = Map::new(alloc);
+        for (name, column) in self.columns.iter() {
+            let schema = column.schema(alloc)?;
+            drop(columns.insert(name.clone()?, schema)?);
+        }
+        let columns = Value::Object(columns);
+        let draft = draft_number(draft);
+        if self.columns.len() < self.names.len() {
+            return json!(in alloc; {"draft": draft, "columns": columns, "duplicates": "each"});
+        }
+        json!(in alloc; {"draft": draft, "columns": columns})
+    }
+}
+
+// The fault of a file of which a record cannot be read.
+fn fault_of_record(fault: TableFault) -> Fault {
+    match fault {
+        TableFault::Memory => Fault::Memory,
+        fault => Fault::Table(fault),
+    }
+}
+
+// The next record, and the line on which it begins.
+fn next_record(
+    reader: &mut RecordReader<InputFile>,
+    row: &mut StringRecord,
+) -> Result<Option<u64>, Fault> {
+    match reader.read(row) {
+        Ok(line) => Ok(line),
+        Err(e) => Err(fault_of_record(TableFault::from(e))),
+    }
+}
+
+// A sample of so many records of a file.
+fn take_sample(alloc: Global, draft: Draft, file: InputFile, most: u64) -> Result<Sample, Fault> {
+    let mut reader = RecordReader::new(alloc, file)?;
+    let mut names = StringRecord::new(alloc);
+    if next_record(&mut reader, &mut names)?.is_none() {
+        return Err(Fault::Table(TableFault::NoHeader));
+    }
+    let mut sample = Sample::new(alloc, draft, names)?;
+    let mut row = StringRecord::new(alloc);
+    for _ in 0..most {
+        let Some(line) = next_record(&mut reader, &mut row)? else {
+            return Ok(sample);
+        };
+        sample.see(line, &row)?;
+    }
+    Ok(sample)
+}
+
+// The text of a plan: on one line, where lines of JSON are wanted.
+fn text_of(alloc: Global, form: OutputForm, plan: &Value) -> Result<String, AllocError> {
+    match form {
+        OutputForm::Text => plan.to_string_pretty(alloc),
+        OutputForm::Json => plan.to_string(alloc),
+    }
+}
+
+/// Runs the subcommand.
+pub(crate) fn run(rt: &HostRuntime, matches: &ArgMatches<'_>) -> Result<Outcome, Fault> {
+    let alloc = rt.alloc();
+    let draft = draft_of(matches);
+    let file = InputFile::open(rt, matches.get_str(FILE).unwrap_or(STANDARD_INPUT))?;
+    let most = matches.get_one::<u64>(RECORDS).unwrap_or(SAMPLE);
+    let plan = take_sample(alloc, draft, file, most)?.plan(alloc, draft)?;
+    let mut text = text_of(alloc, OutputForm::of(matches), &plan)?;
+    text.push_str("\n")?;
+    write_text(rt, &text)?;
+    Ok(Outcome::AllValid)
+}

@@ -1,0 +1,93 @@
+//! What is told on standard error: faults, and how far a check is; each on one line.
+
+use crate::options::OutputForm;
+use serde_json::{Value, json};
+use std::alloc::{AllocError, Global};
+use std::fmt::Display;
+
+/// Of which file something is told.
+#[derive(Clone, Copy)]
+pub(crate) struct Subject<'a> {
+    /// Its path, where one is meant.
+    pub file: Option<&'a str>,
+    /// What stands before a line of text about it: nothing, where it is the only file.
+    pub label: &'a str,
+}
+
+impl Subject<'_> {
+    /// No file is meant.
+    pub(crate) fn none() -> Subject<'static> {
+        Subject {
+            file: None,
+            label: "",
+        }
+    }
+}
+
+/// What is told.
+#[derive(Clone, Copy)]
+pub(crate) enum Notice {
+    /// Why something ended early.
+    Fault,
+    /// That no more messages are written.
+    Stopped,
+    /// How far a check is.
+    Progress,
+}
+
+impl Notice {
+    // What a line of JSON names it.
+    fn as_str(self) -> &'static str {
+        match self {
+            Notice::Fault => "fault",
+            Notice::Stopped => "stopped",
+            Notice::Progress => "progress",
+        }
+    }
+}
+
+// The object that tells of it.
+fn object(
+    alloc: Global,
+    subject: Subject<'_>,
+    notice: Notice,
+    message: &str,
+) -> Result<Value, AllocError> {
+    let kind = notice.as_str();
+    match subject.file {
+        Some(file) => json!(in alloc; {"file": file, "kind": kind, "message": message}),
+        None => json!(in alloc; {"kind": kind, "message": message}),
+    }
+}
+
+// The line of JSON that tells of it.
+fn json_line<D: Display>(
+    alloc: Global,
+    subject: Subject<'_>,
+    notice: Notice,
+    what: &D,
+) -> Result<String, AllocError> {
+    let message = format!(in alloc; "{what}")?;
+    object(alloc, subject, notice, &message)?.to_string(alloc)
+}
+
+/// Tells of something about a file, on a line of the standard error. Where it is out of memory, nothing is told.
+pub(crate) fn tell<D: Display>(
+    rt: &HostRuntime,
+    form: OutputForm,
+    subject: Subject<'_>,
+    notice: Notice,
+    what: &D,
+) {
+    match form {
+        OutputForm::Text => {
+            let label = subject.label;
+            let _ = eprintln!(rt; "neldrafi: {label}{what}");
+        }
+        OutputForm::Json => {
+            if let Ok(line) = json_line(rt.alloc(), subject, notice, what) {
+                let _ = eprintln!(rt; "{line}");
+            }
+        }
+    }
+}

@@ -1,0 +1,25 @@
+use Rattle.std.proofs.Common.{◌≡◌, chars, rules, All, IfOk, refl, sym, subst}
+use Rattle.std.specs.Prelude.{◌↔◌, IsTrue}
+use Rattle.std.specs.Char.{IsScalar}
+use Rattle.std.specs.Str.{IsAscii}
+use Rattle.std.proofs.lemmas.Str.{chars_from_encodes, chars-IsAscii}
+use Rattle.strkw_label.specs.IdnHostName.{IsIdnHostName}
+use Rattle.strkw_label.proofs.Splitting.{chars_are_scalars}
+use Rattle.strkw_label.proofs.idn_host_name.is_valid_idn_hostname.Goals as goal
+
+pub returns-then-is_plain_host_name : goal.returns-then-is_plain_host_name
+returns-then-is_plain_host_name c =
+    let plain = c.is_plain_host_name.ensures c.if-is_plain_host_name.true in
+    let value = c.as_bytes.ensures.value in
+    let same = chars-IsAscii c.args.hostname.now (subst IsAscii value plain.1) in
+    (λ t. subst IsIdnHostName (sym same) (subst IsIdnHostName value plain.0), λ w. refl)
+
+pub is_idn_host_name-requires : goal.is_idn_host_name-requires
+is_idn_host_name-requires c =
+    let text : c.deref.result.now ≡ chars c.args.hostname.now = search (rules, chars_from_encodes) in
+    subst (All IsScalar) (sym text) (chars_are_scalars c.args.hostname.now c.utf8.hostname)
+
+pub returns : goal.returns
+returns c =
+    let text : c.deref.result.now ≡ chars c.args.hostname.now = search (rules, chars_from_encodes) in
+    subst (λ x. IfOk c.is_idn_host_name.result (λ valid. IsTrue valid ↔ IsIdnHostName x)) text c.is_idn_host_name.ensures

@@ -1,0 +1,45 @@
+# Completion of neldrafi for bash.
+
+# The options of a subcommand.
+_neldrafi_options() {
+    case $1 in
+    text) echo --draft --output --quiet --help ;;
+    formats | requests) echo --output --help ;;
+    csv) echo --max-errors --output --progress --quiet --report --summary --help ;;
+    json) echo --max-errors --output --quiet --help ;;
+    check) echo --draft --ignore --ignore-unknown-formats --json --max-errors --output --quiet --help ;;
+    explain) echo --draft --ignore --output --help ;;
+    plan) echo --draft --output --records --help ;;
+    *) echo --help --version ;;
+    esac
+}
+
+# The names of the formats, as the command itself lists them.
+_neldrafi_formats() {
+    "$1" formats 2> /dev/null | sed -n '2,$s/ .*//p'
+}
+
+_neldrafi() {
+    local command=${COMP_WORDS[0]} subcommand=${COMP_WORDS[1]} word=${COMP_WORDS[COMP_CWORD]}
+    local before=${COMP_WORDS[COMP_CWORD - 1]} words=
+    if [ "$COMP_CWORD" = 1 ]; then
+        words="text formats requests csv json check explain plan $(_neldrafi_options)"
+    elif [ "$before" = --draft ]; then
+        words='4 6 7 2019-09 2020-12'
+    elif [ "$before" = --output ]; then
+        words='text json'
+    elif [[ $before == --@(max-errors|records|ignore) ]]; then
+        words=
+    elif [[ $word == -* ]]; then
+        words=$(_neldrafi_options "$subcommand")
+    elif [ "$subcommand" = text ]; then
+        words=$(_neldrafi_formats "$command")
+    elif [ "$subcommand" != formats ]; then
+        compopt -o filenames 2> /dev/null
+        mapfile -t COMPREPLY < <(compgen -f -- "$word")
+        return
+    fi
+    mapfile -t COMPREPLY < <(compgen -W "$words" -- "$word")
+}
+
+complete -F _neldrafi neldrafi

@@ -1,0 +1,51 @@
+#compdef neldrafi
+# Completion of neldrafi for zsh.
+
+_neldrafi_formats() {
+    local -a names
+    names=(${(f)"$($words[1] formats 2> /dev/null | sed -n '2,$s/ .*//p')"})
+    compadd -a names
+}
+
+_neldrafi() {
+    local -a quiet draft most help output ignore
+    quiet=('(-q --quiet)'{-q,--quiet}'[write nothing to standard output]')
+    draft=('--draft[the draft of JSON Schema]:draft:(4 6 7 2019-09 2020-12)')
+    most=('--max-errors[stop after N messages about a file]:N:')
+    output=('--output[the form of each line]:form:(text json)')
+    ignore=('*--ignore[let a keyword of this name pass]:keyword:')
+    help=('(-h --help)'{-h,--help}'[options and examples]')
+    if (( CURRENT == 2 )); then
+        local -a subcommands=(
+            'text:say whether texts are of a format'
+            'formats:list the formats'
+            'requests:answer requests, one a line'
+            'csv:check CSV files by a plan'
+            'json:check JSON documents by a plan'
+            'check:check each line of files by one schema object'
+            'explain:say in words what a schema object checks'
+            'plan:propose a plan for a CSV file'
+        )
+        _describe subcommand subcommands
+        _arguments $help '(-V --version)'{-V,--version}'[the version]'
+        return
+    fi
+    case $words[2] in
+    text) _arguments $help $quiet $draft $output '2:format:_neldrafi_formats' ;;
+    formats) _arguments $help $output ;;
+    requests) _arguments $help $output '*:file:_files' ;;
+    csv)
+        _arguments $help $quiet $most $output '--progress[tell of every million records]' \
+            '--summary[write a table of the errors]' '--report[write a page about the errors]:page:_files' '*:file:_files'
+        ;;
+    json) _arguments $help $quiet $most $output '*:file:_files' ;;
+    explain) _arguments $help $draft $ignore $output '*:file:_files' ;;
+    plan) _arguments $help $draft $output '--records[look at the first N records]:N:' '*:file:_files' ;;
+    check)
+        _arguments $help $quiet $draft $most $ignore $output '--json[each line is a JSON value]' \
+            '--ignore-unknown-formats[let every text pass a format that is not known]' '*:file:_files'
+        ;;
+    esac
+}
+
+_neldrafi "$@"

@@ -1,0 +1,1 @@
+"""The rows of the packages, a module for each; `tools/test_packages.py` runs them."""
