@@ -8,13 +8,15 @@
 #define _DEFAULT_SOURCE
 #include "strkw.h"
 
+#include <pthread.h>
 #include <stdio.h>
 #include <stdlib.h>
 #include <string.h>
 #include <sys/mman.h>
+#include <sys/wait.h>
 #include <unistd.h>
 
-enum { MOST = 4096 };
+enum { MOST = 4096, THREADS = 8, ROUNDS = 25 };
 
 static bool lists = false;
 static unsigned passed = 0, failed = 0;
@@ -82,18 +84,21 @@ static const struct {
     {"is_uuid", strkw_is_uuid, "f81d4fae-7dec-11d0-a765-00a0c91e6bf6", "f81d4fae7dec11d0a76500a0c91e6bf6"},
 };
 
-/* Encodings, with "foob" in each (RFC 4648, section 10) and a text that is none; and JSON (RFC 8259). */
+/* What answers by 0, 1 or 2: encodings, with "foob" in each (RFC 4648, section 10) and a text that is none; JSON (RFC
+   8259); internationalised mail addresses (RFC 6531) and host names (RFC 5890). */
 static const struct {
     const char *name;
     uint8_t (*check)(const uint8_t *, size_t);
     const char *right, *wrong;
-} encodings[] = {
+} decisions[] = {
     {"is_base64", strkw_is_base64, "Zm9vYg==", "Zm9vYg="},
     {"is_base64url", strkw_is_base64url, "Zm9vYg==", "Zm9v+g=="},
     {"is_base32", strkw_is_base32, "MZXW6YQ=", "MZXW6YQ"},
     {"is_base32hex", strkw_is_base32hex, "CPNMUOG=", "CPNMUOZ="},
     {"is_base16", strkw_is_base16, "666F6F62", "666F6F6"},
     {"is_json", strkw_is_json, "{\"a\":[1,null]}", "{\"a\":}"},
+    {"is_idn_email", strkw_is_idn_email, "j\303\274rgen@b\303\274cher.example", "j\303\274rgen@B\303\274cher.example"},
+    {"is_idn_hostname", strkw_is_idn_hostname, "b\303\274cher.example", "b\303\274cher-.example"},
 };
 
 static void call_formats(void) {
@@ -107,14 +112,14 @@ static void call_formats(void) {
     }
 }
 
-static void call_encodings(void) {
-    for (size_t i = 0; i < sizeof encodings / sizeof *encodings; i++) {
-        const char *name = encodings[i].name, *right = encodings[i].right, *wrong = encodings[i].wrong;
-        row(name, "right", right, encodings[i].check(text_of(right), strlen(right)) == 1);
-        row(name, "wrong", wrong, encodings[i].check(text_of(wrong), strlen(wrong)) == 0);
-        row(name, "refused", "NULL and a count", encodings[i].check(NULL, strlen(right)) == 0);
-        row(name, "refused", "no UTF-8", encodings[i].check(bytes_of("\"\377\"", 3), 3) == 0);
-        row(name, "right", "an empty text", encodings[i].check(NULL, 0) == encodings[i].check(text_of(""), 0));
+static void call_decisions(void) {
+    for (size_t i = 0; i < sizeof decisions / sizeof *decisions; i++) {
+        const char *name = decisions[i].name, *right = decisions[i].right, *wrong = decisions[i].wrong;
+        row(name, "right", right, decisions[i].check(text_of(right), strlen(right)) == 1);
+        row(name, "wrong", wrong, decisions[i].check(text_of(wrong), strlen(wrong)) == 0);
+        row(name, "refused", "NULL and a count", decisions[i].check(NULL, strlen(right)) == 0);
+        row(name, "refused", "no UTF-8", decisions[i].check(bytes_of("\"\377\"", 3), 3) == 0);
+        row(name, "right", "an empty text", decisions[i].check(NULL, 0) == decisions[i].check(text_of(""), 0));
     }
 }
 
@@ -304,15 +309,102 @@ static void call_schemas(void) {
     strkw_schema_free(NULL);
 }
 
+/* ---- one strkw_schema, and one schema object, of several threads and after a fork */
+
+static const char *SLUG = "{\"pattern\":\"^[a-z]+(-[a-z]+)*$\"}";
+static const char *NO_SLUG = "error /pattern: \"a--slug\" does not match \"^[a-z]+(-[a-z]+)*$\"\n";
+
+/* Whether a kept schema finds the first of two texts right and the second wrong, with buffers of its own. */
+static bool judges(const strkw_schema *slug) {
+    static const size_t ends[] = {6, 13};
+    uint8_t verdicts[] = {7, 7};
+    return strkw_schema_check(slug, (const uint8_t *)"a-sluga--slug", 13, ends, 2, verdicts, 2) == STRKW_DONE
+        && verdicts[0] == 1 && verdicts[1] == 0;
+}
+
+/* Whether it writes the error of the second, and nothing of the first. */
+static bool tells_slugs(const strkw_schema *slug) {
+    static const uint8_t *right = (const uint8_t *)"a-slug", *wrong = (const uint8_t *)"a--slug";
+    uint8_t lines[99];
+    size_t none = 77, written = 77;
+    return strkw_schema_errors(slug, right, 6, lines, sizeof lines, &none) == STRKW_DONE && none == 0
+        && strkw_schema_errors(slug, wrong, 7, lines, sizeof lines, &written) == STRKW_DONE
+        && written == strlen(NO_SLUG) && memcmp(lines, NO_SLUG, written) == 0;
+}
+
+/* The same verdicts by the bytes of the schema object. */
+static bool judges_anew(void) {
+    static const size_t ends[] = {6, 13};
+    const uint8_t *object = (const uint8_t *)SLUG, *texts = (const uint8_t *)"a-sluga--slug";
+    uint8_t verdicts[] = {7, 7};
+    return strkw_check(7, 0, object, strlen(SLUG), texts, 13, ends, 2, verdicts, 2) == STRKW_DONE && verdicts[0] == 1
+        && verdicts[1] == 0;
+}
+
+/* What a thread does with the schema that all of them have. It answers NULL where one of its calls was wrong. */
+static void *asks_verdicts(void *slug) {
+    for (unsigned round = 0; round < ROUNDS; round++)
+        if (!judges(slug)) return NULL;
+    return slug;
+}
+
+static void *asks_errors(void *slug) {
+    for (unsigned round = 0; round < ROUNDS; round++)
+        if (!tells_slugs(slug)) return NULL;
+    return slug;
+}
+
+static void *asks_anew(void *slug) {
+    for (unsigned round = 0; round < ROUNDS; round++)
+        if (!judges_anew()) return NULL;
+    return slug;
+}
+
+/* Whether so many threads at once have right answers only. */
+static bool threads_agree(void *(*asks)(void *), strkw_schema *slug) {
+    pthread_t threads[THREADS];
+    bool agree = true;
+    for (unsigned i = 0; i < THREADS; i++)
+        if (pthread_create(&threads[i], NULL, asks, slug) != 0) exit(2);
+    for (unsigned i = 0; i < THREADS; i++) {
+        void *answer = NULL;
+        if (pthread_join(threads[i], &answer) != 0) exit(2);
+        agree = agree && answer == slug;
+    }
+    return agree;
+}
+
+/* Whether a forked child has right answers, by a schema that its parent compiled. The process has one thread then. */
+static bool child_agrees(const strkw_schema *slug) {
+    int status = 0;
+    pid_t child = fork();
+    if (child == 0) _exit(judges(slug) && tells_slugs(slug) && judges_anew() ? 0 : 1);
+    if (child < 0 || waitpid(child, &status, 0) != child) exit(2);
+    return WIFEXITED(status) && WEXITSTATUS(status) == 0;
+}
+
+static void call_together(void) {
+    strkw_schema *slug = NULL;
+    row("schema_compile", "right", "a pattern",
+        strkw_schema_compile(7, 0, text_of(SLUG), strlen(SLUG), &slug) == STRKW_DONE);
+    row("schema_check", "right", "eight threads at once", threads_agree(asks_verdicts, slug));
+    row("schema_errors", "right", "eight threads at once", threads_agree(asks_errors, slug));
+    row("check", "right", "eight threads at once", threads_agree(asks_anew, slug));
+    row("schema_check", "right", "in a child after a fork", child_agrees(slug));
+    row("schema_check", "right", "in the parent after a fork", judges(slug) && tells_slugs(slug));
+    strkw_schema_free(slug);
+}
+
 int main(int count, char **words) {
     lists = count == 2 && strcmp(words[1], "--list") == 0;
     call_formats();
-    call_encodings();
+    call_decisions();
     call_answer();
     call_check();
     call_refusal();
     call_errors();
     call_schemas();
+    call_together();
     if (!lists) printf("%u passed, %u failed\n", passed, failed);
     return failed == 0 ? 0 : 1;
 }

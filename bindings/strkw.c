@@ -38,18 +38,20 @@ FORMAT(is_uri_template)
 FORMAT(is_uuid)
 FORMAT(is_email)
 
-#define ENCODING(name)                                                            \
+#define DECISION(name)                                                            \
     uint8_t strkw_nonnull_##name(const uint8_t *text, size_t count);              \
     uint8_t strkw_##name(const uint8_t *text, size_t count) {                     \
         return leads(text, count) ? strkw_nonnull_##name(text_at(text), count) : 0; \
     }
 
-ENCODING(is_base64)
-ENCODING(is_base64url)
-ENCODING(is_base32)
-ENCODING(is_base32hex)
-ENCODING(is_base16)
-ENCODING(is_json)
+DECISION(is_idn_email)
+DECISION(is_idn_hostname)
+DECISION(is_base64)
+DECISION(is_base64url)
+DECISION(is_base32)
+DECISION(is_base32hex)
+DECISION(is_base16)
+DECISION(is_json)
 
 uint8_t strkw_nonnull_answer(const uint8_t *requests, size_t count, uint8_t *out, size_t room, size_t *written);
 

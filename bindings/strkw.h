@@ -1,6 +1,7 @@
 /* The string checks of Neldrafi, from C. Link libstrkw.a or libstrkw.so, which ./build makes.
 
-   email, idn-email, idn-hostname and regex are formats that no schema object knows. strkw_is_email is a call by itself.
+   email, idn-email, idn-hostname and regex are formats that no schema object knows. strkw_is_email, strkw_is_idn_email
+   and strkw_is_idn_hostname are calls by themselves.
 
    A text is bytes and their count: no zero byte ends it, and it may hold zero bytes. Bytes that are not UTF-8 have no
    format and are no encoding. NULL with a count of 0 is an empty text, list or buffer everywhere. NULL with another
@@ -8,8 +9,8 @@
 
    Nothing is kept between calls but a strkw_schema, which no call changes: any number of threads may call at once, also
    with the same strkw_schema, each with buffers of its own. There is no lock. A fork changes nothing of that. The
-   formats take no memory. All other functions call malloc, realloc and free: call them from no signal handler, nor in
-   the forked child of a process with several threads. */
+   formats that answer by a bool take no memory. All other functions call malloc, realloc and free: call them from no
+   signal handler, nor in the forked child of a process with several threads. */
 #ifndef STRKW_H
 #define STRKW_H
 
@@ -41,6 +42,12 @@ bool strkw_is_uuid(const uint8_t *text, size_t count);
 
 /* A mail address: Mailbox of RFC 5321, section 4.1.2, as joe.bloggs@example.com. */
 bool strkw_is_email(const uint8_t *text, size_t count);
+
+/* An internationalised mail address: Mailbox as RFC 6531, section 3.3, extends it. 0: no. 1: yes. 2: out of memory. */
+uint8_t strkw_is_idn_email(const uint8_t *text, size_t count);
+
+/* An internationalised host name, by RFC 5890 to 5893 and Unicode 18.0. 0: no. 1: yes. 2: out of memory. */
+uint8_t strkw_is_idn_hostname(const uint8_t *text, size_t count);
 
 /* Encodings of RFC 4648, and JSON. 0: no. 1: yes. 2: out of memory. */
 uint8_t strkw_is_base64(const uint8_t *text, size_t count);
@@ -75,8 +82,8 @@ uint8_t strkw_answer(const uint8_t *requests, size_t count, uint8_t *out, size_t
 #define STRKW_IGNORE_UNKNOWN_FORMATS ((uint32_t)2) /* an unknown format lets every text pass */
 
 /* Checks many texts by one schema object, which is compiled once: JSON, of a draft.
-   A pattern is one of ECMA-262 in Unicode mode, of a part of its syntax: no look-ahead, no look-behind and no back
-   reference, 2,000 characters, groups 250 deep, counts of 1,000 and 2,600 steps at most. To compile it takes up to some
+   A pattern is one of ECMA-262 in Unicode mode, of a part of its syntax: no look-ahead and no back reference,
+   2,000 characters, groups 250 deep, counts of 1,000 and 2,600 steps at most. To compile it takes up to some
    12 milliseconds; a search then takes a bounded number of steps for each character of a text.
    The texts stand one after the other: text i begins at texts[ends[i - 1]], the first at texts[0], and ends before
    texts[ends[i]].

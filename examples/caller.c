@@ -8,7 +8,7 @@
 #include <string.h>
 
 typedef bool (*format_check)(const uint8_t *, size_t);
-typedef uint8_t (*encoding_check)(const uint8_t *, size_t);
+typedef uint8_t (*decision)(const uint8_t *, size_t);
 
 static const struct {
     const char *name;
@@ -35,10 +35,11 @@ static const struct {
 
 static const struct {
     const char *name;
-    encoding_check check;
-} encodings[] = {
+    decision check;
+} decisions[] = {
     {"base64", strkw_is_base64},       {"base64url", strkw_is_base64url}, {"base32", strkw_is_base32},
     {"base32hex", strkw_is_base32hex}, {"base16", strkw_is_base16},       {"json", strkw_is_json},
+    {"idn-email", strkw_is_idn_email}, {"idn-hostname", strkw_is_idn_hostname},
 };
 
 static int failed = 0;
@@ -54,8 +55,8 @@ static void expect(bool holds, const char *what) {
 static int ask(const char *name, const uint8_t *text, size_t count) {
     for (size_t i = 0; i < sizeof formats / sizeof *formats; i++)
         if (strcmp(formats[i].name, name) == 0) return formats[i].check(text, count);
-    for (size_t i = 0; i < sizeof encodings / sizeof *encodings; i++)
-        if (strcmp(encodings[i].name, name) == 0) return encodings[i].check(text, count);
+    for (size_t i = 0; i < sizeof decisions / sizeof *decisions; i++)
+        if (strcmp(decisions[i].name, name) == 0) return decisions[i].check(text, count);
     return -1;
 }
 
@@ -217,9 +218,9 @@ static void check_null(void) {
         expect(formats[i].check(NULL, 0) == formats[i].check(empty, 0), formats[i].name);
         expect(!formats[i].check(NULL, 10), formats[i].name);
     }
-    for (size_t i = 0; i < sizeof encodings / sizeof *encodings; i++) {
-        expect(encodings[i].check(NULL, 0) == encodings[i].check(empty, 0), encodings[i].name);
-        expect(encodings[i].check(NULL, 10) == 0, encodings[i].name);
+    for (size_t i = 0; i < sizeof decisions / sizeof *decisions; i++) {
+        expect(decisions[i].check(NULL, 0) == decisions[i].check(empty, 0), decisions[i].name);
+        expect(decisions[i].check(NULL, 10) == 0, decisions[i].name);
     }
 }
 

@@ -7,14 +7,14 @@ use std::{env, fs};
 /// A safe face of the C library. A slice is a pointer that is not null, and a count.
 mod strkw {
     type FormatCheck = unsafe extern "C" fn(*const u8, usize) -> bool;
-    type EncodingCheck = unsafe extern "C" fn(*const u8, usize) -> u8;
+    type Decision = unsafe extern "C" fn(*const u8, usize) -> u8;
 
     macro_rules! declare {
-        ($($name:literal $format:ident,)*; $($encoding_name:literal $encoding:ident,)*) => {
+        ($($name:literal $format:ident,)*; $($decision_name:literal $decision:ident,)*) => {
             #[link(name = "strkw", kind = "static")]
             unsafe extern "C" {
                 $(fn $format(text: *const u8, count: usize) -> bool;)*
-                $(fn $encoding(text: *const u8, count: usize) -> u8;)*
+                $(fn $decision(text: *const u8, count: usize) -> u8;)*
                 fn strkw_answer(requests: *const u8, count: usize, out: *mut u8, room: usize, written: *mut usize) -> u8;
                 fn strkw_check(
                     draft: u32, options: u32, schema: *const u8, schema_count: usize,
@@ -27,7 +27,7 @@ mod strkw {
                 ) -> u8;
             }
             const FORMATS: &[(&str, FormatCheck)] = &[$(($name, $format)),*];
-            const ENCODINGS: &[(&str, EncodingCheck)] = &[$(($encoding_name, $encoding)),*];
+            const DECISIONS: &[(&str, Decision)] = &[$(($decision_name, $decision)),*];
         };
     }
 
@@ -56,6 +56,8 @@ mod strkw {
         "base32hex" strkw_is_base32hex,
         "base16" strkw_is_base16,
         "json" strkw_is_json,
+        "idn-email" strkw_is_idn_email,
+        "idn-hostname" strkw_is_idn_hostname,
     }
 
     /// Whether the bytes are of a format; `None` for a name that is none.
@@ -64,9 +66,9 @@ mod strkw {
         Some(unsafe { check(text.as_ptr(), text.len()) })
     }
 
-    /// Whether the bytes are an encoding; `None` for a name that is none, or out of memory.
-    pub fn is_encoded(name: &str, text: &[u8]) -> Option<bool> {
-        let (_, check) = ENCODINGS.iter().find(|row| row.0 == name)?;
+    /// Whether the bytes are of a format or an encoding that takes memory; `None` for a name that is none, or out of memory.
+    pub fn is_decided(name: &str, text: &[u8]) -> Option<bool> {
+        let (_, check) = DECISIONS.iter().find(|row| row.0 == name)?;
         match unsafe { check(text.as_ptr(), text.len()) } {
             0 => Some(false),
             1 => Some(true),
@@ -139,7 +141,7 @@ fn main() {
     for row in table.lines() {
         let mut parts = row.splitn(3, '\t');
         let (name, want, text) = (parts.next().unwrap(), parts.next().unwrap(), parts.next().unwrap());
-        let found = strkw::is_format(name, text.as_bytes()).or_else(|| strkw::is_encoded(name, text.as_bytes()));
+        let found = strkw::is_format(name, text.as_bytes()).or_else(|| strkw::is_decided(name, text.as_bytes()));
         assert_eq!(found, Some(want == "yes"), "{row}");
         rows += 1;
     }

@@ -68,11 +68,13 @@ class Tree:
 
 def numbers_of(tree):
     """What is counted, by a word for it."""
-    edits = r"crates/\w+/must-fail/.*\.edit"
+    edits, further = r"crates/\w+/must-fail/.*\.edit", r"tools/wrong_bodies/\w+\.edit"
     definitions = tree.under(r"tools/wrong_definitions/\w+/.*")
     return {
         "edits": len(tree.under(edits)),
         "bodies": tree.count(edits, r"^# \w+$"),
+        "further_bodies": tree.count(further, r"^# \w+$"),
+        "all_bodies": tree.count(f"{edits}|{further}", r"^# \w+$"),
         "tests": tree.count(r"crates/.*\.rt", r"#\[test\]"),
         "refusals": tree.count(r"crates/.*\.rt", r"fn \w+_under_refusal\b"),
         "stored": len(tree.under(r"crates/\w+/stdout")),
@@ -96,7 +98,8 @@ COUNTED = [
     ("docs/ARCHITECTURE.md", r"of the (\w+) formats by name", "formats"),
     ("docs/INSIDE.md", r"of each of the (\w+) formats", "formats"),
     ("docs/PROVED.md", r"are the (\w+) formats", "formats"),
-    ("docs/PROVED.md", r"There are (\d+) bodies now", "bodies"),
+    ("docs/PROVED.md", r"holds (\d+) further ones", "further_bodies"),
+    ("docs/PROVED.md", r"There are (\d+) bodies now", "all_bodies"),
     ("docs/PROVED.md", r"tries (\d+) must-fail edits", "edits"),
     ("docs/PROVED.md", r"must-fail edits with (\d+) wrong bodies", "bodies"),
     ("docs/PROVED.md", r"and runs (\d+) tests", "tests"),
@@ -188,7 +191,7 @@ def of_files(tree, crate, section):
 
 def of_bodies(tree, crate, section):
     """Whether a section of docs/PROVED.md names each wrong body of its crate."""
-    for edit in tree.under(rf"crates/{crate}/must-fail/.*\.edit").values():
+    for edit in tree.under(rf"crates/{crate}/must-fail/.*\.edit|tools/wrong_bodies/{crate}\.edit").values():
         for body in re.findall(r"^# (\w+)$", edit, re.M):
             yield f"{crate}: docs/PROVED.md names the wrong body {body}", re.search(rf"\b{body}\b", section)
 

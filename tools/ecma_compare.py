@@ -33,7 +33,7 @@ REFUSED = " is not taken: "
 LINE_END = re.compile(r"\r\n|\r|\n")
 # What is taken by ECMA-262 and not here, by name.
 BY_DESIGN = [
-    ("lookaround", re.compile(r"\(\?<?[=!]")),
+    ("look-ahead", re.compile(r"\(\?[=!]")),
     ("back reference", re.compile(r"\\[1-9]|\\k<")),
     ("property", re.compile(r"\\[pP]\{(Any|ASCII|Assigned|Alpha|Alphabetic|Emoji|White_Space|scx=|Script_Extensions=)")),
     ("name twice", re.compile(r"\(\?<(\w+)>.*\(\?<\1>", re.DOTALL)),
@@ -79,6 +79,8 @@ class Maker:
 
     def __init__(self, seed):
         self.random = random.Random(seed)
+        # How often a term is an assertion or a lookaround, together.
+        self.looks = 0.16
 
     def character(self):
         kind = self.random.random()
@@ -128,8 +130,9 @@ class Maker:
         kind = self.random.random()
         if kind < 0.16:
             return self.random.choice(["^", "$", "^", "$", "\\b", "\\B"])
-        if kind < 0.17:
-            return self.random.choice(["(?=", "(?!", "(?<=", "(?<!"]) + self.disjunction(0) + ")"
+        if kind < self.looks and depth > 0:
+            start = self.random.choice(["(?=", "(?!"] if self.random.random() < 0.05 else ["(?<=", "(?<!"])
+            return start + self.disjunction(self.random.choice([0, 0, 0, 1, 2]) if depth > 2 else 0) + ")"
         quantifier = self.random.choice(QUANTIFIERS) if self.random.random() < 0.4 else ""
         return self.atom(depth) + quantifier
 
@@ -138,6 +141,8 @@ class Maker:
         return "|".join("".join(self.term(depth) for _ in range(self.random.randrange(5))) for _ in range(alternatives))
 
     def pattern(self):
+        """About half of those that are patterns have lookarounds."""
+        self.looks = self.random.choice([0.16, 0.7, 0.7, 0.85])
         made = self.disjunction(3)
         if self.random.random() < 0.3:
             made = "^" + made + "$"

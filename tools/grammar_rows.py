@@ -298,6 +298,38 @@ def is_mailbox(text):
     return found is not None and text.isascii() and len(found["local"]) <= 64
 
 
+WIDE_ATOM = rf"(?:{ATOM[:-1]}|[\u0080-\U0010ffff])+"
+WIDE_LOCAL_PART = rf'(?:{WIDE_ATOM}(?:\.{WIDE_ATOM})*|"(?:[ !#-\[\]-~\u0080-\U0010ffff]|\\[ -~])*")'
+
+
+def is_idn_mailbox(text):
+    """RFC 6531, section 3.3, for a domain in ASCII."""
+    found = re.compile(rf"(?P<local>{WIDE_LOCAL_PART})@(?P<domain>{MAIL_DOMAIN})").fullmatch(text)
+    return found is not None and found["domain"].isascii() and len(found["local"].encode()) <= 64
+
+
+def wide_labels(low, high):
+    """Labels with a character past ASCII at the end, whose A-labels have so many characters, by Python's codec."""
+    labels = ["a" * count + character for count in range(70) for character in "éß日"]
+    return [label for label in labels if low <= len(b"xn--" + label.encode("punycode")) <= high]
+
+
+def idn_mail_rows(texts_of_ascii):
+    yield "internationalised mail addresses: RFC 6531, section 3.3"
+    yield texts("idn-email", [text for text in texts_of_ascii if text.isascii()], is_mailbox)
+    wide = ["é", "aé", "éa", "é.a", "a.é", "é.é", ".é", "é.", "é..é", '"é"', '"\\é"', '"é\\"', '"\\\\é"', '"é\\""', '"é', 'é"', "é é", '"é é"', "é(a)", "\u0080",
+            "\u00a0", "\u07ff", "\u0800", "\uffff", "\U00010000", "\U0010ffff", "\u007fé", '"\u0080"', '"\t\u0080"', "é@", "日本語", "e\u0301", "\u0301"]
+    domains = ["b", "b.c", "[1.2.3.4]", "[IPv6:::]", "[b:c]", "b_c", "[b:é]", "[é:b]", "[é]", "-b", "xn--a", "", "xn--bcher-kva", "xn--bcher-kvb"]
+    yield texts("idn-email", [f"{local}@{domain}" for local in wide for domain in domains], is_idn_mailbox)
+    for part, octets in (("é", 2), ("日", 3), ("\U0001d400", 4)):
+        yield counts("idn-email", part, 1, 64 // octets, 40, [["", "@b"]])
+        yield counts("idn-email", part, 0, 62 // octets, 40, [['"', '"@b']])
+    yield texts("idn-email", [f"a@{label}" for label in wide_labels(5, 63)], lambda text: True)
+    yield texts("idn-email", [f"a@{label}" for label in wide_labels(64, 70)], lambda text: False)
+    rest = ".".join(["a" * 63] * 3)
+    yield texts("idn-email", [f"a@é.{rest}.{'a' * size}" for size in range(1, 64)], lambda text: len(text.encode()) <= 257)
+
+
 def mail_rows():
     yield "local parts and domains of each kind, each with each other"
     local_parts = ["a", "a.b", "a..b", ".a", "a.", "", '""', '"a"', '" "', '"\\""', '"\\\\"', '"\\"', '"a"b', 'a"b"', '"a".b', "a\\@b", '"\u007f"',
@@ -305,7 +337,8 @@ def mail_rows():
     domains = ["b", "b.c", "b-c", "b_c", "-b", "b-", "b.", ".b", "b..c", "1", "1.2.3.4", "[1.2.3.4]", "[01.002.000.255]", "[1.2.3.256]",
                "[1.2.3.300]", "[1.2.3]", "[1.2.3.4", "1.2.3.4]", "[IPv6:::]", "[ipv6:1::2]", "[IPv6:1:2:3:4:5:6:7::]", "[b:c]", "[b-:c]",
                "[-b:c]", "[b:]", "[:c]", "[]", "[b:[c]", "[b:c\\]", "[b:c d]", "xn--a", "\u00e9", BYTE_ORDER_MARK]
-    yield texts("email", [f"{local}@{domain}" for local in local_parts for domain in domains], is_mailbox)
+    both = [f"{local}@{domain}" for local in local_parts for domain in domains]
+    yield texts("email", both, is_mailbox)
     yield "IPv6 addresses: so many groups before `::` and behind it, and an IPv4 address at the end"
     yield texts("email", [f"a@[IPv6:{address}]" for address in addresses_of_six()], is_mailbox)
     yield texts("email", [f"a@[{address}]" for address in addresses_of_four()], is_mailbox)
@@ -317,6 +350,7 @@ def mail_rows():
                 is_mailbox)
     yield texts("email", [f"a@[b:{'c' * rest}]" for rest in (1, 250, 251, 252, 253, 508, 1000)], is_mailbox)
     yield texts("email", around("a@b") + around('"a"@[1.2.3.4]'), is_mailbox)
+    yield from idn_mail_rows(both)
 
 
 # URIs: RFC 3986, appendix A; IRIs: RFC 3987, section 2.2, with its classes of characters past ASCII.
@@ -1009,6 +1043,21 @@ def size_rows():
     yield counts(IDN, "xn--tda.", 0, (253 - 7) // 8, 60, [["", "\u00fc"]])
 
 
+def is_u_label(text):
+    """RFC 5890, section 2.3.2.1, of a label by itself."""
+    is_bidi = any(direction(ord(c)) in ("R", "AN") for c in text)
+    return is_unicode_label(text) and (not is_bidi or keeps_bidi_rule(text)) and len(to_a_label(text)) <= 63
+
+
+def u_label_rows():
+    yield "U-labels by themselves (RFC 5890, section 2.3.2.1): each reason for which a text is none, dots, A-labels, classes of the Bidi rule, and lengths"
+    forms = WRONG_FORMS + RIGHT_FORMS
+    yield texts("u-label", [*forms, *(to_a_label(form) for form in forms), *(f"{one}{dot}\u00fc" for one in ("", "a", "\u00fc") for dot in DOTS)], is_u_label)
+    yield texts("u-label", ["".join(some) for size in (1, 2, 3) for some in itertools.product(OF_CLASSES, repeat=size)], is_u_label)
+    lengths = [label for form in ("\u00fc", "\u00fc\u00fc", "\u4e00", "\U00020000", "\u05d0") for length in range(58, 70) if (label := to_a_length(form, length))]
+    yield texts("u-label", lengths + ["\u4e00" * count for count in range(1, 70)], is_u_label)
+
+
 def idn_rows():
     yield "internationalised host names: RFC 5890 to 5893"
     yield from class_rows_of_idn()
@@ -1016,6 +1065,7 @@ def idn_rows():
     yield from bidi_rows_of_idn()
     yield from a_label_rows()
     yield from size_rows()
+    yield from u_label_rows()
     yield "all code points, by the derived property of another edition of Unicode: between two letters of either direction; of the first 131,072 first, last and beside the characters that have contextual rules"
     yield from (idn_sums(before, behind) for before, behind in WIDE_PLACES)
     for before, behind in (["", "\u4e00"], ["\u05d0", ""], ["\u05d0.\u4e00", ""], ["\u0375", ""], ["\u05d0", "\u05f3"], ["\u30fb", ""], ["\u4e00", "\u200d\u4e00"], ["\u0628", "\u200c\u0628"], ["\u0628\u200c", "\u0628"]):
@@ -1175,14 +1225,15 @@ def is_name_part(point):
 
 def name_rows():
     yield "names of groups: each ASCII character first and behind, U+200C and U+200D, and others"
-    yield characters(PATTERNS, LETTERS + "$_", [["(?<", ">a)"], ["a(?<", "b>)"], ["(?<\u00e9>x)(?<", ">a)"]])
+    # behind `(?<` a lookbehind begins by `=` or `!`
+    yield characters(PATTERNS, LETTERS + "$_", [["(?<", ">a)", "=!"], ["a(?<", "b>)", "=!"], ["(?<\u00e9>x)(?<", ">a)", "=!"]])
     yield characters(PATTERNS, LETTERS + DIGITS + "$_", [["(?<a", ">x)", ">"], ["(?<a", "b>x)", ">"]])
     yield characters(PATTERNS, NAME_STARTS, [["(?<", ">x)"], ["(?<", "b>x)"]], NAME_CHARACTERS)
     yield characters(PATTERNS, NAME_PARTS, [["(?<a", ">x)"], ["(?<a", "b>x)"], ["(?<$", ">x)"]], NAME_CHARACTERS)
     escaped = [(f"\\u{{{ord(c):x}}}" if ord(c) > 0xFFFF else f"\\u{ord(c):04x}", c) for c in NAME_CHARACTERS + "a0$_-> "]
     yield texts(PATTERNS, [f"(?<{code}>x)" for code, _ in escaped], {f"(?<{code}>x)": c in NAME_STARTS + "a$_" for code, c in escaped}.get)
     yield texts(PATTERNS, [f"(?<a{code}>x)" for code, _ in escaped], {f"(?<a{code}>x)": c in NAME_PARTS + "a0$_" for code, c in escaped}.get)
-    yield sums(PATTERNS, [["(?<", ">x)"]], is_name_start, 0x100, 0x3100)
+    yield sums(PATTERNS, [["(?<", ">x)"]], lambda point: is_name_start(point) or chr(point) in "=!", 0x100, 0x3100)
     yield sums(PATTERNS, [["(?<a", ">x)"]], lambda point: is_name_part(point) or chr(point) == ">", 0x100, 0x3100)
     names = ["a", "ab", "abc", "a1", "A", "aB", "ab\u200c", "ab\u200d", "\u00e9", "e\u0301", "$", "_"]
     yield texts(PATTERNS, [form.format(one, other) for one in names for other in names for form in ("(?<{}>x)(?<{}>y)", "(?<{}>x|(?<{}>y))", "(?<{}>x)|(?<{}>y)")],
@@ -1226,13 +1277,53 @@ def member_rows():
         yield searches([[pattern, c, (c in WHITE_SPACE) == is_in if "a\\b" not in pattern else c in WHITE_SPACE + "a"] for pattern in patterns for c in spaces])
 
 
+# What a lookbehind may look for, over a, b and c, which is a pattern of Python too.
+BODIES = ["", "a", "b", "ab", "a|b", "aab", "ba*", "(?:ab)+", "^", "^a", "a|^", "^|ba", "[^a]", "a?b?", "(?:a|ba)b*", "\\ba", "\\Ba", "[^]", "a{2}", "(?:ab?){1,2}"]
+
+
+def stands_before(body, text, place):
+    """Whether the text up to a place ends with what the body matches."""
+    body = re.compile(body.replace("[^]", "(?s:.)"))
+    return any(body.fullmatch(text, start, place) for start in range(place + 1))
+
+
+def look_rows():
+    yield "lookbehinds: `(?<= )` and `(?<! )` with each body, behind each text of a and b; within groups and loops, in one another, and beside what they look at"
+    words = ["".join(word) for length in range(4) for word in itertools.product("ab", repeat=length)]
+    yield searches([[f"(?<{sign}{body})c", word + "c", stands_before(body, word + "c", len(word)) == (sign == "=")] for body in BODIES for word in words for sign in "=!"])
+    words += ["".join(word) for word in itertools.product("ab", repeat=4)]
+    for pattern, found in (("^(?:[ab](?<!aa))*$", lambda text: "aa" not in text), ("^(?:(?<!a)[ab])*$", lambda text: "a" not in text[:-1]),
+                           ("^(?:(?<=^|b)a|b)*$", lambda text: "aa" not in text), ("^(?:a|(?<!^)b)*$", lambda text: text[:1] != "b"),
+                           ("b(?<=ab)a", lambda text: "aba" in text), ("(?<=a)(?<!aa)b", lambda text: re.search("(?:^|b)ab", text)),
+                           ("(?<=(?<!a)a)b", lambda text: re.search("(?:^|b)ab", text)), ("(?<=(?<=a)b)a", lambda text: "aba" in text),
+                           ("(?<!(?<=a)b)b", lambda text: any(c == "b" and not text[:at].endswith("ab") for at, c in enumerate(text))),
+                           ("(?<=a*)b|(?<!a)$", lambda text: "b" in text or text == ""), ("(?<![^])b", lambda text: text[:1] == "b"),
+                           ("(?:a(?<=ba))+b", lambda text: "bab" in text), ("(?<=b.*)a", lambda text: re.search("b.*a", text)),
+                           ("a$(?<=a)(?<!ba)", lambda text: text.endswith("a") and not text.endswith("ba"))):
+        yield searches([[pattern, text, bool(found(text))] for text in words])
+    far = ["\u00e9", "\u0800", "\uffff", "\U0001f600"]
+    yield searches([[f"(?<={one})a", f"{other}a", one == other] for one in far for other in far] + [[f"(?<!{one})a", f"{other}a", one != other] for one in far for other in far])
+    yield searches([["(?<=\\n)a", f"{end}a", end == "\n"] for end in LINE_ENDS] + [["(?<=.)a", f"{end}a", False] for end in LINE_ENDS] + [["(?<=^)a", f"{end}a", False] for end in LINE_ENDS])
+    yield "no quantifier follows a lookbehind, and its name is none of a group"
+    bodies = ["a", "", "a|b", "(?<n>a)", "(?<=a)", "(a)*"]
+    looks = [f"(?<{sign}{body})" for sign in "=!" for body in bodies]
+    forms = {"{}": True, "{}b": True, "a{}": True, "({})": True, "(?:{})*": True, "({}){{2}}": True, "(?<m>{})?": True, "{}|{}": None, "^{}$": True, "{}*": False, "{}+": False, "{}?": False,
+             "{}{{1}}": False, "{}{{0,1}}": False, "{}{{2,}}": False, "{}??": False, "({}*)": False, "(?<n>{})": None, "{})": False, "({}": False}
+    named = lambda text: len(re.findall("<n>", text)) < 2
+    expected = {form.format(look, look): named(form.format(look, look)) if right is None else right and named(form.format(look, look)) for look in looks for form, right in forms.items()}
+    yield texts(PATTERNS, expected, expected.get)
+    others = {"(?<=": 0, "(?<!": 0, "(?<=a": 0, "(?<!a": 0, "(?<=*)": 0, "(?<=a|*)": 0, "(?<=a)(": 0, "(?<=>a)": 1, "(?<!>)": 1, "(?<==)": 1, "(?<!!)": 1, "(?<=!)": 1, "(?<n=a)": 0, "(?<n!>a)": 0, "(?<=n>a)": 1,
+              "(? <=a)": 0, "(?< =a)": 0, "(?<=\\1)": 0, "(?<=[)": 0, "(?<=[)])": 1, "(?<=\\))": 1, "(?<=a)b)": 0, "((?<=a)": 0, "(?<=(?<n>a))(?<n>b)": 0, "(?<=(?<n>a))(?<m>b)": 1, "(?<=^)": 1, "(?<=$)": 1}
+    yield texts(PATTERNS, others, others.get)
+
+
 # Atoms, and how many steps each takes: one for a class, and one more for each eight ranges and for each property; one for an
-# assertion, two around a loop, three around alternatives, and one between more of them.
+# assertion, two around a loop and around what a lookbehind looks for, three around alternatives, and one between more of them.
 STEPS = {"a": 1, ".": 1, "\\d": 1, "\\D": 1, "\\w": 1, "\\W": 1, "\\s": 2, "\\S": 2, "[\\s]": 2, "[\\S]": 2, "[\\W]": 1, "\\p{L}": 2, "\\P{sc=Latn}": 2,
          "[abcdefg]": 1, "[abcdefgh]": 2, "[a-bd-eg-hj-km-np-qs-t]": 1, "[a-bd-eg-hj-km-np-qs-tv-w]": 2, "[\\p{L}]": 2, "[\\p{L}abcdefg]": 2, "[\\p{L}abcdefgh]": 3,
          "[\\p{L}\\p{N}]": 3, "[^]": 1, "[]": 1, "(?:ab)": 2, "(?:abc)": 3, "(?:a|b)": 5, "(?:a|b|c)": 7, "(?:a*)": 1, "(?:a?)": 1, "(?:a+)": 1, "(?:(?:ab)*)": 4,
          "(?:(?:ab)+)": 4, "(?:(?:ab)?)": 5, "(?:^)": 1, "(?:\\b)": 1, "(?:^a$)": 3, "(?:(?:a|b)*)": 7, "(?:a{7})": 7, "(?:a{0,7})": 7, "(?:(?:ab){0,2})": 10, "(?:a|)": 4,
-         "(?:|a)": 4, "(?:(?:a|b)?)": 8}
+         "(?:|a)": 4, "(?:(?:a|b)?)": 8, "(?:(?<=a))": 3, "(?:(?<!ab)c)": 5, "(?:(?<=a|b))": 7, "(?:(?<!))": 2, "(?:(?<=a{7}))": 9, "(?:(?<=(?<!a)))": 5}
 
 
 def limits_of_atoms():
@@ -1258,7 +1349,7 @@ def limit_rows():
     for letter in ("a", "\u00e9", "\U0001f600", ".", "\\d"):
         size = len(letter)
         rows += [([[letter, 2000 // size]], [[letter if size == 1 and letter != "." else "7", 2000 // size]], True), ([[letter, 2000 // size], ["b", 1]], [], None)]
-    for opening in ("(", "(?:"):
+    for opening in ("(", "(?:", "(?<="):
         for deep, found in ((249, True), (250, True), (251, None)):
             rows += [([[opening, deep], ["a", 1], [")", deep]], [["a", 1]], found), ([[opening, deep], ["a", 1], [")", deep], ["b", 1]], [["ab", 1]], found)]
     for steps in (599, 600, 601):
@@ -1268,8 +1359,8 @@ def limit_rows():
     yield long_searches(rows)
     yield "why patterns are not taken"
     yield refusals("it has a back reference", [form.format(c) for c in "123456789k" for form in ("\\{}", "a\\{}b", "(a)\\{}", "(?:\\{})", "a|\\{}")])
-    yield refusals("it has a look-ahead", [form.format(c) for c in "=!" for form in ("(?{}a)", "a(?{}", "(?:(?{}))", "(?<n>(?{}a))", "a|(?{}b)")])
-    yield refusals("it has a look-behind", [form.format(c) for c in "=!" for form in ("(?<{}a)", "a(?<{}", "(?:(?<{}))", "(?<n>(?<{}a))", "a|(?<{}b)")])
+    yield refusals("it has a look-ahead", [form.format(c) for c in "=!" for form in ("(?{}a)", "a(?{}", "(?:(?{}))", "(?<n>(?{}a))", "a|(?{}b)", "(?<=(?{}a))", "(?<!a)(?{}b)")])
+    yield refusals("taken", [form.format(c) for c in "=!" for form in ("(?<{}a)", "a(?<{})", "(?:(?<{}))", "(?<n>(?<{}a))", "a|(?<{}b)")])
     yield refusals("it has a count above 1000", [f"a{{{count}" for count in ("1001}", "1001,}", "1001,1002}", "0,1001}", "1000,1001}", "2000}", "10000}", "01001}")])
     yield refusals("a counted term takes more than 2000 steps",
                    [f"{atom}{{{2000 // steps + 1}}}" for atom, steps in STEPS.items() if 2000 // steps < 1000])
@@ -1289,6 +1380,7 @@ def ecma_rows():
     yield from name_rows()
     yield from class_rows()
     yield from member_rows()
+    yield from look_rows()
     yield from limit_rows()
     yield from property_rows()
 

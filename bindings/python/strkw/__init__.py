@@ -21,17 +21,18 @@ The library is the file that the environment variable STRKW_LIBRARY names, or el
 package, in `bindings/out`, or where the loader of the system finds it.
 """
 from strkw._formats import (
-    ENCODINGS, FORMATS, answer, is_email, is_encoded, is_format, jsonschema_format_checker)
+    ENCODINGS, FORMATS, answer, is_email, is_encoded, is_format, is_idn_email, is_idn_hostname,
+    jsonschema_format_checker)
 from strkw._schemas import DRAFTS, Schema, ValidationError, check_texts
 
 __version__ = "0.1.0"
 
 __all__ = [
     "DRAFTS", "ENCODINGS", "FORMATS", "Schema", "ValidationError", "answer", "check_texts", "is_email", "is_encoded",
-    "is_format", "jsonschema_format_checker",
+    "is_format", "is_idn_email", "is_idn_hostname", "jsonschema_format_checker",
 ]
 
-for _public in (Schema, ValidationError, answer, check_texts, is_email, is_encoded, is_format,
-                jsonschema_format_checker):
+for _public in (Schema, ValidationError, answer, check_texts, is_email, is_encoded, is_format, is_idn_email,
+                is_idn_hostname, jsonschema_format_checker):
     _public.__module__ = "strkw"
 del _public

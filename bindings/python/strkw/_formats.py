@@ -2,7 +2,7 @@
 import ctypes
 from typing import TYPE_CHECKING, Iterable, Union
 
-from strkw._library import BYTES, COUNT, OUT_OF_MEMORY, WRITTEN, BytesLike, bytes_of, function, written
+from strkw._library import BYTES, COUNT, WRITTEN, BytesLike, bytes_of, function, written
 
 if TYPE_CHECKING:
     from jsonschema import FormatChecker
@@ -17,8 +17,18 @@ ENCODINGS = ("base64", "base64url", "base32", "base32hex", "base16", "json")
 
 FORMAT_CHECKS = {
     name: function("is-" + name, BYTES, COUNT, result=ctypes.c_bool) for name in (*FORMATS, "hostname-draft4", "email")}
-ENCODING_CHECKS = {name: function("is-" + name, BYTES, COUNT) for name in ENCODINGS}
+# What may be out of memory: the answer is 0, 1 or 2.
+IDN_FORMATS = ("idn-email", "idn-hostname")
+DECISIONS = {name: function("is-" + name, BYTES, COUNT) for name in (*ENCODINGS, *IDN_FORMATS)}
 _ANSWER = function("answer", BYTES, COUNT, *WRITTEN)
+
+
+def _decided(name: str, data: bytes) -> bool:
+    """The answer of a check that may be out of memory."""
+    status = DECISIONS[name](data, len(data))
+    if status > 1:
+        raise MemoryError
+    return status == 1
 
 
 def is_format(name: str, text: Text) -> bool:
@@ -27,10 +37,13 @@ def is_format(name: str, text: Text) -> bool:
     >>> is_format("date", "2024-02-29"), is_format("date", "2023-02-29")
     (True, False)
 
-    The names are FORMATS, `email` and `hostname-draft4`. `hostname` is that of draft 7 and later, and `hostname-draft4`
-    that of drafts 4 and 6. KeyError for another name. What is not UTF-8, as a lone surrogate, has no format.
+    The names are FORMATS, `email`, `idn-email`, `idn-hostname` and `hostname-draft4`. `hostname` is that of draft 7 and
+    later, and `hostname-draft4` that of drafts 4 and 6. KeyError for another name. What is not UTF-8, as a lone
+    surrogate, has no format. MemoryError, of `idn-email` and `idn-hostname` alone, where it is out of memory.
     """
     data = bytes_of(text)
+    if name in IDN_FORMATS:
+        return _decided(name, data)
     return FORMAT_CHECKS[name](data, len(data))
 
 
@@ -43,17 +56,33 @@ def is_email(text: Text) -> bool:
     return is_format("email", text)
 
 
+def is_idn_email(text: Text) -> bool:
+    """Whether a text is an internationalised mail address: Mailbox as RFC 6531, section 3.3, extends it.
+
+    >>> is_idn_email("j\u00fcrgen@b\u00fccher.example"), is_idn_email("j\u00fcrgen@b\u00fccher-.example")
+    (True, False)
+    """
+    return is_format("idn-email", text)
+
+
+def is_idn_hostname(text: Text) -> bool:
+    """Whether a text is an internationalised host name, by RFC 5890 to 5893 and Unicode 18.0.
+
+    >>> is_idn_hostname("b\u00fccher.example"), is_idn_hostname("xn--bcher-kva.example"), is_idn_hostname("b\u00fccher-")
+    (True, True, False)
+    """
+    return is_format("idn-hostname", text)
+
+
 def is_encoded(name: str, text: Text) -> bool:
     """Whether a text is an encoding of this name, or JSON; KeyError for a name that is none of ENCODINGS.
 
     >>> is_encoded("base64", "YQ=="), is_encoded("json", "[1]")
     (True, True)
     """
-    data = bytes_of(text)
-    status = ENCODING_CHECKS[name](data, len(data))
-    if status > 1:
-        raise MemoryError
-    return status == 1
+    if name not in ENCODINGS:
+        raise KeyError(name)
+    return _decided(name, bytes_of(text))
 
 
 def answer(requests: BytesLike) -> bytes:
@@ -64,7 +93,7 @@ def answer(requests: BytesLike) -> bytes:
     return written(_ANSWER, data, len(data), room=max(256, 2 * len(data)))[1]
 
 
-def jsonschema_format_checker(names: Iterable[str] = (*FORMATS, "email")) -> "FormatChecker":
+def jsonschema_format_checker(names: Iterable[str] = (*FORMATS, "email", *IDN_FORMATS)) -> "FormatChecker":
     """A FormatChecker of the package jsonschema that knows these formats alone, by this library.
 
     Draft7Validator({"format": "date"}, format_checker=jsonschema_format_checker()). KeyError for a name that is_format
@@ -77,6 +106,7 @@ def jsonschema_format_checker(names: Iterable[str] = (*FORMATS, "email")) -> "Fo
 
     made = FormatChecker(formats=())
     for name in names:
-        FORMAT_CHECKS[name]
+        if name not in FORMAT_CHECKS and name not in IDN_FORMATS:
+            raise KeyError(name)
         made.checks(name)(lambda instance, name=name: not isinstance(instance, str) or is_format(name, instance))
     return made

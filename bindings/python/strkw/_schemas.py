@@ -101,7 +101,7 @@ def check_texts(draft: int, schema: SchemaObject, texts: Iterable[Text], formats
     The draft is one of DRAFTS, the schema a dict, or JSON as a str or bytes-like, and a text a str or bytes-like.
     Formats are checked in every draft; with formats="as-draft" drafts 2019-09 and 2020-12 do not. A format that the
     draft or the library does not know is refused; with unknown_formats="ignore" it lets every text pass. A pattern is
-    one of ECMA-262 in Unicode mode, with no look-ahead, look-behind or back reference, and of a bounded size. An answer
+    one of ECMA-262 in Unicode mode, with no look-ahead or back reference, and of a bounded size. An answer
     is True or False, and None for what is not UTF-8, as a lone surrogate.
 
     ValueError where the draft is none of DRAFTS, an option is another word, or the schema is no object or refused; it

@@ -1,3 +1,4 @@
 mod LineLemmas
+mod StatusLemmas
 mod TextLemmas
 mod VerdictLemmas

@@ -4,7 +4,8 @@ use Rattle.serde_json.specs.Data.{string}
 use Rattle.serde_json.specs.Written.{compact_text}
 use Rattle.strkw_report.specs.Refusals.{Reason, regex, Refusal, explanation}
 
--- the words behind a pattern say why `strkw_ecma` does not take it; which words they are is not said
+-- the words behind a pattern say why `strkw_ecma` does not take it; which words they are is not
+-- said
 abbrev pub reason_text : List ℕ → Reason → List ℕ
 reason_text words (regex p) =
     codes "the pattern " ++ compact_text (string p) ++ codes " is not taken: " ++ words

@@ -9,13 +9,15 @@ ghost use Rattle.strkw_c.specs.Statuses.{Tells, TellsEncoding};
 use std::alloc::{AllocError, Global};
 use strkw_coding::{Codec, is_json};
 
-const NO: u8 = 0;
+/// The answer no.
+pub(crate) const NO: u8 = 0;
 
 const YES: u8 = 1;
 
 const OUT_OF_MEMORY: u8 = 2;
 
-fn status_of(answer: Result<bool, AllocError>) -> u8
+/// An answer as a number.
+pub(crate) fn status_of(answer: Result<bool, AllocError>) -> u8
     ensures { MatchResult answer (λ b. result ≡ (if b then 1 else 0)) (λ _. result ≡ 2) }
 {
     match answer {

@@ -8,6 +8,7 @@ mod buffers;
 mod encodings;
 mod errors;
 mod formats;
+mod internationalised;
 mod lines;
 mod refusals;
 mod schemas;
@@ -32,5 +33,6 @@ pub use formats::{
     strkw_nonnull_is_relative_json_pointer, strkw_nonnull_is_time, strkw_nonnull_is_uri,
     strkw_nonnull_is_uri_reference, strkw_nonnull_is_uri_template, strkw_nonnull_is_uuid,
 };
+pub use internationalised::{strkw_nonnull_is_idn_email, strkw_nonnull_is_idn_hostname};
 pub use refusals::strkw_nonnull_refusal;
 pub use verdicts::strkw_nonnull_check;

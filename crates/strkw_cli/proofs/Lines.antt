@@ -1,6 +1,6 @@
 -- The lines of errors, as they are written one validator after another.
-use Rattle.std.proofs.Common.{◌≡◌, ℕ, ◌<◌, ◌+◌, List, [], ◌∷◌, ◌++◌, Option, Some, None, Result, Ok, Err, OnOk, refl, sym, ap, ◌∙◌, subst, length, get_or, take}
-use Rattle.std.proofs.Common.{arith, append_assoc}
+use Rattle.std.proofs.Common.{◌≡◌, ℕ, ◌<◌, ◌+◌, List, [], ◌∷◌, ◌++◌, Option, Some, None, Result, Ok, Err, OnOk, refl, sym, ap, ◌∙◌, length, get_or, take}
+use Rattle.std.proofs.Common.{arith, append_assoc, codes}
 use Rattle.std.specs.List.{flat_map}
 use Rattle.std.proofs.lemmas.List.{append-nil, length-append}
 use Rattle.std.proofs.lemmas.List.Concat.{flat_map-append}
@@ -9,18 +9,23 @@ use Rattle.strkw_pattern.specs.declared.engine.Outcome.{Outcome}
 use Rattle.strkw_keywords.specs.Meanings.{Lists}
 use Rattle.strkw_keywords.specs.Places.{Place, standing}
 use Rattle.strkw_keywords.specs.Demands.{Demand, Finding, Finds, listed}
-use Rattle.strkw_keywords.specs.Errors.{placed, reported, NodeReports}
+use Rattle.strkw_keywords.specs.Errors.{Assertion, placed, reported, NodeReports}
 use Rattle.strkw_keywords.specs.Validators.{assertions_of, assertions_in}
 use Rattle.strkw_keywords.specs.declared.validator.Validator.{Validator}
 use Rattle.strkw_keywords.proofs.Reports.{errors_of, found_reports}
 use Rattle.strkw_report.specs.Standings.{root_site}
 use Rattle.strkw_cli.specs.Printed.{error_line, verdict_lines}
-use Rattle.strkw_cli.specs.Written.{AppendsLines}
 use Rattle.strkw_object.proofs.Many.{nothing_asserted, report_append, in_more}
 
 -- the lines of errors, one after the other
 abbrev lines_of : List Report → List ℕ
 lines_of rs = flat_map error_line rs
+
+-- new is old, and behind it the lines of errors that have P
+pub record AppendsLines (P : List Report → Type 0) (old new : List ℕ) : Type 0 where
+  pub errors : List Report
+  pub grown : new ≡ old ++ lines_of errors
+  pub reported : P errors
 
 -- ---- one validator
 
@@ -33,7 +38,7 @@ two_lines s text (Some f) None = sym (append-nil (lines_of (reported s text (Som
 two_lines s text (Some f) (Some g) = flat_map-append error_line (reported s text (Some f)) (reported s text (Some g))
 
 -- the lines of two findings of a text, in turn, are those of its errors by the demands
-of_text : (place : Place) (ds : List Demand) (lists : Lists) (text : List ℕ) (a b : Option Finding) (old mid new : List ℕ)
+pub of_text : (place : Place) (ds : List Demand) (lists : Lists) (text : List ℕ) (a b : Option Finding) (old mid new : List ℕ)
     → Finds ds lists text (listed a ++ listed b)
     → mid ≡ old ++ lines_of (reported (standing place root_site) text a) → new ≡ mid ++ lines_of (reported (standing place root_site) text b)
     → AppendsLines (NodeReports (placed place ds) lists root_site (Some text)) old new
@@ -44,17 +49,6 @@ of_text place ds lists text a b old mid new finds first second =
           ∙ ap (λ l. old ++ l) (sym (two_lines s text a b));
       reported = found_reports place ds lists root_site text (listed a ++ listed b) finds;
     }
-
--- the lines of what a validator finds of a text
-pub found_lines : {T E : Type 0} (r : Result T E) (place : Place) (ds : List Demand) (lists : Lists) (there : Option (List ℕ)) (text : List ℕ)
-    (a b : Option Finding) (old mid new : List ℕ)
-    → there ≡ Some text → Finds ds lists text (listed a ++ listed b)
-    → mid ≡ old ++ lines_of (reported (standing place root_site) text a) → OnOk r (new ≡ mid ++ lines_of (reported (standing place root_site) text b))
-    → OnOk r (AppendsLines (NodeReports (placed place ds) lists root_site there) old new)
-found_lines (Ok x) place ds lists there text a b old mid new is finds first second =
-    subst (λ n. AppendsLines (NodeReports (placed place ds) lists root_site n) old new) (sym is)
-    (of_text place ds lists text a b old mid new finds first second)
-found_lines (Err e) place ds lists there text a b old mid new is finds first second = tt
 
 -- ---- several
 
@@ -89,3 +83,13 @@ no_lines old new [] grown short = refl
 no_lines old new (r ∷ rs) grown short =
     let size = ap (λ l. length l) grown ∙ length-append old (lines_of (r ∷ rs)) in
     absurd (short (omega (arith, size)))
+
+-- where there are no errors, the line that says so is the verdict
+pub valid_written : {T E : Type 0} (r : Result T E) (assertions : List Assertion) (lists : Lists) (there : Option (List ℕ)) (old mid new : List ℕ)
+    (errors : List Report)
+    → errors ≡ [] → mid ≡ old ++ lines_of errors → OnOk r (new ≡ mid ++ codes "valid\n") → NodeReports assertions lists root_site there errors
+    → OnOk r ((es : List Report) × (new ≡ old ++ verdict_lines es) × NodeReports assertions lists root_site there es)
+valid_written (Ok x) assertions lists there old mid new [] none grown written reports =
+    ([], written ∙ ap (λ l. l ++ codes "valid\n") (grown ∙ append-nil old), reports)
+valid_written (Ok x) assertions lists there old mid new (e ∷ es) none grown written reports = absurd (cc)
+valid_written (Err x) assertions lists there old mid new errors none grown written reports = tt

@@ -7,6 +7,5 @@ pub mod Outcome
 pub mod Bounds
 pub mod Serving
 pub mod Faults
-pub mod Written
 pub mod Tokens
 pub mod Parts

@@ -16,12 +16,11 @@ ghost use Rattle.strkw_keywords.specs.Keywords.{keyword_name};
 ghost use Rattle.strkw_keywords.specs.Object.{remarks_on};
 ghost use Rattle.strkw_keywords.specs.Parts.{noted_remark};
 ghost use Rattle.strkw_keywords.specs.Places.{standing};
-ghost use Rattle.strkw_keywords.specs.Validators.{assertions_of, demands_of, listed_remark, remark_made};
+ghost use Rattle.strkw_keywords.specs.Validators.{listed_remark, remark_made};
 ghost use Rattle.strkw_report.specs.Standings.{root_site};
 ghost use Rattle.strkw_object.specs.Compiled.{keywords_assertions, keywords_demands, keywords_remarks};
 ghost use Rattle.strkw_object.specs.Printable.{ArePrintable};
 ghost use Rattle.strkw_cli.specs.Printed.{error_line, note_lines, printed, verdict_lines};
-ghost use Rattle.strkw_cli.specs.Written.{AppendsLines};
 
 use super::printing::{is_plain, push_printed};
 use serde_json::Value;
@@ -133,30 +132,6 @@ fn push_value(alloc: Global, value: &Value, out: &mut Vec<u8>) -> Result<(), All
     out.extend_from_slice(text.as_bytes())
 }
 
-// ---- one validator
-
-// Appends the lines of the errors that a text has by a validator.
-fn push_errors_of<E: RegexEngine, N: Node>(
-    alloc: Global,
-    validator: &Validator<E>,
-    text: &TextNode<'_, N>,
-    checks: &Checks,
-    out: &mut Vec<u8>,
-) -> Result<(), AllocError>
-    requires { IsInUse (demands_of E.outcome validator.now)
-        (lists_of admits accepted encoded decoding checks.now) }
-    ensures ok { OnOk result (AppendsLines (NodeReports (assertions_of E.outcome validator.now)
-        (lists_of admits accepted encoded decoding checks.now) root_site (Some text.now))
-        out.old.items out.new.items) }
-    ensures err { OnErr result ((more : List ℕ) × (out.new.items ≡ out.old.items ++ more)) }
-{
-    let found = validator.findings(alloc, text, checks)?;
-    let origin = validator.origin();
-    let text = text.as_str();
-    push_found_line(alloc, origin, text, &found.first, out)?;
-    push_found_line(alloc, origin, text, &found.second, out)
-}
-
 // Appends the line of what a validator notes, if it notes anything.
 fn push_note_of<E: RegexEngine>(
     alloc: Global,
@@ -177,27 +152,6 @@ fn push_note_of<E: RegexEngine>(
 }
 
 // ---- all validators
-
-// Appends the lines of the errors of a text.
-fn push_errors<E: RegexEngine, N: Node>(
-    alloc: Global,
-    keywords: &StringKeywords<E>,
-    text: &TextNode<'_, N>,
-    checks: &Checks,
-    out: &mut Vec<u8>,
-) -> Result<(), AllocError>
-    requires { IsInUse (keywords_demands E.outcome keywords.now)
-        (lists_of admits accepted encoded decoding checks.now) }
-    ensures ok { OnOk result (AppendsLines (NodeReports (keywords_assertions E.outcome keywords.now)
-        (lists_of admits accepted encoded decoding checks.now) root_site (Some text.now))
-        out.old.items out.new.items) }
-    ensures err { OnErr result ((more : List ℕ) × (out.new.items ≡ out.old.items ++ more)) }
-{
-    for validator in keywords.validators() {
-        push_errors_of(alloc, validator, text, checks, out)?;
-    }
-    Ok(())
-}
 
 // Appends the lines of what is noted of texts.
 fn push_notes<E: RegexEngine>(
@@ -234,7 +188,13 @@ fn push_verdict<E: RegexEngine, N: Node>(
     ensures err { OnErr result ((more : List ℕ) × (out.new.items ≡ out.old.items ++ more)) }
 {
     let before = out.len();
-    push_errors(alloc, keywords, text, checks, out)?;
+    for validator in keywords.validators() {
+        let found = validator.findings(alloc, text, checks)?;
+        let origin = validator.origin();
+        let text = text.as_str();
+        push_found_line(alloc, origin, text, &found.first, out)?;
+        push_found_line(alloc, origin, text, &found.second, out)?;
+    }
     if out.len() > before {
         return Ok(());
     }

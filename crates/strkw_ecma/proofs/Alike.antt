@@ -3,7 +3,7 @@ use Rattle.std.proofs.Common.{◌≡◌, ℕ, zero, suc, ◌+◌, ◌*◌, ◌<�
 use Rattle.std.proofs.Common.{get_or, refl, sym, ap, ◌∙◌, ⊎_elim, true≢false, if◌then◌else◌, ◌==◌, option_map, arith}
 use Rattle.std.proofs.lemmas.Bool.{eqb-true}
 use Rattle.std.specs.Prelude.{is_some}
-use Rattle.strkw_ecma.specs.Tree.{Look, Pattern, empty, class, look, cat, alt, star, plus, start, end, boundary, no_boundary, in_sets, differ}
+use Rattle.strkw_ecma.specs.Tree.{Look, Pattern, empty, class, look, cat, alt, star, plus, lookbehind, start, end, boundary, no_boundary, in_sets, differ}
 use Rattle.strkw_ecma.specs.Meaning.{is_word, is_edge, holds}
 use Rattle.strkw_ecma.specs.machine.Marks.{leaves, step, classes, marked}
 use Rattle.strkw_ecma.specs.machine.Columns.{answers, place_of, has_boundary, TellsSets, Tells}
@@ -50,6 +50,7 @@ module _ (b e a d : Option ℕ) (edge : is_edge b ≡ is_edge e) (next_edge : is
   same_leaves (star p) x word next = ap (λ (y : Bool). x || y) (same_leaves p false word next)
   same_leaves (plus p) x word next =
       ap (λ (y : Bool). leaves b a p (x || y)) (same_leaves p false word next) ∙ same_leaves p _ word next
+  same_leaves (lookbehind n p) x word next = ap (λ (y : Bool). x && differ n y) (same_leaves p true word next)
 
 -- the digits are the answers
 -- with a binary digit put behind each, two numbers are the same only where they and the digits are
@@ -113,6 +114,7 @@ module _ (ks : List (Vec CharSet Global)) (c d : ℕ) (same : answers 0 ks c ≡
   next_word (alt p q) t h = ⊎_elim (next_word p t.0) (next_word q t.1) (or_case (has_boundary p) (has_boundary q) h)
   next_word (star p) t h = next_word p t h
   next_word (plus p) t h = next_word p t h
+  next_word (lookbehind n p) t h = next_word p t h
 
   module _ (b e : Option ℕ) (edge : is_edge b ≡ is_edge e) where
     -- between either of the two and characters alike the pattern is left alike
@@ -137,6 +139,7 @@ module _ (ks : List (Vec CharSet Global)) (c d : ℕ) (same : answers 0 ks c ≡
         ap (λ (y : Bool). star (step b (Some c) p (x || y))) (left p false word t) ∙ ap star (same_step p _ word t)
     same_step (plus p) x word t =
         ap (λ (y : Bool). plus (step b (Some c) p (x || y))) (left p false word t) ∙ ap plus (same_step p _ word t)
+    same_step (lookbehind n p) x word t = ap (lookbehind n) (same_step p true word t)
 
 -- with marks a pattern asks the same
 pub marked_tells : (ks : List (Vec CharSet Global)) (ms : List Bool) (p : Pattern) → Tells ks p → Tells ks (marked ms p)
@@ -147,6 +150,7 @@ marked_tells ks ms (cat p q) t = (marked_tells ks ms p t.0, marked_tells ks (dro
 marked_tells ks ms (alt p q) t = (marked_tells ks ms p t.0, marked_tells ks (drop (classes p) ms) q t.1)
 marked_tells ks ms (star p) t = marked_tells ks ms p t
 marked_tells ks ms (plus p) t = marked_tells ks ms p t
+marked_tells ks ms (lookbehind n p) t = marked_tells ks ms p t
 
 -- marks change nothing of whether \b or \B stands in a pattern
 marked_boundary : (ms : List Bool) (p : Pattern) → has_boundary (marked ms p) ≡ has_boundary p
@@ -157,6 +161,7 @@ marked_boundary ms (cat p q) = rw (marked_boundary ms p, marked_boundary (drop (
 marked_boundary ms (alt p q) = rw (marked_boundary ms p, marked_boundary (drop (classes p) ms) q) refl
 marked_boundary ms (star p) = marked_boundary ms p
 marked_boundary ms (plus p) = marked_boundary ms p
+marked_boundary ms (lookbehind n p) = marked_boundary ms p
 
 -- characters alike for a pattern are alike for it with other marks
 pub marked_word : (ms : List Bool) (p : Pattern) (b e : Option ℕ) → SameWord p b e → SameWord (marked ms p) b e

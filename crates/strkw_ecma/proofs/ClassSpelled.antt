@@ -9,7 +9,7 @@ use Rattle.strkw_ecma.specs.Names.{NameChar, name_spelling}
 use Rattle.strkw_ecma.specs.Classes.{ClassToken, closing_bracket, class_escaper, dash, class_char, ClassAtom, class_plain, hyphen, class_escaped}
 use Rattle.strkw_ecma.specs.Classes.{class_control, class_set, backspace, class_coded, class_property, Ranges, class_atom_spelling, ranges_spelling}
 use Rattle.strkw_ecma.specs.Classes.{negation_spelling}
-use Rattle.strkw_ecma.specs.Syntax.{Disjunction, Alternative, more, Term, Atom, quantifier_spelling, group_spelling, spelling, alternative_spelling}
+use Rattle.strkw_ecma.specs.Syntax.{Disjunction, Alternative, more, Term, Atom, quantifier_spelling, enclosing_spelling, spelling, alternative_spelling}
 use Rattle.strkw_ecma.specs.Syntax.{term_spelling, atom_spelling}
 use Rattle.strkw_ecma.specs.machine.Reading.{Open, Outer, Level, Last, none, atom, counted, Pending, fresh, one, dashed, Class, Mode, between, escaping}
 use Rattle.strkw_ecma.specs.machine.Reading.{opening, extending, class_opened, Count, low, high, counting, in_class, class_escaping, coding, class_coding}
@@ -33,10 +33,10 @@ last_spelling none = []
 last_spelling (atom x) = atom_spelling x
 last_spelling (counted x q) = atom_spelling x ++ quantifier_spelling q
 
--- the open groups as they are written, with what stands before each in the level around it
+-- the open groups and lookbehinds as they are written, with what stands before each in the level around it
 abbrev pub outer_spelling : List Open → List ℕ
 outer_spelling [] = []
-outer_spelling (o ∷ ls) = (outer_spelling ls ++ level_spelling o.earlier o.current) ++ group_spelling o.group
+outer_spelling (o ∷ ls) = (outer_spelling ls ++ level_spelling o.earlier o.current) ++ enclosing_spelling o.enclosing
 
 -- what may still belong to a range, as it is written
 abbrev pending_spelling : Pending → List ℕ

@@ -7,7 +7,7 @@ use Rattle.strkw_pattern.specs.Matcher.{outcome_of}
 use Rattle.strkw_pattern.specs.declared.engine.Outcome.{Outcome}
 use Rattle.strkw_pattern.specs.declared.engine.Outcome.TheVariants.{Match, NoMatch}
 use Rattle.strkw_ecma.specs.Names.{are_distinct}
-use Rattle.strkw_ecma.specs.Syntax.{Disjunction, names, only, either, Alternative, nothing, more, Term, at_start, at_end, at_boundary, at_no_boundary, once}
+use Rattle.strkw_ecma.specs.Syntax.{Disjunction, names, only, either, Alternative, nothing, more, Term, at_start, at_end, at_boundary, at_no_boundary, looks_behind, once}
 use Rattle.strkw_ecma.specs.Syntax.{quantified, Atom, plain, escaped, control_escape, set_escape, coded, property_escape, dot, bracketed, group, max_length}
 use Rattle.strkw_ecma.specs.machine.Reading.{read, read_short, read_pattern, tree_if, small_tree}
 use Rattle.strkw_ecma.specs.Lookahead.{is_apart}
@@ -54,6 +54,7 @@ mutual
   clean_term : (t : Term) → is_clean (term_pattern t) ≡ true
   clean_term at_start = refl
   clean_term at_end = refl
+  clean_term (looks_behind n d) = clean d
   clean_term (once a) = clean_atom a
   clean_term at_boundary = refl
   clean_term at_no_boundary = refl

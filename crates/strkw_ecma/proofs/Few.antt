@@ -11,12 +11,12 @@ use Rattle.strkw_ecma.specs.declared.code.Turn.{Turn as CodeTurn}
 use Rattle.strkw_ecma.specs.declared.code.Turn.TheVariants as turn
 use Rattle.strkw_ecma.specs.declared.code.Instruction.{Instruction as CodeInstruction}
 use Rattle.strkw_ecma.specs.declared.code.Instruction.TheVariants.{Read, Turn}
-use Rattle.strkw_ecma.specs.Tree.{Look, Pattern, empty, class, look, cat, alt, star, plus}
+use Rattle.strkw_ecma.specs.Tree.{Look, Pattern, empty, class, look, cat, alt, star, plus, lookbehind}
 use Rattle.strkw_ecma.specs.machine.Marks.{classes}
 use Rattle.strkw_ecma.specs.machine.Columns.{TellsSets, has_boundary, Tells}
 use Rattle.strkw_ecma.specs.Sets.{word_characters}
-use Rattle.strkw_ecma.specs.Program.{Instruction, read, assert, fork, other, join, star_begin, star_end, plus_begin, plus_end, program, alternatives, has_loop}
-use Rattle.strkw_ecma.specs.Program.{read_count, asks_word, asks_boundary}
+use Rattle.strkw_ecma.specs.Program.{Instruction, read, assert, fork, other, join, star_begin, star_end, plus_begin, plus_end, look_begin, look_end}
+use Rattle.strkw_ecma.specs.Program.{program, alternatives, has_loop, read_count, asks_word, asks_boundary}
 use Rattle.strkw_ecma.specs.Size.{instruction_steps, steps_of, steps}
 use Rattle.strkw_ecma.specs.machine.Walk.{asked, below}
 use Rattle.strkw_ecma.specs.machine.Shape.{turned, reading, instructions, are_within}
@@ -50,6 +50,7 @@ record GoesOver (R : Pattern → List Instruction → Type 0) : Type 0 where
   of_star : (p : Pattern) (xs : List Instruction) → R p xs → R (star p) (star_begin ∷ (xs ++ (star_end ∷ [])))
   of_class_plus : (m n : Bool) (rs : List CharSet) → R (plus (class m n rs)) (read true false n rs ∷ [])
   of_plus : (p : Pattern) (xs : List Instruction) → R p xs → R (plus p) (plus_begin ∷ (xs ++ (plus_end ∷ [])))
+  of_behind : (n : Bool) (p : Pattern) (xs : List Instruction) → R p xs → R (lookbehind n p) (look_begin n ∷ (xs ++ (look_end n ∷ [])))
 
 -- It holds then of each pattern and its program.
 module _ (R : Pattern → List Instruction → Type 0) (parts : GoesOver R) where
@@ -80,6 +81,7 @@ module _ (R : Pattern → List Instruction → Type 0) (parts : GoesOver R) wher
   )
   both_by_parts (star p) = (star_by_parts p (both_by_parts p).0, star_by_parts p (both_by_parts p).0)
   both_by_parts (plus p) = (plus_by_parts p (both_by_parts p).0, plus_by_parts p (both_by_parts p).0)
+  both_by_parts (lookbehind n p) = let body = parts.of_behind n p (program p) (both_by_parts p).0 in (body, body)
 
 -- the numbers of classes that two lists of instructions read add up
 more_reads : (xs ys : List Instruction) → read_count (xs ++ ys) ≡ read_count xs + read_count ys
@@ -104,6 +106,7 @@ reads_are_classes p =
       of_star = λ q xs e. omega (arith, more_reads xs (star_end ∷ []), e);
       of_class_plus = λ m n rs. refl;
       of_plus = λ q xs e. omega (arith, more_reads xs (plus_end ∷ []), e);
+      of_behind = λ n q xs e. omega (arith, more_reads xs (look_end n ∷ []), e);
     })
     p).0
 
@@ -148,6 +151,7 @@ boundary_is_asked p =
       of_star = λ q xs e. first_asks xs (star_end ∷ []) _ e refl;
       of_class_plus = λ m n rs. refl;
       of_plus = λ q xs e. first_asks xs (plus_end ∷ []) _ e refl;
+      of_behind = λ n q xs e. first_asks xs (look_end n ∷ []) _ e refl;
     })
     p).0
 
@@ -170,6 +174,8 @@ IsTold known star_begin = Unit {0}
 IsTold known star_end = Unit {0}
 IsTold known plus_begin = Unit {0}
 IsTold known plus_end = Unit {0}
+IsTold known (look_begin n) = Unit {0}
+IsTold known (look_end n) = Unit {0}
 
 -- they tell it of each of these instructions
 abbrev pub AllTold : List (Vec CharSet Global) → List Instruction → Type 0
@@ -209,6 +215,7 @@ module _ (known : List (Vec CharSet Global)) where
     of_star = λ p xs e told. e (all_parts (IsTold known) xs (star_end ∷ []) told.1).0;
     of_class_plus = λ m n rs told word. told.0;
     of_plus = λ p xs e told. e (all_parts (IsTold known) xs (plus_end ∷ []) told.1).0;
+    of_behind = λ n p xs e told. e (all_parts (IsTold known) xs (look_end n ∷ []) told.1).0;
   }
 
   -- a pattern is told where the instructions of its program are, and word characters where it asks

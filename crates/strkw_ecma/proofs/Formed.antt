@@ -1,5 +1,5 @@
 -- What is read is well formed: each character stands where it may.
-use Rattle.std.proofs.Common.{◌≡◌, ◌==◌, ℕ, Bool, true, false, List, [], ◌∷◌, Option, Some, None, refl, length, ◌<◌, ◌≤◌, ◌*◌, ◌++◌, nat_lt, nat_le, ◌&&◌}
+use Rattle.std.proofs.Common.{◌≡◌, ◌==◌, ℕ, suc, Bool, true, false, List, [], ◌∷◌, Option, Some, None, refl, length, ◌<◌, ◌≤◌, ◌*◌, ◌++◌, nat_lt, nat_le, ◌&&◌}
 use Rattle.std.proofs.Common.{arith}
 use Rattle.std.specs.Prelude.{option_and_then, option_map, is_some}
 use Rattle.std.proofs.lemmas.Bool.{ltb-true, leb-true}
@@ -12,16 +12,16 @@ use Rattle.strkw_ecma.specs.Classes.{ClassToken, closing_bracket, class_escaper,
 use Rattle.strkw_ecma.specs.Classes.{hyphen, class_escaped, class_control, class_set, backspace, class_coded, class_property, Ranges, no_ranges, item, range}
 use Rattle.strkw_ecma.specs.Classes.{IsClassAtom, is_hyphen, is_caret, MayFollow, AreRanges}
 use Rattle.strkw_ecma.specs.Names.{NameChar, verbatim, by_code, name_char_value, name_value, is_name_part, IsNameChar, AreNameParts, IsName, may_follow}
-use Rattle.strkw_ecma.specs.Names.{Extension, uncaptured, name_opening, no_extension, extension, NameToken, name_end, name_backslash, name_character}
-use Rattle.strkw_ecma.specs.Names.{name_token, are_distinct}
+use Rattle.strkw_ecma.specs.Names.{Extension, uncaptured, name_opening, no_extension, extension, NameToken, name_end, name_backslash, name_equals}
+use Rattle.strkw_ecma.specs.Names.{name_negation, name_character, name_token, are_distinct}
 use Rattle.strkw_ecma.specs.Syntax.{Disjunction, Alternative, Token, bar, asterisk, plus, question, caret, dollar, opening as opening_token, closing, point}
 use Rattle.strkw_ecma.specs.Syntax.{backslash, bracket, brace, character, other, token, Quantifier, zero_or_more, one_or_more, exactly, at_least, from_to}
-use Rattle.strkw_ecma.specs.Syntax.{Group, capturing, plain_group, named, max_nesting}
+use Rattle.strkw_ecma.specs.Syntax.{capturing, plain_group, named, Enclosing, of_group, of_lookbehind, max_nesting}
 use Rattle.strkw_ecma.specs.Properties.{property_of}
 use Rattle.strkw_ecma.specs.machine.PropertyReading.{PropertyRead, no_property_read, property_goes, property_ends, property_next}
 use Rattle.strkw_ecma.proofs.PropertyReadings.{IsPart, IsRead, property_formed}
 use Rattle.strkw_ecma.specs.declared.tree.CharSet.{CharSet}
-use Rattle.strkw_ecma.specs.WellFormed.{IsQuantifier, IsGroup, IsWellFormed, IsAlternative, IsAtom}
+use Rattle.strkw_ecma.specs.WellFormed.{IsQuantifier, IsEnclosing, IsWellFormed, IsAlternative, IsAtom}
 use Rattle.strkw_ecma.specs.Numbers.{number, number_of, are_digits, max_count, IsNumber, CountToken, digit, comma, closing_brace, no_count, count_token}
 use Rattle.strkw_ecma.specs.Size.{steps, max_term_steps}
 use Rattle.strkw_ecma.specs.Patterns.{atom_pattern, times, copies}
@@ -30,8 +30,8 @@ use Rattle.strkw_ecma.proofs.CodeReadings.{IsCoding, IsCoded, coding_formed, is_
 use Rattle.strkw_ecma.specs.machine.Reading.{Open, Outer, Level, Last, none, atom, counted, Pending, fresh, one, dashed, Class, Mode, between, escaping}
 use Rattle.strkw_ecma.specs.machine.Reading.{opening, extending, class_opened, Count, low, high, counting, when, with_count, longer, range_read, on_low}
 use Rattle.strkw_ecma.specs.machine.Reading.{on_high, on_count, in_class, class_escaping, coding, class_coding, in_property, in_class_property, is_between}
-use Rattle.strkw_ecma.specs.machine.Reading.{State, with_mode, new_level, ended, joined, level_ended, closed_in, naming, name_escaping, name_coding}
-use Rattle.strkw_ecma.specs.machine.Reading.{with_name_char, name_read, on_naming, on_name_escape, on_name_coding, tree_if, closes, with_quantifier, questioned}
+use Rattle.strkw_ecma.specs.machine.Reading.{State, with_mode, new_level, ended, joined, level_ended, enclosed, closed_in, naming, name_escaping, name_coding}
+use Rattle.strkw_ecma.specs.machine.Reading.{with_name_char, name_read, look_read, on_naming, on_name_escape, on_name_coding, tree_if, closes, with_quantifier, questioned}
 use Rattle.strkw_ecma.specs.machine.Reading.{opened, on_token, on_group, on_extension, on_escape, took, took_dash, ranged, class_read, within, on_class_token}
 use Rattle.strkw_ecma.specs.machine.Reading.{on_class_escape, on_coding, on_class_coding, on_property, on_class_property, on_class, next_in, next, read_from}
 use Rattle.strkw_ecma.specs.machine.Reading.{initial, read}
@@ -52,10 +52,11 @@ IsLast n (counted a q) = IsAtom n a × IsQuantifier q (steps (atom_pattern a))
 abbrev pub IsLevel : ℕ → Level → Type 0
 IsLevel n l = IsEarlier n l.earlier × IsAlternative n l.current
 
--- each open group is one, is not nested too deep, and stands in a level that is well formed
+-- each open group or lookbehind is one, is not nested too deep, and stands in a level that is well formed
 abbrev pub AreLevels : List Open → Type 0
 AreLevels [] = Unit {0}
-AreLevels (o ∷ ls) = ((IsEarlier (length ls) o.earlier × IsAlternative (length ls) o.current) × IsGroup o.group × (length ls < max_nesting)) × AreLevels ls
+AreLevels (o ∷ ls) =
+    ((IsEarlier (length ls) o.earlier × IsAlternative (length ls) o.current) × IsEnclosing o.enclosing × (length ls < max_nesting)) × AreLevels ls
 
 -- what is pending may stand there; where nothing is, each atom with A may come
 abbrev IsPending : (ClassAtom → Type 0) → Bool → Ranges → Pending → Type 0
@@ -129,13 +130,20 @@ question_formed outer l none f g h = tt
 question_formed outer l (atom a) f g h = (f, g, (h, tt), tt)
 question_formed outer l (counted a q) f g h = (f, (g.0, (g.1, h)), tt, tt)
 
--- and behind the end of a group with a well-formed tree
+-- and behind the end of a group or a lookbehind with a well-formed tree
+enclosed_formed : (outer : Outer) (l : Level) (g : Enclosing) (d : Disjunction) → AreLevels outer.groups → IsLevel (length outer.groups) l → IsEnclosing g
+    → length outer.groups < max_nesting → IsWellFormed (suc (length outer.groups)) d → IsState (enclosed outer l g d)
+enclosed_formed outer l (of_group g) d f w k deep h = (f, w, ((k, deep), h), tt)
+enclosed_formed outer l (of_lookbehind n) d f w k deep h = (f, (w.0, (w.1, (deep, h))), tt, tt)
+
+-- so it is where something is open
 close_formed : (os : List Open) (ns : List (List ℕ)) (d : Disjunction) → AreLevels os → IsWellFormed (length os) d → Makes (closed_in os ns d)
 close_formed [] ns d f h = tt
-close_formed (o ∷ os) ns d f h = (f.1, f.0.0, ((f.0.1, f.0.2), h), tt)
+close_formed (o ∷ os) ns d f h =
+    enclosed_formed (record { groups = os; names = ns }) (record { earlier = o.earlier; current = o.current }) o.enclosing d f.1 f.0.0 f.0.1 f.0.2 h
 
--- and behind the beginning of a group, where it is not nested too deep
-open_formed : (outer : Outer) (l : Level) (x : Last) (k : Group) (b : Bool) → nat_lt (length outer.groups) max_nesting ≡ b → IsGroup k
+-- and behind the beginning of one, where it is not nested too deep
+open_formed : (outer : Outer) (l : Level) (x : Last) (k : Enclosing) (b : Bool) → nat_lt (length outer.groups) max_nesting ≡ b → IsEnclosing k
     → AreLevels outer.groups → IsLevel (length outer.groups) l → IsLast (length outer.groups) x → Makes (opened outer l x k b)
 open_formed outer l x k false e w f g h = tt
 open_formed outer l x k true e w f g h =
@@ -210,10 +218,10 @@ property_read_formed outer l x (property_ends n e) w f g h =
 -- and behind the first character within a group that captures
 first_formed : (outer : Outer) (l : Level) (x : Last) (c : ℕ) (b : Bool) → nat_lt (length outer.groups) max_nesting ≡ b
     → AreLevels outer.groups → IsLevel (length outer.groups) l → IsLast (length outer.groups) x
-    → Makes (option_and_then (λ t. on_token t.outer t.level t.last c (token c)) (opened outer l x capturing b))
+    → Makes (option_and_then (λ t. on_token t.outer t.level t.last c (token c)) (opened outer l x (of_group capturing) b))
 first_formed outer l x c false e f g h = tt
 first_formed outer l x c true e f g h =
-    let o : Open = record { group = capturing; earlier = l.earlier; current = ended l.current x } in
+    let o : Open = record { enclosing = of_group capturing; earlier = l.earlier; current = ended l.current x } in
     let inner : AreLevels (o ∷ outer.groups) = (
       ((g.0, ended_formed (length outer.groups) l.current x g.1 h), tt, ltb-true (length outer.groups) max_nesting e),
       f,
@@ -229,7 +237,7 @@ group_formed outer l x c true f g h = (f, g, h, tt)
 -- and behind the one that follows `(?`
 extension_formed : (outer : Outer) (l : Level) (x : Last) (k : Extension) → AreLevels outer.groups → IsLevel (length outer.groups) l
     → IsLast (length outer.groups) x → Makes (on_extension outer l x k)
-extension_formed outer l x uncaptured f g h = open_formed outer l x plain_group _ refl tt f g h
+extension_formed outer l x uncaptured f g h = open_formed outer l x (of_group plain_group) _ refl tt f g h
 extension_formed outer l x name_opening f g h = (f, g, h, tt)
 extension_formed outer l x no_extension f g h = tt
 
@@ -307,12 +315,19 @@ module _ (outer : Outer) (l : Level) (x : Last) (f : AreLevels outer.groups) (g 
   -- and behind the end of a name
   name_end_formed : (n : List NameChar) → IsNamePart n → Makes (name_read outer l x n)
   name_end_formed [] w = tt
-  name_end_formed (y ∷ n) w = open_formed outer l x (named (y ∷ n)) _ refl w f g h
+  name_end_formed (y ∷ n) w = open_formed outer l x (of_group (named (y ∷ n))) _ refl w f g h
+
+  -- and behind the beginning of a lookbehind
+  look_formed : (n : List NameChar) (b : Bool) → Makes (look_read outer l x n b)
+  look_formed [] b = open_formed outer l x (of_lookbehind b) _ refl tt f g h
+  look_formed (y ∷ n) b = tt
 
   -- and behind any character in a name
   naming_formed : (n : List NameChar) (c : ℕ) (k : NameToken) → IsNamePart n → Makes (on_naming outer l x n c k)
   naming_formed n c name_end w = name_end_formed n w
   naming_formed n c name_backslash w = (f, g, h, w)
+  naming_formed n c name_equals w = look_formed n false
+  naming_formed n c name_negation w = look_formed n true
   naming_formed n c name_character w = name_char_formed n (verbatim c) w (λ e. e)
 
   -- and behind the one that follows a backslash there

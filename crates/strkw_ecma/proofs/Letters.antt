@@ -7,8 +7,8 @@ use Rattle.strkw_ecma.specs.Escapes.{Escape, itself, control, set, boundary, no_
 use Rattle.strkw_ecma.specs.Escapes.{escape}
 use Rattle.strkw_ecma.specs.Classes.{ClassToken, closing_bracket, class_escaper, dash, class_char, class_token, class_escape}
 use Rattle.strkw_ecma.specs.Numbers.{CountToken, digit, comma, closing_brace, no_count, is_digit, count_token}
-use Rattle.strkw_ecma.specs.Names.{Extension, uncaptured, name_opening, no_extension, extension, NameToken, name_end, name_backslash, name_character}
-use Rattle.strkw_ecma.specs.Names.{name_token}
+use Rattle.strkw_ecma.specs.Names.{Extension, uncaptured, name_opening, no_extension, extension, NameToken, name_end, name_backslash, name_equals}
+use Rattle.strkw_ecma.specs.Names.{name_negation, name_character, name_token}
 use Rattle.strkw_ecma.specs.Syntax.{Token, bar, asterisk, plus, question, caret, dollar, opening, closing, point, backslash, bracket, brace, character, other}
 use Rattle.strkw_ecma.specs.Syntax.{token}
 
@@ -129,10 +129,13 @@ char_of_extension_token c =
 abbrev pub char_of_name : NameToken → ℕ → ℕ
 char_of_name name_end c = byte ">"
 char_of_name name_backslash c = byte "\\"
+char_of_name name_equals c = byte "="
+char_of_name name_negation c = byte "!"
 char_of_name name_character c = c
 
 -- the character of what a character is in a name is that character
 pub char_of_name_token : (c : ℕ) → char_of_name (name_token c) c ≡ c
 char_of_name_token c =
     let P = λ (t : NameToken). char_of_name t c ≡ c in
-    by_test (c == byte ">") P _ _ (same_char c _) (by_test (c == byte "\\") P _ _ (same_char c _) refl)
+    by_test (c == byte ">") P _ _ (same_char c _) (by_test (c == byte "\\") P _ _ (same_char c _)
+    (by_test (c == byte "=") P _ _ (same_char c _) (by_test (c == byte "!") P _ _ (same_char c _) refl)))

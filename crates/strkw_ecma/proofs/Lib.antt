@@ -7,6 +7,7 @@ pub mod Few
 pub mod Copies
 pub mod Machines
 pub mod Sizes
+pub mod Behind
 pub mod Search
 pub mod Shapes
 pub mod Letters
@@ -28,6 +29,7 @@ pub mod Walks
 pub mod Tables
 pub mod Apart
 pub mod Complements
+pub mod Anchors
 pub mod Rows
 pub mod Bytes
 pub mod Named

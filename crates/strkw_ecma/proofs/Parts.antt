@@ -16,13 +16,13 @@ use Rattle.strkw_ecma.specs.declared.properties.Property.{Property}
 use Rattle.strkw_ecma.specs.declared.tree.CharSet.{CharSet}
 use Rattle.strkw_ecma.specs.declared.tree.CharSet.TheVariants.{Property as PropertySet}
 use Rattle.strkw_ecma.specs.Names.{NameChar, verbatim, by_code, name_char_value, name_value, may_follow, Extension, uncaptured, name_opening, no_extension}
-use Rattle.strkw_ecma.specs.Names.{extension, NameToken, name_end, name_backslash, name_character, name_token, are_distinct}
+use Rattle.strkw_ecma.specs.Names.{extension, NameToken, name_end, name_backslash, name_equals, name_negation, name_character, name_token, are_distinct}
 use Rattle.strkw_ecma.specs.Classes.{ClassToken, closing_bracket, class_escaper, dash, class_char, class_token, class_escape, ClassAtom, class_plain}
 use Rattle.strkw_ecma.specs.Classes.{hyphen, class_escaped, class_control, class_set, backspace, class_coded, class_property, Ranges, no_ranges, item, set_item}
 use Rattle.strkw_ecma.specs.Classes.{property_set, range, range_list, sets_of}
 use Rattle.strkw_ecma.specs.Syntax.{Disjunction, Alternative, Term, at_start, at_end, at_boundary, at_no_boundary, Quantifier, exactly, at_least, from_to}
-use Rattle.strkw_ecma.specs.Syntax.{zero_or_more, one_or_more, Group, capturing, plain_group, named, with_name, Atom, plain, escaped, control_escape}
-use Rattle.strkw_ecma.specs.Syntax.{set_escape, coded, property_escape, dot, Token, bar, asterisk, plus, question, caret, dollar, opening as opening_token}
+use Rattle.strkw_ecma.specs.Syntax.{zero_or_more, one_or_more, capturing, plain_group, named, Enclosing, of_group, of_lookbehind, with_own_name, Atom, plain, escaped}
+use Rattle.strkw_ecma.specs.Syntax.{control_escape, set_escape, coded, property_escape, dot, Token, bar, asterisk, plus, question, caret, dollar, opening as opening_token}
 use Rattle.strkw_ecma.specs.Syntax.{closing, point, backslash, bracket, brace, character, other, token, max_nesting, max_length}
 use Rattle.strkw_ecma.specs.Patterns.{pattern, alternative_pattern, term_pattern, atom_pattern, times, copies, quantified_pattern}
 use Rattle.strkw_ecma.specs.Numbers.{number, number_of, max_count, CountToken, digit, comma, closing_brace, no_count, count_token}
@@ -35,12 +35,12 @@ use Rattle.strkw_ecma.specs.machine.Parts as parts
 use Rattle.strkw_ecma.specs.machine.Reading.{Open, Outer, Level, State, with_count, when, longer, range_read, on_low, on_high, on_count, Mode, between}
 use Rattle.strkw_ecma.specs.machine.Reading.{with_mode, opened_within, on_group, on_extension, on_class, on_class_token, on_class_escape, on_coding}
 use Rattle.strkw_ecma.specs.machine.Reading.{on_class_coding, on_property, on_class_property, within, next_in, is_between, with_atom, with_term}
-use Rattle.strkw_ecma.specs.machine.Reading.{with_quantifier, questioned, opened, closed_in, with_name_char, name_read, on_naming, on_name_escape}
+use Rattle.strkw_ecma.specs.machine.Reading.{with_quantifier, questioned, opened, enclosed, closed_in, with_name_char, name_read, look_read, on_naming, on_name_escape}
 use Rattle.strkw_ecma.specs.machine.Reading.{on_name_coding, closed, on_token, on_escape, next, read_from, initial, read, read_short, read_pattern, tree_if}
 use Rattle.strkw_ecma.specs.machine.Reading.{small_tree}
 use Rattle.strkw_ecma.specs.machine.Parts.{Side, Parts, after_count, after_low, after_high, after_high_brace, after_counting, small, value, ended, joined}
-use Rattle.strkw_ecma.specs.machine.Parts.{level_ended, level_so_far, new_level, after_atom, after_term, after_bar, after_opening, closing_in, after_name_char}
-use Rattle.strkw_ecma.specs.machine.Parts.{after_name, after_naming, after_name_escape, after_name_coding, closes, after_closing, after_quantifier}
+use Rattle.strkw_ecma.specs.machine.Parts.{level_ended, level_so_far, new_level, after_atom, after_term, after_bar, after_opening, after_enclosed, closing_in, after_name_char}
+use Rattle.strkw_ecma.specs.machine.Parts.{after_name, after_look, after_naming, after_name_escape, after_name_coding, closes, after_closing, after_quantifier}
 use Rattle.strkw_ecma.specs.machine.Parts.{after_question, after_escape, after_token, after_group, after_extension, after_class_token, after_class_escape}
 use Rattle.strkw_ecma.specs.machine.Parts.{after_coding, after_class_coding, after_property, after_class_property, after_bracket, after_in, after_char}
 use Rattle.strkw_ecma.specs.machine.Parts.{at_close, pattern_from, no_parts, pattern_if, small_pattern}
@@ -49,11 +49,19 @@ use Rattle.strkw_ecma.specs.machine.Parts.{at_close, pattern_from, no_parts, pat
 abbrev side : Level → Side
 side l = record { earlier = option_map pattern l.earlier; current = alternative_pattern l.current }
 
--- the level around an open group, with the patterns of its trees
-abbrev pub around : Open → Side
-around o = record { earlier = option_map pattern o.earlier; current = alternative_pattern o.current }
+-- a group or a lookbehind of the definitions, as the code's reader holds it
+abbrev pub enclosing_image : Enclosing → parts.Enclosing
+enclosing_image (of_group g) = parts.of_group
+enclosing_image (of_lookbehind n) = parts.of_behind n
 
--- the levels around the open groups, and the names
+-- what is open, and the level around it with the patterns of its trees
+abbrev pub around : Open → parts.Open
+around o = record {
+  enclosing = enclosing_image o.enclosing;
+  side = record { earlier = option_map pattern o.earlier; current = alternative_pattern o.current };
+}
+
+-- all that is open, and the names
 abbrev outer_image : Outer → parts.Outer
 outer_image o = record { groups = map around o.groups; names = o.names }
 
@@ -152,17 +160,20 @@ module _ (outer : Outer) (l : Level) (x : reading.Last) where
       (level_image l x)
 
   -- with the name of the group
-  abbrev around_group : Group → Parts
-  around_group g = image (state (record { groups = outer.groups; names = with_name outer.names g }) l x)
+  abbrev around_group : Enclosing → Parts
+  around_group g = image (state (record { groups = outer.groups; names = with_own_name outer.names g }) l x)
 
-  -- the two readers agree on a group that opens where a test holds
-  opened_image : (g : Group) (b : Bool) → option_map image (opened outer l x g b) ≡ after_opening (around_group g) b
+  -- the two readers agree on a group or a lookbehind that opens where a test holds
+  opened_image : (g : Enclosing) (b : Bool) → option_map image (opened outer l x g b) ≡ after_opening (around_group g) (enclosing_image g) b
   opened_image g false = refl
   opened_image g true =
       ap (λ (p : Pattern). Some (record {
         outer = record {
-          groups = record { earlier = option_map pattern l.earlier; current = p } ∷ map around outer.groups;
-          names = with_name outer.names g;
+          groups = record {
+            enclosing = enclosing_image g;
+            side = record { earlier = option_map pattern l.earlier; current = p };
+          } ∷ map around outer.groups;
+          names = with_own_name outer.names g;
         };
         level = new_level;
         last = parts.none;
@@ -170,9 +181,10 @@ module _ (outer : Outer) (l : Level) (x : reading.Last) where
       })) (ended_image l.current x)
 
   -- and on one that opens where it is not nested too deep
-  within_opened : (g : Group) → option_map image (opened_within outer l x g) ≡ parts.opened_within (around_group g)
+  within_opened : (g : Enclosing) → option_map image (opened_within outer l x g) ≡ parts.opened_within (around_group g) (enclosing_image g)
   within_opened g =
-      opened_image g _ ∙ ap (λ (n : ℕ). after_opening (around_group g) (nat_lt n max_nesting)) (sym (length-map outer.groups around))
+      opened_image g _
+      ∙ ap (λ (n : ℕ). after_opening (around_group g) (enclosing_image g) (nat_lt n max_nesting)) (sym (length-map outer.groups around))
 
   -- and on the state in a class, where there is a class
   within_image : (o : Option reading.Class) → option_map image (within outer l x o) ≡ parts.within (image (state outer l x)) (option_map class_image o)
@@ -230,11 +242,18 @@ question_image outer l reading.none = refl
 question_image outer l (reading.atom a) = refl
 question_image outer l (reading.counted a q) = refl
 
--- and on the closing of a group with this tree
+-- and behind the end of a group or a lookbehind with this tree
+enclosed_image : (outer : Outer) (l : Level) (g : Enclosing) (d : Disjunction)
+    → image (enclosed outer l g d) ≡ after_enclosed (outer_image outer) (side l) (enclosing_image g) (pattern d)
+enclosed_image outer l (of_group g) d = refl
+enclosed_image outer l (of_lookbehind n) d = refl
+
+-- and so where something is open
 closed_image : (os : List Open) (ns : List (List ℕ)) (d : Disjunction)
     → option_map image (closed_in os ns d) ≡ closing_in (map around os) ns (pattern d)
 closed_image [] ns d = refl
-closed_image (o ∷ os) ns d = refl
+closed_image (o ∷ os) ns d =
+    ap Some (enclosed_image (record { groups = os; names = ns }) (record { earlier = o.earlier; current = o.current }) o.enclosing d)
 
 -- the two readers agree on a character between terms, whatever it is
 token_image : (outer : Outer) (l : Level) (x : reading.Last) (c : ℕ) (k : Token)
@@ -256,15 +275,18 @@ token_image outer l x c other = refl
 
 -- and on the first character within a group that opens where a test holds
 first_image : (outer : Outer) (l : Level) (x : reading.Last) (c : ℕ) (b : Bool)
-    → option_map image (option_and_then (λ t. on_token t.outer t.level t.last c (token c)) (opened outer l x capturing b))
-    ≡ option_and_then (λ t. after_token t c (token c)) (after_opening (image (state outer l x)) b)
+    → option_map image (option_and_then (λ t. on_token t.outer t.level t.last c (token c)) (opened outer l x (of_group capturing) b))
+    ≡ option_and_then (λ t. after_token t c (token c)) (after_opening (image (state outer l x)) parts.of_group b)
 first_image outer l x c false = refl
 first_image outer l x c true =
-    let o : Open = record { group = capturing; earlier = l.earlier; current = reading.ended l.current x } in
+    let o : Open = record { enclosing = of_group capturing; earlier = l.earlier; current = reading.ended l.current x } in
     token_image (record { groups = o ∷ outer.groups; names = outer.names }) reading.new_level reading.none c (token c)
     ∙ ap (λ (p : Pattern). after_token (record {
       outer = record {
-        groups = record { earlier = option_map pattern l.earlier; current = p } ∷ map around outer.groups;
+        groups = record {
+          enclosing = parts.of_group;
+          side = record { earlier = option_map pattern l.earlier; current = p };
+        } ∷ map around outer.groups;
         names = outer.names;
       };
       level = new_level;
@@ -277,14 +299,14 @@ group_image : (outer : Outer) (l : Level) (x : reading.Last) (c : ℕ) (b : Bool
     → option_map image (on_group outer l x c b) ≡ after_group (image (state outer l x)) c b
 group_image outer l x c false =
     first_image outer l x c _
-    ∙ ap (λ (n : ℕ). option_and_then (λ t. after_token t c (token c)) (after_opening (image (state outer l x)) (nat_lt n max_nesting)))
+    ∙ ap (λ (n : ℕ). option_and_then (λ t. after_token t c (token c)) (after_opening (image (state outer l x)) parts.of_group (nat_lt n max_nesting)))
     (sym (length-map outer.groups around))
 group_image outer l x c true = refl
 
 -- and on the one behind `(?`
 extension_image : (outer : Outer) (l : Level) (x : reading.Last) (k : Extension)
     → option_map image (on_extension outer l x k) ≡ after_extension (image (state outer l x)) k
-extension_image outer l x uncaptured = within_opened outer l x plain_group
+extension_image outer l x uncaptured = within_opened outer l x (of_group plain_group)
 extension_image outer l x name_opening = refl
 extension_image outer l x no_extension = refl
 
@@ -311,13 +333,20 @@ module _ (outer : Outer) (l : Level) (x : reading.Last) where
   -- and on the end of a name
   name_end_image : (n : List NameChar) → option_map image (name_read outer l x n) ≡ after_name (image (state outer l x)) (name_value n)
   name_end_image [] = refl
-  name_end_image (y ∷ n) = within_opened outer l x (named (y ∷ n))
+  name_end_image (y ∷ n) = within_opened outer l x (of_group (named (y ∷ n)))
+
+  -- and on the beginning of a lookbehind
+  look_image : (n : List NameChar) (b : Bool) → option_map image (look_read outer l x n b) ≡ after_look (image (state outer l x)) (name_value n) b
+  look_image [] b = within_opened outer l x (of_lookbehind b)
+  look_image (y ∷ n) b = refl
 
   -- and on a character in a name, whatever it is there
   naming_image : (n : List NameChar) (c : ℕ) (k : NameToken)
       → option_map image (on_naming outer l x n c k) ≡ after_naming (image (state outer l x)) (name_value n) c k
   naming_image n c name_end = name_end_image n
   naming_image n c name_backslash = refl
+  naming_image n c name_equals = look_image n false
+  naming_image n c name_negation = look_image n true
   naming_image n c name_character = name_char_image n (verbatim c)
 
   -- and on the one behind a backslash in a name
@@ -545,7 +574,7 @@ none_closes None h = refl
 none_closes (Some p) h = absurd (true≢false h)
 
 -- where there is a pattern at the end, it is that of the whole level
-pub closes_with : (os : List Side) (l : Side) (x : parts.Last) (b : Bool) → is_some (closes os l x b) ≡ true → Some (level_ended l x) ≡ closes os l x b
+pub closes_with : (os : List parts.Open) (l : Side) (x : parts.Last) (b : Bool) → is_some (closes os l x b) ≡ true → Some (level_ended l x) ≡ closes os l x b
 closes_with [] l x true h = refl
 closes_with [] l x false h = absurd (true≢false (sym h))
 closes_with (o ∷ os) l x b h = absurd (true≢false (sym h))

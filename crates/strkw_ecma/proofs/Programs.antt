@@ -3,11 +3,11 @@ use Rattle.std.proofs.Common.{◌≡◌, ℕ, Bool, true, false, ◌&&◌, ◌||
 use Rattle.std.proofs.lemmas.Bool.Decides.{nat_tests}
 use Rattle.std.proofs.lemmas.List.{append_assoc, append-nil}
 use Rattle.strkw_ecma.specs.declared.tree.CharSet.{CharSet}
-use Rattle.strkw_ecma.specs.Tree.{Look, Pattern, empty, class, look, cat, alt, star, plus}
+use Rattle.strkw_ecma.specs.Tree.{Look, Pattern, empty, class, look, cat, alt, star, plus, lookbehind, differ}
 use Rattle.strkw_ecma.specs.Meaning.{holds}
 use Rattle.strkw_ecma.specs.machine.Marks.{reads, leaves, step, marks_of}
-use Rattle.strkw_ecma.specs.Program.{Instruction, read, fork, other, join, star_begin, star_end, plus_begin, plus_end, if_class, if_option, program}
-use Rattle.strkw_ecma.specs.Program.{alternatives}
+use Rattle.strkw_ecma.specs.Program.{Instruction, read, fork, other, join, star_begin, star_end, plus_begin, plus_end, look_begin, look_end}
+use Rattle.strkw_ecma.specs.Program.{if_class, if_option, program, alternatives}
 use Rattle.strkw_ecma.proofs.Steps.{plus_leaves}
 use Rattle.strkw_ecma.specs.machine.Walk.{Asked, Walked, top, below, back_over, asked, followed, walked}
 
@@ -21,6 +21,7 @@ by_class P (cat p q) f x g h = h
 by_class P (alt p q) f x g h = h
 by_class P (star p) f x g h = h
 by_class P (plus p) f x g h = h
+by_class P (lookbehind n p) f x g h = h
 
 -- the same of what is chosen by whether the first of two is nothing and the second a class
 pub by_option : {A : Type 0} (P : A → Type 0) (p q : Pattern) (f : Bool → List CharSet → A) (x : A)
@@ -32,6 +33,7 @@ by_option P (cat p r) q f x g h = h
 by_option P (alt p r) q f x g h = h
 by_option P (star p) q f x g h = h
 by_option P (plus p) q f x g h = h
+by_option P (lookbehind n p) q f x g h = h
 
 module _ (b a : Option ℕ) where
   -- whether a way through the pattern reads nothing
@@ -43,6 +45,7 @@ module _ (b a : Option ℕ) where
   passes (alt p q) = passes q || passes p
   passes (star p) = true
   passes (plus p) = passes p
+  passes (lookbehind n p) = differ n (leaves b a p true)
 
   -- what leaves the body of each loop that is not entered, in the order in which they begin
   abbrev pub agains : Pattern → List Bool
@@ -53,6 +56,7 @@ module _ (b a : Option ℕ) where
   agains (alt p q) = agains p ++ agains q
   agains (star p) = if_class p (λ n rs. []) (leaves b a p false ∷ agains p)
   agains (plus p) = if_class p (λ n rs. []) (leaves b a p false ∷ agains p)
+  agains (lookbehind n p) = agains p
 
 -- the same of two that are chosen by one pattern
 pub both_by_class : {A B : Type 0} (P : A → B → Type 0) (p : Pattern) (f : Bool → List CharSet → A) (x : A) (g : Bool → List CharSet → B) (y : B)
@@ -64,6 +68,7 @@ both_by_class P (cat p q) f x g y h k = k
 both_by_class P (alt p q) f x g y h k = k
 both_by_class P (star p) f x g y h k = k
 both_by_class P (plus p) f x g y h k = k
+both_by_class P (lookbehind n p) f x g y h k = k
 
 -- what is known before an instruction is the same where its four parts are
 same_asked : (s t : Asked) → s.ends ≡ t.ends → s.goes_on ≡ t.goes_on → s.around ≡ t.around → s.again ≡ t.again → s ≡ t
@@ -105,6 +110,7 @@ module _ (b a : Option ℕ) where
       -- ways through one round or more: from a mark in one, or from before them
       regroup : (l p x : Bool) → (l || ((x || l) && p)) ≡ ((l || ((false || l) && p)) || (x && p))
       regroup l p x = grind (arith, nat_tests)
+  leaves_split (lookbehind n p) x = refl
 
   -- what is known before a pattern by what is known behind it
   abbrev pub before : Pattern → Asked → Asked
@@ -313,6 +319,18 @@ module _ (b a : Option ℕ) where
       })
       p _ _ _ _ (λ m n rs e. rw e refl) (asked_plus p is ms (body (plus_end ∷ is) ms))
 
+  -- so it is before a lookbehind, where it is before its body, which a way enters at each place
+  behind_asked : (n : Bool) (p : Pattern) → IsAsked p → IsAsked (lookbehind n p)
+  behind_asked n p body is ms =
+      let s = asked b a is ms in
+      ap (λ (js : List Instruction). asked b a (look_begin n ∷ js) (marks_of p ++ ms)) (append_assoc (program p) (look_end n ∷ []) is)
+      ∙ ap (back_over b a (look_begin n) (top (marks_of p ++ ms))) (body (look_end n ∷ is) ms)
+      ∙ same_asked _ _ (ap (λ (y : Bool). s.ends && differ n y) (sym (leaves_split p true))) (goes_on s.goes_on s.ends) refl refl
+    where
+      -- an alternative that cannot hold changes nothing
+      goes_on : (g e : Bool) → g ≡ (g || (e && false))
+      goes_on g e = grind (arith, nat_tests)
+
   -- a pattern whose program is the same among alternatives is asked so there too, if it is alone
   alone_beside : (p : Pattern) → alternatives p ≡ program p → IsAsked p → IsAsked p × IsAskedBeside p
   alone_beside p same known = (
@@ -331,6 +349,7 @@ module _ (b a : Option ℕ) where
       (alt_asked p q (asked_both p).1 (asked_both q).0, alt_asked_beside p q (asked_both p).1 (asked_both q).0)
   asked_both (star p) = alone_beside (star p) refl (star_asked p (asked_both p).0)
   asked_both (plus p) = alone_beside (plus p) refl (plus_asked p (asked_both p).0)
+  asked_both (lookbehind n p) = alone_beside (lookbehind n p) refl (behind_asked n p (asked_both p).0)
 
   -- what leaves each loop of a program
   pub asked_again : (p : Pattern) (ms : List Bool) → (asked b a (program p) (marks_of p ++ ms)).again ≡ agains b a p
@@ -466,6 +485,11 @@ module _ (b a : Option ℕ) where
       p _ _ _ _ (λ m n rs e. rw e refl)
       (rw (append_assoc (program p) (plus_end ∷ []) is) (body (plus_end ∷ is) (x || leaves b a p false) around again ms))
 
+  -- so a lookbehind is followed, where its body is
+  behind_followed : (n : Bool) (p : Pattern) → IsFollowed p → IsFollowed (lookbehind n p)
+  behind_followed n p body is x around again ms =
+      rw (append_assoc (program p) (look_end n ∷ []) is) (body (look_end n ∷ is) true (x ∷ around) again ms)
+
   -- a pattern whose program is the same among alternatives is followed so there too, if it is alone
   alone_followed : (p : Pattern) → alternatives p ≡ program p → IsFollowed p → IsFollowed p × IsFollowedBeside p
   alone_followed p same known = (
@@ -490,6 +514,7 @@ module _ (b a : Option ℕ) where
       (alt_followed p q (followed_both p).1 (followed_both q).0, alt_followed_beside p q (followed_both p).1 (followed_both q).0)
   followed_both (star p) = alone_followed (star p) refl (star_followed p (followed_both p).0)
   followed_both (plus p) = alone_followed (plus p) refl (plus_followed p (followed_both p).0)
+  followed_both (lookbehind n p) = alone_followed (lookbehind n p) refl (behind_followed n p (followed_both p).0)
 
   -- a walk over the program is a step of the pattern
   pub walked_is : (p : Pattern) (ms : List Bool) → walked b a (program p) (marks_of p ++ ms)

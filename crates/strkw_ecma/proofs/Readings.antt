@@ -14,10 +14,11 @@ use Rattle.strkw_ecma.specs.machine.PropertyReading.{PropertyPart, brace_awaited
 use Rattle.ucd_derived.proofs.Computing.{ucd_derived}
 use Rattle.strkw_ecma.specs.Names.{NameChar, verbatim, by_code, name_char_spelling, name_spelling, name_char_value, name_value, is_unicode, is_name_start}
 use Rattle.strkw_ecma.specs.Names.{is_name_part, IsNameChar, AreNameParts, IsName, may_follow, are_distinct, NameToken, name_end, name_backslash}
-use Rattle.strkw_ecma.specs.Names.{name_character, name_token}
-use Rattle.strkw_ecma.specs.Syntax.{Disjunction, only, either, Alternative, nothing, more, Term, at_start, at_end, at_boundary, at_no_boundary, once}
+use Rattle.strkw_ecma.specs.Names.{name_equals, name_negation, name_character, name_token}
+use Rattle.strkw_ecma.specs.Syntax.{Disjunction, only, either, Alternative, nothing, more, Term, at_start, at_end, at_boundary, at_no_boundary, looks_behind, once}
 use Rattle.strkw_ecma.specs.Syntax.{quantified, Quantifier, zero_or_more, one_or_more, zero_or_one, exactly, at_least, from_to, greedy, lazy, Atom, plain}
 use Rattle.strkw_ecma.specs.Syntax.{escaped, control_escape, set_escape, coded, property_escape, dot, bracketed, group, Group, capturing, plain_group, named}
+use Rattle.strkw_ecma.specs.Syntax.{Enclosing, of_group, of_lookbehind, lookbehind_spelling, with_own_name}
 use Rattle.strkw_ecma.specs.Syntax.{with_name, with_names, with_alternative_names, with_term_names, with_atom_names, names, Token, character, token}
 use Rattle.strkw_ecma.specs.Syntax.{quantifier_spelling, group_spelling, greed_spelling, spelling, alternative_spelling, term_spelling, atom_spelling}
 use Rattle.strkw_ecma.specs.Syntax.{max_nesting}
@@ -228,6 +229,8 @@ mutual
   begins_term at_end n h cs = refl
   begins_term at_boundary n h cs = refl
   begins_term at_no_boundary n h cs = refl
+  begins_term (looks_behind false d) n h cs = refl
+  begins_term (looks_behind true d) n h cs = refl
   begins_term (once p) n h cs = begins_atom p n h cs
   begins_term (quantified p q g) n h cs =
       subst IsNoQuestion (sym (regroup (atom_spelling p) (quantifier_spelling q) (greed_spelling g) cs)) (begins_atom p n h.0 _)
@@ -252,27 +255,27 @@ not_closed : (os : List Open) (l : Level) (x : Last) → closes os l x false ≡
 not_closed [] l x = refl
 not_closed (o ∷ os) l x = refl
 
--- the state at the beginning of a group that has been opened
-abbrev inside : Outer → Option Disjunction → Alternative → Last → Group → State
+-- the state at the beginning of a group or a lookbehind that has been opened
+abbrev inside : Outer → Option Disjunction → Alternative → Last → Enclosing → State
 inside outer e a x g = state (record {
-  groups = record { group = g; earlier = e; current = ended a x } ∷ outer.groups;
-  names = with_name outer.names g;
+  groups = record { enclosing = g; earlier = e; current = ended a x } ∷ outer.groups;
+  names = with_own_name outer.names g;
 }) None nothing none
 
 -- a name
 -- the characters that have a meaning of their own in a name are none of its
 IsApart : (ℕ → Bool) → Type 0
-IsApart f = (f (byte ">") ≡ false) × (f (byte "\\") ≡ false)
+IsApart f = (f (byte ">") ≡ false) × (f (byte "\\") ≡ false) × (f (byte "=") ≡ false) × (f (byte "!") ≡ false)
 
 -- so it is with the characters that may begin a name
 start_apart : IsApart is_name_start
 unfolding IsApart ucd_derived
-start_apart = (refl, refl)
+start_apart = (refl, refl, refl, refl)
 
 -- and with those that may go on with it
 part_apart : IsApart is_name_part
 unfolding IsApart ucd_derived
-part_apart = (refl, refl)
+part_apart = (refl, refl, refl, refl)
 
 -- so it is with those that may follow this much of a name
 follow_apart : (ds : List ℕ) → IsApart (may_follow ds)
@@ -283,8 +286,12 @@ follow_apart (d ∷ ds) = part_apart
 token_of_name : (f : ℕ → Bool) → IsApart f → (c : ℕ) → f c ≡ true → name_token c ≡ name_character
 unfolding IsApart
 token_of_name f a c h =
-    ap (λ (b : Bool). if b then name_end else if c == byte "\\" then name_backslash else name_character) (is_not f c (byte ">") _ refl h a.0)
-    ∙ ap (λ (b : Bool). if b then name_backslash else name_character) (is_not f c (byte "\\") _ refl h a.1)
+    ap (λ (b : Bool). if b then name_end else if c == byte "\\" then name_backslash else if c == byte "=" then name_equals
+    else if c == byte "!" then name_negation else name_character) (is_not f c (byte ">") _ refl h a.0)
+    ∙ ap (λ (b : Bool). if b then name_backslash else if c == byte "=" then name_equals else if c == byte "!" then name_negation
+    else name_character) (is_not f c (byte "\\") _ refl h a.1)
+    ∙ ap (λ (b : Bool). if b then name_equals else if c == byte "!" then name_negation else name_character) (is_not f c (byte "=") _ refl h a.2)
+    ∙ ap (λ (b : Bool). if b then name_negation else name_character) (is_not f c (byte "!") _ refl h a.3)
 
 module _ (outer : Outer) (l : Level) (x : Last) where
   -- the tree of the whole, where the rest stands behind this much of a name
@@ -354,36 +361,46 @@ module _ (outer : Outer) (l : Level) (x : Last) where
 
   -- and `>` behind it opens the group, where that is not nested too deep
   ends_name : (n : List NameChar) → IsName n → (cs : List ℕ)
-      → in_name n (byte ">" ∷ cs) ≡ option_and_then (λ t. read_from t cs) (opened_within outer l x (named n))
+      → in_name n (byte ">" ∷ cs) ≡ option_and_then (λ t. read_from t cs) (opened_within outer l x (of_group (named n)))
   ends_name [] h cs = absurd h
   ends_name (y ∷ n) h cs = refl
 
 -- behind `(`
 -- a group that captures is entered, where no question mark follows and it is not nested too deep
 enters : (outer : Outer) (e : Option Disjunction) (a : Alternative) (x : Last) (cs : List ℕ) → length outer.groups < max_nesting → IsNoQuestion cs
-    → read_from (with_mode outer (record { earlier = e; current = a }) x opening) cs ≡ read_from (inside outer e a x capturing) cs
+    → read_from (with_mode outer (record { earlier = e; current = a }) x opening) cs ≡ read_from (inside outer e a x (of_group capturing)) cs
 enters outer e a x [] h w = not_closed outer.groups (record { earlier = e; current = a }) x
 enters outer e a x (c ∷ cs) h w =
     let l : Level = record { earlier = e; current = a } in
     ap (λ (b : Bool). option_and_then (λ t. read_from t cs) (on_group outer l x c b)) w
     ∙ ap (λ (b : Bool). option_and_then (λ t. read_from t cs)
-    (option_and_then (λ t. on_token t.outer t.level t.last c (token c)) (opened outer l x capturing b)))
+    (option_and_then (λ t. on_token t.outer t.level t.last c (token c)) (opened outer l x (of_group capturing) b)))
     (lt-ltb (length outer.groups) max_nesting h)
 
 -- so the beginning of any group is read from its spelling, and the group is entered
 opens : (outer : Outer) (e : Option Disjunction) (a : Alternative) (x : Last) (g : Group) (cs : List ℕ) → length outer.groups < max_nesting
-    → IsGroup g → IsNoQuestion cs → read_from (state outer e a x) (group_spelling g ++ cs) ≡ read_from (inside outer e a x g) cs
+    → IsGroup g → IsNoQuestion cs → read_from (state outer e a x) (group_spelling g ++ cs) ≡ read_from (inside outer e a x (of_group g)) cs
 opens outer e a x capturing cs h v w = enters outer e a x cs h w
 opens outer e a x plain_group cs h v w =
-    ap (λ (b : Bool). option_and_then (λ t. read_from t cs) (opened outer (record { earlier = e; current = a }) x plain_group b))
+    ap (λ (b : Bool). option_and_then (λ t. read_from t cs) (opened outer (record { earlier = e; current = a }) x (of_group plain_group) b))
     (lt-ltb (length outer.groups) max_nesting h)
 opens outer e a x (named n) cs h v w =
     let l : Level = record { earlier = e; current = a } in
     ap (in_name outer l x []) (append_assoc (name_spelling n) (byte ">" ∷ []) cs)
     ∙ reads_name outer l x n v (byte ">" ∷ cs) ∙ ends_name outer l x n v cs
-    ∙ ap (λ (b : Bool). option_and_then (λ t. read_from t cs) (opened outer l x (named n) b)) (lt-ltb (length outer.groups) max_nesting h)
+    ∙ ap (λ (b : Bool). option_and_then (λ t. read_from t cs) (opened outer l x (of_group (named n)) b)) (lt-ltb (length outer.groups) max_nesting h)
 
--- the open groups, and the names so far
+-- and that of a lookbehind
+looks : (outer : Outer) (e : Option Disjunction) (a : Alternative) (x : Last) (n : Bool) (cs : List ℕ) → length outer.groups < max_nesting
+    → read_from (state outer e a x) (lookbehind_spelling n ++ cs) ≡ read_from (inside outer e a x (of_lookbehind n)) cs
+looks outer e a x false cs h =
+    ap (λ (b : Bool). option_and_then (λ t. read_from t cs) (opened outer (record { earlier = e; current = a }) x (of_lookbehind false) b))
+    (lt-ltb (length outer.groups) max_nesting h)
+looks outer e a x true cs h =
+    ap (λ (b : Bool). option_and_then (λ t. read_from t cs) (opened outer (record { earlier = e; current = a }) x (of_lookbehind true) b))
+    (lt-ltb (length outer.groups) max_nesting h)
+
+-- what is open, and the names so far
 abbrev around : List Open → List (List ℕ) → Outer
 around os ns = record { groups = os; names = ns }
 
@@ -430,6 +447,17 @@ mutual
   reads_term at_end os ns h e a x cs = (more (ended a x) at_end, none, refl, refl)
   reads_term at_boundary os ns h e a x cs = (more (ended a x) at_boundary, none, refl, refl)
   reads_term at_no_boundary os ns h e a x cs = (more (ended a x) at_no_boundary, none, refl, refl)
+  reads_term (looks_behind n d) os ns h e a x cs =
+      let o : Open = record { enclosing = of_lookbehind n; earlier = e; current = ended a x } in
+      let inner = reads_disjunction d (o ∷ os) ns h.1 (byte ")" ∷ cs) in
+      let behind = around os (with_names ns d) in (
+        more (ended a x) (looks_behind n d),
+        none,
+        refl,
+        ap (read_from (state (around os ns) e a x)) (regroup (lookbehind_spelling n) (spelling d) (byte ")" ∷ []) cs)
+            ∙ looks (around os ns) e a x n (spelling d ++ byte ")" ∷ cs) h.0
+            ∙ inner.4 ∙ ap (λ z. read_from (state behind e (more (ended a x) (looks_behind n z)) none) cs) inner.3,
+      )
   reads_term (once p) os ns h e a x cs = (ended a x, atom p, refl, reads_atom p os ns h e a x cs)
   reads_term (quantified p q greedy) os ns h e a x cs = (
     ended a x,
@@ -466,7 +494,7 @@ mutual
   reads_atom (bracketed n r w) os ns h e a x cs =
       reads_class (around os ns) (record { earlier = e; current = a }) x n r w h.0 h.1 cs
   reads_atom (group g d) os ns h e a x cs =
-      let o : Open = record { group = g; earlier = e; current = ended a x } in
+      let o : Open = record { enclosing = of_group g; earlier = e; current = ended a x } in
       let inner = reads_disjunction d (o ∷ os) (with_name ns g) h.1 (byte ")" ∷ cs) in
       let outer = around os ns in
       let behind = around os (with_names (with_name ns g) d) in

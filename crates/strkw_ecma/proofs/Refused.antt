@@ -5,14 +5,14 @@ use Rattle.std.specs.Prelude.{is_some}
 use Rattle.std.proofs.lemmas.List.{length-map}
 use Rattle.std.proofs.lemmas.Bool.{le-leb, leb-false, ltb-false}
 use Rattle.std.specs.Str.{byte}
-use Rattle.strkw_ecma.specs.Syntax.{Disjunction, spelling, Group, capturing, plain_group, named, group_spelling, atom_spelling, Quantifier, exactly, at_least}
-use Rattle.strkw_ecma.specs.Syntax.{from_to, quantifier_spelling, max_nesting, max_length}
-use Rattle.strkw_ecma.specs.WellFormed.{IsWellFormed, IsGroup}
+use Rattle.strkw_ecma.specs.Syntax.{Disjunction, spelling, capturing, plain_group, named, Enclosing, of_group, of_lookbehind, enclosing_spelling, atom_spelling, Quantifier}
+use Rattle.strkw_ecma.specs.Syntax.{exactly, at_least, from_to, quantifier_spelling, max_nesting, max_length}
+use Rattle.strkw_ecma.specs.WellFormed.{IsWellFormed, IsEnclosing}
 use Rattle.strkw_ecma.specs.Patterns.{pattern}
 use Rattle.strkw_ecma.specs.Size.{steps, max_steps}
 use Rattle.strkw_ecma.specs.Numbers.{number, number_of, CountToken, digit, comma, closing_brace, no_count, count_token}
 use Rattle.strkw_ecma.specs.Names.{NameChar, name_value, Extension, uncaptured, name_opening, no_extension, extension, NameToken, name_end, name_backslash}
-use Rattle.strkw_ecma.specs.Names.{name_character, name_token}
+use Rattle.strkw_ecma.specs.Names.{name_equals, name_negation, name_character, name_token}
 use Rattle.strkw_ecma.specs.machine.PropertyReading.{PropertyPart, brace_awaited, in_braces}
 use Rattle.strkw_ecma.specs.machine.Reading.{Open, Outer, Level, State, Last, none, atom, counted, Class, Count, low, high, Mode, between, escaping, opening}
 use Rattle.strkw_ecma.specs.machine.Reading.{extending, class_opened, counting, coding, in_class, class_escaping, class_coding, in_property, in_class_property}
@@ -25,7 +25,7 @@ use Rattle.strkw_ecma.specs.Refusals.{IsBeginning, Has, HasTermWithin, is_unknow
 use Rattle.strkw_ecma.specs.machine.RefusalParts.{told_if, one_deeper, extension_refusal, name_refusal, term_refusal, range_refusal, count_refusal}
 use Rattle.strkw_ecma.specs.machine.RefusalParts.{part_refusal, refusal_at}
 use Rattle.strkw_ecma.specs.declared.refusals.PatternRefusal.{PatternRefusal}
-use Rattle.strkw_ecma.specs.declared.refusals.PatternRefusal.TheVariants.{LookAhead, LookBehind, BackReference, Property, TooDeep, TooLarge}
+use Rattle.strkw_ecma.specs.declared.refusals.PatternRefusal.TheVariants.{LookAhead, BackReference, Property, TooDeep, TooLarge}
 use Rattle.strkw_ecma.specs.machine.Parts as parts
 use Rattle.strkw_ecma.specs.machine.Reading as reading
 use Rattle.strkw_ecma.specs.machine.Parts.{Parts, after_char}
@@ -41,12 +41,12 @@ use Rattle.strkw_ecma.proofs.Formed.{read_formed}
 use Rattle.strkw_ecma.proofs.Parts.{image, last_image, around, next_image}
 use Rattle.strkw_ecma.proofs.Walks.{at_place}
 
--- well-formed open groups, and a well-formed tree within them, are spelled as what a pattern may begin with
+-- well-formed open groups and lookbehinds, and a well-formed tree within them, are spelled as what a pattern may begin with
 beginning : (os : List Open) (d : Disjunction) → AreLevels os → IsWellFormed (length os) d → IsBeginning (length os) (outer_spelling os ++ spelling d)
 beginning [] d f w = (d, w, refl)
 beginning (o ∷ os) d f w = (
   outer_spelling os ++ level_spelling o.earlier o.current,
-  o.group,
+  o.enclosing,
   d,
   subst (IsBeginning (length os)) (ap (λ z. outer_spelling os ++ z) (joined_spelling o.earlier o.current))
       (beginning os (joined o.earlier o.current) f.1 (level_formed (length os) o.earlier o.current f.0.0.0 f.0.0.1)),
@@ -120,13 +120,13 @@ module _ (outer : Outer) (l : Level) (x : Last) (f : AreLevels outer.groups) (g 
   term_behind : (m : List ℕ) → (before outer l x ++ m) ++ c ∷ rest ≡ text → HasTermWithin (length outer.groups) (m ++ c ∷ []) text
   term_behind m e = (before outer l x, rest, begins, one_behind (before outer l x) m c rest text e)
 
-  -- a group that opens within as many as may be open makes `TooDeep` a reason
-  too_deep : (k : Group) → IsGroup k → HasTermWithin (length outer.groups) (group_spelling k) text
+  -- a group or a lookbehind that opens within as many as may be open makes `TooDeep` a reason
+  too_deep : (k : Enclosing) → IsEnclosing k → HasTermWithin (length outer.groups) (enclosing_spelling k) text
       → nat_lt (length outer.groups) max_nesting ≡ false → IsReason text TooDeep
   too_deep k w t e = (length outer.groups, k, ltb-false _ _ e, w, t)
 
-  -- where a group is not opened, the test does not hold
-  not_opened : (k : Group) (b : Bool) → opened outer l x k b ≡ None → b ≡ false
+  -- where it is not opened, the test does not hold
+  not_opened : (k : Enclosing) (b : Bool) → opened outer l x k b ≡ None → b ≡ false
   not_opened k false e = refl
   not_opened k true e = absurd (not_some _ e)
 
@@ -140,31 +140,43 @@ module _ (outer : Outer) (l : Level) (x : Last) (f : AreLevels outer.groups) (g 
       by_depth : (b : Bool) → nat_lt (length outer.groups) max_nesting ≡ b → IsReason text (one_deeper b)
       by_depth true is = tt
       by_depth false is =
-          too_deep capturing tt (before outer l x, c ∷ rest, begins, regroup (before outer l x) (byte "(" ∷ []) (c ∷ rest) text e) is
+          too_deep (of_group capturing) tt (before outer l x, c ∷ rest, begins, regroup (before outer l x) (byte "(" ∷ []) (c ∷ rest) text e) is
 
   -- what is told of a character that is refused behind `(?` is so
   extension_told : (k : Extension) → char_of_extension k c ≡ c → on_extension outer l x k ≡ None
       → (before outer l x ++ byte "(" ∷ byte "?" ∷ []) ++ c ∷ rest ≡ text → IsReason text (extension_refusal c k)
   extension_told uncaptured is refused e =
-      too_deep plain_group tt
+      too_deep (of_group plain_group) tt
       (subst (λ z. HasTermWithin (length outer.groups) (byte "(" ∷ byte "?" ∷ z ∷ []) text) (sym is) (term_behind (byte "(" ∷ byte "?" ∷ []) e))
-      (not_opened plain_group _ refused)
+      (not_opened (of_group plain_group) _ refused)
   extension_told name_opening is refused e = tt
   extension_told no_extension is refused e =
       told_so text LookAhead _ (λ look. (c, look, (length outer.groups, term_behind (byte "(" ∷ byte "?" ∷ []) e)))
+
+  -- a lookbehind that is refused where no name stands before its sign is too deep
+  look_too_deep : (b : Bool) → opened_within outer l x (of_lookbehind b) ≡ None
+      → HasTermWithin (length outer.groups) (enclosing_spelling (of_lookbehind b)) text → IsReason text TooDeep
+  look_too_deep b refused t = too_deep (of_lookbehind b) tt t (not_opened (of_lookbehind b) _ refused)
 
   -- what is told of a character that is refused behind `(?<` and a part of a name is so
   name_told : (n : List NameChar) (k : NameToken) → char_of_name k c ≡ c → IsNamePart n → on_naming outer l x n c k ≡ None
       → (before outer l x ++ name_text n) ++ c ∷ rest ≡ text → IsReason text (name_refusal (name_value n) c k)
   name_told [] name_end is w refused e = tt
   name_told [] name_backslash is w refused e = tt
-  name_told [] name_character is w refused e =
-      told_so text LookBehind _ (λ look. (c, look, (length outer.groups, term_behind (name_text []) e)))
+  name_told [] name_equals is w refused e =
+      look_too_deep false refused
+      (subst (λ z. HasTermWithin (length outer.groups) (name_text [] ++ z ∷ []) text) (sym is) (term_behind (name_text []) e))
+  name_told [] name_negation is w refused e =
+      look_too_deep true refused
+      (subst (λ z. HasTermWithin (length outer.groups) (name_text [] ++ z ∷ []) text) (sym is) (term_behind (name_text []) e))
+  name_told [] name_character is w refused e = tt
   name_told (y ∷ n) name_end is w refused e =
-      too_deep (named (y ∷ n)) w
+      too_deep (of_group (named (y ∷ n))) w
       (subst (λ z. HasTermWithin (length outer.groups) (name_text (y ∷ n) ++ z ∷ []) text) (sym is) (term_behind (name_text (y ∷ n)) e))
-      (not_opened (named (y ∷ n)) _ refused)
+      (not_opened (of_group (named (y ∷ n))) _ refused)
   name_told (y ∷ n) name_backslash is w refused e = tt
+  name_told (y ∷ n) name_equals is w refused e = tt
+  name_told (y ∷ n) name_negation is w refused e = tt
   name_told (y ∷ n) name_character is w refused e = tt
 
   -- behind the brace that ends a count

@@ -1,7 +1,7 @@
 -- The equations of `outlined`, one for each variant.
 use Rattle.std.proofs.Common.{◌≡◌, ℕ, zero, suc, nat_eq, Bool, false, Vec, Box, Global, refl, sym, ap, ◌∙◌, arith}
 use Rattle.std.proofs.lemmas.Bool.Decides.{nat_tests}
-use Rattle.strkw_ecma.specs.Tree.{Pattern, empty, class, look, cat, alt, start, end, boundary, no_boundary}
+use Rattle.strkw_ecma.specs.Tree.{Pattern, empty, class, look, cat, alt, lookbehind, start, end, boundary, no_boundary}
 use Rattle.strkw_ecma.specs.Patterns.{Times, exact_times, repeated, quantified_pattern}
 use Rattle.strkw_ecma.specs.Program.{is_class, is_empty, program, alternatives}
 use Rattle.strkw_ecma.specs.declared.tree.CharSet.{CharSet}
@@ -9,9 +9,9 @@ use Rattle.strkw_ecma.specs.machine.Shape.{outlined, outlined_node, quantifier_o
 use Rattle.strkw_ecma.specs.declared.outline.Quantifier.{Quantifier}
 use Rattle.strkw_ecma.specs.declared.outline.Quantifier.TheVariants.{ZeroOrOne, Exactly}
 use Rattle.strkw_ecma.specs.declared.outline.Outline.{Outline, Outline-F, roll-Outline, map-Outline, fold-roll-Outline}
-use Rattle.strkw_ecma.specs.declared.outline.Outline.TheVariants.{Empty, Class, Start, End, Boundary, NoBoundary, Then, Or, Repeated, rolls-Empty, rolls-Class}
+use Rattle.strkw_ecma.specs.declared.outline.Outline.TheVariants.{Empty, Class, Start, End, Boundary, NoBoundary, Then, Or, Repeated, Behind, rolls-Empty, rolls-Class}
 use Rattle.strkw_ecma.specs.declared.outline.Outline.TheVariants.{rolls-Start, rolls-End, rolls-Boundary, rolls-NoBoundary, rolls-Then, rolls-Or}
-use Rattle.strkw_ecma.specs.declared.outline.Outline.TheVariants.{rolls-Repeated}
+use Rattle.strkw_ecma.specs.declared.outline.Outline.TheVariants.{rolls-Repeated, rolls-Behind}
 
 -- an outline stands for what its node does, with the patterns of its children
 by_node : (node : Outline-F Outline) (o : Outline) → roll-Outline node ≡ o
@@ -58,12 +58,17 @@ pub outlined-Repeated : (q : Quantifier) (body : Box Outline Global)
     → outlined (Repeated q body) ≡ quantified_pattern (quantifier_of q) (outlined body.value)
 outlined-Repeated q body = by_node (Outline-F.Repeated q body) _ (rolls-Repeated q body)
 
+-- what stands before a place stands for a lookbehind of its pattern
+pub outlined-Behind : (negated : Bool) (body : Box Outline Global)
+    → outlined (Behind negated body) ≡ lookbehind negated (outlined body.value)
+outlined-Behind negated body = by_node (Outline-F.Behind negated body) _ (rolls-Behind negated body)
+
 -- the equations of outlines without children
 pub ruleset plain_shapes =
     (outlined-Empty, outlined-Class, outlined-Start, outlined-End, outlined-Boundary, outlined-NoBoundary)
 
 -- the equations of all outlines
-pub ruleset shapes = (plain_shapes, outlined-Then, outlined-Or, outlined-Repeated)
+pub ruleset shapes = (plain_shapes, outlined-Then, outlined-Or, outlined-Repeated, outlined-Behind)
 
 -- what is repeated is no class
 pub no_class : (t : Times) (p : Pattern) → is_class (quantified_pattern t p) ≡ false

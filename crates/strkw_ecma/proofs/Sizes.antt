@@ -2,9 +2,9 @@
 use Rattle.std.proofs.Common.{◌≡◌, ℕ, zero, suc, ◌+◌, ◌*◌, ◌≤◌, nat_le, Bool, true, false, ◌&&◌, List, [], ◌∷◌, ◌++◌, refl, sym, ap, ◌∙◌, true≢false, arith}
 use Rattle.std.proofs.lemmas.Bool.{leb-true, leb-false}
 use Rattle.std.proofs.lemmas.Bool.Decides.{nat_tests}
-use Rattle.strkw_ecma.specs.Tree.{Pattern, empty, cat, alt, star, plus}
+use Rattle.strkw_ecma.specs.Tree.{Pattern, empty, cat, alt, star, plus, lookbehind}
 use Rattle.strkw_ecma.specs.Patterns.{repeated}
-use Rattle.strkw_ecma.specs.Program.{Instruction, other, join, star_end, plus_end, is_class, is_empty, program, alternatives}
+use Rattle.strkw_ecma.specs.Program.{Instruction, other, join, star_end, plus_end, look_end, is_class, is_empty, program, alternatives}
 use Rattle.strkw_ecma.specs.Size.{steps_of, steps, max_steps, max_term_steps}
 use Rattle.strkw_ecma.specs.machine.Sizes.{capped}
 use Rattle.strkw_ecma.proofs.Programs.{by_class, by_option}
@@ -103,6 +103,10 @@ pub plus_steps : (p : Pattern) → is_class p ≡ false → steps (plus p) ≡ s
 plus_steps p h =
     by_class (λ is. steps_of is ≡ steps p + 2) p _ _ (λ m n rs e. absurd (true≢false (rw e at h)))
     (omega (arith, more_steps (program p) (plus_end ∷ [])))
+
+-- a lookbehind takes two steps more than what it looks for
+pub behind_steps : (n : Bool) (p : Pattern) → steps (lookbehind n p) ≡ steps p + 2
+behind_steps n p = omega (arith, more_steps (program p) (look_end n ∷ []))
 
 -- what is repeated takes so many times its steps
 repeated_steps : (n : ℕ) (p : Pattern) → steps (repeated n p) ≡ n * steps p

@@ -8,19 +8,20 @@ use Rattle.strkw_ecma.specs.Escapes.{escape}
 use Rattle.strkw_ecma.specs.Codes.{null_code}
 use Rattle.strkw_ecma.specs.machine.CodeReading.{Coding, Coded, fails, goes, makes, coding_next}
 use Rattle.strkw_ecma.specs.Names.{NameChar, verbatim, by_code, name_char_spelling, name_spelling, name_char_value, name_value, may_follow, Extension}
-use Rattle.strkw_ecma.specs.Names.{uncaptured, name_opening, no_extension, extension, NameToken, name_end, name_backslash, name_character, name_token}
-use Rattle.strkw_ecma.specs.Names.{are_distinct}
+use Rattle.strkw_ecma.specs.Names.{uncaptured, name_opening, no_extension, extension, NameToken, name_end, name_backslash, name_equals, name_negation}
+use Rattle.strkw_ecma.specs.Names.{name_character, name_token, are_distinct}
 use Rattle.strkw_ecma.specs.Classes.{class_token, class_escape, no_ranges}
 use Rattle.strkw_ecma.specs.Syntax.{Disjunction, Term, at_start, at_end, at_boundary, at_no_boundary, quantified, Quantifier, zero_or_more, one_or_more}
-use Rattle.strkw_ecma.specs.Syntax.{zero_or_one, exactly, at_least, from_to, lazy, Group, capturing, plain_group, named, plain, escaped, control_escape}
+use Rattle.strkw_ecma.specs.Syntax.{zero_or_one, exactly, at_least, from_to, lazy, capturing, plain_group, named, Enclosing, of_group, of_lookbehind}
+use Rattle.strkw_ecma.specs.Syntax.{looks_behind, plain, escaped, control_escape}
 use Rattle.strkw_ecma.specs.Syntax.{set_escape, coded, property_escape, dot, group, Token, bar, asterisk, plus, question, caret, dollar}
 use Rattle.strkw_ecma.specs.Syntax.{opening as opening_token, closing, point, backslash, bracket, brace, character, other, token, quantifier_spelling}
-use Rattle.strkw_ecma.specs.Syntax.{group_spelling, spelling, term_spelling, atom_spelling}
+use Rattle.strkw_ecma.specs.Syntax.{group_spelling, lookbehind_spelling, enclosing_spelling, spelling, term_spelling, atom_spelling}
 use Rattle.strkw_ecma.specs.machine.Reading.{Open, Outer, Level, Last, none, atom, counted, fresh, Mode, between, escaping, opening, extending, class_opened}
 use Rattle.strkw_ecma.specs.machine.Reading.{Count, low, high, counting, with_count, longer, on_low, on_high, on_count, range_read, in_class, class_escaping}
 use Rattle.strkw_ecma.specs.machine.Reading.{coding, class_coding, in_property, in_class_property, naming, name_escaping, name_coding, with_name_char}
-use Rattle.strkw_ecma.specs.machine.Reading.{name_read, on_naming, on_name_escape, on_name_coding, on_coding, on_property, tree_if, closes, is_between, State}
-use Rattle.strkw_ecma.specs.machine.Reading.{ended, level_ended, new_level, with_atom, with_term, with_mode, closed_in, closed, with_quantifier, questioned}
+use Rattle.strkw_ecma.specs.machine.Reading.{name_read, look_read, on_naming, on_name_escape, on_name_coding, on_coding, on_property, tree_if, closes, is_between, State}
+use Rattle.strkw_ecma.specs.machine.Reading.{ended, level_ended, new_level, with_atom, with_term, with_mode, enclosed, closed_in, closed, with_quantifier, questioned}
 use Rattle.strkw_ecma.specs.machine.Reading.{opened, opened_within, on_token, on_group, on_extension, on_escape, on_class, next, next_in, read_from, initial}
 use Rattle.strkw_ecma.specs.machine.Reading.{read}
 use Rattle.strkw_ecma.specs.Numbers.{number, number_of, max_count, CountToken, digit, comma, closing_brace, no_count, count_token}
@@ -73,32 +74,53 @@ module _ (outer : Outer) (l : Level) where
       append-nil _ ∙ append-nil _ ∙ sym (append_assoc (outer_spelling outer.groups) (spelling (level_ended l x)) (byte "|" ∷ []))
       ∙ ap (λ z. z ++ byte "|" ∷ []) (level_whole x)
 
-  -- and one behind the beginning of a group
-  open_read : (x : Last) (g : Group) (b : Bool) → HasRead (opened outer l x g b) (before outer l x ++ group_spelling g)
+  -- and one behind the beginning of a group or a lookbehind
+  open_read : (x : Last) (g : Enclosing) (b : Bool) → HasRead (opened outer l x g b) (before outer l x ++ enclosing_spelling g)
   open_read x g false = tt
-  open_read x g true = append-nil _ ∙ append-nil _ ∙ append-nil _ ∙ ap (λ z. z ++ group_spelling g) (whole outer l x)
+  open_read x g true = append-nil _ ∙ append-nil _ ∙ append-nil _ ∙ ap (λ z. z ++ enclosing_spelling g) (whole outer l x)
 
--- and one behind the bracket that closes a group
+-- and one behind the parenthesis that closes a group or a lookbehind
+-- where what it stands for, in the level around, is spelled from its beginning on, and the level in it is spelled
+enclosed_text : (front kind inner b s text : List ℕ) → s ≡ b ++ ((kind ++ inner) ++ byte ")" ∷ []) → b ≡ front → (front ++ kind) ++ inner ≡ text
+    → s ≡ text ++ byte ")" ∷ []
+enclosed_text front kind inner b s text is e whole =
+    is ∙ ap (λ z. z ++ ((kind ++ inner) ++ byte ")" ∷ [])) e
+    ∙ sym (append_assoc front (kind ++ inner) (byte ")" ∷ []))
+    ∙ ap (λ z. z ++ byte ")" ∷ []) (sym (append_assoc front kind inner) ∙ whole)
+
+module _ (os : List Open) (ns : List (List ℕ)) (o : Open) (l : Level) (x : Last) where
+  -- what is open around it, and what is open with it
+  abbrev outside : Outer
+  outside = record { groups = os; names = ns }
+
+  abbrev inside : Outer
+  inside = record { groups = o ∷ os; names = ns }
+
+  -- the level around it
+  abbrev level_around : Level
+  level_around = record { earlier = o.earlier; current = o.current }
+
+  -- the state behind it has read the parenthesis too, whichever of the two it is
+  enclosed_read : (g : Enclosing) → o.enclosing ≡ g
+      → spelled (enclosed outside level_around g (level_ended l x)) ≡ before inside l x ++ byte ")" ∷ []
+  enclosed_read (of_group g) is =
+      enclosed_text (outer_spelling os ++ level_spelling o.earlier o.current) (group_spelling g) (spelling (level_ended l x)) _ _ _
+      (atom_read outside level_around none (group g (level_ended l x))) (append-nil _)
+      (ap (λ k. ((outer_spelling os ++ level_spelling o.earlier o.current) ++ enclosing_spelling k) ++ spelling (level_ended l x)) (sym is)
+      ∙ level_whole inside l x)
+  enclosed_read (of_lookbehind n) is =
+      enclosed_text (outer_spelling os ++ level_spelling o.earlier o.current) (lookbehind_spelling n) (spelling (level_ended l x)) _ _ _
+      (term_read outside level_around none (looks_behind n (level_ended l x))) (append-nil _)
+      (ap (λ k. ((outer_spelling os ++ level_spelling o.earlier o.current) ++ enclosing_spelling k) ++ spelling (level_ended l x)) (sym is)
+      ∙ level_whole inside l x)
+
+-- so has a state that is made where something is open
 close_in_read : (os : List Open) (ns : List (List ℕ)) (l : Level) (x : Last)
     → HasRead (closed_in os ns (level_ended l x)) (before (record { groups = os; names = ns }) l x ++ byte ")" ∷ [])
 close_in_read [] ns l x = tt
-close_in_read (o ∷ os) ns l x =
-    let outer : Outer = record { groups = os; names = ns } in
-    let inner : Outer = record { groups = o ∷ os; names = ns } in
-    let front = outer_spelling outer.groups ++ level_spelling o.earlier o.current in
-    let around : Level = record { earlier = o.earlier; current = o.current } in
-    atom_read outer around none (group o.group (level_ended l x))
-    ∙ regroup front (group_spelling o.group) (spelling (level_ended l x)) (before outer around none) (append-nil _)
-    ∙ ap (λ z. z ++ byte ")" ∷ []) (level_whole inner l x)
-  where
-    -- of four texts, one behind the other, the brackets may be moved to the front
-    regroup : (front kind inner b : List ℕ) → b ≡ front → b ++ ((kind ++ inner) ++ byte ")" ∷ []) ≡ ((front ++ kind) ++ inner) ++ byte ")" ∷ []
-    regroup front kind inner b e =
-        ap (λ z. z ++ ((kind ++ inner) ++ byte ")" ∷ [])) e
-        ∙ sym (append_assoc front (kind ++ inner) (byte ")" ∷ []))
-        ∙ ap (λ z. z ++ byte ")" ∷ []) (sym (append_assoc front kind inner))
+close_in_read (o ∷ os) ns l x = enclosed_read os ns o l x o.enclosing refl
 
--- the same by all groups that are open
+-- the same by all that is open
 close_read : (outer : Outer) (l : Level) (x : Last) → HasRead (closed outer (level_ended l x)) (before outer l x ++ byte ")" ∷ [])
 close_read outer l x = close_in_read outer.groups outer.names l x
 
@@ -173,11 +195,11 @@ property_read outer l x k c (property_ends n e) h =
 
 -- behind `(`: the group is open, and the character is read within it
 first_read : (outer : Outer) (l : Level) (x : Last) (c : ℕ) (b : Bool)
-    → HasRead (option_and_then (λ t. on_token t.outer t.level t.last c (token c)) (opened outer l x capturing b))
+    → HasRead (option_and_then (λ t. on_token t.outer t.level t.last c (token c)) (opened outer l x (of_group capturing) b))
     ((before outer l x ++ byte "(" ∷ []) ++ c ∷ [])
 first_read outer l x c false = tt
 first_read outer l x c true =
-    let o : Open = record { group = capturing; earlier = l.earlier; current = ended l.current x } in
+    let o : Open = record { enclosing = of_group capturing; earlier = l.earlier; current = ended l.current x } in
     let inner : Outer = record { groups = o ∷ outer.groups; names = outer.names } in
     subst (λ z. HasRead (on_token inner new_level none c (token c)) (z ++ c ∷ []))
     (append-nil _ ∙ append-nil _ ∙ ap (λ z. z ++ byte "(" ∷ []) (whole outer l x)) (token_read inner new_level none c (token c) (char_of_token c))
@@ -193,9 +215,9 @@ group_read outer l x c true e =
 extension_read : (outer : Outer) (l : Level) (x : Last) (c : ℕ) (k : Extension) → char_of_extension k c ≡ c
     → HasRead (on_extension outer l x k) ((before outer l x ++ byte "(" ∷ byte "?" ∷ []) ++ c ∷ [])
 extension_read outer l x c uncaptured e =
-    subst (HasRead (opened_within outer l x plain_group))
+    subst (HasRead (opened_within outer l x (of_group plain_group)))
     (ap (λ z. before outer l x ++ byte "(" ∷ byte "?" ∷ z ∷ []) e ∙ sym (append_assoc (before outer l x) (byte "(" ∷ byte "?" ∷ []) (c ∷ [])))
-    (open_read outer l x plain_group _)
+    (open_read outer l x (of_group plain_group) _)
 extension_read outer l x c name_opening e =
     ap (λ z. before outer l x ++ byte "(" ∷ byte "?" ∷ z ∷ []) e ∙ sym (append_assoc (before outer l x) (byte "(" ∷ byte "?" ∷ []) (c ∷ []))
 extension_read outer l x c no_extension e = tt
@@ -323,8 +345,24 @@ name_end_read : (outer : Outer) (l : Level) (x : Last) (n : List NameChar)
     → HasRead (name_read outer l x n) ((before outer l x ++ name_text n) ++ byte ">" ∷ [])
 name_end_read outer l x [] = tt
 name_end_read outer l x (y ∷ n) =
-    subst (HasRead (opened_within outer l x (named (y ∷ n)))) (sym (append_assoc (before outer l x) (name_text (y ∷ n)) (byte ">" ∷ [])))
-    (open_read outer l x (named (y ∷ n)) _)
+    subst (HasRead (opened_within outer l x (of_group (named (y ∷ n))))) (sym (append_assoc (before outer l x) (name_text (y ∷ n)) (byte ">" ∷ [])))
+    (open_read outer l x (of_group (named (y ∷ n))) _)
+
+-- the character that tells whether a lookbehind is negated
+abbrev sign : Bool → ℕ
+sign false = byte "="
+sign true = byte "!"
+
+-- a state behind it, where no name stands before it, has read that too
+look_begin_read : (outer : Outer) (l : Level) (x : Last) (n : List NameChar) (b : Bool)
+    → HasRead (look_read outer l x n b) ((before outer l x ++ name_text n) ++ sign b ∷ [])
+look_begin_read outer l x [] false =
+    subst (HasRead (opened_within outer l x (of_lookbehind false))) (sym (append_assoc (before outer l x) (name_text []) (byte "=" ∷ [])))
+    (open_read outer l x (of_lookbehind false) _)
+look_begin_read outer l x [] true =
+    subst (HasRead (opened_within outer l x (of_lookbehind true))) (sym (append_assoc (before outer l x) (name_text []) (byte "!" ∷ [])))
+    (open_read outer l x (of_lookbehind true) _)
+look_begin_read outer l x (y ∷ n) b = tt
 
 -- behind any character in a name, that is read too
 naming_read : (outer : Outer) (l : Level) (x : Last) (n : List NameChar) (c : ℕ) (k : NameToken) → char_of_name k c ≡ c
@@ -333,6 +371,10 @@ naming_read outer l x n c name_end e =
     subst (λ z. HasRead (name_read outer l x n) ((before outer l x ++ name_text n) ++ z ∷ [])) e (name_end_read outer l x n)
 naming_read outer l x n c name_backslash e =
     sym (append_assoc (before outer l x) (name_text n) (byte "\\" ∷ [])) ∙ ap (λ z. (before outer l x ++ name_text n) ++ z ∷ []) e
+naming_read outer l x n c name_equals e =
+    subst (λ z. HasRead (look_read outer l x n false) ((before outer l x ++ name_text n) ++ z ∷ [])) e (look_begin_read outer l x n false)
+naming_read outer l x n c name_negation e =
+    subst (λ z. HasRead (look_read outer l x n true) ((before outer l x ++ name_text n) ++ z ∷ [])) e (look_begin_read outer l x n true)
 naming_read outer l x n c name_character e =
     subst (λ z. HasRead (with_name_char outer l x n (verbatim c)) ((before outer l x ++ z) ++ c ∷ [])) (append-nil (name_text n))
     (name_char_read outer l x n (verbatim c) [] c refl)

@@ -1,9 +1,9 @@
 -- The law of the marks: a step leads from the ways through a pattern at a place to those at the next.
-use Rattle.std.proofs.Common.{◌≡◌, ◌⊎◌, ℕ, ◌+◌, Bool, true, false, ◌&&◌, ◌||◌, List, Option, Some, None, slice_get, refl, sym, ap, subst, ◌∙◌, inl, inr, ⊎_elim}
-use Rattle.std.proofs.Common.{true≢false}
+use Rattle.std.proofs.Common.{◌≡◌, ◌↔◌, ◌⊎◌, ℕ, ◌+◌, ◌≤◌, Bool, true, false, ◌&&◌, ◌||◌, List, Option, Some, None, slice_get, refl, sym, ap, subst, ◌∙◌, inl}
+use Rattle.std.proofs.Common.{inr, ⊎_elim, true≢false, arith}
 use Rattle.strkw_ecma.specs.declared.tree.CharSet.{CharSet}
-use Rattle.strkw_ecma.specs.Tree.{Pattern, empty, class, look, cat, alt, star, plus, is_member}
-use Rattle.strkw_ecma.specs.Meaning.{Rounds, no_round, a_round, before, Matches}
+use Rattle.strkw_ecma.specs.Tree.{Pattern, empty, class, look, cat, alt, star, plus, lookbehind, differ, is_member}
+use Rattle.strkw_ecma.specs.Meaning.{Rounds, no_round, a_round, before, Unless, Matches}
 use Rattle.strkw_ecma.specs.machine.Marks.{reads, leaves, step, Rest}
 
 -- marks mean nothing for what a pattern matches
@@ -21,6 +21,46 @@ same_meaning text b a (star p) x =
     ap (λ (R : ℕ → ℕ → Type 0). λ (i j : ℕ). Rounds R j i) (same_meaning text b a p (x || leaves b a p false))
 same_meaning text b a (plus p) x =
     ap (λ (R : ℕ → ℕ → Type 0). λ (i j : ℕ). (l : ℕ) × R i l × Rounds R j l) (same_meaning text b a p (x || leaves b a p false))
+same_meaning text b a (lookbehind n p) x =
+    ap (λ (R : ℕ → ℕ → Type 0). λ (i j : ℕ). Unless n ((k : ℕ) × R k i) × (i ≡ j)) (same_meaning text b a p true)
+
+-- no match ends before it begins
+module _ (text : List ℕ) where
+  -- nor do rounds of what does not
+  rounds_forwards : (R : ℕ → ℕ → Type 0) → ((i j : ℕ) → R i j → i ≤ j) → (j i : ℕ) → Rounds R j i → i ≤ j
+  rounds_forwards R f j i (no_round _ e) = omega (arith, e)
+  rounds_forwards R f j i (a_round _ l m s) = omega (arith, f i l m, rounds_forwards R f j l s)
+
+  -- no match of a pattern does
+  pub forwards : (p : Pattern) (i j : ℕ) → Matches text p i j → i ≤ j
+  forwards empty i j m = omega (arith, m)
+  forwards (class m n rs) i j w = omega (arith, w.3)
+  forwards (look l) i j m = omega (arith, m.1)
+  forwards (cat p q) i j (l, m, n) = omega (arith, forwards p i l m, forwards q l j n)
+  forwards (alt p q) i j (inl m) = forwards p i j m
+  forwards (alt p q) i j (inr m) = forwards q i j m
+  forwards (star p) i j s = rounds_forwards (Matches text p) (forwards p) j i s
+  forwards (plus p) i j (l, m, s) = omega (arith, forwards p i l m, rounds_forwards (Matches text p) (forwards p) j l s)
+  forwards (lookbehind n p) i j m = omega (arith, m.1)
+
+  -- nor does a way that goes on from a mark
+  pub rest_forwards : (p : Pattern) (i j : ℕ) → Rest text p i j → i ≤ j
+  rest_forwards empty i j r = absurd r
+  rest_forwards (class m n rs) i j r = omega (arith, r.1)
+  rest_forwards (look l) i j r = absurd r
+  rest_forwards (cat p q) i j (inl (l, r, m)) = omega (arith, rest_forwards p i l r, forwards q l j m)
+  rest_forwards (cat p q) i j (inr r) = rest_forwards q i j r
+  rest_forwards (alt p q) i j (inl r) = rest_forwards p i j r
+  rest_forwards (alt p q) i j (inr r) = rest_forwards q i j r
+  rest_forwards (star p) i j (l, r, s) = omega (arith, rest_forwards p i l r, rounds_forwards (Matches text p) (forwards p) j l s)
+  rest_forwards (plus p) i j (l, r, s) = omega (arith, rest_forwards p i l r, rounds_forwards (Matches text p) (forwards p) j l s)
+  rest_forwards (lookbehind n p) i j r = absurd r
+
+-- an answer that is negated or not says whether what it says is so, or is not
+unless_differs : (n b : Bool) (A : Type 0) → (b ≡ true) ↔ A → (differ n b ≡ true) ↔ Unless n A
+unless_differs false b A e = e
+unless_differs true true A e = (λ h. absurd (true≢false (sym h)), λ f. absurd (f (e.0 refl)))
+unless_differs true false A e = (λ h a. true≢false (sym (e.1 a)), λ f. refl)
 
 -- both of two hold where each does
 pub and_true : (x y : Bool) → x ≡ true → y ≡ true → (x && y) ≡ true
@@ -73,6 +113,7 @@ module _ (b a : Option ℕ) where
   more_leaves (plus p) x y f h =
       more_leaves p (x || leaves b a p false) (y || leaves b a p false)
       (λ e. ⊎_elim (λ one. or_left _ _ (f one)) (λ other. or_right y _ other) (or_case x (leaves b a p false) e)) h
+  more_leaves (lookbehind n p) x y f h = and_true _ _ (f (and_left x _ h)) (and_right x _ h)
 
   -- a pattern is left after what left it enters again only where it was left before
   once_more : (p : Pattern) (z : Bool) → leaves b a p false ≡ z → leaves b a p z ≡ true → leaves b a p false ≡ true
@@ -96,6 +137,17 @@ module _ (text : List ℕ) (i : ℕ) where
   -- the pattern with the marks after that character
   abbrev pub stepped : Pattern → Bool → Pattern
   stepped = step (before text i) (slice_get text i)
+
+  -- each lookbehind in the pattern says here what is so
+  abbrev pub Says : Pattern → Type 0
+  Says empty = Unit {0}
+  Says (class m n rs) = Unit {0}
+  Says (look l) = Unit {0}
+  Says (cat p q) = Says p × Says q
+  Says (alt p q) = Says p × Says q
+  Says (star p) = Says p
+  Says (plus p) = Says p
+  Says (lookbehind n p) = Says p × ((left p true ≡ true) ↔ ((k : ℕ) × Matches text p k i))
 
   -- the ways through the pattern that end at j: from a mark, or from here where x holds
   abbrev pub Goes : Pattern → Bool → ℕ → Type 0
@@ -202,31 +254,33 @@ module _ (text : List ℕ) (i : ℕ) where
 
   -- the law, forwards
   -- ways through a pattern to a place end here, or go on from its marks after a step
-  pub goes_on : (p : Pattern) (x : Bool) (j : ℕ) → Goes p x j → Went p x j
-  goes_on empty x j (inl r) = absurd r
-  goes_on empty x j (inr m) = inl m
-  goes_on (class m n rs) x j (inl r) = inl r
-  goes_on (class m n rs) x j (inr (xt, (c, at, member, e))) = inr (class_went n rs x c j xt at member e)
-  goes_on (look l) x j (inl r) = absurd r
-  goes_on (look l) x j (inr (xt, (h, e))) = inl (and_true _ _ xt h, e)
-  goes_on (cat p q) x j (inl (inl (l, r, m))) = cat_goes p q x j l (goes_on p x l (inl r)) (goes_on q (left p x) j) m
-  goes_on (cat p q) x j (inl (inr r)) = ⊎_elim (λ here. inl here) (λ rest. inr (inr rest)) (goes_on q (left p x) j (inl r))
-  goes_on (cat p q) x j (inr (xt, (l, m, n))) = cat_goes p q x j l (goes_on p x l (inr (xt, m))) (goes_on q (left p x) j) n
-  goes_on (alt p q) x j (inl (inl r)) = alt_left p q x j (goes_on p x j (inl r))
-  goes_on (alt p q) x j (inl (inr r)) = alt_right p q x j (goes_on q x j (inl r))
-  goes_on (alt p q) x j (inr (xt, inl m)) = alt_left p q x j (goes_on p x j (inr (xt, m)))
-  goes_on (alt p q) x j (inr (xt, inr m)) = alt_right p q x j (goes_on q x j (inr (xt, m)))
-  goes_on (star p) x j (inl (l, r, s)) =
-      star_went p (x || left p false) j (star_goes p x (x || left p false) j l refl (goes_on p (x || left p false))
-      (goes_on p (x || left p false) l (inl r)) s)
-  goes_on (star p) x j (inr (xt, s)) =
-      star_went p (x || left p false) j (rounds_go p (x || left p false) j (goes_on p (x || left p false)) (or_left x _ xt) i refl s)
-  goes_on (plus p) x j (inl (l, r, s)) =
-      plus_went p (x || left p false) j (plus_goes p x (x || left p false) j l refl (goes_on p (x || left p false))
-      (goes_on p (x || left p false) l (inl r)) s)
-  goes_on (plus p) x j (inr (xt, (l, m, s))) =
-      plus_went p (x || left p false) j (plus_goes p x (x || left p false) j l refl (goes_on p (x || left p false))
-      (goes_on p (x || left p false) l (inr (or_left x _ xt, m))) s)
+  pub goes_on : (p : Pattern) → Says p → (x : Bool) (j : ℕ) → Goes p x j → Went p x j
+  goes_on empty u x j (inl r) = absurd r
+  goes_on empty u x j (inr m) = inl m
+  goes_on (class m n rs) u x j (inl r) = inl r
+  goes_on (class m n rs) u x j (inr (xt, (c, at, member, e))) = inr (class_went n rs x c j xt at member e)
+  goes_on (look l) u x j (inl r) = absurd r
+  goes_on (look l) u x j (inr (xt, (h, e))) = inl (and_true _ _ xt h, e)
+  goes_on (cat p q) u x j (inl (inl (l, r, m))) = cat_goes p q x j l (goes_on p u.0 x l (inl r)) (goes_on q u.1 (left p x) j) m
+  goes_on (cat p q) u x j (inl (inr r)) = ⊎_elim (λ here. inl here) (λ rest. inr (inr rest)) (goes_on q u.1 (left p x) j (inl r))
+  goes_on (cat p q) u x j (inr (xt, (l, m, n))) = cat_goes p q x j l (goes_on p u.0 x l (inr (xt, m))) (goes_on q u.1 (left p x) j) n
+  goes_on (alt p q) u x j (inl (inl r)) = alt_left p q x j (goes_on p u.0 x j (inl r))
+  goes_on (alt p q) u x j (inl (inr r)) = alt_right p q x j (goes_on q u.1 x j (inl r))
+  goes_on (alt p q) u x j (inr (xt, inl m)) = alt_left p q x j (goes_on p u.0 x j (inr (xt, m)))
+  goes_on (alt p q) u x j (inr (xt, inr m)) = alt_right p q x j (goes_on q u.1 x j (inr (xt, m)))
+  goes_on (star p) u x j (inl (l, r, s)) =
+      star_went p (x || left p false) j (star_goes p x (x || left p false) j l refl (goes_on p u (x || left p false))
+      (goes_on p u (x || left p false) l (inl r)) s)
+  goes_on (star p) u x j (inr (xt, s)) =
+      star_went p (x || left p false) j (rounds_go p (x || left p false) j (goes_on p u (x || left p false)) (or_left x _ xt) i refl s)
+  goes_on (plus p) u x j (inl (l, r, s)) =
+      plus_went p (x || left p false) j (plus_goes p x (x || left p false) j l refl (goes_on p u (x || left p false))
+      (goes_on p u (x || left p false) l (inl r)) s)
+  goes_on (plus p) u x j (inr (xt, (l, m, s))) =
+      plus_went p (x || left p false) j (plus_goes p x (x || left p false) j l refl (goes_on p u (x || left p false))
+      (goes_on p u (x || left p false) l (inr (or_left x _ xt, m))) s)
+  goes_on (lookbehind n p) u x j (inl r) = absurd r
+  goes_on (lookbehind n p) u x j (inr (xt, (h, e))) = inl (and_true _ _ xt ((unless_differs n _ _ u.1).1 h), e)
 
   -- what enters a loop's body came from without or from a mark within
   from_body : (p : Pattern) (x : Bool) → (Went p false i → Goes p false i) → (x || left p false) ≡ true
@@ -281,28 +335,30 @@ module _ (text : List ℕ) (i : ℕ) where
 
   -- the law, backwards
   -- what ends here, or goes on from a mark after a step, is a way through the pattern
-  pub goes_back : (p : Pattern) (x : Bool) (j : ℕ) → Went p x j → Goes p x j
-  goes_back empty x j (inl m) = inr m
-  goes_back empty x j (inr r) = absurd r
-  goes_back (class m n rs) x j (inl r) = inl r
-  goes_back (class m n rs) x j (inr (h, e)) = inr (class_goes n rs x j h e)
-  goes_back (look l) x j (inl (h, e)) = inr (and_left x _ h, (and_right x _ h, e))
-  goes_back (look l) x j (inr r) = absurd r
-  goes_back (cat p q) x j (inl here) = cat_back p q x j (goes_back p x i) (goes_back q (left p x) j (inl here))
-  goes_back (cat p q) x j (inr (inl (l, r, m))) = cat_forth p q x j l (goes_back p x l (inr r)) (from_stepped q (left p x) l j m)
-  goes_back (cat p q) x j (inr (inr r)) = cat_back p q x j (goes_back p x i) (goes_back q (left p x) j (inr r))
-  goes_back (alt p q) x j (inl (h, e)) =
-      ⊎_elim (λ one. alt_back_left p q x j (goes_back p x j (inl (one, e)))) (λ other. alt_back_right p q x j (goes_back q x j (inl (other, e))))
+  pub goes_back : (p : Pattern) → Says p → (x : Bool) (j : ℕ) → Went p x j → Goes p x j
+  goes_back empty u x j (inl m) = inr m
+  goes_back empty u x j (inr r) = absurd r
+  goes_back (class m n rs) u x j (inl r) = inl r
+  goes_back (class m n rs) u x j (inr (h, e)) = inr (class_goes n rs x j h e)
+  goes_back (look l) u x j (inl (h, e)) = inr (and_left x _ h, (and_right x _ h, e))
+  goes_back (look l) u x j (inr r) = absurd r
+  goes_back (cat p q) u x j (inl here) = cat_back p q x j (goes_back p u.0 x i) (goes_back q u.1 (left p x) j (inl here))
+  goes_back (cat p q) u x j (inr (inl (l, r, m))) = cat_forth p q x j l (goes_back p u.0 x l (inr r)) (from_stepped q (left p x) l j m)
+  goes_back (cat p q) u x j (inr (inr r)) = cat_back p q x j (goes_back p u.0 x i) (goes_back q u.1 (left p x) j (inr r))
+  goes_back (alt p q) u x j (inl (h, e)) =
+      ⊎_elim (λ one. alt_back_left p q x j (goes_back p u.0 x j (inl (one, e)))) (λ other. alt_back_right p q x j (goes_back q u.1 x j (inl (other, e))))
       (or_case (left p x) (left q x) h)
-  goes_back (alt p q) x j (inr (inl r)) = alt_back_left p q x j (goes_back p x j (inr r))
-  goes_back (alt p q) x j (inr (inr r)) = alt_back_right p q x j (goes_back q x j (inr r))
-  goes_back (star p) x j (inl (h, e)) = star_here p x j (no_round i e) (from_body p x (goes_back p false i) h)
-  goes_back (star p) x j (inr (l, r, s)) =
-      star_back p x j l (goes_back p false i) (goes_back p (x || left p false) l (inr r)) (rounds_from_stepped p (x || left p false) l j s)
-  goes_back (plus p) x j (inl (h, e)) =
-      plus_back p x j i (goes_back p false i) (goes_back p (x || left p false) i (inl (h, refl))) (no_round i e)
-  goes_back (plus p) x j (inr (l, r, s)) =
-      plus_back p x j l (goes_back p false i) (goes_back p (x || left p false) l (inr r)) (rounds_from_stepped p (x || left p false) l j s)
+  goes_back (alt p q) u x j (inr (inl r)) = alt_back_left p q x j (goes_back p u.0 x j (inr r))
+  goes_back (alt p q) u x j (inr (inr r)) = alt_back_right p q x j (goes_back q u.1 x j (inr r))
+  goes_back (star p) u x j (inl (h, e)) = star_here p x j (no_round i e) (from_body p x (goes_back p u false i) h)
+  goes_back (star p) u x j (inr (l, r, s)) =
+      star_back p x j l (goes_back p u false i) (goes_back p u (x || left p false) l (inr r)) (rounds_from_stepped p (x || left p false) l j s)
+  goes_back (plus p) u x j (inl (h, e)) =
+      plus_back p x j i (goes_back p u false i) (goes_back p u (x || left p false) i (inl (h, refl))) (no_round i e)
+  goes_back (plus p) u x j (inr (l, r, s)) =
+      plus_back p x j l (goes_back p u false i) (goes_back p u (x || left p false) l (inr r)) (rounds_from_stepped p (x || left p false) l j s)
+  goes_back (lookbehind n p) u x j (inl (h, e)) = inr (and_left x _ h, ((unless_differs n _ _ u.1).0 (and_right x _ h), e))
+  goes_back (lookbehind n p) u x j (inr r) = absurd r
 
   -- at the end of the text no mark is left
   pub none_after_end : slice_get text i ≡ None → (p : Pattern) (x : Bool) (k j : ℕ) → Rest text (stepped p x) k j → ⊥
@@ -319,3 +375,4 @@ module _ (text : List ℕ) (i : ℕ) where
   none_after_end e (alt p q) x k j (inr r) = none_after_end e q x k j r
   none_after_end e (star p) x k j r = none_after_end e p (x || left p false) k r.0 r.1
   none_after_end e (plus p) x k j r = none_after_end e p (x || left p false) k r.0 r.1
+  none_after_end e (lookbehind n p) x k j r = r

@@ -1,10 +1,10 @@
 -- The grammar and the meaning of a pattern's text, with no reader and no marks in them.
-use Rattle.std.specs.Prelude.{◌≡◌, ◌↔◌, ◌⊎◌, ℕ, ◌≤◌, true, not, IsTrue, List, length}
+use Rattle.std.specs.Prelude.{◌≡◌, ◌↔◌, ◌⊎◌, ℕ, ◌≤◌, true, false, not, IsTrue, List, [], length}
 use Rattle.strkw_pattern.specs.declared.engine.Outcome.TheVariants.{Match, NoMatch}
 use Rattle.strkw_ecma.specs.Names.{are_distinct}
 use Rattle.strkw_ecma.specs.Syntax.{Disjunction, spelling, names, max_length}
 use Rattle.strkw_ecma.specs.WellFormed.{IsWellFormed}
-use Rattle.strkw_ecma.specs.Tree.{in_sets}
+use Rattle.strkw_ecma.specs.Tree.{Pattern, class, in_sets}
 use Rattle.strkw_ecma.specs.declared.tree.CharSet.{CharSet}
 use Rattle.strkw_ecma.specs.Codes.{max_code_point}
 use Rattle.strkw_ecma.specs.Lookahead.{is_apart}
@@ -16,6 +16,10 @@ use Rattle.strkw_ecma.specs.machine.Outcomes.{takes_pattern, pattern_outcome}
 -- each character is in one of the two
 abbrev pub AreComplements : List CharSet → List CharSet → Type 0
 AreComplements rs ss = (c : ℕ) → c ≤ max_code_point → in_sets ss c ≡ not (in_sets rs c)
+
+-- `[^]`
+abbrev pub any_character : Pattern
+any_character = class false true []
 
 -- the text is a pattern, and this is its tree
 pub record IsPattern (source : List ℕ) (d : Disjunction) : Type 0 where

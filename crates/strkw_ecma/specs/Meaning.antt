@@ -1,10 +1,13 @@
 -- What a pattern means (ECMA-262 2024, section 22.2.2): it matches a text from place i to place j.
 -- A place is the number of characters before it. The standard's RepeatMatcher refuses a round that
--- reads nothing, which changes no answer.
+-- reads nothing, which changes no answer. CompileAssertion (section 22.2.2.4) runs the pattern of a
+-- lookbehind backward from its place: where nothing is captured, it then matches up to there from
+-- some place.
 use Rattle.std.specs.Prelude.{◌≡◌, ℕ, ◌+◌, ◌-◌, ◌≤◌, ◌==◌, Bool, true, false, not, ◌⊎◌, List}
 use Rattle.std.specs.Prelude.{length, Option, Some, None, if◌then◌else◌, slice_get}
 use Rattle.strkw_ecma.specs.Tree.{Look, start, end, boundary, no_boundary, Pattern, empty, class}
-use Rattle.strkw_ecma.specs.Tree.{look, cat, alt, star, plus, in_sets, differ, is_member}
+use Rattle.strkw_ecma.specs.Tree.{look, cat, alt, star, plus, lookbehind, in_sets, differ}
+use Rattle.strkw_ecma.specs.Tree.{is_member}
 use Rattle.strkw_ecma.specs.Sets.{word_characters}
 
 -- so many rounds of R as it takes, none among them, lead from the last number to j
@@ -32,6 +35,11 @@ holds end b a = is_edge a
 holds boundary b a = differ (is_word b) (is_word a)
 holds no_boundary b a = not (differ (is_word b) (is_word a))
 
+-- it holds, or where the first does, it does not
+abbrev pub Unless : Bool → Type 0 → Type 0
+Unless false A = A
+Unless true A = A → ⊥
+
 abbrev pub Matches : List ℕ → Pattern → ℕ → ℕ → Type 0
 Matches text empty i j = i ≡ j
 Matches text (class m n rs) i j = (c : ℕ) × (slice_get text i ≡ Some c) × (is_member n rs c ≡ true)
@@ -41,6 +49,7 @@ Matches text (cat p q) i j = (l : ℕ) × Matches text p i l × Matches text q l
 Matches text (alt p q) i j = Matches text p i j ⊎ Matches text q i j
 Matches text (star p) i j = Rounds (Matches text p) j i
 Matches text (plus p) i j = (l : ℕ) × Matches text p i l × Rounds (Matches text p) j l
+Matches text (lookbehind n p) i j = Unless n ((k : ℕ) × Matches text p k i) × (i ≡ j)
 
 -- the pattern is found somewhere in the text. Beyond its end no place is one: there both assertions
 -- would hold

@@ -14,6 +14,8 @@ pub use Rattle.strkw_ecma.specs.declared.tokens.Extension.TheVariants.{Unknown a
 pub use Rattle.strkw_ecma.specs.declared.tokens.NameToken.{NameToken}
 pub use Rattle.strkw_ecma.specs.declared.tokens.NameToken.TheVariants.{End as name_end}
 pub use Rattle.strkw_ecma.specs.declared.tokens.NameToken.TheVariants.{Backslash as name_backslash}
+pub use Rattle.strkw_ecma.specs.declared.tokens.NameToken.TheVariants.{Equals as name_equals}
+pub use Rattle.strkw_ecma.specs.declared.tokens.NameToken.TheVariants.{Exclamation as name_negation}
 pub use Rattle.strkw_ecma.specs.declared.tokens.NameToken.TheVariants.{Character as name_character}
 
 -- IdentifierStartChar and IdentifierPartChar (section 12.7); `_` is one of ID_Continue
@@ -86,7 +88,8 @@ abbrev pub extension : ℕ → Extension
 extension c = if c == byte ":" then uncaptured else if c == byte "<" then name_opening
     else no_extension
 
--- and in a name
+-- and behind `(?<`, in a name or before it
 abbrev pub name_token : ℕ → NameToken
 name_token c = if c == byte ">" then name_end else if c == byte "\\" then name_backslash
+    else if c == byte "=" then name_equals else if c == byte "!" then name_negation
     else name_character

@@ -2,7 +2,7 @@
 use Rattle.std.specs.Prelude.{ℕ, zero, suc, ◌+◌, Bool, true, false, ◌||◌, List, [], ◌∷◌, ◌++◌}
 use Rattle.strkw_ecma.specs.declared.tree.CharSet.{CharSet}
 use Rattle.strkw_ecma.specs.Tree.{Look, start, end, boundary, no_boundary, Pattern, empty, class}
-use Rattle.strkw_ecma.specs.Tree.{look, cat, alt, star, plus}
+use Rattle.strkw_ecma.specs.Tree.{look, cat, alt, star, plus, lookbehind}
 
 pub data Instruction : Type 0 where
   -- One character of a class, which is negated or not. Where the first holds, once or more; where
@@ -13,6 +13,8 @@ pub data Instruction : Type 0 where
   fork other join : Instruction
   -- before and behind what stands any number of times, or once or more
   star_begin star_end plus_begin plus_end : Instruction
+  -- before and behind the pattern of a lookbehind, which is negated or not
+  look_begin look_end : Bool → Instruction
 
 -- of a class the first, of any other pattern the second
 abbrev pub if_class : {A : Type 0} → Pattern → (Bool → List CharSet → A) → A → A
@@ -23,6 +25,7 @@ if_class (cat p q) f x = x
 if_class (alt p q) f x = x
 if_class (star p) f x = x
 if_class (plus p) f x = x
+if_class (lookbehind n p) f x = x
 
 -- of two alternatives: where nothing or a class may stand, the first
 abbrev pub if_option : {A : Type 0} → Pattern → Pattern → (Bool → List CharSet → A) → A → A
@@ -33,6 +36,7 @@ if_option (cat p r) q f x = x
 if_option (alt p r) q f x = x
 if_option (star p) q f x = x
 if_option (plus p) q f x = x
+if_option (lookbehind n p) q f x = x
 
 abbrev pub is_class : Pattern → Bool
 is_class p = if_class p (λ n rs. true) false
@@ -45,6 +49,7 @@ is_empty (cat p q) = false
 is_empty (alt p q) = false
 is_empty (star p) = false
 is_empty (plus p) = false
+is_empty (lookbehind n p) = false
 
 -- A class that is repeated, or that may be missing, is one instruction.
 abbrev mutual
@@ -60,6 +65,7 @@ abbrev mutual
       (star_begin ∷ (program p ++ (star_end ∷ [])))
   program (plus p) = if_class p (λ n rs. read true false n rs ∷ [])
       (plus_begin ∷ (program p ++ (plus_end ∷ [])))
+  program (lookbehind n p) = look_begin n ∷ (program p ++ (look_end n ∷ []))
 
   -- the alternatives of more than two stand side by side
   pub alternatives : Pattern → List Instruction
@@ -72,6 +78,7 @@ abbrev mutual
       (star_begin ∷ (program p ++ (star_end ∷ [])))
   alternatives (plus p) = if_class p (λ n rs. read true false n rs ∷ [])
       (plus_begin ∷ (program p ++ (plus_end ∷ [])))
+  alternatives (lookbehind n p) = look_begin n ∷ (program p ++ (look_end n ∷ []))
 
 -- so many times
 abbrev pub copied : {A : Type 0} → ℕ → List A → List A
@@ -88,6 +95,8 @@ is_loop star_begin = true
 is_loop star_end = false
 is_loop plus_begin = true
 is_loop plus_end = false
+is_loop (look_begin n) = false
+is_loop (look_end n) = false
 
 abbrev pub has_loop : List Instruction → Bool
 has_loop [] = false
@@ -105,6 +114,8 @@ read_count (star_begin ∷ is) = read_count is
 read_count (star_end ∷ is) = read_count is
 read_count (plus_begin ∷ is) = read_count is
 read_count (plus_end ∷ is) = read_count is
+read_count (look_begin n ∷ is) = read_count is
+read_count (look_end n ∷ is) = read_count is
 
 abbrev pub asks_word : Look → Bool
 asks_word start = false
@@ -124,3 +135,5 @@ asks_boundary (star_begin ∷ is) = asks_boundary is
 asks_boundary (star_end ∷ is) = asks_boundary is
 asks_boundary (plus_begin ∷ is) = asks_boundary is
 asks_boundary (plus_end ∷ is) = asks_boundary is
+asks_boundary (look_begin n ∷ is) = asks_boundary is
+asks_boundary (look_end n ∷ is) = asks_boundary is

@@ -8,32 +8,32 @@ use Rattle.strkw_ecma.specs.Properties.{Expression, alone, valued, property_of, 
 use Rattle.strkw_ecma.specs.Properties.{property_spelling}
 use Rattle.strkw_ecma.specs.Size.{steps, max_term_steps, max_steps}
 use Rattle.strkw_ecma.specs.Patterns.{pattern, atom_pattern, times, copies}
-use Rattle.strkw_ecma.specs.Syntax.{Disjunction, spelling, Group, group_spelling, Atom}
+use Rattle.strkw_ecma.specs.Syntax.{Disjunction, spelling, Enclosing, enclosing_spelling, Atom}
 use Rattle.strkw_ecma.specs.Syntax.{atom_spelling, Quantifier, quantifier_spelling, max_nesting}
 use Rattle.strkw_ecma.specs.Syntax.{max_length}
-use Rattle.strkw_ecma.specs.WellFormed.{IsWellFormed, IsGroup, IsAtom}
+use Rattle.strkw_ecma.specs.WellFormed.{IsWellFormed, IsEnclosing, IsAtom}
 use Rattle.strkw_ecma.specs.declared.refusals.PatternRefusal.{PatternRefusal}
-use Rattle.strkw_ecma.specs.declared.refusals.PatternRefusal.TheVariants.{LookAhead, LookBehind}
+use Rattle.strkw_ecma.specs.declared.refusals.PatternRefusal.TheVariants.{LookAhead}
 use Rattle.strkw_ecma.specs.declared.refusals.PatternRefusal.TheVariants.{BackReference, Property}
 use Rattle.strkw_ecma.specs.declared.refusals.PatternRefusal.TheVariants.{TooLong, TooDeep}
 use Rattle.strkw_ecma.specs.declared.refusals.PatternRefusal.TheVariants.{CountTooGreat}
 use Rattle.strkw_ecma.specs.declared.refusals.PatternRefusal.TheVariants.{TermTooLarge, TooLarge}
 use Rattle.strkw_ecma.specs.declared.refusals.PatternRefusal.TheVariants.{NotTaken}
 
--- what a pattern may begin with, up to where a term may stand: n groups are open, one in another,
--- with alternatives before each and behind the last
+-- what a pattern may begin with, up to where a term may stand: n groups and lookbehinds are open,
+-- one in another, with alternatives before each and behind the last
 abbrev pub IsBeginning : ℕ → List ℕ → Type 0
 IsBeginning zero text = (d : Disjunction) × IsWellFormed 0 d × (spelling d ≡ text)
 IsBeginning (suc n) text =
-    (outer : List ℕ) × (g : Group) × (d : Disjunction)
-    × IsBeginning n outer × IsGroup g × IsWellFormed (suc n) d
-    × ((outer ++ group_spelling g) ++ spelling d ≡ text)
+    (outer : List ℕ) × (g : Enclosing) × (d : Disjunction)
+    × IsBeginning n outer × IsEnclosing g × IsWellFormed (suc n) d
+    × ((outer ++ enclosing_spelling g) ++ spelling d ≡ text)
 
 -- this stands in the text
 abbrev pub Has : List ℕ → List ℕ → Type 0
 Has part text = (before : List ℕ) × (after : List ℕ) × (before ++ (part ++ after) ≡ text)
 
--- and where a term may, within n groups
+-- and where a term may, within n groups and lookbehinds
 abbrev pub HasTermWithin : ℕ → List ℕ → List ℕ → Type 0
 HasTermWithin n part text =
     (before : List ℕ) × (after : List ℕ) × IsBeginning n before × (before ++ (part ++ after) ≡ text)
@@ -41,8 +41,7 @@ HasTermWithin n part text =
 abbrev pub HasTerm : List ℕ → List ℕ → Type 0
 HasTerm part text = (n : ℕ) × HasTermWithin n part text
 
--- behind `(?` or `(?<`: a lookahead or a lookbehind begins (Assertion of ECMA-262 2024, section
--- 22.2.1)
+-- behind `(?`: a lookahead begins (Assertion of ECMA-262 2024, section 22.2.1)
 abbrev pub is_look : ℕ → Bool
 is_look = is_one_of (codes "=!")
 
@@ -75,16 +74,15 @@ IsTooLong text = max_length < length text
 -- what a refusal says of the text of a pattern that is not taken
 abbrev pub IsReason : List ℕ → PatternRefusal → Type 0
 IsReason text LookAhead = (c : ℕ) × (is_look c ≡ true) × HasTerm (byte "(" ∷ byte "?" ∷ c ∷ []) text
-IsReason text LookBehind =
-    (c : ℕ) × (is_look c ≡ true) × HasTerm (byte "(" ∷ byte "?" ∷ byte "<" ∷ c ∷ []) text
 IsReason text BackReference = (c : ℕ) × (is_reference c ≡ true) × HasTerm (byte "\\" ∷ c ∷ []) text
 IsReason text Property =
     (b : Bool) × (e : Expression) × (has_property_chars e ≡ true) × (is_unknown e ≡ true)
     × Has (byte "\\" ∷ property_spelling b e) text
 IsReason text TooLong = IsTooLong text
--- a group opens within as many as may lie in one another
+-- a group or a lookbehind opens within as many as may lie in one another
 IsReason text TooDeep =
-    (n : ℕ) × (g : Group) × (max_nesting ≤ n) × IsGroup g × HasTermWithin n (group_spelling g) text
+    (n : ℕ) × (g : Enclosing)
+    × (max_nesting ≤ n) × IsEnclosing g × HasTermWithin n (enclosing_spelling g) text
 IsReason text CountTooGreat =
     (ds : List ℕ) × (are_digits ds ≡ true) × (max_count < number ds) × HasGreatCount text ds
 IsReason text TermTooLarge =

@@ -6,7 +6,7 @@ use Rattle.strkw_ecma.specs.declared.tree.CharSet.{CharSet}
 use Rattle.strkw_ecma.specs.declared.tree.CharSet.TheVariants.{Range, Property}
 use Rattle.strkw_ecma.specs.Tree.{Pattern}
 use Rattle.strkw_ecma.specs.Program.{Instruction, read, assert, fork, other, join, star_begin}
-use Rattle.strkw_ecma.specs.Program.{star_end, plus_begin, plus_end, program}
+use Rattle.strkw_ecma.specs.Program.{star_end, plus_begin, plus_end, look_begin, look_end, program}
 
 -- of a counted term, its copies each with the steps of what is repeated
 abbrev pub max_term_steps : ℕ
@@ -38,6 +38,8 @@ instruction_steps star_begin = 1
 instruction_steps star_end = 1
 instruction_steps plus_begin = 1
 instruction_steps plus_end = 1
+instruction_steps (look_begin n) = 1
+instruction_steps (look_end n) = 1
 
 abbrev pub steps_of : List Instruction → ℕ
 steps_of [] = 0

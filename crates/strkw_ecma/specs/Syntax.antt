@@ -1,8 +1,9 @@
 -- The syntax, after `Pattern` of ECMA-262 2024, section 22.2.1, in Unicode mode: the part of it
--- with alternatives, terms one after another, `^`, `$`, `\b`, `\B`, quantifiers, groups, classes,
--- the dot, characters, and escapes of one letter, by a number, or of a property. A pattern is a
--- tree of its rules, and a text is a pattern where some tree is spelled so.
-use Rattle.std.specs.Prelude.{ℕ, Bool, List, [], ◌∷◌, ◌++◌, codes, if◌then◌else◌, ◌==◌}
+-- with alternatives, terms one after another, `^`, `$`, `\b`, `\B`, lookbehinds, quantifiers,
+-- groups, classes, the dot, characters, and escapes of one letter, by a number, or of a property. A
+-- pattern is a tree of its rules, and a text is a pattern where some tree is spelled so.
+use Rattle.std.specs.Prelude.{ℕ, Bool, true, false, List, [], ◌∷◌, ◌++◌, codes, if◌then◌else◌}
+use Rattle.std.specs.Prelude.{◌==◌}
 use Rattle.std.specs.Str.{byte}
 use Rattle.strkw_text.specs.Characters.{is_one_of}
 use Rattle.strkw_ecma.specs.Codes.{Code, code_spelling}
@@ -53,6 +54,11 @@ pub data Group : Type 0 where
   capturing plain_group : Group
   named : List NameChar → Group
 
+-- what stands around a disjunction: a group, or a lookbehind, which is negated or not
+pub data Enclosing : Type 0 where
+  of_group : Group → Enclosing
+  of_lookbehind : Bool → Enclosing
+
 mutual
   -- Disjunction: the first alternative, or more of them before the last
   pub data Disjunction : Type 0 where
@@ -70,6 +76,8 @@ mutual
     at_end : Term
     at_boundary : Term
     at_no_boundary : Term
+    -- `(?<= )`, or `(?<! )` where the first holds: no quantifier may follow it
+    looks_behind : Bool → Disjunction → Term
     once : Atom → Term
     quantified : Atom → Quantifier → Greed → Term
 
@@ -104,6 +112,15 @@ group_spelling capturing = byte "(" ∷ []
 group_spelling plain_group = byte "(" ∷ byte "?" ∷ byte ":" ∷ []
 group_spelling (named n) = byte "(" ∷ byte "?" ∷ byte "<" ∷ (name_spelling n ++ byte ">" ∷ [])
 
+abbrev pub lookbehind_spelling : Bool → List ℕ
+lookbehind_spelling false = byte "(" ∷ byte "?" ∷ byte "<" ∷ byte "=" ∷ []
+lookbehind_spelling true = byte "(" ∷ byte "?" ∷ byte "<" ∷ byte "!" ∷ []
+
+-- the beginning of what stands around a disjunction
+abbrev pub enclosing_spelling : Enclosing → List ℕ
+enclosing_spelling (of_group g) = group_spelling g
+enclosing_spelling (of_lookbehind n) = lookbehind_spelling n
+
 abbrev mutual
   -- as it is written
   pub spelling : Disjunction → List ℕ
@@ -120,6 +137,7 @@ abbrev mutual
   term_spelling (once a) = atom_spelling a
   term_spelling at_boundary = byte "\\" ∷ byte "b" ∷ []
   term_spelling at_no_boundary = byte "\\" ∷ byte "B" ∷ []
+  term_spelling (looks_behind n d) = (lookbehind_spelling n ++ spelling d) ++ byte ")" ∷ []
   term_spelling (quantified a q g) = (atom_spelling a ++ quantifier_spelling q) ++ greed_spelling g
 
   pub atom_spelling : Atom → List ℕ
@@ -139,6 +157,11 @@ with_name ns capturing = ns
 with_name ns plain_group = ns
 with_name ns (named n) = ns ++ name_value n ∷ []
 
+-- the names, and behind them that of what stands around a disjunction, where it has one
+abbrev pub with_own_name : List (List ℕ) → Enclosing → List (List ℕ)
+with_own_name ns (of_group g) = with_name ns g
+with_own_name ns (of_lookbehind n) = ns
+
 abbrev mutual
   -- the names, and behind them those of the groups of the tree
   pub with_names : List (List ℕ) → Disjunction → List (List ℕ)
@@ -155,6 +178,7 @@ abbrev mutual
   with_term_names ns (once a) = with_atom_names ns a
   with_term_names ns at_boundary = ns
   with_term_names ns at_no_boundary = ns
+  with_term_names ns (looks_behind n d) = with_names ns d
   with_term_names ns (quantified a q g) = with_atom_names ns a
 
   pub with_atom_names : List (List ℕ) → Atom → List (List ℕ)
@@ -172,7 +196,8 @@ abbrev mutual
 abbrev pub names : Disjunction → List (List ℕ)
 names = with_names []
 
--- groups lie in one another at most so deep, and a pattern has at most so many characters
+-- groups and lookbehinds lie in one another at most so deep, and a pattern has at most so many
+-- characters
 abbrev pub max_nesting : ℕ
 max_nesting = 250
 

@@ -19,6 +19,8 @@ pub data Pattern : Type 0 where
   star : Pattern → Pattern
   -- once or more
   plus : Pattern → Pattern
+  -- reads nothing: the pattern matches up to here, or where the first holds, it does not
+  lookbehind : Bool → Pattern → Pattern
 
 abbrev pub differ : Bool → Bool → Bool
 differ true b = not b

@@ -31,6 +31,9 @@ pub(crate) enum Turn {
     /// Before and behind what stands once or more.
     PlusBegin,
     PlusEnd,
+    /// Before and behind the pattern of a lookbehind, which is negated or not.
+    LookBegin(bool),
+    LookEnd(bool),
 }
 
 #[derive(Clone, Copy)]

@@ -59,7 +59,7 @@ impl RegexEngine for EcmaMatcher {
 
 /// Builds engines of patterns of ECMA-262 2024 in Unicode mode (`Pattern`, section 22.2.1), of this part of its syntax:
 /// - alternatives with `|`, and groups with `( )`, `(?: )` and `(?<name> )`, whose names are read and told nowhere;
-/// - the assertions `^`, `$`, `\b`, `\B`;
+/// - the assertions `^`, `$`, `\b`, `\B`, and look-behinds with `(?<= )` and `(?<! )`, which no quantifier follows;
 /// - behind an atom `*`, `+`, `?`, `{n}`, `{n,}` or `{n,m}`, and a `?` behind that, which changes no answer;
 /// - `.`; a character that is none of `^ $ \ . * + ? ( ) [ ] { } |`; `\` before one of those or `/`; `\f \n \r \t \v`;
 ///   `\d \D \s \S \w \W`;
@@ -69,12 +69,12 @@ impl RegexEngine for EcmaMatcher {
 ///   Script, behind `Script=` or `sc=`, each named as in Unicode's tables of aliases, letter case and `_` included;
 /// - classes with `[ ]` and `[^ ]`, of characters, ranges and those escapes, with `\-`, and `\b` for the backspace.
 ///
-/// Any other text is not taken, nor is a pattern with groups more than 250 deep, with more than 2,000 characters,
-/// with a count above 1,000, with a counted term of more than 2,000 steps (its copies, each with the steps of what is
-/// repeated), or one of more than 2,600 steps as a whole. A step is an instruction of the pattern's program: one for
-/// each class, which may be repeated without end or be missing, and for each assertion, two around a loop, three
-/// around alternatives, and one between more of them; and of a class one more for each eight ranges and for each
-/// property. They are counted before there is a program.
+/// Any other text is not taken, nor is a pattern with groups and look-behinds more than 250 deep, with more than 2,000
+/// characters, with a count above 1,000, with a counted term of more than 2,000 steps (its copies, each with the steps
+/// of what is repeated), or one of more than 2,600 steps as a whole. A step is an instruction of the pattern's program:
+/// one for each class, which may be repeated without end or be missing, and for each other assertion, two around a loop
+/// or the pattern of a look-behind, three around alternatives, and one between more of them; and of a class one more
+/// for each eight ranges and for each property. They are counted before there is a program.
 ///
 /// A match is a search for the pattern in the text (section 22.2.7.2), with no flag but `u`: characters are Unicode
 /// scalar values; `^` and `$` stand for the two ends of the text, `.` for each character but U+000A, U+000D, U+2028

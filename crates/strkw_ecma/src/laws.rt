@@ -1,7 +1,9 @@
 //! Laws of the definitions, as functions with empty bodies.
 
-ghost use Rattle.std.specs.Prelude.{ℕ, ◌*◌, List};
-ghost use Rattle.strkw_ecma.specs.Laws.{AreComplements, IsExact, IsPattern};
+ghost use Rattle.std.specs.Prelude.{ℕ, ◌*◌, ◌≤◌, ◌↔◌, true, List, length};
+ghost use Rattle.strkw_ecma.specs.Laws.{AreComplements, any_character, IsExact, IsPattern};
+ghost use Rattle.strkw_ecma.specs.Tree.{start, look, lookbehind};
+ghost use Rattle.strkw_ecma.specs.Meaning.{Matches};
 ghost use Rattle.strkw_ecma.specs.Syntax.{Disjunction};
 ghost use Rattle.strkw_ecma.specs.Size.{max_steps};
 ghost use Rattle.strkw_ecma.specs.machine.Counted.{IsSearchedWithin};
@@ -28,4 +30,10 @@ pub fn negative_sets_are_complements()
 pub fn searches_are_bounded()
     ensures { (source : List ℕ) (d : Disjunction) → IsPattern source d
         → (text : List ℕ) → IsSearchedWithin (2 * max_steps) (pattern d) text }
+{}
+
+/// `^` holds exactly where `(?<![^])` does: at a place before which no character stands.
+pub fn start_is_a_lookbehind()
+    ensures { (text : List ℕ) (i j : ℕ) → i ≤ length text
+        → Matches text (look start) i j ↔ Matches text (lookbehind true any_character) i j }
 {}

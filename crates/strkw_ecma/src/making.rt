@@ -1,16 +1,18 @@
 //! How the table of a pattern is made: from the state at the beginning of a text on, by each column.
 
-ghost use Rattle.std.specs.Prelude.{◌≡◌, ◌≤◌, ◌<◌, true, length, IfOk, MatchOption};
-ghost use Rattle.strkw_ecma.specs.machine.Columns.{AreColumns};
+ghost use Rattle.std.specs.Prelude.{◌≡◌, ◌+◌, ◌==◌, ◌≤◌, ◌<◌, ℕ, true, false, length, Some, None, get_or, slice_get};
+ghost use Rattle.std.specs.Prelude.{IsTrue, IfOk, MatchOption};
+ghost use Rattle.strkw_ecma.specs.machine.Columns.{AreColumns, answers as spec_answers};
 ghost use Rattle.strkw_ecma.specs.machine.Marks.{classes as spec_classes, is_clean};
 ghost use Rattle.strkw_ecma.specs.machine.Machine.{pattern_of};
 ghost use Rattle.strkw_ecma.specs.machine.Searches.{IsSearchedBy};
+ghost use Rattle.strkw_ecma.specs.machine.Table.{found, AreEntries, AreRows, IsDraft, IsTable};
 
-use crate::columns::{Columns, answers, place_of};
+use crate::columns::{Columns, MOST_COLUMNS, answers, place_of, tells};
 use crate::program::{Program, Room};
 use crate::runs::mark_runs;
-use crate::samples::sampled_of;
-use crate::states::{Draft, State, set_marks};
+use crate::samples::{Sampled, sampled_of};
+use crate::states::{State, entry_of};
 use crate::table::{FOUND, Table};
 use crate::tree::CharSet;
 use std::alloc::{AllocError, Global};
@@ -43,113 +45,168 @@ fn most_rows(program: &Program, columns: usize) -> usize {
         .min(MOST_ROWS)
 }
 
-// A number of the marks, which is mostly another for others, so that few need be compared.
-fn digest(marks: &[bool]) -> u64 {
-    let mut digest = 0u64;
-    for mark in marks {
-        digest = digest
-            .wrapping_mul(0x9E37_79B9_7F4A_7C15)
-            .wrapping_add(u64::from(*mark));
-    }
-    digest
-}
-
-// The place of a row, where there can be one with this number.
-fn place_of_row(number: usize, stride: usize) -> Option<u16> {
-    u16::try_from(number.saturating_mul(stride)).ok()
+/// A table that is made: the states that are known, and the rows of the first of them.
+#[derive(Drop)]
+struct Draft {
+    states: Vec<State>,
+    entries: Vec<u16>,
 }
 
 impl Draft {
-    // The number of the state of these marks behind a character, which is added where there is none.
-    fn number_of(
-        &mut self,
-        alloc: Global,
-        program: &Program,
-        marks: &[bool],
-        last: char,
-    ) -> Result<usize, AllocError> {
-        let digest = digest(marks);
-        for (number, state) in self.states.iter().enumerate() {
-            if state.digest == digest && state.is_that_of(program, marks, last) {
-                return Ok(number);
-            }
-        }
-        let added = self.states.len();
-        self.states.push(State {
-            marks: Vec::from_slice(alloc, marks)?,
-            last: Some(last),
-            digest,
-        })?;
-        Ok(added)
-    }
-
-    // The entry of a state and the next character, behind which there may be one more state; none where its row has
-    // no place.
-    fn entry_of(
+    // The entries of a state and the characters that stand for the columns. Whether there is a place for the rows that
+    // they lead to.
+    fn add_entries(
         &mut self,
         alloc: Global,
         program: &Program,
         room: &mut Room,
         at_hand: &mut [bool],
+        samples: &[char],
         number: usize,
-        c: char,
-    ) -> Result<Option<u16>, AllocError>
-        requires { spec_classes (pattern_of program.now) ≤ length at_hand.old }
-        ensures { length at_hand.new ≡ length at_hand.old }
+    ) -> Result<bool, AllocError>
+        requires fits { spec_classes (pattern_of program.now) ≤ length at_hand.old }
+        requires few { length samples.now < 256 }
+        ensures length { length at_hand.new ≡ length at_hand.old }
+        ensures right { IfOk result (λ are_added. IsTrue are_added
+            → AreEntries (pattern_of program.now) samples.now self.old.entries.items
+            self.new.entries.items self.old.states.items self.new.states.items
+            number (length samples.now)) }
     {
-        let Some(state) = self.states.get(number) else {
-            return Ok(None);
-        };
-        set_marks(at_hand, state);
-        if program.step(room, at_hand, state.last, Some(c)) {
-            return Ok(Some(FOUND as u16));
+        let end = samples.len();
+        for sample in samples {
+            match entry_of(
+                alloc,
+                &mut self.states,
+                program,
+                room,
+                at_hand,
+                number,
+                end,
+                *sample,
+            )? {
+                Some(entry) => self.entries.push(entry)?,
+                None => return Ok(false),
+            }
         }
-        let behind = self.number_of(alloc, program, at_hand, c)?;
-        Ok(place_of_row(behind, self.samples.len().saturating_add(1)))
+        Ok(true)
     }
 
-    // The entry of a state for the end of the text.
-    fn end_of(&self, program: &Program, room: &mut Room, at_hand: &mut [bool], number: usize) -> u16
-        requires { spec_classes (pattern_of program.now) ≤ length at_hand.old }
-        ensures { length at_hand.new ≡ length at_hand.old }
-    {
-        let Some(state) = self.states.get(number) else {
-            return 0;
-        };
-        set_marks(at_hand, state);
-        if program.step(room, at_hand, state.last, None) {
-            FOUND as u16
-        } else {
-            0
-        }
-    }
-
-    // The row of a state, behind the rows before it. Whether there is a place for the rows that it leads to.
+    // The row of a state, behind the rows of those before it. Whether there is a place for the rows that it leads to.
     fn add_row(
         &mut self,
         alloc: Global,
         program: &Program,
         room: &mut Room,
         at_hand: &mut [bool],
+        samples: &[char],
         number: usize,
     ) -> Result<bool, AllocError>
-        requires { spec_classes (pattern_of program.now) ≤ length at_hand.old }
-        ensures { length at_hand.new ≡ length at_hand.old }
+        requires fits { spec_classes (pattern_of program.now) ≤ length at_hand.old }
+        requires few { length samples.now < 256 }
+        requires there { number < length self.old.states.items }
+        requires draft { IsDraft (pattern_of program.now) samples.now self.old.entries.items
+            self.old.states.items number }
+        ensures length { length at_hand.new ≡ length at_hand.old }
+        ensures right { IfOk result (λ is_added. IsTrue is_added
+            → IsDraft (pattern_of program.now) samples.now self.new.entries.items
+            self.new.states.items (number + 1)) }
     {
-        for column in 0..self.samples.len() {
-            let Some(sample) = self.samples.get(column) else {
-                return Ok(false);
-            };
-            let sample = *sample;
-            match self.entry_of(alloc, program, room, at_hand, number, sample)? {
-                Some(entry) => self.entries.push(entry)?,
-                None => return Ok(false),
-            }
+        if !self.add_entries(alloc, program, room, at_hand, samples, number)? {
+            return Ok(false);
         }
-        let end = self.end_of(program, room, at_hand, number);
-        self.entries.push(end)?;
+        let Some(state) = self.states.get(number) else {
+            return Ok(false);
+        };
+        let Some(ends) = state.step(program, room, at_hand, None) else {
+            return Ok(false);
+        };
+        self.entries.push(end_entry(ends))?;
         Ok(true)
     }
+
+    // The rows of all states. Whether these are so few.
+    fn add_rows(
+        &mut self,
+        alloc: Global,
+        program: &Program,
+        samples: &[char],
+        most_rows: usize,
+    ) -> Result<bool, AllocError>
+        requires few { length samples.now < 256 }
+        requires draft { IsDraft (pattern_of program.now) samples.now self.old.entries.items
+            self.old.states.items 0 }
+        ensures { IfOk result (λ are_added. IsTrue are_added
+            → AreRows (pattern_of program.now) samples.now self.new.entries.items
+            self.new.states.items) }
+    {
+        let mut room = Room::new();
+        let mut at_hand = vec![in alloc; false; program.marks]?;
+        let mut number = 0;
+        'rows: while number < self.states.len() {
+            if self.states.len() > most_rows
+                || !self.add_row(alloc, program, &mut room, &mut at_hand, samples, number)?
+            {
+                return Ok(false);
+            }
+            number += 1;
+        }
+        Ok(true)
+    }
+
+    // Whether the first state is that of a pattern without marks at the beginning of a text.
+    fn begins(&self) -> bool
+        ensures { IsTrue result → (s : State) × (slice_get self.now.states.items 0 ≡ Some s)
+            × ((k : ℕ) → get_or s.marks.items k false ≡ false) × (s.last ≡ None) }
+    {
+        match self.states.first() {
+            Some(state) => state.is_first(),
+            None => false,
+        }
+    }
+
+    // Whether the table is right, with these columns, where its rows are.
+    fn is_table(&self, sampled: &Sampled, program: &Program) -> bool
+        requires { AreRows (pattern_of program.now) sampled.now.samples.items
+            self.now.entries.items self.now.states.items }
+        ensures { IsTrue result → IsTable sampled.now.classes.items sampled.now.keys.items
+            sampled.now.samples.items self.now.entries.items self.now.states.items
+            (pattern_of program.now) }
+    {
+        if sampled.keys.len() > MOST_COLUMNS
+            || !tells(&sampled.classes, program)
+            || !are_keys(sampled)
+        {
+            return false;
+        }
+        self.begins()
+    }
+}
+
+// The entry of a state for the end of a text.
+fn end_entry(is_found: bool) -> u16
+    ensures { (result == found) ≡ is_found }
+{
+    if is_found { FOUND as u16 } else { 0 }
+}
+
+// Whether the keys are the answers about the characters that stand for the columns.
+fn are_keys(sampled: &Sampled) -> bool
+    ensures lengths { IsTrue result
+        → length sampled.now.samples.items ≡ length sampled.now.keys.items }
+    ensures sampled { IsTrue result → (k : ℕ) → k < length sampled.now.keys.items
+        → get_or sampled.now.keys.items k 0
+        ≡ spec_answers 0 sampled.now.classes.items (get_or sampled.now.samples.items k 0) }
+{
+    let samples = sampled.samples.as_slice();
+    if samples.len() != sampled.keys.len() {
+        return false;
+    }
+    for (k, key) in sampled.keys.as_slice().iter().enumerate() {
+        if *key != answers(&sampled.classes, samples[k]) {
+            return false;
+        }
+    }
+    true
 }
 
 // The columns of the characters below a number, where each has one.
@@ -177,21 +234,23 @@ fn columns_below(
     Ok(Some(columns))
 }
 
-// The table of a draft with these columns, where it is right.
+// The table of a draft with these columns, where they are right.
 fn table_if_right(
     alloc: Global,
-    classes: Vec<Vec<CharSet>>,
-    keys: Vec<u64>,
+    sampled: Sampled,
     draft: Draft,
     program: &Program,
 ) -> Result<Option<Table>, AllocError>
     requires clean { is_clean (pattern_of program.now) ≡ true }
+    requires rows { AreRows (pattern_of program.now) sampled.samples.items draft.entries.items
+        draft.states.items }
     ensures { IfOk result (λ made.
         MatchOption made Unit (λ t. IsSearchedBy t (pattern_of program.now))) }
 {
-    if !draft.is_table(alloc, &classes, &keys, program)? {
+    if !draft.is_table(&sampled, program) {
         return Ok(None);
     }
+    let Sampled { classes, keys, .. } = sampled;
     let Some(ascii) = columns_below(alloc, &classes, &keys, ASCII_END)? else {
         return Ok(None);
     };
@@ -218,30 +277,19 @@ pub(crate) fn table_of(alloc: Global, program: &Program) -> Result<Option<Table>
     let Some(sampled) = sampled_of(alloc, program)? else {
         return Ok(None);
     };
-    let mut room = Room::new();
-    let mut at_hand = vec![in alloc; false; program.marks]?;
-    let stride = sampled.samples.len().saturating_add(1);
-    let most_rows = most_rows(program, stride);
+    let end = sampled.samples.len();
+    if end > MOST_COLUMNS {
+        return Ok(None);
+    }
     let mut draft = Draft {
-        samples: sampled.samples,
         states: Vec::new(alloc),
         entries: Vec::new(alloc),
     };
-    draft.states.push(State {
-        marks: Vec::from_slice(alloc, &at_hand)?,
-        last: None,
-        digest: digest(&at_hand),
-    })?;
-    for number in 0..=most_rows {
-        if number == draft.states.len() {
-            mark_runs(&mut draft.entries, stride, number);
-            return table_if_right(alloc, sampled.classes, sampled.keys, draft, program);
-        }
-        if draft.states.len() > most_rows
-            || !draft.add_row(alloc, program, &mut room, &mut at_hand, number)?
-        {
-            return Ok(None);
-        }
+    draft.states.push(State::first(alloc, program.marks)?)?;
+    let most_rows = most_rows(program, end + 1);
+    if !draft.add_rows(alloc, program, &sampled.samples, most_rows)? {
+        return Ok(None);
     }
-    Ok(None)
+    mark_runs(&mut draft.entries, end, draft.states.len());
+    table_if_right(alloc, sampled, draft, program)
 }

@@ -1,7 +1,7 @@
 //! Patterns as they are read: a term that is repeated stands once, beside its quantifier. A program has its copies.
 
 ghost use Rattle.std.specs.Prelude.{◌≡◌, false, IfOk, MatchOption};
-ghost use Rattle.strkw_ecma.specs.Tree.{class as spec_class, cat, alt};
+ghost use Rattle.strkw_ecma.specs.Tree.{class as spec_class, cat, alt, lookbehind};
 ghost use Rattle.strkw_ecma.specs.Patterns.{quantified_pattern};
 ghost use Rattle.strkw_ecma.specs.Program.{is_class, is_empty};
 ghost use Rattle.strkw_ecma.specs.machine.Shape.{outlined, quantifier_of};
@@ -31,6 +31,8 @@ pub(crate) enum Outline {
     Then(Box<Outline>, Box<Outline>),
     Or(Box<Outline>, Box<Outline>),
     Repeated(Quantifier, Box<Outline>),
+    /// A lookbehind, which is negated where the first holds.
+    Behind(bool, Box<Outline>),
 }
 
 impl Outline {
@@ -53,6 +55,12 @@ impl Outline {
         Ok(Outline::Repeated(quantifier, Box::new(alloc, self)?))
     }
 
+    pub(crate) fn behind(self, alloc: Global, negated: bool) -> Result<Outline, AllocError>
+        ensures { IfOk result (λ t. outlined t ≡ lookbehind negated (outlined self)) }
+    {
+        Ok(Outline::Behind(negated, Box::new(alloc, self)?))
+    }
+
     /// Its class, where it is one character of a class.
     pub(crate) fn class(&self) -> Option<(bool, &[CharSet])>
         ensures { MatchOption result (is_class (outlined self.now) ≡ false)
@@ -67,7 +75,8 @@ impl Outline {
             | Outline::NoBoundary
             | Outline::Then(..)
             | Outline::Or(..)
-            | Outline::Repeated(..) => None,
+            | Outline::Repeated(..)
+            | Outline::Behind(..) => None,
         }
     }
 
@@ -88,7 +97,8 @@ impl Outline {
             | Outline::Boundary
             | Outline::NoBoundary
             | Outline::Then(..)
-            | Outline::Or(..) => false,
+            | Outline::Or(..)
+            | Outline::Behind(..) => false,
         }
     }
 }

@@ -9,7 +9,7 @@ ghost use Rattle.strkw_ecma.specs.Syntax.{token as spec_token};
 ghost use Rattle.strkw_ecma.specs.Names.{extension as spec_extension};
 ghost use Rattle.strkw_ecma.specs.Escapes.{escape as spec_escape};
 ghost use Rattle.strkw_ecma.specs.machine.Reading.{read_pattern, read_short as spec_read_short};
-ghost use Rattle.strkw_ecma.specs.machine.Parts.{parts_of, last_of, mode_of, ended, joined, level_ended, side_of, after_atom, after_term, after_bar, opened_within, after_closing, after_quantifier, after_question, after_escape, after_token, after_group, after_extension, after_in, after_char, with_mode, at_close, no_parts, is_between};
+ghost use Rattle.strkw_ecma.specs.machine.Parts.{parts_of, last_of, mode_of, ended, joined, level_ended, side_of, after_atom, after_term, after_bar, opened_within, after_enclosed, outer_of, after_closing, after_quantifier, after_question, after_escape, after_token, after_group, after_extension, after_in, after_char, with_mode, at_close, no_parts, is_between};
 
 mod classing;
 mod coding;
@@ -32,7 +32,7 @@ use crate::tokens::{Escape, Extension, Token};
 pub(crate) use refusing::refusal_of;
 use std::alloc::{AllocError, Global};
 
-// How many groups may lie in one another, and how many characters a pattern may have.
+// How many groups and lookbehinds may lie in one another, and how many characters a pattern may have.
 pub(crate) const MAX_NESTING: usize = 250;
 
 pub(crate) const MAX_LENGTH: u64 = 2000;
@@ -53,10 +53,24 @@ struct Level {
     current: Outline,
 }
 
-// The groups that are open, the innermost last, and the names of all that there were.
+// What a parenthesis has opened: a group, or a lookbehind, which is negated or not.
+#[derive(Clone, Copy)]
+enum Enclosing {
+    Group,
+    Behind(bool),
+}
+
+// What is open, and the level around it.
+#[derive(Drop)]
+struct Open {
+    enclosing: Enclosing,
+    level: Level,
+}
+
+// The groups and lookbehinds that are open, the innermost last, and the names of all groups that there were.
 #[derive(Drop)]
 struct Outer {
-    groups: Vec<Level>,
+    groups: Vec<Open>,
     names: Vec<Vec<char>>,
 }
 
@@ -270,8 +284,9 @@ impl Reader {
         }
     }
 
-    fn open_group(self, alloc: Global) -> Result<Option<Reader>, AllocError>
-        ensures { IfOk result (λ r. option_map parts_of r ≡ opened_within (parts_of self)) }
+    fn open(self, alloc: Global, enclosing: Enclosing) -> Result<Option<Reader>, AllocError>
+        ensures { IfOk result (λ r. option_map parts_of r
+            ≡ opened_within (parts_of self) enclosing) }
     {
         let Reader {
             outer,
@@ -285,7 +300,10 @@ impl Reader {
         }
         let Level { earlier, current } = level;
         let current = end_sequence(alloc, current, last)?;
-        groups.push(Level { earlier, current })?;
+        groups.push(Open {
+            enclosing,
+            level: Level { earlier, current },
+        })?;
         Ok(Some(Reader {
             outer: Outer { groups, names },
             level: Level {
@@ -295,6 +313,35 @@ impl Reader {
             last: Last::None,
             mode: Mode::Between,
         }))
+    }
+
+    // Behind the end of a group, or of a lookbehind, whose body this is. This reader stands before it.
+    fn enclose(
+        self,
+        alloc: Global,
+        enclosing: Enclosing,
+        body: Outline,
+    ) -> Result<Reader, AllocError>
+        ensures { IfOk result (λ r. parts_of r
+            ≡ after_enclosed (outer_of self.outer) (side_of self.level) enclosing
+            (outlined body)) }
+    {
+        let Reader { outer, level, .. } = self;
+        let (level, last) = match enclosing {
+            Enclosing::Group => (level, Last::Atom(body)),
+            Enclosing::Behind(negated) => {
+                let Level { earlier, current } = level;
+                let look = body.behind(alloc, negated)?;
+                let current = current.then(alloc, look)?;
+                (Level { earlier, current }, Last::None)
+            }
+        };
+        Ok(Reader {
+            outer,
+            level,
+            last,
+            mode: Mode::Between,
+        })
     }
 
     fn close(self, alloc: Global) -> Result<Option<Reader>, AllocError>
@@ -311,15 +358,19 @@ impl Reader {
         let Outer { mut groups, names } = outer;
         let Level { earlier, current } = level;
         let before = end_sequence(alloc, current, last)?;
-        let group = join_alternatives(alloc, earlier, before)?;
+        let body = join_alternatives(alloc, earlier, before)?;
         match groups.pop() {
             None => Ok(None),
-            Some(level) => Ok(Some(Reader {
-                outer: Outer { groups, names },
-                level,
-                last: Last::Atom(group),
-                mode: Mode::Between,
-            })),
+            Some(open) => {
+                let Open { enclosing, level } = open;
+                let around = Reader {
+                    outer: Outer { groups, names },
+                    level,
+                    last: Last::None,
+                    mode: Mode::Between,
+                };
+                Ok(Some(around.enclose(alloc, enclosing, body)?))
+            }
         }
     }
 
@@ -400,7 +451,7 @@ impl Reader {
         if c == '?' {
             return Ok(Some(self.with_mode(Mode::Extending)));
         }
-        match self.open_group(alloc)? {
+        match self.open(alloc, Enclosing::Group)? {
             Some(inner) => inner.plain(alloc, c),
             None => Ok(None),
         }
@@ -412,7 +463,7 @@ impl Reader {
             ≡ after_extension (parts_of self) (spec_extension c)) }
     {
         match Extension::of(c) {
-            Extension::Uncaptured => self.open_group(alloc),
+            Extension::Uncaptured => self.open(alloc, Enclosing::Group),
             Extension::NameOpening => Ok(Some(self.with_mode(Mode::Naming(Vec::new(alloc))))),
             Extension::Unknown => Ok(None),
         }

@@ -18,15 +18,13 @@ use std::fmt;
 pub enum PatternRefusal {
     /// `(?=` or `(?!` stands where a term may.
     LookAhead,
-    /// `(?<=` or `(?<!` stands where a term may.
-    LookBehind,
     /// `\` and one of `1` to `9`, or `\k`, stands where a term may.
     BackReference,
     /// `\p{ }` or `\P{ }` has a property that is not known here.
     Property,
     /// There are more than 2,000 characters.
     TooLong,
-    /// A group opens within 250 others.
+    /// A group or a look-behind opens within 250 others.
     TooDeep,
     /// A count is above 1,000.
     CountTooGreat,
@@ -43,7 +41,6 @@ impl fmt::Display for PatternRefusal {
     fn fmt<W: fmt::Write>(&self, f: &mut fmt::Formatter<W>) -> fmt::Result {
         match self {
             PatternRefusal::LookAhead => f.write_str("it has a look-ahead"),
-            PatternRefusal::LookBehind => f.write_str("it has a look-behind"),
             PatternRefusal::BackReference => f.write_str("it has a back reference"),
             PatternRefusal::Property => f.write_str("it has a property that is not known here"),
             PatternRefusal::TooLong => write!(f, "it has more than {MAX_LENGTH} characters"),

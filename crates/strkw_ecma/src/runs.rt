@@ -1,7 +1,9 @@
 //! Runs of rows that each lead on to the next, which the search goes along without waiting for its entries.
 
 ghost use Rattle.std.specs.Prelude.{◌<◌};
+ghost use Rattle.strkw_ecma.specs.machine.Table.{SayTheSame};
 
+use crate::states::place_of_row;
 use crate::table::{FOUND, NEXT_ROW};
 
 /// How many rows one behind another, each of which leads on to the next, are worth telling the processor of. In fewer
@@ -28,38 +30,57 @@ fn leads_on(entries: &[u16], stride: usize, number: usize) -> bool
     leads
 }
 
-// Says of each entry of the row that leads to the row behind it that it does.
-fn mark_row(entries: &mut [u16], stride: usize, number: usize)
-    requires { 0 < stride }
+// Says of an entry of a row that leads to the row behind it that it does.
+fn mark_entry(entries: &mut [u16], end: usize, number: usize, column: usize)
+    requires few { end < 256 }
+    requires column { column < end }
+    ensures { SayTheSame end entries.old entries.new }
 {
-    let next = number.saturating_add(1).saturating_mul(stride);
-    if let Some(row) = entries.chunks_exact_mut(stride).nth(number) {
-        for entry in row {
-            if usize::from(*entry) == next {
-                *entry = NEXT_ROW as u16;
-            }
-        }
+    let Some(row) = place_of_row(number, end) else {
+        return;
+    };
+    let place = usize::from(row) + column;
+    let next = usize::from(row) + (end + 1);
+    if next < NEXT_ROW && place < entries.len() && usize::from(entries[place]) == next {
+        entries[place] = NEXT_ROW as u16;
     }
 }
 
-/// Says so in each row of a long run, in a table of so many rows, each with so many entries.
-pub(crate) fn mark_runs(entries: &mut [u16], stride: usize, rows: usize)
-    requires { 0 < stride }
+// Says so of each entry of a row.
+fn mark_row(entries: &mut [u16], end: usize, number: usize)
+    requires { end < 256 }
+    ensures { SayTheSame end entries.old entries.new }
+{
+    for column in 0..end {
+        mark_entry(entries, end, number, column);
+    }
+}
+
+// Says so in some rows.
+fn mark_rows(entries: &mut [u16], end: usize, first: usize, behind: usize)
+    requires { end < 256 }
+    ensures { SayTheSame end entries.old entries.new }
+{
+    for number in first..behind {
+        mark_row(entries, end, number);
+    }
+}
+
+/// Says so in each row of a long run, in a table of so many rows, whose last column has this number.
+pub(crate) fn mark_runs(entries: &mut [u16], end: usize, rows: usize)
+    requires { end < 256 }
+    ensures { SayTheSame end entries.old entries.new }
 {
     let mut run = 0usize;
     for number in 0..rows {
-        run = if leads_on(entries, stride, number) {
+        run = if leads_on(entries, end + 1, number) {
             run.saturating_add(1)
         } else {
             0
         };
-        if run == LEAST_RUN {
-            for behind in 1..LEAST_RUN {
-                mark_row(entries, stride, number.saturating_sub(behind));
-            }
-        }
+        let first = number.saturating_sub(if run == LEAST_RUN { LEAST_RUN - 1 } else { 0 });
         if run >= LEAST_RUN {
-            mark_row(entries, stride, number);
+            mark_rows(entries, end, first, number + 1);
         }
     }
 }

@@ -29,6 +29,9 @@ const STEPS_OF_A_LOOP: u32 = 2;
 
 const STEPS_BETWEEN: u32 = 1;
 
+// What stands around what a lookbehind looks for.
+const STEPS_OF_A_LOOK: u32 = 2;
+
 // A number of steps, up to one more than the most.
 fn cap(steps: u64) -> u32
     ensures { result ≡ capped steps }
@@ -110,6 +113,7 @@ impl Outline {
                 }
             }
             Outline::Repeated(quantifier, body) => body.repeated_steps(*quantifier, body.steps()),
+            Outline::Behind(_, body) => together(0, body.steps(), STEPS_OF_A_LOOK),
         }
     }
 
@@ -130,7 +134,8 @@ impl Outline {
             | Outline::End
             | Outline::Boundary
             | Outline::NoBoundary
-            | Outline::Then(..) => self.steps(),
+            | Outline::Then(..)
+            | Outline::Behind(..) => self.steps(),
         }
     }
 

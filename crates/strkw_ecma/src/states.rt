@@ -1,41 +1,50 @@
-//! A table that is made, and whether it is right: each entry is compared with a step of the marks.
+//! The states of a search, and the entries of a table: each comes from a step of the marks.
 
-ghost use Rattle.std.specs.Prelude.{◌≡◌, ◌^◌, ◌==◌, ◌≤◌, ◌<◌};
-ghost use Rattle.std.specs.Prelude.{ℕ, suc, List, length, true, false, IsTrue, IfOk, None, Some, get_or, slice_get};
-ghost use Rattle.strkw_ecma.specs.machine.Marks.{classes as spec_classes};
+ghost use Rattle.std.specs.Prelude.{◌≡◌, ◌*◌, ◌+◌, ◌≤◌, ◌<◌};
+ghost use Rattle.std.specs.Prelude.{ℕ, length, true, false, IsTrue, IfOk, IfSome, None, Some, get_or, slice_get};
+ghost use Rattle.strkw_ecma.specs.machine.Marks.{classes as spec_classes, leaves, step as spec_step, marked};
 ghost use Rattle.strkw_ecma.specs.Meaning.{is_word as spec_is_word, is_edge as spec_is_edge};
 ghost use Rattle.strkw_ecma.specs.machine.Machine.{pattern_of};
-ghost use Rattle.strkw_ecma.specs.machine.Columns.{has_boundary as spec_has_boundary, answers as spec_answers};
-ghost use Rattle.strkw_ecma.specs.machine.Table.{row_after as spec_row_after, found, IsRowOf, IsBehind, IsEntry, IsRow, IsTable};
+ghost use Rattle.strkw_ecma.specs.machine.Columns.{has_boundary as spec_has_boundary};
+ghost use Rattle.strkw_ecma.specs.machine.Table.{next_row, marks_in, IsStateOf, IsEntry, IsFront};
 
-use crate::columns::{MOST_CLASSES, MOST_COLUMNS, answers, tells};
 use crate::marks::{are_same_marks, are_unmarked, is_word};
 use crate::program::{Program, Room};
-use crate::table::{FOUND, NEXT_ROW, entry_at};
-use crate::tree::CharSet;
+use crate::table::{FOUND, NEXT_ROW};
 use std::alloc::{AllocError, Global};
 
 /// A state of the search between two characters: the marks, and a character that may stand for the last. States of
 /// the same marks have the same `digest`.
 #[derive(Drop)]
 pub(crate) struct State {
-    pub(crate) marks: Vec<bool>,
-    pub(crate) last: Option<char>,
-    pub(crate) digest: u64,
-}
-
-/// A table that is made: a state for each row, and for each column a character that stands for all of it.
-#[derive(Drop)]
-pub(crate) struct Draft {
-    pub(crate) samples: Vec<char>,
-    pub(crate) states: Vec<State>,
-    pub(crate) entries: Vec<u16>,
+    marks: Vec<bool>,
+    last: Option<char>,
+    digest: u64,
 }
 
 impl State {
+    /// That at the beginning of a text, of a pattern with so many marks.
+    pub(crate) fn first(alloc: Global, marks: usize) -> Result<State, AllocError> {
+        let marks = vec![in alloc; false; marks]?;
+        let digest = digest(&marks);
+        Ok(State {
+            marks,
+            last: None,
+            digest,
+        })
+    }
+
+    /// Whether it is that at the beginning of a text.
+    pub(crate) fn is_first(&self) -> bool
+        ensures unmarked { IsTrue result → (k : ℕ) → get_or self.now.marks.items k false ≡ false }
+        ensures last { IsTrue result → self.now.last ≡ None }
+    {
+        self.last.is_none() && are_unmarked(&self.marks)
+    }
+
     // Whether it is that of these marks behind a character. The pattern tells word characters from others only where
     // it has `\b` or `\B`.
-    pub(crate) fn is_that_of(&self, program: &Program, marks: &[bool], last: char) -> bool
+    fn is_that_of(&self, program: &Program, marks: &[bool], last: char) -> bool
         ensures marks { IsTrue result → self.now.marks.items ≡ marks.now }
         ensures word { IsTrue result → spec_has_boundary (pattern_of program.now) ≡ true
             → spec_is_word self.now.last ≡ spec_is_word (Some last) }
@@ -46,218 +55,118 @@ impl State {
             && are_same_marks(&self.marks, marks)
     }
 
-    // Whether it is that at the beginning of a text.
-    fn is_first(&self) -> bool
-        ensures unmarked { IsTrue result → (k : ℕ) → get_or self.now.marks.items k false ≡ false }
-        ensures last { IsTrue result → self.now.last ≡ None }
-    {
-        self.last.is_none() && are_unmarked(&self.marks)
-    }
-}
-
-/// Makes some marks those of a state, as far as there are so many. Nothing is proved of it: who needs that they are
-/// the same compares them.
-pub(crate) fn set_marks(marks: &mut [bool], state: &State)
-    ensures { length marks.new ≡ length marks.old }
-{
-    for (mark, given) in marks.iter_mut().zip(&state.marks) {
-        *mark = *given;
-    }
-}
-
-// The row that an entry of a row leads to, where the last column has a number.
-fn row_after(end: usize, row: usize, entry: usize) -> usize
-    requires end { end < 256 }
-    requires row { row < 2 ^ 32 }
-    ensures { result ≡ spec_row_after end row entry }
-{
-    match entry {
-        NEXT_ROW => row + (end + 1),
-        place => place,
-    }
-}
-
-impl Draft {
-    // Whether the row is that of these marks behind a character.
-    fn is_behind(&self, program: &Program, row: usize, marks: &[bool], c: char) -> bool
-        ensures { IsTrue result
-            → IsBehind (pattern_of program.now) (length self.now.samples.items)
-            self.now.states.items row marks.now c }
-    {
-        let stride = self.samples.len() + 1;
-        if row % stride != 0 {
-            return false;
-        }
-        match self.states.get(row / stride) {
-            Some(state) => state.is_that_of(program, marks, c),
-            None => false,
-        }
-    }
-
-    // Whether an entry of a row says that the pattern is found, or else leads to the row of these marks behind a
-    // character.
-    fn leads_to(
-        &self,
-        program: &Program,
-        row: usize,
-        entry: usize,
-        is_found: bool,
-        marks: &[bool],
-        c: char,
-    ) -> bool
-        requires few { length self.now.samples.items < 256 }
-        requires row { row < 2 ^ 32 }
-        ensures finds { IsTrue result → (entry == found) ≡ is_found }
-        ensures state { IsTrue result → is_found ≡ false
-            → IsBehind (pattern_of program.now)
-            (length self.now.samples.items) self.now.states.items
-            (spec_row_after (length self.now.samples.items) row entry) marks.now c }
-    {
-        if is_found {
-            return entry == FOUND;
-        }
-        let next = row_after(self.samples.len(), row, entry);
-        entry != FOUND && self.is_behind(program, next, marks, c)
-    }
-
-    // Whether an entry of a row is right for a state and the next character. The marks at hand are stepped.
-    fn is_entry(
+    /// A step of the search from here: whether the pattern is found before the next character. The marks at hand
+    /// become those behind it. None where they are another number.
+    pub(crate) fn step(
         &self,
         program: &Program,
         room: &mut Room,
         at_hand: &mut [bool],
-        state: &State,
-        row: usize,
-        c: char,
-        entry: usize,
-    ) -> bool
+        next: Option<char>,
+    ) -> Option<bool>
         requires fits { spec_classes (pattern_of program.now) ≤ length at_hand.old }
-        requires few { length self.now.samples.items < 256 }
-        requires row { row < 2 ^ 32 }
         ensures length { length at_hand.new ≡ length at_hand.old }
-        ensures right { IsTrue result
-            → IsEntry (pattern_of program.now) (length self.now.samples.items)
-            self.now.states.items state.now row c entry }
+        ensures found { IfSome result (λ is_found. is_found
+            ≡ leaves self.now.last next (marks_in (pattern_of program.now) self.now) true) }
+        ensures marks { IfSome result (λ is_found. marked at_hand.new (pattern_of program.now)
+            ≡ spec_step self.now.last next (marks_in (pattern_of program.now) self.now) true) }
     {
-        set_marks(at_hand, state);
-        if !are_same_marks(&state.marks, at_hand) {
-            return false;
+        if self.marks.len() != at_hand.len() {
+            return None;
         }
-        let is_found = program.step(room, at_hand, state.last, Some(c));
-        self.leads_to(program, row, entry, is_found, at_hand, c)
+        at_hand.copy_from_slice(&self.marks);
+        Some(program.step(room, at_hand, self.last, next))
     }
+}
 
-    // Whether a row is right for a state.
-    fn is_row(
-        &self,
-        program: &Program,
-        room: &mut Room,
-        at_hand: &mut [bool],
-        state: &State,
-        row: usize,
-    ) -> bool
-        requires fits { spec_classes (pattern_of program.now) ≤ length at_hand.old }
-        requires few { length self.now.samples.items < 256 }
-        requires row { row < 2 ^ 32 }
-        ensures length { length at_hand.new ≡ length at_hand.old }
-        ensures right { IsTrue result
-            → IsRow (pattern_of program.now) self.now.samples.items self.now.entries.items
-            self.now.states.items state.now row }
-    {
-        set_marks(at_hand, state);
-        if !are_same_marks(&state.marks, at_hand) {
-            return false;
-        }
-        let ends = program.step(room, at_hand, state.last, None);
-        let entries = self.entries.as_slice();
-        if (entry_at(entries, row, self.samples.len()) == FOUND) != ends {
-            return false;
-        }
-        for (k, sample) in self.samples.as_slice().iter().enumerate() {
-            if !self.is_entry(
-                program,
-                room,
-                at_hand,
-                state,
-                row,
-                *sample,
-                entry_at(entries, row, k),
-            ) {
-                return false;
-            }
-        }
-        true
+// A number of the marks, which is mostly another for others, so that few need be compared.
+fn digest(marks: &[bool]) -> u64 {
+    let mut digest = 0u64;
+    for word in marks.chunks(64) {
+        digest = (digest ^ packed(word)).wrapping_mul(0x9E37_79B9_7F4A_7C15);
+        digest ^= digest >> 32;
     }
+    digest
+}
 
-    // Whether each row is right for its state.
-    fn are_rows(&self, program: &Program, room: &mut Room, at_hand: &mut [bool]) -> bool
-        requires fits { spec_classes (pattern_of program.now) ≤ length at_hand.old }
-        requires rows { length self.now.states.items ≤ 65535 }
-        requires few { length self.now.samples.items < 256 }
-        ensures { IsTrue result → (row : ℕ) (s : State)
-            → IsRowOf (length self.now.samples.items) self.now.states.items row s
-            → IsRow (pattern_of program.now) self.now.samples.items self.now.entries.items
-            self.now.states.items s row }
-    {
-        let stride = self.samples.len() + 1;
-        for (number, state) in self.states.as_slice().iter().enumerate() {
-            if !self.is_row(program, room, at_hand, state, number * stride) {
-                return false;
-            }
-        }
-        true
+// The marks as digits of a number, as far as it has so many.
+fn packed(marks: &[bool]) -> u64 {
+    let mut digits = 0u64;
+    for mark in marks {
+        digits = (digits << 1) | u64::from(*mark);
     }
+    digits
+}
 
-    // Whether the first state is that of a pattern without marks at the beginning of a text.
-    fn begins(&self) -> bool
-        ensures { IsTrue result → (s : State) × (slice_get self.now.states.items 0 ≡ Some s)
-            × ((k : ℕ) → get_or s.marks.items k false ≡ false) × (s.last ≡ None) }
-    {
-        match self.states.first() {
-            Some(state) => state.is_first(),
-            None => false,
+// The number of the state of these marks behind a character, which is added where there is none.
+fn number_of(
+    alloc: Global,
+    states: &mut Vec<State>,
+    program: &Program,
+    marks: &[bool],
+    last: char,
+) -> Result<usize, AllocError>
+    ensures grows { IfOk result (λ number. IsFront states.old.items states.new.items) }
+    ensures right { IfOk result (λ number.
+        IsStateOf (pattern_of program.now) states.new.items number marks.now last) }
+{
+    let digest = digest(marks);
+    for (number, state) in states.as_slice().iter().enumerate() {
+        if state.digest == digest && state.is_that_of(program, marks, last) {
+            return Ok(number);
         }
     }
+    let added = states.len();
+    states.push(State {
+        marks: Vec::from_slice(alloc, marks)?,
+        last: Some(last),
+        digest,
+    })?;
+    Ok(added)
+}
 
-    // Whether these are the answers about the characters that stand for the columns.
-    fn are_keys(&self, classes: &[Vec<CharSet>], keys: &[u64]) -> bool
-        requires { length classes.now ≤ 64 }
-        ensures lengths { IsTrue result → length self.now.samples.items ≡ length keys.now }
-        ensures sampled { IsTrue result → (k : ℕ) → k < length keys.now
-            → get_or keys.now k 0 ≡ spec_answers 0 classes.now (get_or self.now.samples.items k 0) }
-    {
-        let samples = self.samples.as_slice();
-        if samples.len() != keys.len() {
-            return false;
-        }
-        for (k, key) in keys.iter().enumerate() {
-            if *key != answers(classes, samples[k]) {
-                return false;
-            }
-        }
-        true
+/// The place of the row of a number, where there can be one. The last column has the number `end`.
+pub(crate) fn place_of_row(number: usize, end: usize) -> Option<u16>
+    requires { end < 256 }
+    ensures { IfSome result (λ place. (place ≡ number * (end + 1)) × (place < next_row)) }
+{
+    let place = number.checked_mul(end + 1)?;
+    if place < NEXT_ROW {
+        Some(place as u16)
+    } else {
+        None
     }
+}
 
-    /// Whether the table is right, with the answers of these classes that have its columns.
-    pub(crate) fn is_table(
-        &self,
-        alloc: Global,
-        classes: &[Vec<CharSet>],
-        keys: &[u64],
-        program: &Program,
-    ) -> Result<bool, AllocError>
-        ensures { IfOk result (λ right. IsTrue right
-            → IsTable classes.now keys.now self.now.samples.items self.now.entries.items
-            self.now.states.items (pattern_of program.now)) }
-    {
-        if classes.len() > MOST_CLASSES || keys.len() > MOST_COLUMNS || self.states.len() > 65535 {
-            return Ok(false);
-        }
-        if !tells(classes, program) || !self.are_keys(classes, keys) || !self.begins() {
-            return Ok(false);
-        }
-        let mut room = Room::new();
-        let mut at_hand = vec![in alloc; false; program.marks]?;
-        Ok(self.are_rows(program, &mut room, &mut at_hand))
+/// The entry of the state of a number and the next character, behind which there may be one more state; none where
+/// its row has no place.
+pub(crate) fn entry_of(
+    alloc: Global,
+    states: &mut Vec<State>,
+    program: &Program,
+    room: &mut Room,
+    at_hand: &mut [bool],
+    number: usize,
+    end: usize,
+    c: char,
+) -> Result<Option<u16>, AllocError>
+    requires fits { spec_classes (pattern_of program.now) ≤ length at_hand.old }
+    requires few { end < 256 }
+    ensures length { length at_hand.new ≡ length at_hand.old }
+    ensures grows { IfOk result (λ made. IsFront states.old.items states.new.items) }
+    ensures right { IfOk result (λ made. IfSome made (λ entry. (s : State)
+        → slice_get states.old.items number ≡ Some s → (row : ℕ)
+        → IsEntry (pattern_of program.now) end states.new.items s row c entry)) }
+{
+    let Some(state) = states.get(number) else {
+        return Ok(None);
+    };
+    let Some(is_found) = state.step(program, room, at_hand, Some(c)) else {
+        return Ok(None);
+    };
+    if is_found {
+        return Ok(Some(FOUND as u16));
     }
+    let behind = number_of(alloc, states, program, at_hand, c)?;
+    Ok(place_of_row(behind, end))
 }

@@ -154,11 +154,13 @@ impl Extension {
     }
 }
 
-// What a character is in a name.
+// What a character is behind `(?<`, in a name or before it.
 #[derive(Clone, Copy)]
 pub(crate) enum NameToken {
     End,
     Backslash,
+    Equals,
+    Exclamation,
     Character,
 }
 
@@ -169,6 +171,8 @@ impl NameToken {
         match c {
             '>' => NameToken::End,
             '\\' => NameToken::Backslash,
+            '=' => NameToken::Equals,
+            '!' => NameToken::Exclamation,
             _ => NameToken::Character,
         }
     }

@@ -132,7 +132,7 @@ impl Walk {
                 let _ = self.around.pop();
                 Ahead { ends: any, goes_on }
             }
-            Turn::StarEnd | Turn::PlusEnd => {
+            Turn::StarEnd | Turn::PlusEnd | Turn::LookEnd(_) => {
                 self.around.push(ends);
                 self.around.push(goes_on);
                 Ahead::nothing()
@@ -153,6 +153,15 @@ impl Walk {
                 Ahead {
                     ends: behind & ends,
                     goes_on: beyond | (behind & goes_on),
+                }
+            }
+            Turn::LookBegin(negated) => {
+                let beyond = self.around.pop();
+                let behind = self.around.pop();
+                let seen = (goes_on | ends) != negated;
+                Ahead {
+                    ends: behind & seen,
+                    goes_on: beyond,
                 }
             }
         }
@@ -211,6 +220,11 @@ impl Walk {
             Turn::StarEnd => self.around.pop(),
             Turn::PlusBegin => enters | self.again.pop(),
             Turn::PlusEnd => enters,
+            Turn::LookBegin(_) => {
+                self.around.push(enters);
+                true
+            }
+            Turn::LookEnd(negated) => self.around.pop() & (enters != negated),
         }
     }
 }

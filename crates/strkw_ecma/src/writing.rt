@@ -40,6 +40,11 @@ impl Outline {
                 }
             }
             Outline::Repeated(quantifier, body) => body.write_repeated(alloc, code, *quantifier),
+            Outline::Behind(negated, body) => {
+                code.turn(Turn::LookBegin(*negated))?;
+                body.write(alloc, code)?;
+                code.turn(Turn::LookEnd(*negated))
+            }
         }
     }
 
@@ -71,7 +76,8 @@ impl Outline {
             | Outline::End
             | Outline::Boundary
             | Outline::NoBoundary
-            | Outline::Then(..) => self.write(alloc, code),
+            | Outline::Then(..)
+            | Outline::Behind(..) => self.write(alloc, code),
         }
     }
 

@@ -7,7 +7,7 @@ ghost use Rattle.strkw_keywords.specs.Choices.{choice_of};
 ghost use Rattle.strkw_keywords.specs.Decodings.{decoded_of};
 ghost use Rattle.strkw_keywords.specs.Demands.{KeepsFirst};
 ghost use Rattle.strkw_keywords.specs.Lists.{lists_of};
-ghost use Rattle.strkw_keywords.specs.Meanings.{codec_names, decoded, first_named, no_encoding, no_text, row_names};
+ghost use Rattle.strkw_keywords.specs.Meanings.{codec_names, decoded, first_named, no_encoding, no_text, row, row_names};
 ghost use Rattle.strkw_keywords.specs.Parts.{IsFirst};
 
 use crate::parts::RowRef;
@@ -111,6 +111,14 @@ pub(crate) enum Choice<A> {
 }
 
 impl<A> Choice<A> {
+    // The row at a position, by its name.
+    pub(crate) fn of_row(alloc: Global, position: usize, name: &str) -> Result<Self, AllocError>
+        ensures { IfOk result (λ c. choice_of c ≡ row position name.now) }
+    {
+        let name = String::from_str(alloc, name)?;
+        Ok(Choice::Row { position, name })
+    }
+
     // The row that it names, if it names one.
     pub(crate) fn row(&self) -> Option<RowRef<'_>>
         ensures { (names : List (List ℕ))

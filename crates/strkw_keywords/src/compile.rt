@@ -43,9 +43,8 @@ pub fn compile_entry<B: EngineBuilder>(
     object: &Map<String, Value>,
     keyword: Keyword,
 ) -> Option<Result<Validator<B::Engine>, CompileError>>
-    ensures { IsCompiledAt B.Engine.outcome
-        (settings_of B.takes B.outcome admits accepted encoded decoding ctx.now)
-        (members_view object.now.entries) keyword result }
+    ensures { IsCompiledAt B.Engine.outcome (settings_of B.takes B.outcome admits accepted encoded
+        decoding ctx.now) (members_view object.now.entries) keyword result }
 {
     let value = value_at(&ctx.options, object, keyword)?;
     compile_value(alloc, ctx, object, value, keyword)
@@ -76,15 +75,11 @@ pub(crate) fn compile_value<B: EngineBuilder, O: Object>(
     keyword: Keyword,
 ) -> Option<Result<Validator<B::Engine>, CompileError>>
     requires { value_at ctx.now.options keyword (O.members object.now) ≡ Some (view value.now) }
-    ensures { IsCompiledAt B.Engine.outcome
-        (settings_of B.takes B.outcome admits accepted encoded decoding ctx.now)
-        (O.members object.now) keyword result }
+    ensures { IsCompiledAt B.Engine.outcome (settings_of B.takes B.outcome admits accepted encoded
+        decoding ctx.now) (O.members object.now) keyword result }
 {
-    locate(
-        alloc,
-        &ctx.location,
-        build(alloc, ctx, object, value, keyword),
-    )
+    let built = build(alloc, ctx, object, value, keyword);
+    locate(alloc, &ctx.location, built)
 }
 
 // The same, before a refusal has its place.

@@ -10,20 +10,22 @@ mod annotations;
 mod checks;
 
 use crate::checks::{Asked, Checks, Choice, ContentCodec, Format, MediaTypeCheck, ask_row};
+// `.._annotation` are the same calls, by names that tell what they make from draft 2019-09 on.
+pub use crate::by_keyword::{
+    compile_content_encoding, compile_content_encoding as compile_content_encoding_annotation,
+    compile_content_schema_annotation, compile_media_type,
+    compile_media_type as compile_media_type_annotation,
+};
 pub use annotations::{
     ContentEncodingAnnotationValidator, ContentMediaTypeAnnotationValidator,
-    ContentSchemaAnnotationValidator, Untested, compile_content_schema_annotation,
-    take_content_schema,
+    ContentSchemaAnnotationValidator, Untested, take_content_schema,
 };
 pub(crate) use annotations::{
     build_encoding_annotation, build_media_type_annotation, build_schema_annotation,
 };
-// `.._annotation` are the same calls, by names that tell what they make from draft 2019-09 on.
 pub use checks::{
     ContentEncodingValidator, ContentMediaTypeAndEncodingValidator, ContentMediaTypeValidator,
-    Encoded, EncodedMediaType, OfMediaType, compile_content_encoding,
-    compile_content_encoding as compile_content_encoding_annotation, compile_media_type,
-    compile_media_type as compile_media_type_annotation,
+    Encoded, EncodedMediaType, OfMediaType,
 };
 pub(crate) use checks::{build_encoding, build_media_type};
 use std::alloc::Global;

@@ -2,19 +2,20 @@
 
 ghost use Rattle.std.specs.Prelude.{◌∷◌, ◌≡◌, Some, [], option_map, string_bytes};
 ghost use Rattle.serde_json.specs.Data.{string};
-ghost use Rattle.serde_json.specs.View.{members_view, view};
+ghost use Rattle.serde_json.specs.View.{view};
 ghost use Rattle.strkw_formats.specs.Formats.{format_name};
-ghost use Rattle.strkw_keywords.specs.Compiled.{IsBuilt, IsCompiledAt, alone};
+ghost use Rattle.strkw_keywords.specs.Compiled.{IsBuilt, alone};
 ghost use Rattle.strkw_keywords.specs.Demands.{HasFinding, is_format};
 ghost use Rattle.strkw_keywords.specs.Findings.{finding_of};
 ghost use Rattle.strkw_keywords.specs.Meanings.{builtin, no_lists, row};
-ghost use Rattle.strkw_keywords.specs.Object.{checks_formats, format_entry, ignores_unknown, value_at};
+ghost use Rattle.strkw_keywords.specs.Object.{checks_formats, format_entry, ignores_unknown};
 ghost use Rattle.strkw_keywords.specs.Remarks.{remark_at};
 ghost use Rattle.strkw_keywords.specs.Settings.{place_in, settings_of};
 ghost use Rattle.strkw_keywords.specs.declared.keyword.Keyword.TheVariants as keyword;
 
+pub use crate::by_keyword::compile_format as compile;
 use crate::checks::{Checks, ContentCodec, Format, MediaTypeCheck, ask_row};
-use crate::compile::{Refused, compile_value, no_string, origin_of};
+use crate::compile::{Refused, no_string, origin_of};
 use crate::content::Untested;
 use crate::findings::{Findings, Found};
 use crate::keyed::Keyed;
@@ -23,11 +24,11 @@ use crate::options::{Context, Options};
 use crate::parts::{Noted, Origin, Parts, RowRef};
 use crate::test::Test;
 use crate::validator::Validator;
-use serde_json::{Map, Value};
+use serde_json::Value;
 use std::alloc::Global;
 use strkw_formats::{BuiltinFormat, builtin_format};
 use strkw_pattern::EngineBuilder;
-use strkw_report::{CompileError, CompileErrorKind, Draft, Failure, Node, TextNode};
+use strkw_report::{CompileErrorKind, Draft, Failure, Node, TextNode};
 
 /// Demands that a text is of a built-in format, and notes the name of the format (2020-12, section 7.3).
 pub type FormatValidator = Keyed<OfBuiltin>;
@@ -124,67 +125,28 @@ pub(crate) fn build_format<B: EngineBuilder>(
         return Err(no_string(value, Keyword::Format));
     };
     if !checks_formats(&ctx.options, ctx.draft) {
-        return Ok(Some(Validator::AnnotationOnlyFormat(Keyed {
-            origin: origin_of(ctx)?,
-            test: Untested {
-                keyword: Keyword::Format,
-                value: value.clone()?,
-            },
-        })));
+        let noting = Untested::keyed(origin_of(ctx)?, Keyword::Format, value.clone()?);
+        return Ok(Some(Validator::AnnotationOnlyFormat(noting)));
     }
     if let Some(position) = ctx.checks.format_named(name) {
-        return Ok(Some(Validator::CustomFormat(Keyed {
-            origin: origin_of(ctx)?,
-            test: OfRow {
-                position,
-                name: String::from_str(alloc, name)?,
-            },
-        })));
+        let name = String::from_str(alloc, name)?;
+        let test = OfRow { position, name };
+        return Ok(Some(Validator::CustomFormat(Keyed::new(origin_of(ctx)?, test))));
     }
     match builtin_format(ctx.draft, name) {
-        Some(format) => Ok(Some(Validator::Format(Keyed {
-            origin: origin_of(ctx)?,
-            test: OfBuiltin { format },
-        }))),
-        None => {
-            if ignores_unknown(&ctx.options) {
-                Ok(None)
-            } else {
-                Err(Refused::Malformed {
-                    kind: CompileErrorKind::UnknownFormat {
-                        name: String::from_str(alloc, name)?,
-                        by_dialect: ctx.options.formats_by_dialect,
-                    },
-                    keyword: Keyword::Format,
-                })
-            }
+        Some(format) => {
+            let origin = origin_of(ctx)?;
+            Ok(Some(Validator::Format(Keyed::new(origin, OfBuiltin { format }))))
         }
+        None if ignores_unknown(&ctx.options) => Ok(None),
+        None => Err(Refused::Malformed {
+            kind: CompileErrorKind::UnknownFormat {
+                name: String::from_str(alloc, name)?,
+                by_dialect: ctx.options.formats_by_dialect,
+            },
+            keyword: Keyword::Format,
+        }),
     }
-}
-
-/// The validator of the entry `format` (2020-12, section 7; draft 7, section 7). Where formats are not checked it notes
-/// the name alone. Otherwise the first of the caller's rows of that name is checked, or else the built-in format of the
-/// name in the draft.
-///
-/// `value` is the parent's value at `format`, which is not overridden. `None` means that the entry adds nothing: the
-/// format is unknown, and that is ignored.
-///
-/// Refusals: `NotString` at that keyword for a value that is no string, or `FractionalNumber` in its place where that
-/// value holds a number that is no whole number of 64 bits; `UnknownFormat` there for an unknown format that is not
-/// ignored; `Memory`, at the root, where it is out of memory.
-pub fn compile<B: EngineBuilder>(
-    alloc: Global,
-    ctx: &Context<'_, B>,
-    parent: &Map<String, Value>,
-    value: &Value,
-) -> Option<Result<Validator<B::Engine>, CompileError>>
-    requires { value_at ctx.now.options Keyword.Format (members_view parent.now.entries)
-        ≡ Some (view value.now) }
-    ensures { IsCompiledAt B.Engine.outcome
-        (settings_of B.takes B.outcome admits accepted encoded decoding ctx.now)
-        (members_view parent.now.entries) Keyword.Format result }
-{
-    compile_value(alloc, ctx, parent, value, Keyword::Format)
 }
 
 // Whether formats are checked, or only noted.

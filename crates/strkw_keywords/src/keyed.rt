@@ -1,5 +1,7 @@
 //! A validator: a test, and where the schema object stands that asks it.
 
+ghost use Rattle.std.specs.Prelude.{◌≡◌};
+
 use crate::checks::Checks;
 use crate::findings::Found;
 use crate::parts::{Origin, Parts};
@@ -14,6 +16,14 @@ use strkw_report::{Node, TextNode};
 pub struct Keyed<T> {
     pub(crate) origin: Origin,
     pub(crate) test: T,
+}
+
+impl<T> Keyed<T> {
+    pub(crate) fn new(origin: Origin, test: T) -> Keyed<T>
+        ensures { result ≡ record { origin = origin; test = test } }
+    {
+        Keyed { origin, test }
+    }
 }
 
 impl<T: Test> Uses for Keyed<T> {

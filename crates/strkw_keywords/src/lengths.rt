@@ -2,16 +2,16 @@
 
 ghost use Rattle.std.specs.Prelude.{◌∷◌, ◌≡◌, ℕ, List, MatchOption, None, Some, [], false, length, option_map};
 ghost use Rattle.std.specs.Str.{chars};
-ghost use Rattle.serde_json.specs.View.{members_view, view};
-ghost use Rattle.strkw_keywords.specs.Compiled.{IsBuilt, IsCompiledAt, max_share, min_share};
+ghost use Rattle.serde_json.specs.View.{view};
+ghost use Rattle.strkw_keywords.specs.Compiled.{IsBuilt, max_share, min_share};
 ghost use Rattle.strkw_keywords.specs.Demands.{HasFinding, at_least, at_most};
 ghost use Rattle.strkw_keywords.specs.Findings.{finding_of};
 ghost use Rattle.strkw_keywords.specs.Meanings.{no_lists};
 ghost use Rattle.strkw_keywords.specs.Object.{as_limit, gives, greatest_entry, is_given, least_entry, value_at};
-ghost use Rattle.strkw_keywords.specs.Settings.{place_in, settings_of};
+ghost use Rattle.strkw_keywords.specs.Settings.{place_in};
 
-use crate::checks::{Checks, ContentCodec, Format, MediaTypeCheck};
-use crate::compile::{Refused, compile_value, origin_of, value_at};
+use crate::checks::Checks;
+use crate::compile::{Refused, origin_of, value_at};
 use crate::findings::{Findings, Found};
 use crate::keyed::Keyed;
 use crate::keyword::Keyword;
@@ -20,10 +20,10 @@ use crate::parts::{Origin, Parts};
 use crate::test::Test;
 use crate::validator::Validator;
 use crate::values::Object;
-use serde_json::{Map, Value};
+use serde_json::Value;
 use std::alloc::Global;
 use strkw_pattern::EngineBuilder;
-use strkw_report::{CompileError, CompileErrorKind, Failure, Node, TextNode};
+use strkw_report::{CompileErrorKind, Failure, Node, TextNode};
 
 /// Demands that a text has so many characters or more (2020-12, section 6.3.2).
 pub type MinLengthValidator = Keyed<AtLeast>;
@@ -161,14 +161,11 @@ pub(crate) fn build_min<B: EngineBuilder, O: Object>(
     let limit = limit_of(value).ok_or(refused_limit(Keyword::MinLength))?;
     let origin = origin_of(ctx)?;
     match greatest_in(&ctx.options, parent) {
-        Some(max) => Ok(Some(Validator::LengthRange(Keyed {
-            origin,
-            test: Between { min: limit, max },
-        }))),
-        None => Ok(Some(Validator::MinLength(Keyed {
-            origin,
-            test: AtLeast { limit },
-        }))),
+        Some(max) => {
+            let test = Between { min: limit, max };
+            Ok(Some(Validator::LengthRange(Keyed::new(origin, test))))
+        }
+        None => Ok(Some(Validator::MinLength(Keyed::new(origin, AtLeast { limit })))),
     }
 }
 
@@ -186,51 +183,6 @@ pub(crate) fn build_max<B: EngineBuilder, O: Object>(
     if least_in(&ctx.options, parent).is_some() {
         return Ok(None);
     }
-    Ok(Some(Validator::MaxLength(Keyed {
-        origin: origin_of(ctx)?,
-        test: AtMost { limit },
-    })))
-}
-
-/// The validator of the entry `minLength` (2020-12, section 6.3.2). It is a `LengthRangeValidator`, which stands for
-/// `maxLength` too, where the limit of `maxLength` is there, good and not overridden.
-///
-/// `value` is the parent's value at `minLength`, which is not overridden. The answer is never `None`.
-///
-/// Refusals: `Size` at that keyword for a value that is no whole number from 0 to 18446744073709551615; `Memory`, at
-/// the root, where it is out of memory.
-pub fn compile_min<B: EngineBuilder>(
-    alloc: Global,
-    ctx: &Context<'_, B>,
-    parent: &Map<String, Value>,
-    value: &Value,
-) -> Option<Result<Validator<B::Engine>, CompileError>>
-    requires { value_at ctx.now.options Keyword.MinLength (members_view parent.now.entries)
-        ≡ Some (view value.now) }
-    ensures { IsCompiledAt B.Engine.outcome
-        (settings_of B.takes B.outcome admits accepted encoded decoding ctx.now)
-        (members_view parent.now.entries) Keyword.MinLength result }
-{
-    compile_value(alloc, ctx, parent, value, Keyword::MinLength)
-}
-
-/// The validator of the entry `maxLength` (2020-12, section 6.3.1).
-///
-/// `value` is the parent's value at `maxLength`, which is not overridden. `None` means that `minLength` stands for this
-/// entry: both limits are good, and `minLength` is not overridden.
-///
-/// Refusals: as of `min_length::compile`.
-pub fn compile_max<B: EngineBuilder>(
-    alloc: Global,
-    ctx: &Context<'_, B>,
-    parent: &Map<String, Value>,
-    value: &Value,
-) -> Option<Result<Validator<B::Engine>, CompileError>>
-    requires { value_at ctx.now.options Keyword.MaxLength (members_view parent.now.entries)
-        ≡ Some (view value.now) }
-    ensures { IsCompiledAt B.Engine.outcome
-        (settings_of B.takes B.outcome admits accepted encoded decoding ctx.now)
-        (members_view parent.now.entries) Keyword.MaxLength result }
-{
-    compile_value(alloc, ctx, parent, value, Keyword::MaxLength)
+    let origin = origin_of(ctx)?;
+    Ok(Some(Validator::MaxLength(Keyed::new(origin, AtMost { limit }))))
 }

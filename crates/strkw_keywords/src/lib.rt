@@ -4,6 +4,7 @@
 //! in.
 #![tactic(auto)]
 
+mod by_keyword;
 mod checks;
 mod compile;
 pub mod content;
@@ -24,12 +25,14 @@ mod values;
 
 /// The entry `maxLength`.
 pub mod max_length {
-    pub use crate::lengths::{MaxLengthValidator, compile_max as compile};
+    pub use crate::by_keyword::compile_max_length as compile;
+    pub use crate::lengths::MaxLengthValidator;
 }
 
 /// The entry `minLength`.
 pub mod min_length {
-    pub use crate::lengths::{LengthRangeValidator, MinLengthValidator, compile_min as compile};
+    pub use crate::by_keyword::compile_min_length as compile;
+    pub use crate::lengths::{LengthRangeValidator, MinLengthValidator};
 }
 
 pub use checks::{

@@ -10,13 +10,13 @@ ghost use Rattle.std.specs.Str.{chars};
 
 mod build;
 
+pub use crate::by_keyword::compile_pattern as compile;
 use crate::checks::Checks;
 use crate::findings::{Findings, Found};
 use crate::keyed::Keyed;
 use crate::parts::{Origin, Parts};
 use crate::test::Test;
 pub(crate) use build::build_pattern;
-pub use build::compile;
 use std::alloc::{AllocError, Global};
 use std::marker::PhantomData;
 use strkw_pattern::{EngineFailure, LiteralMatcher, RegexEngine};
@@ -81,6 +81,26 @@ pub struct Literal<K: Kind> {
     pub(crate) matcher: LiteralMatcher,
     pub(crate) of: PhantomData<K>,
     ghost is_kind: { kind_of matcher ≡ K.kind },
+}
+
+impl<K: Kind> Literal<K> {
+    // The validator that compares texts by a matcher of its kind.
+    fn keyed(origin: Origin, pattern: String, matcher: LiteralMatcher) -> Keyed<Literal<K>>
+        requires { kind_of matcher ≡ K.kind }
+        ensures origin { result.origin ≡ origin }
+        ensures pattern { result.test.pattern ≡ pattern }
+        ensures matcher { result.test.matcher ≡ matcher }
+    {
+        let of = PhantomData;
+        Keyed::new(
+            origin,
+            Literal {
+                pattern,
+                matcher,
+                of,
+            },
+        )
+    }
 }
 
 impl<K: Kind> Test for Literal<K> {

@@ -100,7 +100,7 @@ one_form label f g (inr (sf, uf, lf, inr e)) (inr (sg, ug, lg, inl d)) =
 one_form label f g (inr (sf, uf, lf, inr e)) (inr (sg, ug, lg, inr d)) = same_from_a_label f g sf sg (sym e ∙ d)
 
 -- an A-label has four characters more than the Punycode
-a_label_length : (form : List ℕ) → length (a_label form) ≡ 4 + length (encode form)
+pub a_label_length : (form : List ℕ) → length (a_label form) ≡ 4 + length (encode form)
 a_label_length form = length-append (codes "xn--") (encode form)
 
 -- a label has at most 63 characters

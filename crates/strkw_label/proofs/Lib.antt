@@ -20,5 +20,6 @@ pub mod ReadDelta
 pub mod Settled
 pub mod Splitting
 pub mod Stability
+pub mod ULabels
 pub mod VariableLengthIntegers
 pub mod XnLabels

@@ -41,6 +41,13 @@ pub record IsUnicodeLabel (label : List ℕ) : Type 0 where
 abbrev pub a_label : List ℕ → List ℕ
 a_label label = codes "xn--" ++ encode label
 
+-- a U-label by itself, whatever name it stands in: a character that runs from right to left calls
+-- for the Bidi rule, and the A-label is a label of the DNS (RFC 5890 sections 2.3.2.1 and 2.3.1)
+pub record IsULabel (label : List ℕ) : Type 0 where
+  pub rules : IsUnicodeLabel label
+  pub bidi : IsTrue (is_right_to_left_label label) → KeepsBidiRule label
+  pub size : length (a_label label) ≤ 63
+
 -- an NR-LDH label (RFC 5890 section 2.3.2.2)
 pub record IsPlainLabel (label : List ℕ) : Type 0 where
   pub ascii : IsLabel label

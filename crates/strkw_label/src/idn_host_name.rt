@@ -20,7 +20,8 @@ use idna::{Errors, punycode};
 use std::alloc::{AllocError, Global};
 use strkw_net::first_label;
 
-const LONGEST_LABEL: usize = 63;
+/// The most characters of a label in encoded form.
+pub(crate) const LONGEST_LABEL: usize = 63;
 
 const LONGEST_HOST_NAME: usize = 253;
 
@@ -253,7 +254,7 @@ fn unicode_label_facts(alloc: Global, label: &[char]) -> Result<Option<LabelFact
 }
 
 /// How long the A-label of a text is.
-fn a_label_length(alloc: Global, label: &[char]) -> Result<usize, AllocError>
+pub(crate) fn a_label_length(alloc: Global, label: &[char]) -> Result<usize, AllocError>
     requires { length label.now ≤ 63 }
     ensures { IfOk result (λ count. count ≡ 4 + length (encode label.now)) }
 {

@@ -13,6 +13,7 @@ mod label_rules;
 pub mod laws;
 mod properties;
 mod punycode;
+mod u_label;
 mod unicode_label;
 
 pub use host_name::is_valid_hostname;
@@ -20,3 +21,4 @@ pub use idn_host_name::is_valid_idn_hostname;
 pub use label_rules::validate_unicode_label;
 pub use properties::{DerivedProperty, derived_property};
 pub use punycode::decode_punycode;
+pub use u_label::is_valid_u_label;

@@ -69,7 +69,7 @@ QuotedString-ascii =
     (Then-ascii (Repeat QcontentSmtp) (Literal (34 ∷ [])) (Repeat-ascii QcontentSmtp QcontentSmtp-ascii) quote)
 
 -- and a local part
-IsLocalPart-ascii : DerivesAscii IsLocalPart
+pub IsLocalPart-ascii : DerivesAscii IsLocalPart
 IsLocalPart-ascii text s = Either-ascii DotString QuotedString DotString-ascii QuotedString-ascii text s.rule
 
 -- ---- the domain name
@@ -84,7 +84,7 @@ LdhStr-ascii = Then-ascii (Repeat (OneOf is_letter_digit_hyphen)) LetDig
     (Repeat-ascii (OneOf is_letter_digit_hyphen) (OneOf-ascii is_letter_digit_hyphen ldh_small)) LetDig-ascii
 
 -- a label
-IsSubDomain-ascii : DerivesAscii IsSubDomain
+pub IsSubDomain-ascii : DerivesAscii IsSubDomain
 IsSubDomain-ascii text s = Then-ascii LetDig (Optional LdhStr) LetDig-ascii (Optional-ascii LdhStr LdhStr-ascii) text s.rule
 
 -- and a domain name
@@ -175,12 +175,12 @@ Bracketed-ascii =
     (tagged_ascii StandardizedTag (C ⨾ Repeat C) (λ x s. LdhStr-ascii x s.rule) (Then-ascii C (Repeat C) content (Repeat-ascii C content))))
 
 -- with the brackets
-AddressLiteral-ascii : DerivesAscii AddressLiteral
+pub AddressLiteral-ascii : DerivesAscii AddressLiteral
 AddressLiteral-ascii = Then-ascii (Literal (91 ∷ [])) (Bracketed ⨾ Literal (93 ∷ [])) (Character-ascii 91 (omega arith))
     (Then-ascii Bracketed (Literal (93 ∷ [])) Bracketed-ascii (Character-ascii 93 (omega arith)))
 
 -- what follows the "@"
-IsDomain-ascii : DerivesAscii IsDomain
+pub IsDomain-ascii : DerivesAscii IsDomain
 IsDomain-ascii text s = Either-ascii Domain AddressLiteral Domain-ascii AddressLiteral-ascii text s.rule
 
 -- and the whole

@@ -4,7 +4,11 @@ pub mod DotStrings
 pub mod QuotedStrings
 pub mod LocalParts
 pub mod Mailboxes
+pub mod Octets
+pub mod WideLocalParts
+pub mod IdnMailboxes
 pub mod Domains
+pub mod IdnDomains
 pub mod Numbers
 pub mod Rows
 pub mod Groups

@@ -4,11 +4,12 @@ use Rattle.std.proofs.lemmas.List.{length-append}
 use Rattle.strkw_text.specs.Fronts.{StartsWith, StartsWithNo}
 use Rattle.strkw_text.proofs.Laws.{then}
 use Rattle.strkw_mail.specs.Mailbox.{IsDomain, IsMailbox}
-use Rattle.strkw_mail.specs.Scan.{StartsOnly}
-use Rattle.strkw_mail.proofs.LocalParts.{LocalPartAt}
+use Rattle.strkw_mail.specs.Scan.{LocalPartAt, StartsOnly}
+use Rattle.strkw_mail.specs.declared.scan.Charset.{Charset}
+use Rattle.strkw_mail.specs.declared.scan.Charset.TheVariants.{Ascii}
 
 -- a mail address begins with a local part and its "@"
-mailbox_start : (text : List ℕ) → (h : IsMailbox text) → StartsWith LocalPartAt text h.second.back
+mailbox_start : (text : List ℕ) → (h : IsMailbox text) → StartsWith (LocalPartAt Ascii) text h.second.back
 mailbox_start text h = record {
   front = h.front ++ h.second.front;
   is = then h.front h.second.front (h.front ++ h.second.front) h.first.rule h.second.first refl;
@@ -16,18 +17,18 @@ mailbox_start text h = record {
 }
 
 -- where no local part and "@" are in front, there is none
-pub no_mailbox : (text : List ℕ) → StartsWithNo LocalPartAt text → IsMailbox text → ⊥
+pub no_mailbox : (text : List ℕ) → StartsWithNo (LocalPartAt Ascii) text → IsMailbox text → ⊥
 no_mailbox text n h = n h.second.back (mailbox_start text h)
 
 -- the rest is no longer than the text
-pub rest_within : (text rest : List ℕ) → StartsOnly LocalPartAt text rest → length rest ≤ length text
-rest_within text rest only =
+pub rest_within : (s : Charset) (text rest : List ℕ) → StartsOnly (LocalPartAt s) text rest → length rest ≤ length text
+rest_within s text rest only =
     let f = (only rest).1 refl in
     omega (arith, ap length f.joined, length-append f.front rest)
 
 -- where one text alone can follow them
 -- a mail address is there exactly where at most 64 characters stand before "@", and a domain follows
-pub mailbox_by_rest : (text rest : List ℕ) → StartsOnly LocalPartAt text rest → IsMailbox text ↔ ((length text ≤ length rest + 65) × IsDomain rest)
+pub mailbox_by_rest : (text rest : List ℕ) → StartsOnly (LocalPartAt Ascii) text rest → IsMailbox text ↔ ((length text ≤ length rest + 65) × IsDomain rest)
 mailbox_by_rest text rest only = (
   λ h.
       let same : rest ≡ h.second.back = (only h.second.back).0 (mailbox_start text h) in (

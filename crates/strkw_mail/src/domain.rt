@@ -1,12 +1,22 @@
 //! What follows the `@`.
 ghost use Rattle.std.specs.Prelude.{◌↔◌, IsTrue};
-ghost use Rattle.strkw_mail.specs.Mailbox.{Domain, IsDomain};
+ghost use Rattle.strkw_mail.specs.Mailbox.{Domain, IsSubDomain, IsDomain};
 
 use crate::address_literal::is_address_literal;
 use crate::scan::strip;
 use strkw_net::first_label;
 
-const LONGEST_DOMAIN: usize = 255;
+pub(crate) const LONGEST_DOMAIN: usize = 255;
+
+/// Whether the text is one label.
+pub(crate) fn is_sub_domain(bytes: &[u8]) -> bool
+    ensures { IsTrue result ↔ IsSubDomain bytes.now }
+{
+    match first_label(bytes) {
+        Some(label) => label.len() == bytes.len(),
+        None => false,
+    }
+}
 
 /// Whether the text is labels with `.` between them.
 fn is_domain_name(bytes: &[u8]) -> bool

@@ -1,4 +1,4 @@
-//! Laws over the definition that the call of this crate names. Each function has an empty body, and its clauses are
+//! Laws over the definitions that the calls of this crate name. Each function has an empty body, and its clauses are
 //! the law.
 ghost use Rattle.std.specs.Prelude.{◌≡◌, ◌↔◌, ℕ, List, codes};
 ghost use Rattle.std.specs.Char.{is_ascii_alphanumeric};
@@ -6,6 +6,7 @@ ghost use Rattle.strkw_text.specs.Bounds.{DerivesAtLeast, DerivesAtMost};
 ghost use Rattle.strkw_net.specs.HostName.{IsLabel, is_letter_digit_hyphen};
 ghost use Rattle.strkw_mail.specs.AsWritten.{let_dig_as_written, ldh_as_written, atext_as_written, escaped_as_written, qtext_smtp_as_written, dcontent_as_written};
 ghost use Rattle.strkw_mail.specs.Characters.{is_atext, is_escaped, is_qtext_smtp, is_dcontent};
+ghost use Rattle.strkw_mail.specs.IdnMailbox.{IsIdnMailbox};
 ghost use Rattle.strkw_mail.specs.Mailbox.{IsSubDomain, IsMailbox, longest_mailbox};
 
 /// A mail address has 3 to 320 characters.
@@ -20,6 +21,11 @@ pub fn mailbox_texts()
     ensures example { IsMailbox (codes "joe.bloggs@example.com") }
     ensures shortest { IsMailbox (codes "a@b") }
     ensures longest { IsMailbox longest_mailbox }
+{}
+
+/// A mail address is an internationalised one.
+pub fn mailbox_is_idn_mailbox()
+    ensures { (text : List ℕ) → IsMailbox text → IsIdnMailbox text }
 {}
 
 /// A label of a domain name is a label of a host name, as RFC 1034, section 3.5, has it with RFC 1123, section 2.1.

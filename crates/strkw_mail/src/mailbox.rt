@@ -5,8 +5,9 @@ ghost use Rattle.strkw_mail.specs.Mailbox.{IsMailbox};
 
 use crate::domain::is_domain;
 use crate::local_part::after_local_part;
+use crate::scan::Charset;
 
-const LONGEST_LOCAL_PART: usize = 64;
+pub(crate) const LONGEST_LOCAL_PART: usize = 64;
 
 /// Whether the text is a mail address: `Mailbox` of RFC 5321, section 4.1.2, as in `joe.bloggs@example.com`.
 ///
@@ -21,7 +22,7 @@ pub fn is_valid_email(text: &str) -> bool
 fn is_mailbox(bytes: &[u8]) -> bool
     ensures { IsTrue result ↔ IsMailbox bytes.now }
 {
-    match after_local_part(bytes) {
+    match after_local_part(bytes, Charset::Ascii) {
         // The `@` is behind the local part.
         Some(domain) => {
             bytes.len() - domain.len() <= LONGEST_LOCAL_PART + 1 && is_domain(domain)

@@ -3,13 +3,21 @@ ghost use Rattle.std.specs.Prelude.{◌≡◌, ◌<◌, ◌≤◌, ◌++◌, ◌
 ghost use Rattle.strkw_text.specs.Abnf.{OneOf};
 ghost use Rattle.strkw_text.specs.Delimiters.{Without};
 ghost use Rattle.strkw_text.specs.Fronts.{StartsWith, StartsWithNo, RunThen, NotFirst};
+ghost use Rattle.strkw_mail.specs.Characters.{is_atext, is_qtext_smtp};
 ghost use Rattle.strkw_mail.specs.Scan.{is_class_char};
 
-/// A class of characters, all of which are ASCII.
+/// Whose characters: those of RFC 5321, which are ASCII, or with the characters past ASCII of RFC 6531.
+#[derive(Clone, Copy)]
+pub(crate) enum Charset {
+    Ascii,
+    Utf8,
+}
+
+/// A class of characters, read by their bytes: each byte of a character past ASCII is past ASCII.
 #[derive(Clone, Copy)]
 pub(crate) enum Class {
-    Atext,
-    QtextSmtp,
+    Atext(Charset),
+    QtextSmtp(Charset),
     Escaped,
     Dcontent,
     LetterDigitHyphen,
@@ -21,19 +29,33 @@ impl Class {
         ensures { result ≡ is_class_char self byte }
     {
         match self {
-            Class::Atext => {
-                byte.is_ascii_alphanumeric()
-                    || matches!(
-                        byte,
-                        b'!' | b'#'..=b'\'' | b'*' | b'+' | b'-' | b'/' | b'=' | b'?' | b'^'..=b'`' | b'{'..=b'~'
-                    )
-            }
-            Class::QtextSmtp => matches!(byte, b' ' | b'!' | b'#'..=b'[' | b']'..=b'~'),
+            Class::Atext(Charset::Ascii) => is_atext(byte),
+            Class::Atext(Charset::Utf8) => is_atext(byte) || byte >= 128,
+            Class::QtextSmtp(Charset::Ascii) => is_qtext_smtp(byte),
+            Class::QtextSmtp(Charset::Utf8) => is_qtext_smtp(byte) || byte >= 128,
             Class::Escaped => matches!(byte, b' '..=b'~'),
             Class::Dcontent => matches!(byte, b'!'..=b'Z' | b'^'..=b'~'),
             Class::LetterDigitHyphen => byte.is_ascii_alphanumeric() || byte == b'-',
         }
     }
+}
+
+#[inline]
+fn is_atext(byte: u8) -> bool
+    ensures { result ≡ is_atext byte }
+{
+    byte.is_ascii_alphanumeric()
+        || matches!(
+            byte,
+            b'!' | b'#'..=b'\'' | b'*' | b'+' | b'-' | b'/' | b'=' | b'?' | b'^'..=b'`' | b'{'..=b'~'
+        )
+}
+
+#[inline]
+fn is_qtext_smtp(byte: u8) -> bool
+    ensures { result ≡ is_qtext_smtp byte }
+{
+    matches!(byte, b' ' | b'!' | b'#'..=b'[' | b']'..=b'~')
 }
 
 /// What follows the byte, where it is the first.

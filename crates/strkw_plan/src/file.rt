@@ -12,6 +12,9 @@ use serde_json::Value;
 use std::alloc::AllocError;
 use std::{fmt, fs, io};
 
+// A byte order mark.
+const MARK: char = '\u{FEFF}';
+
 /// Why a file has no plan's JSON.
 #[derive(Debug, Drop)]
 pub enum PlanFileFault {
@@ -64,11 +67,36 @@ pub fn read_plan_file(rt: &HostRuntime, path: &str) -> Result<Value, PlanFileFau
     ensures { IfOk result (λ v. (text : List ℕ) × (read text ≡ Some (view v))
         × IsSomeAnd (document text) HasUniqueKeys) }
 {
-    let text = match fs::read_to_string(rt, path) {
-        Ok(text) => text,
-        Err(error) => return Err(unread(rt, path, error)?),
-    };
-    match read_plan(rt.alloc(), text.as_str()) {
+    let text = text_of(rt, path)?;
+    plan_of_text(rt, path, text.as_str())
+}
+
+/// The same, where a byte order mark may stand before the text (RFC 8259, section 8.1): it is passed over.
+///
+/// Errors: as `read_plan_file`.
+pub fn read_marked_plan_file(rt: &HostRuntime, path: &str) -> Result<Value, PlanFileFault>
+    ensures { IfOk result (λ v. (text : List ℕ) × (read text ≡ Some (view v))
+        × IsSomeAnd (document text) HasUniqueKeys) }
+{
+    let text = text_of(rt, path)?;
+    let text = text.as_str();
+    plan_of_text(rt, path, text.strip_prefix(MARK).unwrap_or(text))
+}
+
+// The text of the file of this path.
+fn text_of(rt: &HostRuntime, path: &str) -> Result<String, PlanFileFault> {
+    match fs::read_to_string(rt, path) {
+        Ok(text) => Ok(text),
+        Err(error) => Err(unread(rt, path, error)?),
+    }
+}
+
+// The JSON value of a plan's text, which the file of this path has.
+fn plan_of_text(rt: &HostRuntime, path: &str, text: &str) -> Result<Value, PlanFileFault>
+    ensures { IfOk result (λ v. (text : List ℕ) × (read text ≡ Some (view v))
+        × IsSomeAnd (document text) HasUniqueKeys) }
+{
+    match read_plan(rt.alloc(), text) {
         Ok(plan) => Ok(plan),
         Err(PlanTextFault::Memory) => Err(PlanFileFault::Memory),
         Err(fault) => Err(PlanFileFault::Text {

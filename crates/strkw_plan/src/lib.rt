@@ -19,7 +19,7 @@ mod vocabulary;
 
 pub use compile::compile_schema;
 pub use faults::PlanFault;
-pub use file::{PlanFileFault, read_plan_file};
+pub use file::{PlanFileFault, read_marked_plan_file, read_plan_file};
 pub use form::{FoundError, InstancePlace, MessageForm, MessageLine};
 pub use instance::{check_instance, check_instance_as, require_schema};
 pub use kind::PlanKind;

@@ -1,6 +1,6 @@
 -- Places behind bytes.
 use Rattle.std.proofs.Common.{◌≡◌, ◌≤◌, ◌<◌, ◌+◌, ℕ, List, [], ◌∷◌, ◌++◌, take, drop, length, Bool, true, false, refl, sym, ap, arith, ◌∙◌, subst, add_assoc}
-use Rattle.std.proofs.Common.{get_or, take-add}
+use Rattle.std.proofs.Common.{get_or, suc, take-add, zero}
 use Rattle.std.specs.Prelude.{◌==◌, ◌^◌, ◌&&◌, ◌||◌, if◌then◌else◌}
 use Rattle.std.proofs.Math.Dec.{eqb-suc-zero}
 use Rattle.std.proofs.lemmas.List.{take-append-drop, take_more}
@@ -197,3 +197,25 @@ pub place_after-run : (p q r : Place) (bytes rest : List ℕ) (at n : ℕ) → q
 place_after-run p q r bytes rest at n is e k =
     k ∙ ap (λ (z : Place). place_after z (take n rest)) is ∙ ap (λ (l : List ℕ). place_after (place_after p (take at bytes)) (take n l)) e
     ∙ sym (ap (λ (l : List ℕ). place_after p l) (take-add at n bytes) ∙ place_after-append p (take at bytes) (take n (drop at bytes)))
+
+-- the blank lines at the front are so many bytes, where these are parts of line ends, and the next is none
+pub blank_front-counted : (text : List ℕ) (n : ℕ) → n ≤ length text → AreLineBytes (take n text)
+    → (n < length text → is_line_byte (get_or text n 0) ≡ false) → length (blank_front text) ≡ n
+unfolding AreLineBytes
+blank_front-counted [] zero l h s = refl
+blank_front-counted [] (suc n) l h s = omega (arith, l)
+blank_front-counted (c ∷ x) zero l h s =
+    let other : is_line_byte c ≡ false = s (omega arith) in
+    let none : blank_front (c ∷ x) ≡ [] = take_while-cons is_line_byte c x ∙ rw other refl in
+    rw none refl
+blank_front-counted (c ∷ x) (suc n) l h s =
+    let more = blank_front-counted x n (omega arith) h.1 (λ a. s (omega arith)) in
+    let one : blank_front (c ∷ x) ≡ c ∷ blank_front x = take_while-cons is_line_byte c x ∙ rw h.0 refl in
+    rw one (omega (arith, more))
+
+-- each of some bytes that are no parts of line ends is none
+pub has_no_line_byte-at : (x : List ℕ) (i : ℕ) → HasNoLineByte x → i < length x → is_line_byte (get_or x i 0) ≡ false
+unfolding HasNoLineByte
+has_no_line_byte-at [] i h less = absurd (omega (arith, less))
+has_no_line_byte-at (c ∷ x) zero h less = h.0
+has_no_line_byte-at (c ∷ x) (suc i) h less = has_no_line_byte-at x i h.1 (omega arith)

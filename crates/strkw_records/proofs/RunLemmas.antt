@@ -1,13 +1,14 @@
 -- Runs of bytes at the front of a text, by blocks.
 use Rattle.std.proofs.Common.{◌≡◌, ◌≤◌, ◌<◌, ◌+◌, ◌^◌, ◌%◌, ℕ, zero, suc, List, [], ◌∷◌, Bool, true, false, not, cond, eqb, ◌||◌, map, replicate, take, length}
-use Rattle.std.proofs.Common.{refl, ap, arith, ◌∙◌, get_or, bit_or, Option, Some, None}
-use Rattle.std.specs.Prelude.{◌==◌, unwrap_or}
+use Rattle.std.proofs.Common.{refl, sym, ap, subst, arith, ◌∙◌, get_or, bit_or, Option, Some, None}
+use Rattle.std.specs.Prelude.{◌==◌, is_some, unwrap_or}
 use Rattle.std.specs.List.{prefix_len}
 use Rattle.std.specs.Simd.Lanes.{mask_l, zip2}
-use Rattle.std.proofs.lemmas.List.{length-map}
+use Rattle.std.proofs.lemmas.List.{length-map, take_all}
 use Rattle.std.proofs.lemmas.Simd.{first_set_mask_l, map-map, mask_l-mod, run_in_chunk_fails, run_in_chunk_stops, zip2_of_maps, zip2_splat}
 use Rattle.memchr.specs.Find.{IsFirstByte, is_byte2, is_byte3}
 use Rattle.strkw_records.specs.Lines.{HasNoLineByte, is_line_byte, is_or_line_byte}
+use Rattle.strkw_records.proofs.LineLemmas.{has_no_line_byte-at}
 use lib.Count.{count_trailing_zeros}
 use lib.Lanes.{top}
 
@@ -112,3 +113,18 @@ pub found-line_free : (xs : List ℕ) (found : Option ℕ) (n : ℕ) → IsFirst
 found-line_free xs None n h e = line_free-below xs n (omega (arith, e)) (λ k a. not-true _ (h k (omega arith) (omega (arith, e, a))))
 found-line_free xs (Some at) n h e =
     let inside = h.0.high in line_free-below xs n (omega (arith, e, inside)) (λ k a. not-true _ (h.0.before k (omega arith) (omega (arith, e, a))))
+
+-- and no byte is one exactly where a search for CR and LF finds none
+pub found-free : (xs : List ℕ) (found : Option ℕ) (free : Bool) → IsFirstByte (is_byte2 13 10) xs found → is_some found ≡ not free
+    → (free ≡ true → HasNoLineByte xs) × (HasNoLineByte xs → free ≡ true)
+found-free xs None true h e = (
+  (λ yes. subst (λ (l : List ℕ). HasNoLineByte l) (take_all (length xs) xs (omega arith))
+      (line_free-below xs (length xs) (omega arith) (λ k a. not-true _ (h k (omega arith) a)))),
+  (λ none. refl),
+)
+found-free xs None false h e = let no = e in cc no
+found-free xs (Some at) true h e = let no = e in cc no
+found-free xs (Some at) false h e = (
+  (λ yes. let no = yes in cc no),
+  (λ none. let no = sym h.1 ∙ has_no_line_byte-at xs at none h.0.high in cc no),
+)

@@ -1,7 +1,7 @@
 -- Where the lines of a text end. A line ends with LF, with CR LF (one end), or with a CR that no LF
 -- follows. So each CR ends a line, and an LF does where no CR stands right before it.
 use Rattle.std.specs.Prelude.{◌≡◌, ℕ, ◌+◌, ◌==◌, ◌&&◌, ◌||◌, Bool, true, false, not, if◌then◌else◌}
-use Rattle.std.specs.Prelude.{List, [], ◌∷◌, ⊤}
+use Rattle.std.specs.Prelude.{List, [], ◌∷◌, drop, length, ⊤}
 use Rattle.std.specs.List.{take_while}
 use Rattle.csv.specs.Machine.{carriage_return, line_feed}
 use Rattle.strkw_records.specs.declared.place.Place.{Place}
@@ -43,6 +43,10 @@ place_after place bytes = record {
 -- the ends of the blank lines at the front of a text
 abbrev pub blank_front : List ℕ → List ℕ
 blank_front text = take_while is_line_byte text
+
+-- what a text has behind them
+abbrev pub behind_blank : List ℕ → List ℕ
+behind_blank text = drop (length (blank_front text)) text
 
 -- each byte is the end of a line, or a part of one
 unfoldable pub AreLineBytes : List ℕ → Type 0

@@ -20,7 +20,11 @@ unread_of rem reader =
     then option_map strip_bom (rest_of rem reader.input)
     else rest_of rem reader.input
 
--- where in the text those bytes stand
+-- the bytes that a reader has taken from its source and not read
+abbrev pub at_hand : {R : Type 0} → RecordReader R → List ℕ
+at_hand reader = reader.input.piece
+
+-- where in the text the unread bytes stand
 abbrev pub place_of : {R : Type 0} → RecordReader R → Place
 place_of reader = reader.input.place
 

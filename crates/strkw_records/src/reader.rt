@@ -8,6 +8,7 @@ use crate::faults::ReadFault;
 use crate::gathered::Gathered;
 use crate::input::Input;
 use crate::limits::Limits;
+use crate::runs::{is_line_free, line_bytes_run};
 use csv::{ByteRecord, StringRecord};
 use std::alloc::{AllocError, Global};
 use std::io::Read;
@@ -29,13 +30,13 @@ pub struct RecordReader<R> {
 }
 
 impl<R: Read> RecordReader<R> {
-    ghost use Rattle.std.specs.Prelude.{◌≡◌, ℕ, List, [], true, Some, None, option_map, IfOk, IfErr, OnOk, OnErr};
+    ghost use Rattle.std.specs.Prelude.{◌≡◌, ◌↔◌, ℕ, List, [], true, Some, None, option_map, IfOk, IfErr, OnOk, OnErr};
     ghost use Rattle.csv.specs.Machine.{next_record};
     ghost use Rattle.csv.specs.Reading.{default_config, strip_bom};
     ghost use Rattle.csv.specs.declared.parser.State.TheVariants as st;
-    ghost use Rattle.strkw_records.specs.Lines.{first_place};
+    ghost use Rattle.strkw_records.specs.Lines.{HasNoLineByte, behind_blank, first_place};
     ghost use Rattle.strkw_records.specs.Limits.{AreWithin, no_limits};
-    ghost use Rattle.strkw_records.specs.Reading.{Explains, Takes, limits_of, place_of, unread_of};
+    ghost use Rattle.strkw_records.specs.Reading.{Explains, Takes, at_hand, limits_of, place_of, unread_of};
 
     /// A reader of the records of a source, from its start, however long they are. A byte order mark there is dropped.
     ///
@@ -142,6 +143,15 @@ impl<R: Read> RecordReader<R> {
             Ok(()) => Ok(Some(line)),
             Err(field) => Err(ReadFault::NotUtf8 { line, field }),
         }
+    }
+
+    /// Whether the end of the next record has to be waited for: behind the ends of blank lines, no line ends in the bytes
+    /// that are at hand.
+    pub fn is_drained(&self) -> bool
+        ensures { (result ≡ true) ↔ HasNoLineByte (behind_blank (at_hand self.now)) }
+    {
+        let unread = self.input.piece.unread();
+        is_line_free(&unread[line_bytes_run(unread)..])
     }
 }
 

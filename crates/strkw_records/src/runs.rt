@@ -55,6 +55,13 @@ pub(crate) fn line_free_run(bytes: &[u8]) -> usize
     memchr2(b'\r', b'\n', bytes).unwrap_or(bytes.len())
 }
 
+/// Whether no byte is the end of a line, or a part of one.
+pub(crate) fn is_line_free(bytes: &[u8]) -> bool
+    ensures { (result ≡ true) ↔ HasNoLineByte bytes.now }
+{
+    memchr2(b'\r', b'\n', bytes).is_none()
+}
+
 // The place of the lowest bit that is set, or the number of lanes.
 #[inline(always)]
 fn first_set(mask: u64) -> usize

@@ -39,6 +39,9 @@ pub struct Checked {
 
 /// Who is told how far a check has come.
 pub trait Watch {
+    /// These are the names in the first record, which are not yet compared with those of the plan. It need not listen.
+    fn names(&mut self, _names: &StringRecord) {}
+
     /// So many records were checked, and there are so many messages about them.
     fn at(&mut self, checked: Checked);
 }
@@ -58,7 +61,8 @@ fn check_field<E: RegexEngine, F: FieldForm>(
         AreUsable E.outcome lists columns.now }
     ensures { let lists = lists_of admits accepted encoded decoding checks.now in
         IfOk result (λ count. (messages : List (List ℕ))
-        × OfField (ColumnMessages (F.said form.now) E.outcome lists) line (field_at (fields_of row.now) at)
+        × OfField (ColumnMessages (F.said form.now) E.outcome lists) line
+        (field_at (fields_of row.now) at)
         (slice_get columns.now at) messages
         × (count ≡ length messages)
         × (string_bytes out.new ≡ string_bytes out.old ++ concat messages)) }
@@ -87,7 +91,8 @@ fn check_record<E: RegexEngine, F: FieldForm>(
     ensures why { IfErr result IsUnexplained }
     ensures messages { let lists = lists_of admits accepted encoded decoding checks.now in
         IfOk result (λ count. (messages : List (List ℕ))
-        × OfRecord (ColumnMessages (F.said form.now) E.outcome lists) columns.now line (fields_of row.now) messages
+        × OfRecord (ColumnMessages (F.said form.now) E.outcome lists) columns.now line
+        (fields_of row.now) messages
         × (count ≡ length messages)
         × (string_bytes out.new ≡ string_bytes out.old ++ concat messages)) }
 {
@@ -129,7 +134,8 @@ fn check_next<E: RegexEngine, R: Read, F: FieldForm>(
         × Takes R.remaining reader.old reader.new text line (fields_of row.new)
         × (length (fields_of row.new) ≡ length columns.now)
         × AreWithin (limits_of reader.old) (fields_of row.new)
-        × OfRecord (ColumnMessages (F.said form.now) E.outcome lists) columns.now line (fields_of row.new) messages
+        × OfRecord (ColumnMessages (F.said form.now) E.outcome lists) columns.now line
+        (fields_of row.new) messages
         × (count ≡ length messages)
         × (string_bytes out.new ≡ string_bytes out.old ++ concat messages))) }
 {
@@ -147,14 +153,23 @@ fn check_next<E: RegexEngine, R: Read, F: FieldForm>(
     Ok(Some(count))
 }
 
-// Writes what was gathered, where it is enough.
-fn write_gathered<W: Write>(out: &mut String, writer: &mut W) -> Result<(), TableFault>
+// Whether messages that were gathered are to be written: they are enough, or the next record has to be waited for.
+fn is_due<R: Read>(out: &String, reader: &RecordReader<R>) -> bool {
+    GATHERED <= out.len() || (!out.is_empty() && reader.is_drained())
+}
+
+// Writes what was gathered, where it is due.
+fn write_gathered<W: Write>(
+    out: &mut String,
+    is_due: bool,
+    writer: &mut W,
+) -> Result<(), TableFault>
     ensures why { IfErr result IsUnexplained }
     ensures written { OnOk result ((written : List ℕ)
         × Appends (W.contents writer.old) (W.contents writer.new) written
         × (string_bytes out.old ≡ written ++ string_bytes out.new)) }
 {
-    if out.len() < GATHERED {
+    if !is_due {
         return Ok(());
     }
     if writer.write_all(out.as_bytes()).is_err() {
@@ -249,7 +264,7 @@ fn gather_rows<E: RegexEngine, R: Read, W: Write, P: Watch, F: FieldForm>(
         };
         checked.errors = checked.errors.checked_add(more).ok_or(TableFault::TooLong)?;
         checked.records += 1;
-        write_gathered(out, writer)?;
+        write_gathered(out, is_due(out, reader), writer)?;
         watch.at(checked);
     }
     Err(TableFault::TooLong)

@@ -127,6 +127,7 @@ pub fn check_table_as<B: EngineBuilder, R: Read + Drop, W: Write, P: Watch, F: F
     if reader.read(&mut names)?.is_none() {
         return Err(TableFault::NoHeader);
     }
+    watch.names(&names);
     require_header(alloc, &plan, &names)?;
     let columns = columns_of(alloc, &objects, &names)?;
     check_rows(

@@ -48,6 +48,15 @@ const BY_DRAFT: Set = Set {
     ..PLAIN
 };
 
+// One text that has to be even, in draft 2020-12.
+const LATER_EVEN: &str = r#"{"draft":202012,"places":{"/a":{"format":"even"}}}"#;
+
+// One that has to be even, and one of a format that is not known.
+const EVEN_AND_ODD: &str = r#"{"draft":7,"places":{"/a":{"format":"even"},"/b":{"format":"odd"}}}"#;
+
+// The message about the first text of the document, which is not even.
+const NOT_EVEN: &str = "/a: /format: \"xxx\" is not a \"even\"\n";
+
 // A plan, what is set, and the messages, or the text of the fault. The format `even` is registered, for texts of an
 // even number of characters, and `date` is, for none; so are the media type `none` and the codec `bytes`, which admit
 // none.
@@ -57,14 +66,10 @@ fn cases() -> [(&'static str, Set, &'static str); 9] {
         (
             r#"{"draft":7,"places":{"/a":{"format":"even"},"/b":{"format":"even"}}}"#,
             PLAIN,
-            "/a: /format: \"xxx\" is not a \"even\"\n",
+            NOT_EVEN,
         ),
         // Formats are checked in each draft where nothing else is set.
-        (
-            r#"{"draft":202012,"places":{"/a":{"format":"even"}}}"#,
-            PLAIN,
-            "/a: /format: \"xxx\" is not a \"even\"\n",
-        ),
+        (LATER_EVEN, PLAIN, NOT_EVEN),
         // The caller's row counts before a built-in of its name.
         (
             r#"{"draft":7,"places":{"/b":{"format":"date"}}}"#,
@@ -78,30 +83,22 @@ fn cases() -> [(&'static str, Set, &'static str); 9] {
         ),
         // Another format is refused, or ignored beside what is checked.
         (
-            r#"{"draft":7,"places":{"/a":{"format":"even"},"/b":{"format":"odd"}}}"#,
+            EVEN_AND_ODD,
             PLAIN,
             "the schema at /places/~1b is refused at /format: unknown format \"odd\"",
         ),
-        (
-            r#"{"draft":7,"places":{"/a":{"format":"even"},"/b":{"format":"odd"}}}"#,
-            IGNORING,
-            "/a: /format: \"xxx\" is not a \"even\"\n",
-        ),
+        (EVEN_AND_ODD, IGNORING, NOT_EVEN),
         // No format is checked, or as the draft does.
         (
             r#"{"draft":7,"places":{"/a":{"format":"even","maxLength":2},"/b":{"format":"odd"}}}"#,
             UNCHECKED,
             "/a: /maxLength: \"xxx\" is longer than 2 characters\n",
         ),
-        (
-            r#"{"draft":202012,"places":{"/a":{"format":"even"}}}"#,
-            BY_DRAFT,
-            "",
-        ),
+        (LATER_EVEN, BY_DRAFT, ""),
         (
             r#"{"draft":7,"places":{"/a":{"format":"even"}}}"#,
             BY_DRAFT,
-            "/a: /format: \"xxx\" is not a \"even\"\n",
+            NOT_EVEN,
         ),
     ]
 }

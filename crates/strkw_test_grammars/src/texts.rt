@@ -5,8 +5,8 @@ use crate::tally::Tally;
 use crate::{coding, ecma, label};
 use serde_json::Value;
 use std::alloc::{AllocError, Global};
-use strkw_label::{is_valid_hostname, is_valid_idn_hostname};
-use strkw_mail::is_valid_email;
+use strkw_label::{is_valid_hostname, is_valid_idn_hostname, is_valid_u_label};
+use strkw_mail::{is_valid_email, is_valid_idn_email};
 use strkw_net::{is_valid_hostname_rfc1034, is_valid_ipv4, is_valid_ipv6, is_valid_uuid};
 use strkw_pattern::{BuildRefusal, EngineBuilder, NoPatterns, contains_ecma_whitespace};
 use strkw_time::{is_valid_date, is_valid_datetime, is_valid_duration, is_valid_time};
@@ -49,6 +49,8 @@ pub fn accepts(alloc: Global, of: &str, text: &str) -> Result<Option<bool>, Allo
     match of {
         "label" => Ok(Some(label::admits(alloc, text)?)),
         "idn-hostname" => Ok(Some(is_valid_idn_hostname(alloc, text)?)),
+        "u-label" => Ok(Some(is_valid_u_label(alloc, text)?)),
+        "idn-email" => Ok(Some(is_valid_idn_email(alloc, text)?)),
         "json" => coding::is_media(alloc, text),
         "patterns of ECMA-262" => Ok(ecma::is_taken(alloc, text)),
         "base64" | "base64url" | "base32" | "base32hex" | "base16" => {

@@ -11,13 +11,16 @@ use Rattle.strkw_uri.specs.Characters.{is_userinfo_char, is_pchar, is_nc_char, i
 use Rattle.strkw_uri.specs.Characters.{is_fragment_char, is_ucschar, is_iprivate}
 use Rattle.strkw_uri.specs.Uri.{Encoded, Userinfo, BracketedAddress, Host, Port, PathAbempty}
 use Rattle.strkw_uri.specs.Uri.{HierPart, QueryAndFragment}
-use Rattle.strkw_uri.specs.Template.{is_operator, FurtherVarchar, ModifierLevel4}
+use Rattle.strkw_uri.specs.Template.{is_literal_char, is_varchar, is_operator}
+use Rattle.strkw_uri.specs.Template.{FurtherVarchar, ModifierLevel4}
 use Rattle.strkw_uri.specs.Pointer.{IsJsonPointer}
 use Rattle.strkw_uri.specs.declared.part.Syntax.{Syntax}
 use Rattle.strkw_uri.specs.declared.part.Syntax.TheVariants.{Rfc3986, Rfc3987}
 use Rattle.strkw_uri.specs.declared.part.Part.{Part}
 use Rattle.strkw_uri.specs.declared.part.Part.TheVariants.{RegNameChar, UserinfoChar, PathChar}
 use Rattle.strkw_uri.specs.declared.part.Part.TheVariants.{SegmentNcChar, QueryChar, FragmentChar}
+use Rattle.strkw_uri.specs.declared.template.Plain.{Plain}
+use Rattle.strkw_uri.specs.declared.template.Plain.TheVariants.{InLiteral, InName}
 use Rattle.strkw_uri.specs.declared.scan.Class.{Class}
 use Rattle.strkw_uri.specs.declared.scan.Class.TheVariants.{Letter, SchemeChar, Decimal}
 use Rattle.strkw_uri.specs.declared.scan.Class.TheVariants.{NonzeroDecimal, Hexadecimal, ZeroOrOne}
@@ -70,6 +73,11 @@ is_class_char ZeroOrOne = is_one_of (codes "01")
 is_class_char VersionLetter = is_one_of (codes "vV")
 is_class_char FutureChar = is_userinfo_char uri
 is_class_char OperatorChar = is_operator
+
+-- the characters of a template that stand for themselves in a literal, or in a name
+abbrev pub is_plain : Plain → ℕ → Bool
+is_plain InLiteral = is_literal_char
+is_plain InName = is_varchar
 
 -- "#" at the end, or a pointer
 abbrev pub HashOrPointer : Form

@@ -3,8 +3,9 @@ ghost use Rattle.std.specs.Prelude.{◌≡◌, ◌↔◌, ◌<◌, IsTrue, Match
 ghost use Rattle.std.specs.Str.{chars};
 ghost use Rattle.strkw_text.specs.Abnf.{Optional};
 ghost use Rattle.strkw_text.specs.Fronts.{StartsWith, StartsWithNo};
-ghost use Rattle.strkw_uri.specs.Scan.{InVarspec};
-ghost use Rattle.strkw_uri.specs.Template.{is_literal_char, is_varchar, Varchar, FurtherVarchar, MaxLength, ModifierLevel4, Varspec, VariableList, OperatorAndVariables, InExpression, LiteralOrExpression, IsUriTemplate};
+ghost use Rattle.strkw_uri.specs.Scan.{InVarspec, is_plain};
+ghost use Rattle.strkw_uri.specs.Uri.{Encoded};
+ghost use Rattle.strkw_uri.specs.Template.{is_literal_char, is_varchar, FurtherVarchar, MaxLength, ModifierLevel4, Varspec, VariableList, OperatorAndVariables, InExpression, LiteralOrExpression, IsUriTemplate};
 
 use crate::part::{Part, Syntax, after_ascii};
 use crate::scan::{
@@ -26,16 +27,34 @@ fn is_varchar(c: char) -> bool
     c.is_ascii_alphanumeric() || c == '_'
 }
 
-/// What follows a character of a name.
-fn after_varchar(text: &str) -> Option<&str>
-    ensures cases { MatchOption result (StartsWithNo Varchar (chars text.now))
-        (λ rest. StartsWith Varchar (chars text.now) (chars rest.now)) }
+/// Where a character may stand for itself: in a literal, or in a name.
+#[derive(Clone, Copy)]
+enum Plain {
+    InLiteral,
+    InName,
+}
+
+impl Plain {
+    fn contains(self, c: char) -> bool
+        ensures { result ≡ is_plain self c }
+    {
+        match self {
+            Plain::InLiteral => is_literal_char(c),
+            Plain::InName => is_varchar(c),
+        }
+    }
+}
+
+/// What follows a character that stands for itself, or a percent-encoding.
+fn after_encoded(text: &str, plain: Plain) -> Option<&str>
+    ensures cases { MatchOption result (StartsWithNo (Encoded (is_plain plain)) (chars text.now))
+        (λ rest. StartsWith (Encoded (is_plain plain)) (chars text.now) (chars rest.now)) }
     ensures shorter { IfSome result (λ rest. length rest.now < length text.now) }
     ensures utf8 { IfSome result (λ rest. IsUtf8 rest.now) }
 {
     match first_char(text) {
         Some((c, rest)) => {
-            if is_varchar(c) {
+            if plain.contains(c) {
                 Some(rest)
             } else if c == '%' {
                 after_two_hexdigits(rest)
@@ -55,8 +74,8 @@ fn after_further_varchar(text: &str) -> Option<&str>
     ensures utf8 { IfSome result (λ rest. IsUtf8 rest.now) }
 {
     match strip(text, b'.') {
-        Some(rest) => after_varchar(rest),
-        None => after_varchar(text),
+        Some(rest) => after_encoded(rest, Plain::InName),
+        None => after_encoded(text, Plain::InName),
     }
 }
 
@@ -100,7 +119,7 @@ fn is_in_varspec(text: &str) -> bool
 fn is_varspec(text: &str) -> bool
     ensures { IsTrue result ↔ Varspec (chars text.now) }
 {
-    match after_varchar(text) {
+    match after_encoded(text, Plain::InName) {
         Some(rest) => is_in_varspec(rest),
         None => false,
     }
@@ -151,20 +170,10 @@ fn after_literal_or_expression(text: &str) -> Option<&str>
     ensures shorter { IfSome result (λ rest. length rest.now < length text.now) }
     ensures utf8 { IfSome result (λ rest. IsUtf8 rest.now) }
 {
-    match first_char(text) {
-        Some((c, rest)) => {
-            if is_literal_char(c) {
-                Some(rest)
-            } else if c == '%' {
-                after_two_hexdigits(rest)
-            } else if c == '{' {
-                after_in_expression(rest)
-            } else {
-                None
-            }
-        }
-        None => None,
+    if let Some(rest) = strip(text, b'{') {
+        return after_in_expression(rest);
     }
+    after_encoded(text, Plain::InLiteral)
 }
 
 /// Whether the text is a URI template: literals and expressions in braces (RFC 6570, section 2). A literal may

@@ -1,40 +1,13 @@
 //! One text by a format.
 
-use crate::errors::UnknownName;
-use std::str::FromStr;
+use crate::names::kinds;
 
-macro_rules! formats {
-    ($($(#[$doc:meta])* $variant:ident $name:literal $check:ident,)*) => {
-        /// A format of texts.
-        #[derive(Clone, Copy, Debug, PartialEq, Eq, Hash)]
-        pub enum Format {
-            $($(#[$doc])* $variant,)*
-        }
+// A check of a text: its bytes, and how many there are.
+type Check = unsafe extern "C" fn(*const u8, usize) -> bool;
 
-        impl Format {
-            /// All of them.
-            pub const ALL: &'static [Format] = &[$(Format::$variant),*];
-
-            /// The name of the format, as `date-time`.
-            pub fn name(self) -> &'static str {
-                match self {
-                    $(Format::$variant => $name,)*
-                }
-            }
-
-            /// Whether a text is of the format.
-            pub fn is_valid(self, text: &str) -> bool {
-                let check = match self {
-                    $(Format::$variant => strkw_sys::$check,)*
-                };
-                // A slice leads to as many bytes as it counts, and the call keeps none of them.
-                unsafe { check(text.as_ptr(), text.len()) }
-            }
-        }
-    };
-}
-
-formats! {
+kinds! {
+    /// A format of texts.
+    Format Check, called "The name of the format, as `date-time`.";
     /// `full-date` of RFC 3339.
     Date "date" strkw_is_date,
     /// `date-time` of RFC 3339.
@@ -71,11 +44,10 @@ formats! {
     Uuid "uuid" strkw_is_uuid,
 }
 
-impl FromStr for Format {
-    type Err = UnknownName;
-
-    fn from_str(name: &str) -> Result<Format, UnknownName> {
-        let found = Format::ALL.iter().find(|format| format.name() == name);
-        found.copied().ok_or_else(|| UnknownName(name.to_owned()))
+impl Format {
+    /// Whether a text is of the format.
+    pub fn is_valid(self, text: &str) -> bool {
+        // A slice leads to as many bytes as it counts, and the call keeps none of them.
+        unsafe { self.check()(text.as_ptr(), text.len()) }
     }
 }

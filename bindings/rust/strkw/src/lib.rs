@@ -3,9 +3,12 @@
 
 mod answers;
 mod buffers;
+mod decisions;
 mod encoding;
 mod errors;
 mod format;
+mod internationalised;
+mod names;
 mod options;
 mod schema;
 
@@ -13,5 +16,6 @@ pub use answers::answer;
 pub use encoding::Encoding;
 pub use errors::{CompileError, OutOfMemory, UnknownName, ValidationError};
 pub use format::Format;
+pub use internationalised::{is_idn_email, is_idn_hostname};
 pub use options::{Draft, Options};
 pub use schema::{Report, Schema};

@@ -3,7 +3,9 @@
 use std::fs;
 use std::path::PathBuf;
 use std::thread;
-use strkw::{answer, CompileError, Draft, Encoding, Format, Options, Schema, UnknownName};
+use strkw::{
+    answer, is_idn_email, is_idn_hostname, CompileError, Draft, Encoding, Format, Options, Schema, UnknownName,
+};
 
 fn stored(name: &str) -> String {
     let folder = PathBuf::from(env!("CARGO_MANIFEST_DIR")).join("../../../examples");
@@ -19,9 +21,11 @@ fn formats_and_encodings_answer_as_the_stored_rows() {
     for row in stored("formats.tsv").split('\n').filter(|row| !row.is_empty()) {
         let mut parts = row.splitn(3, '\t');
         let (name, wanted, text) = (parts.next().unwrap(), parts.next().unwrap(), parts.next().unwrap());
-        let found = match name.parse::<Encoding>() {
-            Ok(encoding) => encoding.is_valid(text).unwrap(),
-            Err(_) => name.parse::<Format>().unwrap().is_valid(text),
+        let found = match (name, name.parse::<Encoding>()) {
+            ("idn-email", _) => is_idn_email(text).unwrap(),
+            ("idn-hostname", _) => is_idn_hostname(text).unwrap(),
+            (_, Ok(encoding)) => encoding.is_valid(text).unwrap(),
+            _ => name.parse::<Format>().unwrap().is_valid(text),
         };
         assert_eq!(found, wanted == "yes", "{row}");
     }

@@ -4,7 +4,8 @@ use Rattle.std.specs.Prelude.{◌≡◌, ℕ, suc, ◌+◌, ◌*◌, ◌<◌, �
 use Rattle.std.specs.Prelude.{◌∷◌, length, get_or, Vec, Option, Some, None, option_map}
 use Rattle.std.specs.Prelude.{if◌then◌else◌}
 use Rattle.std.specs.declared.alloc.Global.{Global}
-use Rattle.strkw_ecma.specs.Tree.{Pattern, empty, class, look, cat, alt, star, plus, in_sets}
+use Rattle.strkw_ecma.specs.Tree.{Pattern, empty, class, look, cat, alt, star, plus, lookbehind}
+use Rattle.strkw_ecma.specs.Tree.{in_sets}
 use Rattle.strkw_ecma.specs.Program.{asks_word}
 use Rattle.strkw_ecma.specs.Sets.{word_characters}
 use Rattle.strkw_ecma.specs.declared.tree.CharSet.{CharSet}
@@ -42,6 +43,7 @@ has_boundary (cat p q) = has_boundary p || has_boundary q
 has_boundary (alt p q) = has_boundary p || has_boundary q
 has_boundary (star p) = has_boundary p
 has_boundary (plus p) = has_boundary p
+has_boundary (lookbehind n p) = has_boundary p
 
 -- the answers tell all that a pattern asks about a character
 abbrev pub Tells : List (Vec CharSet Global) → Pattern → Type 0
@@ -52,3 +54,4 @@ Tells classes (cat p q) = Tells classes p × Tells classes q
 Tells classes (alt p q) = Tells classes p × Tells classes q
 Tells classes (star p) = Tells classes p
 Tells classes (plus p) = Tells classes p
+Tells classes (lookbehind n p) = Tells classes p

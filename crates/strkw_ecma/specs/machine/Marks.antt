@@ -1,8 +1,9 @@
 -- The marks of a pattern: at a place of the text they stand at the classes that have just read the
 -- character before it.
-use Rattle.std.specs.Prelude.{◌≡◌, ℕ, ◌+◌, ◌≤◌, get_or, drop, Bool, true, false, ◌&&◌, ◌||◌, not}
-use Rattle.std.specs.Prelude.{◌⊎◌, List, [], ◌∷◌, ◌++◌, length, Option, Some, None}
-use Rattle.strkw_ecma.specs.Tree.{Pattern, empty, class, look, cat, alt, star, plus, is_member}
+use Rattle.std.specs.Prelude.{◌≡◌, ◌↔◌, ℕ, ◌+◌, ◌<◌, ◌≤◌, get_or, drop, Bool, true, false, ◌&&◌}
+use Rattle.std.specs.Prelude.{◌||◌, not, ◌⊎◌, List, [], ◌∷◌, ◌++◌, length, Option, Some, None}
+use Rattle.strkw_ecma.specs.Tree.{Pattern, empty, class, look, cat, alt, star, plus, lookbehind}
+use Rattle.strkw_ecma.specs.Tree.{differ, is_member}
 use Rattle.strkw_ecma.specs.Meaning.{Rounds, holds, Matches}
 use Rattle.strkw_ecma.specs.declared.tree.CharSet.{CharSet}
 
@@ -22,6 +23,8 @@ module _ (b a : Option ℕ) where
   leaves (alt p q) enters = leaves p enters || leaves q enters
   leaves (star p) enters = enters || leaves p false
   leaves (plus p) enters = leaves p (enters || leaves p false)
+  -- entered at each place
+  leaves (lookbehind n p) enters = enters && differ n (leaves p true)
 
   -- the marks after the character a is read
   abbrev pub step : Pattern → Bool → Pattern
@@ -32,6 +35,7 @@ module _ (b a : Option ℕ) where
   step (alt p q) enters = alt (step p enters) (step q enters)
   step (star p) enters = star (step p (enters || leaves p false))
   step (plus p) enters = plus (step p (enters || leaves p false))
+  step (lookbehind n p) enters = lookbehind n (step p true)
 
 -- at place i a way through the pattern goes on from some mark, and ends at j
 abbrev pub Rest : List ℕ → Pattern → ℕ → ℕ → Type 0
@@ -42,6 +46,22 @@ Rest text (cat p q) i j = ((l : ℕ) × Rest text p i l × Matches text q l j) �
 Rest text (alt p q) i j = Rest text p i j ⊎ Rest text q i j
 Rest text (star p) i j = (l : ℕ) × Rest text p i l × Rounds (Matches text p) j l
 Rest text (plus p) i j = (l : ℕ) × Rest text p i l × Rounds (Matches text p) j l
+Rest text (lookbehind n p) i j = ⊥
+
+-- the pattern matches up to j from some place before i, and j is not before i
+abbrev pub Crosses : List ℕ → Pattern → ℕ → ℕ → Type 0
+Crosses text p i j = (k : ℕ) × (k < i) × (i ≤ j) × Matches text p k j
+
+-- the marks within lookbehinds at place i are those of all ways that have begun before i
+abbrev pub Kept : List ℕ → Pattern → ℕ → Type 0
+Kept text empty i = Unit {0}
+Kept text (class m n rs) i = Unit {0}
+Kept text (look l) i = Unit {0}
+Kept text (cat p q) i = Kept text p i × Kept text q i
+Kept text (alt p q) i = Kept text p i × Kept text q i
+Kept text (star p) i = Kept text p i
+Kept text (plus p) i = Kept text p i
+Kept text (lookbehind n p) i = Kept text p i × ((j : ℕ) → Rest text p i j ↔ Crosses text p i j)
 
 -- at place k a match is under way, or one begins at k or later
 abbrev pub Later : List ℕ → Pattern → ℕ → Type 0
@@ -57,6 +77,7 @@ classes (cat p q) = classes p + classes q
 classes (alt p q) = classes p + classes q
 classes (star p) = classes p
 classes (plus p) = classes p
+classes (lookbehind n p) = classes p
 
 -- the pattern with the first marks of a list, in the order of its classes
 abbrev pub marked : List Bool → Pattern → Pattern
@@ -67,6 +88,7 @@ marked ms (cat p q) = cat (marked ms p) (marked (drop (classes p) ms) q)
 marked ms (alt p q) = alt (marked ms p) (marked (drop (classes p) ms) q)
 marked ms (star p) = star (marked ms p)
 marked ms (plus p) = plus (marked ms p)
+marked ms (lookbehind n p) = lookbehind n (marked ms p)
 
 -- no class bears a mark
 abbrev pub is_clean : Pattern → Bool
@@ -77,6 +99,7 @@ is_clean (cat p q) = is_clean p && is_clean q
 is_clean (alt p q) = is_clean p && is_clean q
 is_clean (star p) = is_clean p
 is_clean (plus p) = is_clean p
+is_clean (lookbehind n p) = is_clean p
 
 -- the marks of a pattern, in the order of its classes
 abbrev pub marks_of : Pattern → List Bool
@@ -87,3 +110,4 @@ marks_of (cat p q) = marks_of p ++ marks_of q
 marks_of (alt p q) = marks_of p ++ marks_of q
 marks_of (star p) = marks_of p
 marks_of (plus p) = marks_of p
+marks_of (lookbehind n p) = marks_of p

@@ -4,7 +4,7 @@ use Rattle.std.specs.Prelude.{[], ◌∷◌, ◌++◌, map, reverse, length, Opt
 use Rattle.std.specs.Prelude.{option_and_then}
 use Rattle.std.specs.Str.{byte}
 use Rattle.strkw_ecma.specs.Tree.{Pattern, empty, class, look, cat, alt, start, end, boundary}
-use Rattle.strkw_ecma.specs.Tree.{no_boundary}
+use Rattle.strkw_ecma.specs.Tree.{no_boundary, lookbehind}
 use Rattle.strkw_ecma.specs.Escapes.{Escape, itself, control, set, boundary as boundary_letter}
 use Rattle.strkw_ecma.specs.Escapes.{no_boundary as no_boundary_letter, null, letter, hexadecimal}
 use Rattle.strkw_ecma.specs.Escapes.{unicode, property, no_property, unknown, escape}
@@ -17,7 +17,7 @@ use Rattle.strkw_ecma.specs.machine.PropertyReading.{PropertyRead, no_property_r
 use Rattle.strkw_ecma.specs.machine.PropertyReading.{property_ends, property_next}
 use Rattle.strkw_ecma.specs.Names.{may_follow, are_distinct, Extension, uncaptured, name_opening}
 use Rattle.strkw_ecma.specs.Names.{no_extension, extension, NameToken, name_end, name_backslash}
-use Rattle.strkw_ecma.specs.Names.{name_character, name_token}
+use Rattle.strkw_ecma.specs.Names.{name_equals, name_negation, name_character, name_token}
 use Rattle.strkw_ecma.specs.Classes.{ClassToken, closing_bracket, class_escaper, dash}
 use Rattle.strkw_ecma.specs.Classes.{class_char, class_token, class_escape, Item, char}
 use Rattle.strkw_ecma.specs.Classes.{set_item, item_sets, range}
@@ -33,6 +33,7 @@ use Rattle.strkw_ecma.specs.Size.{steps, max_term_steps, max_steps}
 use Rattle.strkw_ecma.specs.Sets.{line_ends, set_of, set_ranges, is_negative, control_char}
 use Rattle.strkw_ecma.specs.machine.Shape.{outlined}
 use Rattle.strkw_ecma.specs.declared.reader.Level.{Level}
+use Rattle.strkw_ecma.specs.declared.reader.Open.{Open as CodeOpen}
 use Rattle.strkw_ecma.specs.declared.reader.Outer.{Outer as CodeOuter}
 use Rattle.strkw_ecma.specs.declared.reader.Reader.{Reader}
 use Rattle.strkw_ecma.specs.declared.reader.Last.{Last as CodeLast}
@@ -55,6 +56,10 @@ use Rattle.strkw_ecma.specs.declared.properties.PropertyRead.TheVariants as code
 -- the numbers of a count, where they have digits: the first, or both
 pub use Rattle.strkw_ecma.specs.declared.counts.Count.{Count}
 pub use Rattle.strkw_ecma.specs.declared.counts.Count.TheVariants.{Low as low, High as high}
+-- a group that is open, or a lookbehind, negated or not
+pub use Rattle.strkw_ecma.specs.declared.reader.Enclosing.{Enclosing}
+pub use Rattle.strkw_ecma.specs.declared.reader.Enclosing.TheVariants.{Group as of_group}
+pub use Rattle.strkw_ecma.specs.declared.reader.Enclosing.TheVariants.{Behind as of_behind}
 
 -- the alternatives before the one that is read, and the terms of that one
 pub record Side : Type 0 where
@@ -67,9 +72,15 @@ pub data Last : Type 0 where
   atom : Pattern → Last
   counted : Pattern → Last
 
--- the groups that are open, the innermost first, and the names of all that there were
+-- what is open, with what stands before it in the level around it
+pub record Open : Type 0 where
+  pub enclosing : Enclosing
+  pub side : Side
+
+-- the groups and lookbehinds that are open, the innermost first, and the names of all groups that
+-- there were
 pub record Outer : Type 0 where
-  pub groups : List Side
+  pub groups : List Open
   pub names : List (List ℕ)
 
 -- of a class: what may still belong to a range
@@ -109,6 +120,9 @@ pub record Parts : Type 0 where
 -- of what the code holds
 abbrev pub side_of : Level → Side
 side_of l = record { earlier = option_map outlined l.earlier; current = outlined l.current }
+
+abbrev pub open_of : CodeOpen → Open
+open_of o = record { enclosing = o.enclosing; side = side_of o.level }
 
 abbrev pub last_of : CodeLast → Last
 last_of last.None = none
@@ -160,7 +174,7 @@ mode_of (mode.NameCoding n k) = name_coding n.items k
 
 abbrev pub outer_of : CodeOuter → Outer
 outer_of o = record {
-  groups = reverse (map side_of o.groups.items);
+  groups = reverse (map open_of o.groups.items);
   names = map (λ n. n.items) o.names.items;
 }
 
@@ -215,29 +229,38 @@ after_bar s = record {
   mode = between;
 }
 
-abbrev pub after_opening : Parts → Bool → Option Parts
-after_opening s false = None
-after_opening s true = Some (record {
-  outer = record { groups = level_so_far s.level s.last ∷ s.outer.groups; names = s.outer.names };
+abbrev pub after_opening : Parts → Enclosing → Bool → Option Parts
+after_opening s e false = None
+after_opening s e true = Some (record {
+  outer = record {
+    groups = record { enclosing = e; side = level_so_far s.level s.last } ∷ s.outer.groups;
+    names = s.outer.names;
+  };
   level = new_level;
   last = none;
   mode = between;
 })
 
-abbrev pub opened_within : Parts → Option Parts
-opened_within s = after_opening s (nat_lt (length s.outer.groups) max_nesting)
+abbrev pub opened_within : Parts → Enclosing → Option Parts
+opened_within s e = after_opening s e (nat_lt (length s.outer.groups) max_nesting)
 
 abbrev pub with_mode : Parts → Mode → Parts
 with_mode s m = record { outer = s.outer; level = s.level; last = s.last; mode = m }
 
-abbrev pub closing_in : List Side → List (List ℕ) → Pattern → Option Parts
-closing_in [] ns p = None
-closing_in (l ∷ ls) ns p = Some (record {
-  outer = record { groups = ls; names = ns };
-  level = l;
-  last = atom p;
+-- behind the end of a group, or of a lookbehind
+abbrev pub after_enclosed : Outer → Side → Enclosing → Pattern → Parts
+after_enclosed o l of_group p = record { outer = o; level = l; last = atom p; mode = between }
+after_enclosed o l (of_behind n) p = record {
+  outer = o;
+  level = record { earlier = l.earlier; current = cat l.current (lookbehind n p) };
+  last = none;
   mode = between;
-})
+}
+
+abbrev pub closing_in : List Open → List (List ℕ) → Pattern → Option Parts
+closing_in [] ns p = None
+closing_in (o ∷ os) ns p =
+    Some (after_enclosed (record { groups = os; names = ns }) o.side o.enclosing p)
 
 abbrev pub after_closing : Outer → Pattern → Option Parts
 after_closing o p = closing_in o.groups o.names p
@@ -314,11 +337,11 @@ after_token s c character = Some (after_atom s (one_char c))
 after_token s c other = None
 
 abbrev pub after_group : Parts → ℕ → Bool → Option Parts
-after_group s c false = option_and_then (λ t. after_token t c (token c)) (opened_within s)
+after_group s c false = option_and_then (λ t. after_token t c (token c)) (opened_within s of_group)
 after_group s c true = Some (with_mode s extending)
 
 abbrev pub after_extension : Parts → Extension → Option Parts
-after_extension s uncaptured = opened_within s
+after_extension s uncaptured = opened_within s of_group
 after_extension s name_opening = Some (with_mode s (naming []))
 after_extension s no_extension = None
 
@@ -405,11 +428,18 @@ named s n = record {
 
 abbrev pub after_name : Parts → List ℕ → Option Parts
 after_name s [] = None
-after_name s (c ∷ cs) = opened_within (named s (c ∷ cs))
+after_name s (c ∷ cs) = opened_within (named s (c ∷ cs)) of_group
+
+-- where no name has begun, a lookbehind
+abbrev pub after_look : Parts → List ℕ → Bool → Option Parts
+after_look s [] b = opened_within s (of_behind b)
+after_look s (c ∷ cs) b = None
 
 abbrev pub after_naming : Parts → List ℕ → ℕ → NameToken → Option Parts
 after_naming s n c name_end = after_name s n
 after_naming s n c name_backslash = Some (with_mode s (name_escaping n))
+after_naming s n c name_equals = after_look s n false
+after_naming s n c name_negation = after_look s n true
 after_naming s n c name_character = after_name_char s n c
 
 abbrev pub after_name_escape : Parts → List ℕ → Bool → Option Parts
@@ -493,7 +523,7 @@ abbrev pub pattern_if : Bool → Pattern → Option Pattern
 pattern_if false p = None
 pattern_if true p = Some p
 
-abbrev pub closes : List Side → Side → Last → Bool → Option Pattern
+abbrev pub closes : List Open → Side → Last → Bool → Option Pattern
 closes [] l x b = pattern_if b (level_ended l x)
 closes (o ∷ os) l x b = None
 

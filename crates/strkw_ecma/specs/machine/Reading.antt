@@ -19,7 +19,7 @@ use Rattle.strkw_ecma.specs.declared.tree.CharSet.{CharSet}
 use Rattle.strkw_ecma.specs.Names.{NameChar, verbatim, by_code, name_char_value, name_value}
 use Rattle.strkw_ecma.specs.Names.{may_follow, are_distinct, Extension, uncaptured, name_opening}
 use Rattle.strkw_ecma.specs.Names.{no_extension, extension, NameToken, name_end, name_backslash}
-use Rattle.strkw_ecma.specs.Names.{name_character, name_token}
+use Rattle.strkw_ecma.specs.Names.{name_equals, name_negation, name_character, name_token}
 use Rattle.strkw_ecma.specs.Classes.{ClassToken, closing_bracket, class_escaper, dash}
 use Rattle.strkw_ecma.specs.Classes.{class_char, class_token, class_escape, ClassAtom}
 use Rattle.strkw_ecma.specs.Classes.{class_plain, hyphen, class_escaped, class_control, class_set}
@@ -33,8 +33,9 @@ use Rattle.strkw_ecma.specs.Patterns.{pattern, atom_pattern, times, copies}
 use Rattle.strkw_ecma.specs.Syntax.{Disjunction, only, either, Alternative, nothing, more, Term}
 use Rattle.strkw_ecma.specs.Syntax.{at_start, at_end, at_boundary, at_no_boundary, once, quantified}
 use Rattle.strkw_ecma.specs.Syntax.{Quantifier, zero_or_more, one_or_more, zero_or_one, exactly}
-use Rattle.strkw_ecma.specs.Syntax.{at_least, from_to, greedy, lazy, Group, capturing, plain_group}
-use Rattle.strkw_ecma.specs.Syntax.{named, with_name, Atom, plain, escaped, control_escape}
+use Rattle.strkw_ecma.specs.Syntax.{at_least, from_to, greedy, lazy, capturing, plain_group}
+use Rattle.strkw_ecma.specs.Syntax.{named, Enclosing, of_group, of_lookbehind, with_own_name}
+use Rattle.strkw_ecma.specs.Syntax.{looks_behind, Atom, plain, escaped, control_escape}
 use Rattle.strkw_ecma.specs.Syntax.{set_escape, coded, property_escape, dot, bracketed, group}
 use Rattle.strkw_ecma.specs.Syntax.{Token, bar, asterisk, plus, question, caret, dollar}
 use Rattle.strkw_ecma.specs.Syntax.{opening as opening_token, closing, point, backslash, bracket}
@@ -51,13 +52,14 @@ pub data Last : Type 0 where
   atom : Atom → Last
   counted : Atom → Quantifier → Last
 
--- a group that is open, and what stands before it in the level around it
+-- a group or a lookbehind that is open, and what stands before it in the level around it
 pub record Open : Type 0 where
-  pub group : Group
+  pub enclosing : Enclosing
   pub earlier : Option Disjunction
   pub current : Alternative
 
--- the groups that are open, the innermost first, and the names of all that there were
+-- the groups and lookbehinds that are open, the innermost first, and the names of all groups that
+-- there were
 pub record Outer : Type 0 where
   pub groups : List Open
   pub names : List (List ℕ)
@@ -136,11 +138,16 @@ with_term outer l x t = record {
   mode = between;
 }
 
+-- behind the end of what stands around a disjunction
+abbrev pub enclosed : Outer → Level → Enclosing → Disjunction → State
+enclosed outer l (of_group g) d = with_atom outer l none (group g d)
+enclosed outer l (of_lookbehind n) d = with_term outer l none (looks_behind n d)
+
 abbrev pub closed_in : List Open → List (List ℕ) → Disjunction → Option State
 closed_in [] ns d = None
 closed_in (o ∷ os) ns d =
-    Some (with_atom (record { groups = os; names = ns })
-    (record { earlier = o.earlier; current = o.current }) none (group o.group d))
+    Some (enclosed (record { groups = os; names = ns })
+    (record { earlier = o.earlier; current = o.current }) o.enclosing d)
 
 abbrev pub closed : Outer → Disjunction → Option State
 closed outer d = closed_in outer.groups outer.names d
@@ -156,20 +163,24 @@ questioned outer l none = None
 questioned outer l (atom a) = with_quantifier outer l (atom a) zero_or_one
 questioned outer l (counted a q) = Some (with_term outer l none (quantified a q lazy))
 
-abbrev pub opened : Outer → Level → Last → Group → Bool → Option State
+abbrev pub opened : Outer → Level → Last → Enclosing → Bool → Option State
 opened outer l x g false = None
 opened outer l x g true = Some (record {
   outer = record {
-    groups = record { group = g; earlier = l.earlier; current = ended l.current x } ∷ outer.groups;
-    names = with_name outer.names g;
+    groups = record {
+      enclosing = g;
+      earlier = l.earlier;
+      current = ended l.current x;
+    } ∷ outer.groups;
+    names = with_own_name outer.names g;
   };
   level = new_level;
   last = none;
   mode = between;
 })
 
--- a group of this kind, where it is not nested too deep
-abbrev pub opened_within : Outer → Level → Last → Group → Option State
+-- a group or a lookbehind, where it is not nested too deep
+abbrev pub opened_within : Outer → Level → Last → Enclosing → Option State
 opened_within outer l x g = opened outer l x g (nat_lt (length outer.groups) max_nesting)
 
 abbrev pub with_mode : Outer → Level → Last → Mode → State
@@ -234,12 +245,12 @@ on_property outer l x (property_ends n e) =
 -- behind `(`
 abbrev pub on_group : Outer → Level → Last → ℕ → Bool → Option State
 on_group outer l x c false = option_and_then (λ t. on_token t.outer t.level t.last c (token c))
-    (opened_within outer l x capturing)
+    (opened_within outer l x (of_group capturing))
 on_group outer l x c true = Some (with_mode outer l x extending)
 
 -- behind `(?`
 abbrev pub on_extension : Outer → Level → Last → Extension → Option State
-on_extension outer l x uncaptured = opened_within outer l x plain_group
+on_extension outer l x uncaptured = opened_within outer l x (of_group plain_group)
 on_extension outer l x name_opening = Some (with_mode outer l x (naming []))
 on_extension outer l x no_extension = None
 
@@ -327,11 +338,18 @@ with_name_char outer l x n y =
 
 abbrev pub name_read : Outer → Level → Last → List NameChar → Option State
 name_read outer l x [] = None
-name_read outer l x (y ∷ n) = opened_within outer l x (named (y ∷ n))
+name_read outer l x (y ∷ n) = opened_within outer l x (of_group (named (y ∷ n)))
+
+-- where no name has begun, a lookbehind
+abbrev pub look_read : Outer → Level → Last → List NameChar → Bool → Option State
+look_read outer l x [] b = opened_within outer l x (of_lookbehind b)
+look_read outer l x (y ∷ n) b = None
 
 abbrev pub on_naming : Outer → Level → Last → List NameChar → ℕ → NameToken → Option State
 on_naming outer l x n c name_end = name_read outer l x n
 on_naming outer l x n c name_backslash = Some (with_mode outer l x (name_escaping n))
+on_naming outer l x n c name_equals = look_read outer l x n false
+on_naming outer l x n c name_negation = look_read outer l x n true
 on_naming outer l x n c name_character = with_name_char outer l x n (verbatim c)
 
 abbrev pub on_name_escape : Outer → Level → Last → List NameChar → Bool → Option State

@@ -5,7 +5,8 @@ use Rattle.std.specs.Str.{byte}
 use Rattle.strkw_ecma.specs.Syntax.{max_nesting}
 use Rattle.strkw_ecma.specs.Numbers.{CountToken, digit, comma, closing_brace, no_count, count_token}
 use Rattle.strkw_ecma.specs.Names.{Extension, uncaptured, name_opening, no_extension, extension}
-use Rattle.strkw_ecma.specs.Names.{NameToken, name_end, name_backslash, name_character, name_token}
+use Rattle.strkw_ecma.specs.Names.{NameToken, name_end, name_backslash, name_equals, name_negation}
+use Rattle.strkw_ecma.specs.Names.{name_character, name_token}
 use Rattle.strkw_ecma.specs.machine.PropertyReading.{PropertyPart, brace_awaited, in_braces}
 use Rattle.strkw_ecma.specs.machine.Parts.{Last, none, atom, counted, Count, low, high, Mode}
 use Rattle.strkw_ecma.specs.machine.Parts.{between, escaping, opening, extending, class_opened}
@@ -14,7 +15,7 @@ use Rattle.strkw_ecma.specs.machine.Parts.{in_property, in_class_property, namin
 use Rattle.strkw_ecma.specs.machine.Parts.{name_coding, Parts}
 use Rattle.strkw_ecma.specs.Refusals.{is_look, is_reference, is_unknown}
 use Rattle.strkw_ecma.specs.declared.refusals.PatternRefusal.{PatternRefusal}
-use Rattle.strkw_ecma.specs.declared.refusals.PatternRefusal.TheVariants.{LookAhead, LookBehind}
+use Rattle.strkw_ecma.specs.declared.refusals.PatternRefusal.TheVariants.{LookAhead}
 use Rattle.strkw_ecma.specs.declared.refusals.PatternRefusal.TheVariants.{BackReference, Property}
 use Rattle.strkw_ecma.specs.declared.refusals.PatternRefusal.TheVariants.{TooDeep, CountTooGreat}
 use Rattle.strkw_ecma.specs.declared.refusals.PatternRefusal.TheVariants.{TermTooLarge, NotTaken}
@@ -27,7 +28,7 @@ told_if true r = r
 abbrev pub escape_refusal : ℕ → PatternRefusal
 escape_refusal c = told_if (is_reference c) BackReference
 
--- of one group more, where fewer are open than may be
+-- of one group or lookbehind more, where fewer are open than may be
 abbrev pub one_deeper : Bool → PatternRefusal
 one_deeper true = NotTaken
 one_deeper false = TooDeep
@@ -41,13 +42,16 @@ extension_refusal c uncaptured = TooDeep
 extension_refusal c name_opening = NotTaken
 extension_refusal c no_extension = told_if (is_look c) LookAhead
 
--- behind `(?<` and this much of a name
+-- behind `(?<` and this much of a name. What may stand there is refused where it is too deep
 abbrev pub name_refusal : List ℕ → ℕ → NameToken → PatternRefusal
 name_refusal [] c name_end = NotTaken
 name_refusal (d ∷ ds) c name_end = TooDeep
 name_refusal n c name_backslash = NotTaken
-name_refusal [] c name_character = told_if (is_look c) LookBehind
-name_refusal (d ∷ ds) c name_character = NotTaken
+name_refusal [] c name_equals = TooDeep
+name_refusal (d ∷ ds) c name_equals = NotTaken
+name_refusal [] c name_negation = TooDeep
+name_refusal (d ∷ ds) c name_negation = NotTaken
+name_refusal n c name_character = NotTaken
 
 -- of a count behind this
 abbrev pub term_refusal : Last → PatternRefusal

@@ -2,11 +2,11 @@
 use Rattle.std.specs.Prelude.{ℕ, nat_lt, Bool, true, false, ◌&&◌, List, [], ◌∷◌, slice_get, Option}
 use Rattle.std.specs.Prelude.{Some, None}
 use Rattle.strkw_ecma.specs.Tree.{Pattern, empty, class, look, cat, alt, start, end, boundary}
-use Rattle.strkw_ecma.specs.Tree.{no_boundary}
+use Rattle.strkw_ecma.specs.Tree.{no_boundary, lookbehind}
 use Rattle.strkw_ecma.specs.Patterns.{Times, any_times, some_times, once_at_most, exact_times}
 use Rattle.strkw_ecma.specs.Patterns.{least_times, range_times, quantified_pattern}
 use Rattle.strkw_ecma.specs.Program.{Instruction, read, assert, fork, other, join, star_begin}
-use Rattle.strkw_ecma.specs.Program.{star_end, plus_begin, plus_end}
+use Rattle.strkw_ecma.specs.Program.{star_end, plus_begin, plus_end, look_begin, look_end}
 use Rattle.strkw_ecma.specs.declared.outline.Quantifier.{Quantifier as CodeQuantifier}
 use Rattle.strkw_ecma.specs.declared.outline.Quantifier.TheVariants as quantifier
 use Rattle.strkw_ecma.specs.declared.outline.Outline.{Outline}
@@ -37,6 +37,7 @@ outlined_node Outline-F.NoBoundary = look no_boundary
 outlined_node (Outline-F.Then first second) = cat first.value second.value
 outlined_node (Outline-F.Or first second) = alt first.value second.value
 outlined_node (Outline-F.Repeated q body) = quantified_pattern (quantifier_of q) body.value
+outlined_node (Outline-F.Behind negated body) = lookbehind negated body.value
 
 abbrev pub outlined : Outline → Pattern
 outlined = fold-Outline Pattern outlined_node
@@ -53,6 +54,8 @@ turned turn.StarBegin = star_begin
 turned turn.StarEnd = star_end
 turned turn.PlusBegin = plus_begin
 turned turn.PlusEnd = plus_end
+turned (turn.LookBegin negated) = look_begin negated
+turned (turn.LookEnd negated) = look_end negated
 
 -- of a class, if there is one
 abbrev pub reading : Bool → Bool → Option Class → Instruction

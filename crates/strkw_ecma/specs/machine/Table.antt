@@ -1,8 +1,9 @@
 -- A table of the search: a row for each state that it can come to, and in a row a column for each
 -- answer about a character, and behind those one for the end of the text. A row is told by the
 -- place of its first entry.
-use Rattle.std.specs.Prelude.{◌≡◌, ℕ, ◌+◌, ◌*◌, ◌≤◌, ◌<◌, ◌==◌, Bool, true, false, List, [], ◌∷◌}
-use Rattle.std.specs.Prelude.{length, Vec, Option, Some, None, option_and_then, get_or, slice_get}
+use Rattle.std.specs.Prelude.{◌≡◌, ℕ, ◌+◌, ◌*◌, ◌/◌, ◌≤◌, ◌<◌, ◌==◌, Bool, true, false, List, []}
+use Rattle.std.specs.Prelude.{◌∷◌, ◌++◌, length, Vec, Option, Some, None, option_and_then, get_or}
+use Rattle.std.specs.Prelude.{slice_get}
 use Rattle.std.specs.Prelude.{if◌then◌else◌}
 use Rattle.std.specs.declared.alloc.Global.{Global}
 use Rattle.strkw_ecma.specs.Tree.{Pattern}
@@ -53,6 +54,13 @@ IsBehind p end states row ms c =
     (t : State) × IsRowOf end states row t × (t.marks.items ≡ ms)
     × (has_boundary p ≡ true → is_word t.last ≡ is_word (Some c)) × (is_edge t.last ≡ false)
 
+-- the state of the number has these marks, and stands behind a character that the pattern does not
+-- tell from c
+abbrev pub IsStateOf : Pattern → List State → ℕ → List Bool → ℕ → Type 0
+IsStateOf p states n ms c =
+    (t : State) × (slice_get states n ≡ Some t) × (t.marks.items ≡ ms)
+    × (has_boundary p ≡ true → is_word t.last ≡ is_word (Some c)) × (is_edge t.last ≡ false)
+
 -- the pattern with the marks of a state
 abbrev pub marks_in : Pattern → State → Pattern
 marks_in p s = marked s.marks.items p
@@ -73,6 +81,43 @@ pub record IsRow (p : Pattern) (samples entries : List ℕ) (states : List State
   pub reads : (k : ℕ) → k < length samples
       → IsEntry p (length samples) states s row (get_or samples k 0) (entry_at entries row k)
 
+-- each row is right for its state
+abbrev pub AreRows : Pattern → List ℕ → List ℕ → List State → Type 0
+AreRows p samples entries states =
+    (row : ℕ) (s : State) → IsRowOf (length samples) states row s
+    → IsRow p samples entries states s row
+
+-- While a table is made: the first lists are the front of the second, which are those later on.
+abbrev pub IsFront : {A : Type 0} → List A → List A → Type 0
+IsFront {A} xs ys = (more : List A) × (ys ≡ xs ++ more)
+
+-- the states of the numbers below this have a row each, which is right
+pub record IsDraft (p : Pattern) (samples entries : List ℕ) (states : List State) (number : ℕ)
+    : Type 0 where
+  pub placed : length entries ≡ number * (length samples + 1)
+  pub rows : (n : ℕ) → n < number
+      → (s : State) × (slice_get states n ≡ Some s)
+      × IsRow p samples entries states s (n * (length samples + 1))
+
+-- behind the entries of a draft, so many are right for the state of the number
+pub record AreEntries (p : Pattern) (samples before after : List ℕ) (states later : List State)
+    (number columns : ℕ) : Type 0 where
+  pub entries_stay : IsFront before after
+  pub states_stay : IsFront states later
+  pub placed : length after ≡ length before + columns
+  pub reads : (k : ℕ) → k < columns → (s : State) → slice_get states number ≡ Some s
+      → (row : ℕ) → IsEntry p (length samples) later s row (get_or samples k 0)
+      (entry_at after (length before) k)
+
+-- two entries of a row say the same: that the pattern is found, or the row that they lead to
+abbrev pub SaysSame : ℕ → ℕ → ℕ → ℕ → Type 0
+SaysSame end row e f = ((e == found) ≡ (f == found)) × (row_after end row e ≡ row_after end row f)
+
+-- two tables with as many columns say the same, entry by entry
+abbrev pub SayTheSame : ℕ → List ℕ → List ℕ → Type 0
+SayTheSame end es fs =
+    (i : ℕ) → SaysSame end (i / (end + 1) * (end + 1)) (get_or es i 0) (get_or fs i 0)
+
 -- the table is right, with a state for each row and a character for each column, for a pattern
 pub record IsTable (classes : List (Vec CharSet Global)) (keys samples entries : List ℕ)
     (states : List State) (p : Pattern) : Type 0 where
@@ -83,5 +128,4 @@ pub record IsTable (classes : List (Vec CharSet Global)) (keys samples entries :
   pub sampled : (k : ℕ) → k < length keys → get_or keys k 0 ≡ answers 0 classes (get_or samples k 0)
   pub begins : (s : State) × (slice_get states 0 ≡ Some s)
       × ((k : ℕ) → get_or s.marks.items k false ≡ false) × (s.last ≡ None)
-  pub rows : (row : ℕ) (s : State) → IsRowOf (length samples) states row s
-      → IsRow p samples entries states s row
+  pub rows : AreRows p samples entries states

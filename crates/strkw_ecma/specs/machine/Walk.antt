@@ -4,7 +4,8 @@ use Rattle.std.specs.Prelude.{ℕ, Bool, true, false, ◌&&◌, ◌||◌, List, 
 use Rattle.strkw_ecma.specs.Meaning.{holds}
 use Rattle.strkw_ecma.specs.machine.Marks.{reads}
 use Rattle.strkw_ecma.specs.Program.{Instruction, read, assert, fork, other, join, star_begin}
-use Rattle.strkw_ecma.specs.Program.{star_end, plus_begin, plus_end}
+use Rattle.strkw_ecma.specs.Program.{star_end, plus_begin, plus_end, look_begin, look_end}
+use Rattle.strkw_ecma.specs.Tree.{differ}
 
 -- the first of a list, and the list behind it
 abbrev pub top : List Bool → Bool
@@ -109,6 +110,19 @@ module _ (b a : Option ℕ) where
         around = below (below s.around);
         again = s.goes_on ∷ s.again;
       }
+  back_over (look_end n) m s = record {
+    ends = true;
+    goes_on = false;
+    around = s.goes_on ∷ s.ends ∷ s.around;
+    again = s.again;
+  }
+  back_over (look_begin n) m s =
+      record {
+        ends = top (below s.around) && differ n (s.goes_on || s.ends);
+        goes_on = top s.around;
+        around = below (below s.around);
+        again = s.again;
+      }
 
   -- the marks behind the instruction
   abbrev pub marks_behind : Instruction → List Bool → List Bool
@@ -121,6 +135,8 @@ module _ (b a : Option ℕ) where
   marks_behind star_end ms = ms
   marks_behind plus_begin ms = ms
   marks_behind plus_end ms = ms
+  marks_behind (look_begin n) ms = ms
+  marks_behind (look_end n) ms = ms
 
   -- backwards
   abbrev pub asked : List Instruction → List Bool → Asked
@@ -166,6 +182,17 @@ module _ (b a : Option ℕ) where
     again = below s.again;
   }
   over plus_end m s = s
+  over (look_begin n) m s = record {
+    enters = true;
+    around = s.enters ∷ s.around;
+    again = s.again;
+  }
+  over (look_end n) m s =
+      record {
+        enters = top s.around && differ n s.enters;
+        around = below s.around;
+        again = s.again;
+      }
 
   -- and what is left of the walk, with the mark that a class gets
   abbrev pub left_by : Instruction → Bool → Following → Walked → Walked
@@ -179,6 +206,8 @@ module _ (b a : Option ℕ) where
   left_by star_end m s w = w
   left_by plus_begin m s w = w
   left_by plus_end m s w = w
+  left_by (look_begin n) m s w = w
+  left_by (look_end n) m s w = w
 
   abbrev pub followed : List Instruction → Following → List Bool → Walked
   followed [] s ms = record { leaves = s.enters; marks = ms }

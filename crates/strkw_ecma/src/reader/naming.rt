@@ -1,11 +1,11 @@
-//! How the name of a group is read, behind `(?<`.
+//! How the name of a group is read, behind `(?<`, or a lookbehind begins.
 
 ghost use Rattle.std.specs.Prelude.{◌≡◌, ◌==◌, IfOk, option_map};
 ghost use Rattle.std.specs.Str.{byte};
 ghost use Rattle.strkw_ecma.specs.Names.{name_token as spec_name_token};
-ghost use Rattle.strkw_ecma.specs.machine.Parts.{parts_of, after_name, after_name_char, after_naming, after_name_escape, after_name_coding};
+ghost use Rattle.strkw_ecma.specs.machine.Parts.{parts_of, after_name, after_look, after_name_char, after_naming, after_name_escape, after_name_coding};
 
-use super::{Mode, Outer, Reader};
+use super::{Enclosing, Mode, Outer, Reader};
 use crate::codes::{Coded, Coding};
 use crate::names::may_follow;
 use crate::tokens::NameToken;
@@ -45,7 +45,24 @@ impl Reader {
             last,
             mode,
         };
-        named.open_group(alloc)
+        named.open(alloc, Enclosing::Group)
+    }
+
+    // Behind the `=` or `!` of a lookbehind, which no name may stand before.
+    fn take_look(
+        self,
+        alloc: Global,
+        name: &[char],
+        negated: bool,
+    ) -> Result<Option<Reader>, AllocError>
+        ensures { IfOk result (λ r. option_map parts_of r
+            ≡ after_look (parts_of self) name.now negated) }
+    {
+        if name.is_empty() {
+            self.open(alloc, Enclosing::Behind(negated))
+        } else {
+            Ok(None)
+        }
     }
 
     pub(super) fn in_name(
@@ -60,6 +77,8 @@ impl Reader {
         match NameToken::of(c) {
             NameToken::End => self.take_name(alloc, name),
             NameToken::Backslash => Ok(Some(self.with_mode(Mode::NameEscaping(name)))),
+            NameToken::Equals => self.take_look(alloc, &name, false),
+            NameToken::Exclamation => self.take_look(alloc, &name, true),
             NameToken::Character => self.with_name_char(name, c),
         }
     }

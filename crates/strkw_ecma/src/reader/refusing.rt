@@ -42,15 +42,13 @@ fn of_extension(c: char) -> PatternRefusal
     }
 }
 
-// Behind `(?<` and this much of a name.
+// Behind `(?<` and this much of a name. What may stand there is refused where it is too deep.
 fn of_name(name: &[char], c: char) -> PatternRefusal
     ensures { result ≡ name_refusal name.now c (spec_name_token c) }
 {
     match NameToken::of(c) {
         NameToken::End if !name.is_empty() => PatternRefusal::TooDeep,
-        NameToken::Character if name.is_empty() && (c == '=' || c == '!') => {
-            PatternRefusal::LookBehind
-        }
+        NameToken::Equals | NameToken::Exclamation if name.is_empty() => PatternRefusal::TooDeep,
         _ => PatternRefusal::NotTaken,
     }
 }
@@ -81,7 +79,7 @@ impl Last {
 }
 
 impl Reader {
-    // Of one group more.
+    // Of one group or lookbehind more.
     fn depth_refusal(&self) -> PatternRefusal
         ensures { result ≡ depth_refusal (parts_of self.now) }
     {

@@ -7,13 +7,13 @@ ghost use Rattle.serde_json.specs.Find.{as_str};
 ghost use Rattle.serde_json.specs.View.{members_view, view};
 ghost use Rattle.strkw_report.specs.Refusals.{fractional_number};
 ghost use Rattle.strkw_keywords.specs.Compiled.{IsBuilt, IsCompiledAt, alone};
-ghost use Rattle.strkw_keywords.specs.Object.{content_rule, gives, malformed, noted_text, nothing, schema_entry, value_at};
+ghost use Rattle.strkw_keywords.specs.Object.{content_rule, gives, malformed, noted_text, nothing, schema_entry};
 ghost use Rattle.strkw_keywords.specs.Remarks.{remark_at};
 ghost use Rattle.strkw_keywords.specs.Settings.{place_in, settings_of};
 ghost use Rattle.strkw_keywords.specs.Without.{IsWithoutSchema};
 
 use crate::checks::{Checks, ContentCodec, Format, MediaTypeCheck};
-use crate::compile::{Refused, compile_value, locate, origin_of};
+use crate::compile::{Refused, locate, origin_of};
 use crate::content_rule::ContentRule;
 use crate::findings::{Findings, Found};
 use crate::keyed::Keyed;
@@ -44,6 +44,18 @@ pub struct Untested {
     pub(crate) value: Value,
 }
 
+impl Untested {
+    // The validator that notes a value at a keyword.
+    pub(crate) fn keyed(origin: Origin, keyword: Keyword, value: Value) -> Keyed<Untested>
+        ensures { result ≡ record {
+          origin = origin;
+          test = record { keyword = keyword; value = value };
+        } }
+    {
+        Keyed::new(origin, Untested { keyword, value })
+    }
+}
+
 impl Test for Untested {
     ghost remark = { λ t location. Some (remark_at location t.keyword (view t.value)) };
 
@@ -67,13 +79,8 @@ pub(crate) fn build_media_type_annotation<B: EngineBuilder>(
     if value.as_str().is_none() {
         return Ok(None);
     }
-    Ok(Some(Validator::ContentMediaTypeAnnotation(Keyed {
-        origin: origin_of(ctx)?,
-        test: Untested {
-            keyword: Keyword::ContentMediaType,
-            value: value.clone()?,
-        },
-    })))
+    let noting = Untested::keyed(origin_of(ctx)?, Keyword::ContentMediaType, value.clone()?);
+    Ok(Some(Validator::ContentMediaTypeAnnotation(noting)))
 }
 
 pub(crate) fn build_encoding_annotation<B: EngineBuilder>(
@@ -87,13 +94,8 @@ pub(crate) fn build_encoding_annotation<B: EngineBuilder>(
     if value.as_str().is_none() {
         return Ok(None);
     }
-    Ok(Some(Validator::ContentEncodingAnnotation(Keyed {
-        origin: origin_of(ctx)?,
-        test: Untested {
-            keyword: Keyword::ContentEncoding,
-            value: value.clone()?,
-        },
-    })))
+    let noting = Untested::keyed(origin_of(ctx)?, Keyword::ContentEncoding, value.clone()?);
+    Ok(Some(Validator::ContentEncodingAnnotation(noting)))
 }
 
 pub(crate) fn build_schema_annotation<B: EngineBuilder, O: Object>(
@@ -107,13 +109,8 @@ pub(crate) fn build_schema_annotation<B: EngineBuilder, O: Object>(
     if !notes_schema(parent, value)? {
         return Ok(None);
     }
-    Ok(Some(Validator::ContentSchemaAnnotation(Keyed {
-        origin: origin_of(ctx)?,
-        test: Untested {
-            keyword: Keyword::ContentSchema,
-            value: value.clone()?,
-        },
-    })))
+    let noting = Untested::keyed(origin_of(ctx)?, Keyword::ContentSchema, value.clone()?);
+    Ok(Some(Validator::ContentSchemaAnnotation(noting)))
 }
 
 // The same of a value that is given up, by the draft: it is moved, and not copied.
@@ -131,13 +128,8 @@ fn build_owned_schema<B: EngineBuilder>(
     {
         return Ok(None);
     }
-    Ok(Some(Validator::ContentSchemaAnnotation(Keyed {
-        origin: origin_of(ctx)?,
-        test: Untested {
-            keyword: Keyword::ContentSchema,
-            value: schema,
-        },
-    })))
+    let noting = Untested::keyed(origin_of(ctx)?, Keyword::ContentSchema, schema);
+    Ok(Some(Validator::ContentSchemaAnnotation(noting)))
 }
 
 // Whether a value is noted as a schema: where there is a media type beside it.
@@ -163,28 +155,6 @@ fn notes_schema<O: Object>(parent: &O, value: &Value) -> Result<bool, Refused>
     Ok(true)
 }
 
-/// The validator of the entry `contentSchema`, which notes its value from draft 2019-09 on (2020-12, section 8.5).
-///
-/// `value` is the parent's value at `contentSchema`, which is not overridden. `None` means that the entry adds nothing:
-/// the draft is an earlier one, or there is no key `contentMediaType`.
-///
-/// Refusals: `FractionalNumber` at `contentSchema`, where the noted value holds a number that is no whole number of 64
-/// bits; `Memory`, at the root, where it is out of memory.
-pub fn compile_content_schema_annotation<B: EngineBuilder>(
-    alloc: Global,
-    ctx: &Context<'_, B>,
-    parent: &Map<String, Value>,
-    value: &Value,
-) -> Option<Result<Validator<B::Engine>, CompileError>>
-    requires { value_at ctx.now.options Keyword.ContentSchema (members_view parent.now.entries)
-        ≡ Some (view value.now) }
-    ensures { IsCompiledAt B.Engine.outcome
-        (settings_of B.takes B.outcome admits accepted encoded decoding ctx.now)
-        (members_view parent.now.entries) Keyword.ContentSchema result }
-{
-    compile_value(alloc, ctx, parent, value, Keyword::ContentSchema)
-}
-
 /// Takes the value at `contentSchema` out of an object, and makes the validator of its entry: what
 /// `compile_content_schema_annotation` answers for the object as it was. The value is moved into the validator, and not
 /// copied.
@@ -205,9 +175,6 @@ pub fn take_content_schema<B: EngineBuilder>(
     if ctx.options.is_overridden(Keyword::ContentSchema) {
         return None;
     }
-    locate(
-        alloc,
-        &ctx.location,
-        build_owned_schema(ctx, object, schema),
-    )
+    let built = build_owned_schema(ctx, object, schema);
+    locate(alloc, &ctx.location, built)
 }

@@ -1,18 +1,18 @@
 //! The content keywords where they are checked, in drafts 6 and 7: their validators, and their entries.
 
-ghost use Rattle.std.specs.Prelude.{◌∷◌, ◌≡◌, IfOk, None, Some, [], option_map};
-ghost use Rattle.serde_json.specs.View.{members_view, view};
+ghost use Rattle.std.specs.Prelude.{◌∷◌, ◌≡◌, IfOk, [], option_map};
+ghost use Rattle.serde_json.specs.View.{view};
 ghost use Rattle.strkw_keywords.specs.Choices.{choice_of};
-ghost use Rattle.strkw_keywords.specs.Compiled.{IsBuilt, IsCompiledAt, alone};
+ghost use Rattle.strkw_keywords.specs.Compiled.{IsBuilt, alone};
 ghost use Rattle.strkw_keywords.specs.Demands.{HasFinding, encodes_media_type, is_encoded, is_media_type};
 ghost use Rattle.strkw_keywords.specs.Findings.{finding_of};
 ghost use Rattle.strkw_keywords.specs.Lists.{lists_of};
-ghost use Rattle.strkw_keywords.specs.Object.{codec_named, encoding_entry, known_codec, known_media_type, media_type_entry, value_at};
+ghost use Rattle.strkw_keywords.specs.Object.{codec_named, encoding_entry, known_codec, known_media_type, media_type_entry};
 ghost use Rattle.strkw_keywords.specs.Settings.{place_in, settings_of};
 
 use super::{accepts, chosen_codec, chosen_media_type, decode, is_encoding};
 use crate::checks::{Checks, Choice, ContentCodec, Format, MediaTypeCheck};
-use crate::compile::{Refused, compile_value, no_string, origin_of};
+use crate::compile::{Refused, no_string, origin_of};
 use crate::content_rule::ContentRule;
 use crate::findings::{Findings, Found, FoundOne};
 use crate::keyed::Keyed;
@@ -22,11 +22,11 @@ use crate::parts::{Origin, Parts};
 use crate::test::Test;
 use crate::validator::Validator;
 use crate::values::Object;
-use serde_json::{Map, Value};
+use serde_json::Value;
 use std::alloc::{AllocError, Global};
 use strkw_coding::{BuiltinMediaType, Codec, DecodeError};
 use strkw_pattern::EngineBuilder;
-use strkw_report::{CompileError, Failure, Node, TextNode};
+use strkw_report::{Failure, Node, TextNode};
 
 /// Demands that a text is of a media type (draft 7, section 8.4).
 pub type ContentMediaTypeValidator = Keyed<OfMediaType>;
@@ -147,20 +147,16 @@ impl Test for EncodedMediaType {
     }
 }
 
+// What is known by a name, if anything is, or out of memory.
+type Known<A> = Result<Option<Choice<A>>, AllocError>;
+
 // The media type of a name, if it is known.
-fn media_type_known<B>(
-    alloc: Global,
-    ctx: &Context<'_, B>,
-    name: &str,
-) -> Result<Option<Choice<BuiltinMediaType>>, AllocError>
+fn media_type_known<B>(alloc: Global, ctx: &Context<'_, B>, name: &str) -> Known<BuiltinMediaType>
     ensures { IfOk result (λ o. option_map choice_of o ≡ known_media_type
         (lists_of admits accepted encoded decoding ctx.now.checks) ctx.now.options name.now) }
 {
     if let Some(position) = ctx.checks.media_type_named(name) {
-        return Ok(Some(Choice::Row {
-            position,
-            name: String::from_str(alloc, name)?,
-        }));
+        return Ok(Some(Choice::of_row(alloc, position, name)?));
     }
     if ctx.options.json_media_type && name == "application/json" {
         Ok(Some(Choice::Builtin(BuiltinMediaType::Json)))
@@ -177,20 +173,13 @@ fn codec_named(name: &str) -> Option<Codec>
 }
 
 // The codec of a name, if it is known.
-fn codec_known<B>(
-    alloc: Global,
-    ctx: &Context<'_, B>,
-    name: &str,
-) -> Result<Option<Choice<Codec>>, AllocError>
+fn codec_known<B>(alloc: Global, ctx: &Context<'_, B>, name: &str) -> Known<Codec>
     ensures { IfOk result (λ o. option_map choice_of o
         ≡ known_codec (lists_of admits accepted encoded decoding ctx.now.checks) ctx.now.options
         name.now) }
 {
     if let Some(position) = ctx.checks.codec_named(name) {
-        return Ok(Some(Choice::Row {
-            position,
-            name: String::from_str(alloc, name)?,
-        }));
+        return Ok(Some(Choice::of_row(alloc, position, name)?));
     }
     match codec_named(name) {
         Some(codec) if ctx.options.has_codec(codec) => Ok(Some(Choice::Builtin(codec))),
@@ -217,21 +206,17 @@ pub(crate) fn build_media_type<B: EngineBuilder, O: Object>(
     };
     let origin = origin_of(ctx)?;
     let Some(encoding) = parent.value(Keyword::ContentEncoding) else {
-        return Ok(Some(Validator::ContentMediaType(Keyed {
-            origin,
-            test: OfMediaType { media_type },
-        })));
+        let test = OfMediaType { media_type };
+        return Ok(Some(Validator::ContentMediaType(Keyed::new(origin, test))));
     };
     let Some(codec) = encoding.as_str() else {
         return Err(no_string(encoding, Keyword::ContentEncoding));
     };
-    match codec_known(alloc, ctx, codec)? {
-        Some(codec) => Ok(Some(Validator::ContentMediaTypeAndEncoding(Keyed {
-            origin,
-            test: EncodedMediaType { codec, media_type },
-        }))),
-        None => Ok(None),
-    }
+    let Some(codec) = codec_known(alloc, ctx, codec)? else {
+        return Ok(None);
+    };
+    let test = EncodedMediaType { codec, media_type };
+    Ok(Some(Validator::ContentMediaTypeAndEncoding(Keyed::new(origin, test))))
 }
 
 pub(crate) fn build_encoding<B: EngineBuilder, O: Object>(
@@ -251,60 +236,9 @@ pub(crate) fn build_encoding<B: EngineBuilder, O: Object>(
     let Some(name) = value.as_str() else {
         return Err(no_string(value, Keyword::ContentEncoding));
     };
-    match codec_known(alloc, ctx, name)? {
-        Some(codec) => Ok(Some(Validator::ContentEncoding(Keyed {
-            origin: origin_of(ctx)?,
-            test: Encoded { codec },
-        }))),
-        None => Ok(None),
-    }
-}
-
-/// The validator of the entry `contentMediaType`, by the draft of the context. In drafts 6 and 7 (draft 7, section 8.4)
-/// it demands that a text is of the media type or, beside a key `contentEncoding`, overridden or not, that it encodes
-/// one. From draft 2019-09 on it notes the value (2020-12, section 8.4).
-///
-/// `value` is the parent's value at `contentMediaType`, which is not overridden. `None` means that the entry adds
-/// nothing. So it is in draft 4; in drafts 6 and 7 where the media type is unknown, and then `contentEncoding` is not
-/// looked at, or the codec is; later, where the value is no string.
-///
-/// Refusals, in drafts 6 and 7: `NotString` at that keyword for a value that is no string, or `FractionalNumber` in its
-/// place where that value holds a number that is no whole number of 64 bits, and the same of `contentEncoding`, at that
-/// keyword, where the media type is known. In all drafts: `Memory`, at the root, where it is out of memory.
-pub fn compile_media_type<B: EngineBuilder>(
-    alloc: Global,
-    ctx: &Context<'_, B>,
-    parent: &Map<String, Value>,
-    value: &Value,
-) -> Option<Result<Validator<B::Engine>, CompileError>>
-    requires { value_at ctx.now.options Keyword.ContentMediaType (members_view parent.now.entries)
-        ≡ Some (view value.now) }
-    ensures { IsCompiledAt B.Engine.outcome
-        (settings_of B.takes B.outcome admits accepted encoded decoding ctx.now)
-        (members_view parent.now.entries) Keyword.ContentMediaType result }
-{
-    compile_value(alloc, ctx, parent, value, Keyword::ContentMediaType)
-}
-
-/// The validator of the entry `contentEncoding`, by the draft of the context. In drafts 6 and 7 (draft 7, section 8.3)
-/// it demands that a text is an encoding. From draft 2019-09 on it notes the value (2020-12, section 8.3).
-///
-/// `value` is the parent's value at `contentEncoding`, which is not overridden. `None` means that the entry adds
-/// nothing. So it is in draft 4; in drafts 6 and 7 where there is a key `contentMediaType`, overridden or not, or the
-/// codec is unknown; later, where the value is no string.
-///
-/// Refusals: as of `compile_media_type`, but none of another keyword.
-pub fn compile_content_encoding<B: EngineBuilder>(
-    alloc: Global,
-    ctx: &Context<'_, B>,
-    parent: &Map<String, Value>,
-    value: &Value,
-) -> Option<Result<Validator<B::Engine>, CompileError>>
-    requires { value_at ctx.now.options Keyword.ContentEncoding (members_view parent.now.entries)
-        ≡ Some (view value.now) }
-    ensures { IsCompiledAt B.Engine.outcome
-        (settings_of B.takes B.outcome admits accepted encoded decoding ctx.now)
-        (members_view parent.now.entries) Keyword.ContentEncoding result }
-{
-    compile_value(alloc, ctx, parent, value, Keyword::ContentEncoding)
+    let Some(codec) = codec_known(alloc, ctx, name)? else {
+        return Ok(None);
+    };
+    let origin = origin_of(ctx)?;
+    Ok(Some(Validator::ContentEncoding(Keyed::new(origin, Encoded { codec }))))
 }

@@ -1,30 +1,28 @@
-//! The entry `pattern`.
+//! The validator of the entry `pattern`.
 
-ghost use Rattle.std.specs.Prelude.{◌∷◌, ◌≡◌, None, Some, [], string_bytes};
-ghost use Rattle.serde_json.specs.View.{members_view, view};
+ghost use Rattle.std.specs.Prelude.{◌∷◌, ◌≡◌, None, [], string_bytes};
+ghost use Rattle.serde_json.specs.View.{view};
 ghost use Rattle.strkw_pattern.specs.Matcher.{literal_outcome, matcher_of};
-ghost use Rattle.strkw_keywords.specs.Compiled.{IsCompiledAt, IsPatternBuilt};
+ghost use Rattle.strkw_keywords.specs.Compiled.{IsPatternBuilt};
 ghost use Rattle.strkw_keywords.specs.Demands.{compares};
-ghost use Rattle.strkw_keywords.specs.Object.{value_at};
 ghost use Rattle.strkw_keywords.specs.Settings.{settings_of};
 ghost use Rattle.strkw_keywords.specs.Validators.{demands_of, place_of, remark_made};
 
 use crate::checks::{ContentCodec, Format, MediaTypeCheck};
-use crate::compile::{Refused, compile_value, no_string, origin_of};
+use crate::compile::{Refused, no_string, origin_of};
 use crate::keyed::Keyed;
 use crate::keyword::Keyword;
 use crate::options::Context;
 use crate::parts::Origin;
 use crate::pattern::{Literal, Matching};
 use crate::validator::Validator;
-use serde_json::{Map, Value};
+use serde_json::Value;
 use std::alloc::Global;
-use std::marker::PhantomData;
 use strkw_pattern::laws::matcher_answers_search;
 use strkw_pattern::{
     BuildRefusal, EngineBuilder, LiteralMatcher, PatternOptimization, RegexEngine, analyze_pattern,
 };
-use strkw_report::{CompileError, CompileErrorKind};
+use strkw_report::CompileErrorKind;
 
 pub(crate) fn build_pattern<B: EngineBuilder>(
     alloc: Global,
@@ -45,39 +43,16 @@ pub(crate) fn build_pattern<B: EngineBuilder>(
         return Ok(Some(literal_validator(origin, pattern, literal)));
     }
     match ctx.builder.build(alloc, text) {
-        Ok(engine) => Ok(Some(Validator::Pattern(Keyed {
-            origin,
-            test: Matching { pattern, engine },
-        }))),
+        Ok(engine) => {
+            let test = Matching { pattern, engine };
+            Ok(Some(Validator::Pattern(Keyed::new(origin, test))))
+        }
         Err(BuildRefusal::Pattern) => Err(Refused::Malformed {
             keyword: Keyword::Pattern,
             kind: CompileErrorKind::Regex { pattern },
         }),
         Err(BuildRefusal::Memory) => Err(Refused::Memory),
     }
-}
-
-/// The validator of the entry `pattern` (2020-12, section 6.3.3). A literal pattern is compared, and is not shown to
-/// the builder; any other is matched by the engine that the builder makes of it.
-///
-/// `value` is the parent's value at `pattern`, which is not overridden. The answer is never `None`.
-///
-/// Refusals: `NotString` at that keyword for a value that is no string, or `FractionalNumber` in its place where that
-/// value holds a number that is no whole number of 64 bits; `Regex` there for a pattern that is not literal and that
-/// the builder does not take; `Memory`, at the root, where it is out of memory.
-pub fn compile<B: EngineBuilder>(
-    alloc: Global,
-    ctx: &Context<'_, B>,
-    parent: &Map<String, Value>,
-    value: &Value,
-) -> Option<Result<Validator<B::Engine>, CompileError>>
-    requires { value_at ctx.now.options Keyword.Pattern (members_view parent.now.entries)
-        ≡ Some (view value.now) }
-    ensures { IsCompiledAt B.Engine.outcome
-        (settings_of B.takes B.outcome admits accepted encoded decoding ctx.now)
-        (members_view parent.now.entries) Keyword.Pattern result }
-{
-    compile_value(alloc, ctx, parent, value, Keyword::Pattern)
 }
 
 fn literal_validator<E: RegexEngine>(
@@ -91,41 +66,21 @@ fn literal_validator<E: RegexEngine>(
     ensures remark { remark_made result ≡ None }
 {
     match literal {
-        PatternOptimization::Prefix(literal) => Validator::PrefixPattern(Keyed {
-            origin,
-            test: Literal {
-                pattern,
-                matcher: LiteralMatcher::Prefix { literal },
-                of: PhantomData,
-            },
-        }),
-        PatternOptimization::Exact(exact) => Validator::ExactPattern(Keyed {
-            origin,
-            test: Literal {
-                pattern,
-                matcher: LiteralMatcher::Exact { exact },
-                of: PhantomData,
-            },
-        }),
+        PatternOptimization::Prefix(literal) => {
+            let matcher = LiteralMatcher::Prefix { literal };
+            Validator::PrefixPattern(Literal::keyed(origin, pattern, matcher))
+        }
+        PatternOptimization::Exact(exact) => {
+            let matcher = LiteralMatcher::Exact { exact };
+            Validator::ExactPattern(Literal::keyed(origin, pattern, matcher))
+        }
         PatternOptimization::Alternation(alternatives) => {
-            Validator::AlternationPattern(Keyed {
-                origin,
-                test: Literal {
-                    pattern,
-                    matcher: LiteralMatcher::Alternation { alternatives },
-                    of: PhantomData,
-                },
-            })
+            let matcher = LiteralMatcher::Alternation { alternatives };
+            Validator::AlternationPattern(Literal::keyed(origin, pattern, matcher))
         }
         PatternOptimization::NoWhitespace => {
-            Validator::NoWhitespacePattern(Keyed {
-                origin,
-                test: Literal {
-                    pattern,
-                    matcher: LiteralMatcher::NoWhitespace,
-                    of: PhantomData,
-                },
-            })
+            let matcher = LiteralMatcher::NoWhitespace;
+            Validator::NoWhitespacePattern(Literal::keyed(origin, pattern, matcher))
         }
     }
 }

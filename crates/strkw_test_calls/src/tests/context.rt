@@ -102,25 +102,26 @@ pub(super) fn json(alloc: Global, text: &str) -> Result<Value, AllocError> {
     }
 }
 
+/// A schema object, as JSON, and the draft by which it is read.
+#[derive(Clone, Copy)]
+pub(super) struct Given {
+    pub(super) draft: Draft,
+    pub(super) schema: &'static str,
+}
+
+/// Whether something is answered as it is to be. Out of memory is an error.
+pub(super) type Answer = Result<bool, AllocError>;
+
 /// What is asked of a schema object in a draft.
 pub(super) trait Asked {
-    fn draft(&self) -> Draft;
+    fn given(&self) -> Given;
 
-    /// The schema object, as JSON.
-    fn schema(&self) -> &'static str;
-
-    /// Whether it is answered as it is to be. Out of memory is an error.
-    fn is_answered(
-        &self,
-        alloc: Global,
-        ctx: &Lent<'_>,
-        schema: &Map<String, Value>,
-    ) -> Result<bool, AllocError>;
+    fn is_answered(&self, alloc: Global, ctx: &Lent<'_>, schema: &Map<String, Value>) -> Answer;
 }
 
 // Whether this is answered in a context as it is to be. The schema object is as it was, whatever was answered.
-fn is_answered_in<A: Asked>(alloc: Global, ctx: &Lent<'_>, asked: &A) -> Result<bool, AllocError> {
-    let text = asked.schema();
+fn is_answered_in<A: Asked>(alloc: Global, ctx: &Lent<'_>, asked: &A) -> Answer {
+    let text = asked.given().schema;
     let (schema, before) = (json(alloc, text)?, json(alloc, text)?);
     let answer = match schema.as_object() {
         Some(object) => asked.is_answered(alloc, ctx, object),
@@ -131,12 +132,13 @@ fn is_answered_in<A: Asked>(alloc: Global, ctx: &Lent<'_>, asked: &A) -> Result<
 
 /// Whether this is answered as it is to be, in a context of its own. The context and the schema object are as they
 /// were, whatever was answered.
-pub(super) fn is_answered<A: Asked>(alloc: Global, asked: &A) -> Result<bool, AllocError> {
+pub(super) fn is_answered<A: Asked>(alloc: Global, asked: &A) -> Answer {
+    let draft = asked.given().draft;
     let builder = builder();
     let formats = [even_format(alloc)?];
-    let ctx = context(alloc, asked.draft(), &builder, &formats)?;
+    let ctx = context(alloc, draft, &builder, &formats)?;
     let answer = is_answered_in(alloc, &ctx, asked);
-    Ok(is_as_made(alloc, &ctx, asked.draft()) && answer?)
+    Ok(is_as_made(alloc, &ctx, draft) && answer?)
 }
 
 /// Whether a refusal is at this place. One as out of memory is an error here, and stands at the root.

@@ -3,8 +3,8 @@
 //! as it was.
 
 use super::context::{
-    Asked, Call, Lent, are_lent, collects, error_lines, gives_the_first, is_answered, is_at,
-    lent_errors, root_site,
+    Answer, Asked, Call, Given, Lent, are_lent, collects, error_lines, gives_the_first,
+    is_answered, is_at, lent_errors, root_site,
 };
 use serde_json::{Map, Value};
 use std::alloc::{AllocError, Global};
@@ -143,20 +143,14 @@ fn is_made_so<V: Drop>(made: Made<V>, place: Option<&str>) -> Result<bool, Alloc
 }
 
 impl Asked for Compiling {
-    fn draft(&self) -> Draft {
-        self.row.draft
+    fn given(&self) -> Given {
+        Given {
+            draft: self.row.draft,
+            schema: self.row.schema,
+        }
     }
 
-    fn schema(&self) -> &'static str {
-        self.row.schema
-    }
-
-    fn is_answered(
-        &self,
-        alloc: Global,
-        ctx: &Lent<'_>,
-        schema: &Map<String, Value>,
-    ) -> Result<bool, AllocError> {
+    fn is_answered(&self, alloc: Global, ctx: &Lent<'_>, schema: &Map<String, Value>) -> Answer {
         let (keyword, place) = (self.row.keyword, self.row.place);
         match self.by {
             Compile::OfKeyword => is_made_so(compile_entry(alloc, ctx, keyword, schema), place),
@@ -357,20 +351,14 @@ fn is_told_so<V: Validate<Value> + Drop>(
 }
 
 impl Asked for Asking {
-    fn draft(&self) -> Draft {
-        self.row.draft
+    fn given(&self) -> Given {
+        Given {
+            draft: self.row.draft,
+            schema: self.row.schema,
+        }
     }
 
-    fn schema(&self) -> &'static str {
-        self.row.schema
-    }
-
-    fn is_answered(
-        &self,
-        alloc: Global,
-        ctx: &Lent<'_>,
-        schema: &Map<String, Value>,
-    ) -> Result<bool, AllocError> {
+    fn is_answered(&self, alloc: Global, ctx: &Lent<'_>, schema: &Map<String, Value>) -> Answer {
         let made = compile_entry(alloc, ctx, self.row.keyword, schema);
         is_told_so(alloc, self, made, &ctx.checks)
     }

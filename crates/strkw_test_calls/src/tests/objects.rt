@@ -3,8 +3,8 @@
 //! that what the refused call was lent is as it was.
 
 use super::context::{
-    Asked, Call, Lent, are_lent, collects, error_lines, gives_the_first, is_answered, is_at,
-    lent_errors, root_site,
+    Answer, Asked, Call, Given, Lent, are_lent, collects, error_lines, gives_the_first,
+    is_answered, is_at, lent_errors, root_site,
 };
 use super::devices::{answers, ends, script};
 use serde_json::{Map, Value};
@@ -37,20 +37,14 @@ struct Asking {
 }
 
 impl Asked for Asking {
-    fn draft(&self) -> Draft {
-        self.draft
+    fn given(&self) -> Given {
+        Given {
+            draft: self.draft,
+            schema: self.schema,
+        }
     }
 
-    fn schema(&self) -> &'static str {
-        self.schema
-    }
-
-    fn is_answered(
-        &self,
-        alloc: Global,
-        ctx: &Lent<'_>,
-        schema: &Map<String, Value>,
-    ) -> Result<bool, AllocError> {
+    fn is_answered(&self, alloc: Global, ctx: &Lent<'_>, schema: &Map<String, Value>) -> Answer {
         let made = compile_strings(alloc, ctx, schema);
         is_told_so(alloc, self.question, made, &ctx.checks)
     }
@@ -88,61 +82,35 @@ fn is_answered_so(
     }
 }
 
-// A schema object, and where it is refused with ample memory.
-struct Placed {
-    schema: &'static str,
-    place: Option<&'static str>,
-}
-
-const PLACES: &[Placed] = &[
-    Placed {
-        schema: r#"{"minLength":1,"maxLength":2,"format":"date","pattern":"^(a|b)$"}"#,
-        place: None,
-    },
-    Placed {
-        schema: r#"{"contentMediaType":"application/json","contentEncoding":"base64"}"#,
-        place: None,
-    },
-    Placed {
-        schema: r#"{"contentEncoding":["a"]}"#,
-        place: Some("/a/contentEncoding"),
-    },
-    Placed {
-        schema: r#"{"format":["a"]}"#,
-        place: Some("/a/format"),
-    },
-    Placed {
-        schema: r#"{"format":1.5}"#,
-        place: Some("/a/format"),
-    },
-    Placed {
-        schema: r#"{"format":"custom"}"#,
-        place: Some("/a/format"),
-    },
-    Placed {
-        schema: r#"{"minLength":1,"maxLength":-1}"#,
-        place: Some("/a/maxLength"),
-    },
-    Placed {
-        schema: r#"{"pattern":5}"#,
-        place: Some("/a/pattern"),
-    },
-    Placed {
-        schema: r#"{"pattern":"b+"}"#,
-        place: Some("/a/pattern"),
-    },
+// Schema objects, and where each is refused with ample memory.
+const PLACES: &[(&str, Option<&str>)] = &[
+    (
+        r#"{"minLength":1,"maxLength":2,"format":"date","pattern":"^(a|b)$"}"#,
+        None,
+    ),
+    (
+        r#"{"contentMediaType":"application/json","contentEncoding":"base64"}"#,
+        None,
+    ),
+    (r#"{"contentEncoding":["a"]}"#, Some("/a/contentEncoding")),
+    (r#"{"format":["a"]}"#, Some("/a/format")),
+    (r#"{"format":1.5}"#, Some("/a/format")),
+    (r#"{"format":"custom"}"#, Some("/a/format")),
+    (r#"{"minLength":1,"maxLength":-1}"#, Some("/a/maxLength")),
+    (r#"{"pattern":5}"#, Some("/a/pattern")),
+    (r#"{"pattern":"b+"}"#, Some("/a/pattern")),
 ];
 
 #[test]
 fn compile_strings_under_refusal(rt: HostRuntime) -> Result<(), Fail> {
-    for row in PLACES {
+    for &(schema, place) in PLACES {
         let asking = Asking {
             draft: Draft::Draft7,
-            schema: row.schema,
-            question: Question::Place(row.place),
+            schema,
+            question: Question::Place(place),
         };
         if !is_answered(rt.alloc(), &asking)? {
-            return Err(Fail::new(row.schema));
+            return Err(Fail::new(schema));
         }
     }
     Ok(())

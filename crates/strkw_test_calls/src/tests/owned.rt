@@ -2,7 +2,7 @@
 //! growth refused in turn too: then it ends as out of memory, once it has shown that the context is as it was, and that
 //! an object has lost its value at `contentSchema` alone.
 
-use super::context::{Asked, Lent, is_answered, is_at, json, root_site};
+use super::context::{Answer, Asked, Given, Lent, is_answered, is_at, json, root_site};
 use super::objects::note_lines;
 use serde_json::{Map, Value};
 use std::alloc::{AllocError, Global};
@@ -53,20 +53,14 @@ const OBJECTS: &[Noted] = &[
 ];
 
 impl Asked for Noted {
-    fn draft(&self) -> Draft {
-        Draft::Draft202012
+    fn given(&self) -> Given {
+        Given {
+            draft: Draft::Draft202012,
+            schema: self.schema,
+        }
     }
 
-    fn schema(&self) -> &'static str {
-        self.schema
-    }
-
-    fn is_answered(
-        &self,
-        alloc: Global,
-        ctx: &Lent<'_>,
-        _schema: &Map<String, Value>,
-    ) -> Result<bool, AllocError> {
+    fn is_answered(&self, alloc: Global, ctx: &Lent<'_>, _schema: &Map<String, Value>) -> Answer {
         let given = object(alloc, self.schema)?;
         is_compiled_so(alloc, self, compile_owned(alloc, ctx, given), &ctx.checks)
     }
@@ -147,21 +141,15 @@ const SCHEMAS: &[TakenFrom] = &[
 ];
 
 impl Asked for TakenFrom {
-    fn draft(&self) -> Draft {
-        Draft::Draft202012
-    }
-
-    fn schema(&self) -> &'static str {
-        self.schema
+    fn given(&self) -> Given {
+        Given {
+            draft: Draft::Draft202012,
+            schema: self.schema,
+        }
     }
 
     // Whether a call takes the value at `contentSchema` of an object so, and leaves the rest of it.
-    fn is_answered(
-        &self,
-        alloc: Global,
-        ctx: &Lent<'_>,
-        _schema: &Map<String, Value>,
-    ) -> Result<bool, AllocError> {
+    fn is_answered(&self, alloc: Global, ctx: &Lent<'_>, _schema: &Map<String, Value>) -> Answer {
         let left = json(alloc, self.left)?;
         let mut given = object(alloc, self.schema)?;
         let taken = take_content_schema(alloc, ctx, &mut given);

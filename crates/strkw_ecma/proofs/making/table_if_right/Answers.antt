@@ -6,7 +6,8 @@ use Rattle.strkw_ecma.proofs.making.table_if_right.Goals as goal
 
 pub returns : goal.returns
 returns c =
+    let sampled = c.args.sampled in
     let draft = c.args.draft in
-    let right : IsTable c.args.classes.items c.args.keys.items draft.samples.items draft.entries.items draft.states.items (pattern_of c.args.program.now) =
+    let right : IsTable sampled.classes.items sampled.keys.items sampled.samples.items draft.entries.items draft.states.items (pattern_of c.args.program.now) =
     search rules in
     searches _ _ _ _ _ _ c.requires.clean right

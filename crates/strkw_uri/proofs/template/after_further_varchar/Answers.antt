@@ -6,14 +6,14 @@ use Rattle.strkw_uri.proofs.template.after_further_varchar.Goals as goal
 
 pub returns-in-Some-clause-cases : goal.returns-in-Some-clause-cases
 returns-in-Some-clause-cases c =
-    MatchOption-map _ _ _ _ c.after_varchar.result
+    MatchOption-map _ _ _ _ c.after_encoded.result
     (no_dot_front is_varchar refl refl _ _ c.in-Some.ensures.cases)
     (λ x h. dot_front is_varchar refl refl _ _ _ c.in-Some.ensures.cases h)
-    c.after_varchar.ensures.cases
+    c.after_encoded.ensures.cases
 
 pub returns-in-None-clause-cases : goal.returns-in-None-clause-cases
 returns-in-None-clause-cases c =
-    MatchOption-map _ _ _ _ c.after_varchar-in-None.result
+    MatchOption-map _ _ _ _ c.after_encoded-in-None.result
     (no_char_front is_varchar refl refl _ c.in-None.ensures.cases)
     (λ x h. char_front is_varchar refl refl _ _ h)
-    c.after_varchar-in-None.ensures.cases
+    c.after_encoded-in-None.ensures.cases

@@ -1,29 +1,17 @@
-use Rattle.std.proofs.Common.{◌≡◌, ◌∷◌, ap, sym, ◌∙◌, refl}
-use Rattle.std.specs.Str.{chars}
 use Rattle.strkw_text.proofs.Equivalences.{MatchOption-map}
-use Rattle.strkw_uri.specs.Template.{is_literal_char}
-use Rattle.strkw_text.proofs.Laws.{not_first}
-use Rattle.strkw_text.proofs.Runs.{differ}
-use Rattle.strkw_uri.proofs.Encodings.{encoded_char, encoded_pct, broken_stops}
 use Rattle.strkw_uri.proofs.Expressions.{literal_front, brace_front, no_brace_front, no_front}
 use Rattle.strkw_uri.proofs.template.after_literal_or_expression.Goals as goal
 
-pub returns-then-is_literal_char-clause-cases : goal.returns-then-is_literal_char-clause-cases
-returns-then-is_literal_char-clause-cases c = literal_front _ _
-    (encoded_char is_literal_char c.in-Some.c _ _ c.in-Some.ensures.cases (sym c.if-is_literal_char.ensures))
-
-pub returns-then-c-eq37-clause-cases : goal.returns-then-c-eq37-clause-cases
-returns-then-c-eq37-clause-cases c =
-    let at : chars c.args.text.now ≡ 37 ∷ chars c.in-Some.rest.now = c.in-Some.ensures.cases ∙ ap (λ d. d ∷ chars c.in-Some.rest.now) c.if-c-eq37.true in
-    MatchOption-map _ _ _ _ c.after_two_hexdigits.result
-    (λ n. no_front _ (broken_stops is_literal_char refl _ _ at n) (not_first 37 123 _ _ at (differ 37 123 refl)))
-    (λ x h. literal_front _ _ (encoded_pct is_literal_char _ _ _ at h))
-    c.after_two_hexdigits.ensures.cases
-
-pub returns-then-c-eq123-clause-cases : goal.returns-then-c-eq123-clause-cases
-returns-then-c-eq123-clause-cases c =
-    let at : chars c.args.text.now ≡ 123 ∷ chars c.in-Some.rest.now = c.in-Some.ensures.cases ∙ ap (λ d. d ∷ chars c.in-Some.rest.now) c.if-c-eq123.true in
+pub returns-in-Some-clause-cases : goal.returns-in-Some-clause-cases
+returns-in-Some-clause-cases c =
     MatchOption-map _ _ _ _ c.after_in_expression.result
-    (no_brace_front _ _ at)
-    (λ x h. brace_front _ _ _ at h)
+    (no_brace_front _ _ c.in-Some.ensures.cases)
+    (λ x h. brace_front _ _ _ c.in-Some.ensures.cases h)
     c.after_in_expression.ensures.cases
+
+pub returns-clause-cases : goal.returns-clause-cases
+returns-clause-cases c =
+    MatchOption-map _ _ _ _ c.after_encoded.result
+    (λ n. no_front _ n c.in_default.ensures.cases)
+    (λ x h. literal_front _ _ h)
+    c.after_encoded.ensures.cases

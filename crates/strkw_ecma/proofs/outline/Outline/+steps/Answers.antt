@@ -1,12 +1,12 @@
 use Rattle.std.proofs.Common.{◌≡◌, ◌∙◌, false, sym, ap}
-use Rattle.strkw_ecma.specs.Tree.{cat, alt}
+use Rattle.strkw_ecma.specs.Tree.{cat, alt, lookbehind}
 use Rattle.strkw_ecma.specs.Patterns.{quantified_pattern}
 use Rattle.strkw_ecma.specs.Program.{alternatives, is_empty}
 use Rattle.strkw_ecma.specs.machine.Shape.{outlined, quantifier_of}
 use Rattle.strkw_ecma.specs.Size.{steps, steps_of}
 use Rattle.strkw_ecma.specs.machine.Sizes.{capped}
-use Rattle.strkw_ecma.proofs.Shapes.{outlined-Then, outlined-Or, outlined-Repeated, same_beside}
-use Rattle.strkw_ecma.proofs.Sizes.{sum_capped, both_steps, alt_steps, beside_steps}
+use Rattle.strkw_ecma.proofs.Shapes.{outlined-Then, outlined-Or, outlined-Repeated, outlined-Behind, same_beside}
+use Rattle.strkw_ecma.proofs.Sizes.{sum_capped, more_capped, both_steps, alt_steps, beside_steps, behind_steps}
 use Rattle.strkw_ecma.proofs.outline.Outline.+steps.Goals as goal
 
 pub steps-returns-in-Then : goal.steps-returns-in-Then
@@ -29,6 +29,15 @@ steps-returns-else-is_nothing t c =
     (c.together-else-is_nothing.ensures
     ∙ sum_capped (steps_of (alternatives p)) (steps q) 3 _ _ c.steps_beside.ensures c.steps-else-is_nothing.ensures
     ∙ ap capped (sym (alt_steps p q (rw some))))
+
+pub steps-returns-in-Behind : goal.steps-returns-in-Behind
+steps-returns-in-Behind t c =
+    let p = outlined c.deref-in-Behind.result.now in
+    let shape : outlined c.args.self.now ≡ lookbehind c.in-Behind.field-0 p =
+    cc (c.in-Behind.is, c.deref-in-Behind.ensures, outlined-Behind c.in-Behind.field-0 c.in-Behind.body) in
+    rw shape
+    (c.together-in-Behind.ensures ∙ more_capped (steps p) 2 _ c.steps-in-Behind.ensures
+    ∙ ap capped (sym (behind_steps c.in-Behind.field-0 p)))
 
 pub steps_beside-returns-in-Or : goal.steps_beside-returns-in-Or
 steps_beside-returns-in-Or t c =

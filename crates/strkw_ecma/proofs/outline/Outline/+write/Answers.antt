@@ -3,7 +3,7 @@ use Rattle.std.proofs.lemmas.Result.{IfOk-weaker}
 use Rattle.strkw_ecma.specs.Program.{is_empty, program, alternatives}
 use Rattle.strkw_ecma.specs.machine.Shape.{outlined}
 use Rattle.strkw_ecma.proofs.Written.{both_written}
-use Rattle.strkw_ecma.proofs.Shapes.{shapes, outlined-Then, outlined-Or}
+use Rattle.strkw_ecma.proofs.Shapes.{shapes, outlined-Then, outlined-Or, outlined-Behind}
 use Rattle.strkw_ecma.proofs.Copies.{repeated_beside, repeats_program, program_choice}
 use Rattle.strkw_ecma.proofs.outline.Outline.+write.Goals as goal
 
@@ -24,6 +24,13 @@ write-returns-in_ok-write-in-Or t c =
     (both_written _ _ _ _ _ c.in_ok-write_beside-in-Or.ensures
     (both_written _ _ _ _ _ c.in_ok-turn-in-Or-2.ensures (both_written _ _ _ _ _ c.in_ok-write-in-Or.ensures h))))
     c.turn-else-is_nothing-3.ensures))
+
+pub write-returns-in_ok-write-in-Behind : goal.write-returns-in_ok-write-in-Behind
+write-returns-in_ok-write-in-Behind t c =
+    rw (c.in-Behind.is, outlined-Behind, ← c.deref-in-Behind.ensures)
+    (IfOk-weaker c.turn-in-Behind-2.result _ _
+    (λ x h. both_written _ _ _ _ _ c.in_ok-turn-in-Behind.ensures (both_written _ _ _ _ _ c.in_ok-write-in-Behind.ensures h))
+    c.turn-in-Behind-2.ensures)
 
 pub write_beside-returns-in_ok-turn-in-Or : goal.write_beside-returns-in_ok-turn-in-Or
 write_beside-returns-in_ok-turn-in-Or t c =

@@ -25,7 +25,7 @@ returns-clause-compiled g c =
     c.remove.ensures.value in
     let taken = without c.args.object.now c.remove.new.self c.as_str.result.now c.as_str.ensures c.remove.ensures.updates in
     schema_compiled _ _ _ _ taken.left _ _ (there ∙ ap (option_map view) c.in_ok-schema.was) (sym c.if-is_overridden.ensures)
-    (c.locate.ensures _ _ refl c.build_owned_schema.ensures)
+    (c.locate.ensures _ _ refl c.build_owned_schema-built.ensures)
 
 pub returns-clause-others : goal.returns-clause-others
 returns-clause-others g c = without c.args.object.now c.remove.new.self c.as_str.result.now c.as_str.ensures c.remove.ensures.updates

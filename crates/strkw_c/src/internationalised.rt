@@ -1,0 +1,36 @@
+//! Internationalised mail addresses and host names. An answer is 0 for no, 1 for yes, 2 for out of memory. Bytes that
+//! are not UTF-8 are neither.
+
+ghost use Rattle.std.specs.Str.{IsUtf8, chars};
+ghost use Rattle.strkw_label.specs.IdnHostName.{IsIdnHostName};
+ghost use Rattle.strkw_mail.specs.IdnMailbox.{IsIdnMailbox};
+ghost use Rattle.strkw_c.specs.Statuses.{Tells};
+
+use crate::encodings::{NO, status_of};
+use std::alloc::Global;
+use strkw_label::is_valid_idn_hostname;
+use strkw_mail::is_valid_idn_email;
+
+/// Whether the bytes are an internationalised mail address: `Mailbox` of RFC 5321, section 4.1.2, as RFC 6531, section
+/// 3.3, extends it. No schema object knows it as a format.
+#[unsafe(no_mangle)]
+pub extern "C" fn strkw_nonnull_is_idn_email(alloc: Global, text: &[u8]) -> u8
+    ensures { Tells (IsUtf8 text.now × IsIdnMailbox (chars text.now)) result }
+{
+    match str::from_utf8(text) {
+        Ok(text) => status_of(is_valid_idn_email(alloc, text)),
+        Err(_) => NO,
+    }
+}
+
+/// Whether the bytes are an internationalised host name (RFC 5890, section 2.3.2.3). No schema object knows it as a
+/// format.
+#[unsafe(no_mangle)]
+pub extern "C" fn strkw_nonnull_is_idn_hostname(alloc: Global, text: &[u8]) -> u8
+    ensures { Tells (IsUtf8 text.now × IsIdnHostName (chars text.now)) result }
+{
+    match str::from_utf8(text) {
+        Ok(text) => status_of(is_valid_idn_hostname(alloc, text)),
+        Err(_) => NO,
+    }
+}

@@ -1,0 +1,6 @@
+pub mod Decisions
+pub mod FormDecisions
+pub mod MailboxDecision
+pub mod LabelDecision
+pub mod IdnHostNameDecision
+pub mod Companions

@@ -1,0 +1,65 @@
+//! The formats, each as a check.
+
+ghost use Rattle.std.specs.Prelude.{◌↔◌, ◌≡◌, IsTrue};
+ghost use Rattle.strkw_companions.specs.Companions as spec;
+ghost use Rattle.strkw_companions.specs.Companions.{first_draft, name_of};
+
+use std::alloc::{AllocError, Global};
+use strkw_keywords::Format;
+use strkw_label::is_valid_idn_hostname;
+use strkw_mail::is_valid_email;
+use strkw_report::Draft;
+
+/// A format of another standard, which no table of the drafts checks here. A caller registers it under its name.
+#[derive(Debug, Clone, Copy, PartialEq, Eq)]
+pub enum Companion {
+    /// `email`: a mail address, `Mailbox` of RFC 5321, section 4.1.2.
+    Email,
+    /// `idn-hostname`: an internationalised host name, RFC 5890, section 2.3.2.3.
+    IdnHostname,
+}
+
+impl Companion {
+    /// The name of the format in a schema.
+    pub fn as_str(self) -> &'static str
+        ensures { result.now ≡ name_of self }
+    {
+        match self {
+            Companion::Email => "email",
+            Companion::IdnHostname => "idn-hostname",
+        }
+    }
+
+    /// The first draft that has the name.
+    pub fn first_draft(self) -> Draft
+        ensures { result ≡ first_draft self }
+    {
+        match self {
+            Companion::Email => Draft::Draft4,
+            Companion::IdnHostname => Draft::Draft7,
+        }
+    }
+}
+
+impl Format for Companion {
+    ghost admits = { λ companion text. spec.admits companion text };
+
+    fn is_valid(&self, alloc: Global, value: &str) -> Result<bool, AllocError> {
+        match self {
+            Companion::Email => Ok(is_valid_email(value)),
+            Companion::IdnHostname => is_valid_idn_hostname(alloc, value),
+        }
+    }
+}
+
+/// The companions that a draft has, in order.
+pub fn companions_of(draft: Draft) -> &'static [Companion]
+    ensures { result.now ≡ spec.companions_of draft }
+{
+    match draft {
+        Draft::Draft4 | Draft::Draft6 => &[Companion::Email],
+        Draft::Draft7 | Draft::Draft201909 | Draft::Draft202012 => {
+            &[Companion::Email, Companion::IdnHostname]
+        }
+    }
+}

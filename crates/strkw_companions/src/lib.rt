@@ -1,0 +1,10 @@
+//! Formats of other standards, as checks that a caller registers: `email` and `idn-hostname`. The definitions of what
+//! they admit are those of `strkw_mail` and `strkw_label`.
+#![tactic(auto)]
+
+mod companion;
+pub mod laws;
+#[cfg(test)]
+mod tests;
+
+pub use companion::{Companion, companions_of};

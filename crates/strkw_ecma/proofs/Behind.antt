@@ -1,0 +1,109 @@
+-- The marks within lookbehinds: at each place they are those of all ways that have begun before it, so that each
+-- lookbehind says there what is so.
+use Rattle.std.proofs.Common.{◌≡◌, ◌⊎◌, ◌↔◌, ℕ, ◌+◌, ◌≤◌, ◌<◌, Bool, true, false, List, slice_get, refl, sym, ap, subst, inl, inr, true≢false, arith}
+use Rattle.strkw_ecma.specs.Tree.{Pattern, empty, class, look, cat, alt, star, plus, lookbehind}
+use Rattle.strkw_ecma.specs.Meaning.{before, Matches}
+use Rattle.strkw_ecma.specs.machine.Marks.{Rest, Crosses, Kept, is_clean}
+use Rattle.strkw_ecma.proofs.Steps.{same_meaning, and_left, and_right, forwards, rest_forwards, left, stepped, Says, Goes, Went, goes_on, goes_back}
+
+module _ (text : List ℕ) (i : ℕ) where
+  -- what is not behind a place stands before it, or there
+  before_or_there : (k : ℕ) → k ≤ i → (k < i) ⊎ (k ≡ i)
+  before_or_there k h = grind arith
+
+  module _ (p : Pattern) (says : Says text i p) (marks : (j : ℕ) → Rest text p i j ↔ Crosses text p i j) where
+    -- a match that has begun before this place, or begins here, goes through the pattern from here
+    goes_from : (k j : ℕ) → i ≤ j → Matches text p k j → (k < i) ⊎ (k ≡ i) → Goes text i p true j
+    goes_from k j h m (inl early) = inl ((marks j).1 (k, early, h, m))
+    goes_from k j h m (inr e) = inr (refl, subst (λ (z : ℕ). Matches text p z j) e m)
+
+    -- what goes through the pattern from here is a match that has begun before this place, or begins here
+    matches_from : (j : ℕ) → Goes text i p true j → (k : ℕ) × (k ≤ i) × Matches text p k j
+    matches_from j (inl r) = let c = (marks j).0 r in (c.0, omega (arith, c.1), c.3)
+    matches_from j (inr m) = (i, omega arith, m.1)
+
+    -- a way that comes to this place and no further ends here
+    ends_here : Went text i p true i → left text i p true ≡ true
+    ends_here (inl e) = e.0
+    ends_here (inr r) = let beyond : i + 1 ≤ i = rest_forwards text _ _ _ r in absurd (omega (arith, beyond))
+
+    -- and one that comes further goes on from a mark
+    ends_later : (j : ℕ) → i + 1 ≤ j → Went text i p true j → Rest text (stepped text i p true) (i + 1) j
+    ends_later j h (inl e) = absurd (omega (arith, e.1))
+    ends_later j h (inr r) = r
+
+    -- the body of a lookbehind is left here exactly where it matches up to here from some place
+    pub seen : (left text i p true ≡ true) ↔ ((k : ℕ) × Matches text p k i)
+    seen = (
+      λ h. let found = matches_from i (goes_back text i p says true i (inl (h, refl))) in (found.0, found.2),
+      λ found.
+          ends_here (goes_on text i p says true i
+          (goes_from found.0 i (omega arith) found.1 (before_or_there found.0 (forwards text p found.0 i found.1)))),
+    )
+
+    -- a step changes nothing of what the pattern matches
+    same_step : (k j : ℕ) → Matches text (stepped text i p true) k j ≡ Matches text p k j
+    same_step k j = ap (λ (R : ℕ → ℕ → Type 0). R k j) (same_meaning text (before text i) (slice_get text i) p true)
+
+    -- the marks behind the character here are those of all ways that have begun before the next place
+    pub next_marks : (j : ℕ) → Rest text (stepped text i p true) (i + 1) j ↔ Crosses text (stepped text i p true) (i + 1) j
+    next_marks j = (
+      λ r.
+          let found = matches_from j (goes_back text i p says true j (inr r)) in (
+            found.0,
+            omega (arith, found.1),
+            rest_forwards text _ _ _ r,
+            subst (λ (A : Type 0). A) (sym (same_step found.0 j)) found.2,
+          ),
+      λ c.
+          ends_later j c.2 (goes_on text i p says true j
+          (goes_from c.0 j (omega (arith, c.2)) (subst (λ (A : Type 0). A) (same_step c.0 j) c.3) (before_or_there c.0 (omega (arith, c.1))))),
+    )
+
+  -- where the marks within lookbehinds are kept, each says what is so
+  pub says_of : (p : Pattern) → Kept text p i → Says text i p
+  says_of empty k = tt
+  says_of (class m n rs) k = tt
+  says_of (look l) k = tt
+  says_of (cat p q) k = (says_of p k.0, says_of q k.1)
+  says_of (alt p q) k = (says_of p k.0, says_of q k.1)
+  says_of (star p) k = says_of p k
+  says_of (plus p) k = says_of p k
+  says_of (lookbehind n p) k = (says_of p k.0, seen p (says_of p k.0) k.1)
+
+  -- and a step keeps them
+  pub kept_next : (p : Pattern) (x : Bool) → Kept text p i → Kept text (stepped text i p x) (i + 1)
+  kept_next empty x k = tt
+  kept_next (class m n rs) x k = tt
+  kept_next (look l) x k = tt
+  kept_next (cat p q) x k = (kept_next p x k.0, kept_next q _ k.1)
+  kept_next (alt p q) x k = (kept_next p x k.0, kept_next q x k.1)
+  kept_next (star p) x k = kept_next p _ k
+  kept_next (plus p) x k = kept_next p _ k
+  kept_next (lookbehind n p) x k = (kept_next p true k.0, next_marks p (says_of p k.0) k.1)
+
+-- a pattern without marks has no match under way
+pub none_under_way : (text : List ℕ) (p : Pattern) (k j : ℕ) → is_clean p ≡ true → Rest text p k j → ⊥
+none_under_way text empty k j h r = r
+none_under_way text (class true n rs) k j h r = true≢false (sym h)
+none_under_way text (class false n rs) k j h r = true≢false (sym r.0)
+none_under_way text (look l) k j h r = r
+none_under_way text (cat p q) k j h (inl (l, r, m)) = none_under_way text p k l (and_left _ _ h) r
+none_under_way text (cat p q) k j h (inr r) = none_under_way text q k j (and_right _ _ h) r
+none_under_way text (alt p q) k j h (inl r) = none_under_way text p k j (and_left _ _ h) r
+none_under_way text (alt p q) k j h (inr r) = none_under_way text q k j (and_right _ _ h) r
+none_under_way text (star p) k j h r = none_under_way text p k r.0 h r.1
+none_under_way text (plus p) k j h r = none_under_way text p k r.0 h r.1
+none_under_way text (lookbehind n p) k j h r = r
+
+-- so at the first place, before which no way has begun, its marks are kept
+pub kept_first : (text : List ℕ) (p : Pattern) → is_clean p ≡ true → Kept text p 0
+kept_first text empty h = tt
+kept_first text (class m n rs) h = tt
+kept_first text (look l) h = tt
+kept_first text (cat p q) h = (kept_first text p (and_left _ _ h), kept_first text q (and_right _ _ h))
+kept_first text (alt p q) h = (kept_first text p (and_left _ _ h), kept_first text q (and_right _ _ h))
+kept_first text (star p) h = kept_first text p h
+kept_first text (plus p) h = kept_first text p h
+kept_first text (lookbehind n p) h =
+    (kept_first text p h, λ j. (λ r. absurd (none_under_way text p 0 j h r), λ c. absurd (omega (arith, c.1))))

@@ -1,0 +1,13 @@
+use Rattle.std.proofs.Common.{rules, arith}
+use Rattle.strkw_ecma.proofs.making.Draft.is_table.Goals as goal
+
+pub returns : goal.returns
+returns c h = record {
+  few = c.args.sampled.now.few;
+  few_columns = omega arith;
+  told = search rules;
+  lengths = search rules;
+  sampled = search rules;
+  begins = c.begins.ensures h;
+  rows = c.requires;
+}
