@@ -4,14 +4,15 @@
     python3 tools/edits.py NAME ..          those of the crates crates/NAME
     python3 tools/edits.py NAME:BODY ..     one wrong body, by its name
 
-The must-fail edit of a crate, `crates/NAME/must-fail/wrong_bodies.edit`, holds several wrong bodies: a line `# NAME` calls
-what the pairs of `old:` and `new:` behind it turn, up to the next such line. The gate asks that the prover refuses an edit
-as a whole. `tools/wrong_bodies/NAME.edit` holds further ones in the same form, which the gate does not try.
+The must-fail edit of a crate, `crates/NAME/must-fail/wrong_bodies.edit`, holds several wrong bodies: a line `# NAME`
+calls what the pairs of `old:` and `new:` behind it turn, up to the next such line. The gate asks that the prover
+refuses an edit as a whole. `tools/wrong_bodies/NAME.edit` holds further ones in the same form, which the gate does not
+try.
 
 Here it is asked of each: a copy of the crate has this one wrong body alone, and the functions of the files in which it
-stands are checked. It is refused where the prover reads them all and does not prove one. What is unchanged is taken from
-the crate's last check, so wanted are the crate and the libraries below it as a check has left them (`out`). The last line
-is 'N refused, M not'; it is no part of the gate.
+stands are checked. It is refused where the prover reads them all and does not prove one. What is unchanged is taken
+from the crate's last check, so wanted are the crate and the libraries below it as a check has left them (`out`). The
+last line is 'N refused, M not'; it is no part of the gate.
 """
 import re
 import shutil
