@@ -40,24 +40,29 @@ OCTET = "(25[0-5]|2[0-4][0-9]|1[0-9][0-9]|[1-9]?[0-9])"
 KINDS = {
     # A day from 29 on is admitted in each month.
     "date": (7, "format", "date",
-             lambda n: f"{n % 9000 + 1000:04}-{n % 12 + 1:02}-{n % 28 + 1:02}", lambda n: f"{n % 9000 + 1000:04}-02-30",
+             lambda number: f"{number % 9000 + 1000:04}-{number % 12 + 1:02}-{number % 28 + 1:02}",
+             lambda number: f"{number % 9000 + 1000:04}-02-30",
              "[0-9]{4}-(0[1-9]|1[0-2])-(0[1-9]|[12][0-9]|3[01])"),
     "ipv4": (7, "format", "ipv4",
-             lambda n: f"10.{n % 256}.{n // 256 % 256}.{n % 99}", lambda n: f"10.{n % 256}.256.{n % 99}",
+             lambda number: f"10.{number % 256}.{number // 256 % 256}.{number % 99}",
+             lambda number: f"10.{number % 256}.256.{number % 99}",
              rf"{OCTET}(\.{OCTET}){{3}}"),
     "uuid": (201909, "format", "uuid",
-             lambda n: f"{n:08x}-7dec-11d0-a765-00a0c91e6bf6", lambda n: f"{n:08x}-7dec-11d0-a765-00a0c91e6bfg",
+             lambda number: f"{number:08x}-7dec-11d0-a765-00a0c91e6bf6",
+             lambda number: f"{number:08x}-7dec-11d0-a765-00a0c91e6bfg",
              "[0-9A-Fa-f]{8}(-[0-9A-Fa-f]{4}){3}-[0-9A-Fa-f]{12}"),
     # Labels of any length, in a name of any length.
     "hostname": (7, "format", "hostname",
-                 lambda n: f"www.n{n}.example.com", lambda n: f"www.-n{n}.example.com",
+                 lambda number: f"www.n{number}.example.com", lambda number: f"www.-n{number}.example.com",
                  r"[A-Za-z0-9]([A-Za-z0-9-]*[A-Za-z0-9])?(\.[A-Za-z0-9]([A-Za-z0-9-]*[A-Za-z0-9])?)*"),
-    "pattern": (7, "pattern", SLUG, lambda n: f"a-slug-of-{n}", lambda n: f"a--slug-of-{n}", SLUG),
+    "pattern": (7, "pattern", SLUG,
+                lambda number: f"a-slug-of-{number}", lambda number: f"a--slug-of-{number}", SLUG),
 }
 
 
 def texts_of(right, wrong, count):
-    return [right(n) if n % 2 else wrong(n) for n in range(count)]
+    """So many texts, a wrong one and a right one by turns."""
+    return [right(number) if number % 2 else wrong(number) for number in range(count)]
 
 
 def timed(call, rounds):
@@ -72,6 +77,7 @@ def timed(call, rounds):
 
 
 def each(check, texts):
+    """A way to check the texts, one call for each."""
     return lambda: [check(text) for text in texts]
 
 
@@ -92,9 +98,10 @@ def ways(draft, keyword, value, expression, texts):
 
 
 def row(name, kind, count, rounds):
+    """The line of the table that tells the times of a kind."""
     draft, keyword, value, right, wrong, expression = kind
     texts = texts_of(right, wrong, count)
-    shown, wanted, other = [], [n % 2 == 1 for n in range(count)], 0
+    shown, wanted, other = [], [number % 2 == 1 for number in range(count)], 0
     for way in ways(draft, keyword, value, expression, texts).values():
         if way is None:
             shown.append("-")
@@ -108,6 +115,7 @@ def row(name, kind, count, rounds):
 
 
 def main():
+    """Prints the table."""
     words = sys.argv[1:]
     if len(words) > 2 or not all(word.isdigit() and int(word) > 0 for word in words):
         print(__doc__.split("\n\n")[1].strip(), file=sys.stderr)

@@ -27,6 +27,7 @@ PATTERNS = [
 
 
 def processor_seconds():
+    """The processor time of all runs that have ended."""
     used = resource.getrusage(resource.RUSAGE_CHILDREN)
     return used.ru_utime + used.ru_stime
 
@@ -46,6 +47,7 @@ def build_seconds(pattern, folder, rounds):
 
 
 def main():
+    """Prints how long the table of each pattern takes."""
     rounds = int(sys.argv[1]) if sys.argv[1:] else 9
     with tempfile.TemporaryDirectory() as folder:
         small = build_seconds(SMALL, folder, rounds)

@@ -1,5 +1,5 @@
-"""Calls the library from Python: every row of a table, also as texts by one schema, a file of requests against its stored
-answers, and, where the package jsonschema is installed, a schema by its FormatChecker.
+"""Calls the library from Python: every row of a table, also as texts by one schema, a file of requests against its
+stored answers, and, where the package jsonschema is installed, a schema by its FormatChecker.
 
 caller.py FORMATS REQUESTS ANSWERS; status 1 where something is not as it is stored, 2 where it cannot be asked.
 """
@@ -10,11 +10,13 @@ import strkw
 
 
 def check(holds, what):
+    """Ends with a message where something is not as it is to be."""
     if not holds:
         sys.exit(f"caller.py: {what}")
 
 
 def check_rows(path):
+    """Asks of each row of the table what it says; answers the rows."""
     rows = [row.split("\t", 2) for row in Path(path).read_text().split("\n") if row]
     for name, want, text in rows:
         ask = strkw.is_encoded if name in strkw.ENCODINGS else strkw.is_format
@@ -25,11 +27,14 @@ def check_rows(path):
 
 
 def check_answers(requests, answers):
-    check(strkw.answer(Path(requests).read_bytes()) == Path(answers).read_bytes(), "the answers are not the stored ones")
+    """Answers a file of requests, and no request at all."""
+    answered = strkw.answer(Path(requests).read_bytes())
+    check(answered == Path(answers).read_bytes(), "the answers are not the stored ones")
     check(strkw.answer(b"") == b"", "no request has an answer")
 
 
 def check_refused(draft, schema):
+    """Asks a schema that is not taken."""
     try:
         strkw.check_texts(draft, schema, ["a"])
     except ValueError:
@@ -47,13 +52,15 @@ def check_many(rows):
         check(found == [want for _, want in texts], f"draft {draft}, {name}")
         noted = strkw.check_texts(202012, schema, [text for text, _ in texts], formats="as-draft")
         check(all(noted), f"draft 2020-12, {name}")
-    check(strkw.check_texts(7, b'{"maxLength":1}', [b"\xff", "\ud800", "", "\u00e9", "ab"]) == [None, None, True, True, False], "texts and bytes")
+    found = strkw.check_texts(7, b'{"maxLength":1}', [b"\xff", "\ud800", "", "\u00e9", "ab"])
+    check(found == [None, None, True, True, False], "texts and bytes")
     check(strkw.check_texts(7, {}, []) == [], "no text has no verdict")
     check_refused(5, {})
     check_refused(7, "[]")
     check_refused(7, {"maxLength": -1})
     check_refused(7, {"format": "uuid"})
-    check(strkw.check_texts(7, {"format": "uuid"}, ["a"], unknown_formats="ignore") == [True], "draft 7 knows no uuid")
+    found = strkw.check_texts(7, {"format": "uuid"}, ["a"], unknown_formats="ignore")
+    check(found == [True], "draft 7 knows no uuid")
 
 
 def check_schemas(rows):
@@ -71,6 +78,7 @@ def check_schemas(rows):
 
 
 def main():
+    """Makes all checks, and tells how many rows there were."""
     rows = check_rows(sys.argv[1])
     check_answers(sys.argv[2], sys.argv[3])
     check_many(rows)

@@ -32,6 +32,7 @@ class Stop(Exception):
 def number(first, last):
     """How a number of an option is read, which may have a unit of GNU parallel's."""
     def read(word):
+        """The number that a word stands for."""
         parts = NUMBER.fullmatch(word)
         value = int(parts[1]) * UNITS[parts[2]] if parts else None
         if value is None or not first <= value <= last:
@@ -43,6 +44,7 @@ def number(first, last):
 def arguments(where):
     """The two files, which come first whatever their names begin with, and the options; one says where to run."""
     def refuse(why):
+        """Ends with what is wrong with the arguments."""
         raise Stop(f"{why} (--help says more)", REFUSED)
 
     if len(sys.argv) < 3 or "" in sys.argv[1:3]:
@@ -87,6 +89,7 @@ def lines_in(file):
 
 
 def is_standard_output(found):
+    """Whether the file is where standard output goes."""
     try:
         return os.path.samestat(found, os.fstat(1))
     except OSError:
@@ -155,6 +158,7 @@ def interrupt(*_):
 
 
 def tell(name, why):
+    """Writes a line to standard error, if that can be written to."""
     with suppress(OSError):
         os.write(2, f"{name}: {why}\n".encode(errors="backslashreplace"))
 

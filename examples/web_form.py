@@ -37,6 +37,7 @@ def form_of(environ):
 
 
 def application(environ, start_response):
+    """Answers a form with what is wrong in it, a line for each."""
     try:
         told = list(problems(form_of(environ)))
         status = "422 Unprocessable Content" if told else "200 OK"

@@ -119,6 +119,7 @@ GATE = {
 
 
 def paths(tree, document):
+    """Each file that the document names, and whether there is one."""
     for named in PATH.findall(tree.text[document]):
         named = named.rstrip("/")
         if not NO_FILES.fullmatch(named):
@@ -126,6 +127,7 @@ def paths(tree, document):
 
 
 def links(tree, document):
+    """Each link to a file, and whether the file is there."""
     prose = re.sub(r"^```.*?^```|`[^`\n]+`", "", tree.text[document], flags=re.M | re.S)
     for target in re.findall(r"\[[^\]\n]+\]\(([^)\s]+)\)", prose):
         if not re.match(r"\w+:|#", target):
@@ -134,6 +136,7 @@ def links(tree, document):
 
 
 def names(tree, document):
+    """Each name of code, and whether its words stand in the code."""
     for named in NAME.findall(tree.text[document]):
         yield f"the name {named}", all(word in tree.words for word in named.split("::"))
 
@@ -146,6 +149,7 @@ def quotes(tree, document):
 
 
 def columns(tree, document):
+    """Each line that is too long."""
     for number, line in enumerate(tree.text[document].splitlines(), 1):
         if len(line) > LONGEST_LINE:
             yield f"line {number} has {len(line)} columns", False
@@ -235,13 +239,17 @@ def number_of(word):
 
 
 def of_counts(tree):
+    """What the documents count, and whether there are so many."""
     numbers = numbers_of(tree)
     for document, words, counted in COUNTED:
         found = re.search(words.replace(" ", r"\s+"), tree.text[document])
         told = found[0] if found else words
         holds = found and number_of(found[1]) == numbers[counted]
         yield f"{document}: {told!r}, and there are {numbers[counted]}", holds
-    for crate, number in wrong_definitions_told(tree):
+    told = dict(wrong_definitions_told(tree))
+    crates = {name.split("/")[2] for name in tree.under(r"tools/wrong_definitions/\w+/.*")}
+    yield "docs/PROVED.md has a number of wrong definitions for each crate that has some", set(told) == crates
+    for crate, number in told.items():
         counted = len(tree.under(rf"tools/wrong_definitions/{crate}/.*"))
         yield f"docs/PROVED.md: {number} wrong definitions of {crate}, and there are {counted}", number == counted
 
@@ -254,6 +262,7 @@ def wrong_definitions_told(tree):
 
 
 def of_versions(tree):
+    """Each place that has the version or the logic, and whether it is the same."""
     version = tree.text["VERSION"].strip()
     newest = re.search(r"^## ([\d.]+)", tree.text["CHANGELOG.md"], re.M)
     constant = re.search(r'const VERSION: &str = "(.*?)";', tree.text["crates/neldrafi/src/commands.rt"])
@@ -272,6 +281,7 @@ def of_versions(tree):
 def of_the_gate(tree):
     """That the documents list what the gate runs, and that README.md has the minutes of the stored run."""
     ran = set(re.findall(r'(?:asked\(|, )"((?:tools|bindings)/[\w.]+)"', tree.text["tools/refusals.py"]))
+    yield "tools/refusals.py names what the gate runs", ran
     for document, (head, tail) in GATE.items():
         part = tree.text[document].partition(head)[2].partition(tail)[0]
         for script in sorted(ran):
@@ -285,6 +295,7 @@ def of_the_gate(tree):
 
 
 def main():
+    """Tells each claim that does not hold, and counts the claims."""
     tree = Tree()
     counts = {True: 0, False: 0}
     for ask in [of_documents, of_crates, of_functions, of_counts, of_versions, of_the_gate]:

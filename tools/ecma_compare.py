@@ -35,12 +35,14 @@ LINE_END = re.compile(r"\r\n|\r|\n")
 BY_DESIGN = [
     ("look-ahead", re.compile(r"\(\?[=!]")),
     ("back reference", re.compile(r"\\[1-9]|\\k<")),
-    ("property", re.compile(r"\\[pP]\{(Any|ASCII|Assigned|Alpha|Alphabetic|Emoji|White_Space|scx=|Script_Extensions=)")),
+    ("property", re.compile(r"\\[pP]\{(Any|ASCII|Assigned|Alpha|Alphabetic|Emoji|White_Space"
+                            r"|scx=|Script_Extensions=)")),
     ("name twice", re.compile(r"\(\?<(\w+)>.*\(\?<\1>", re.DOTALL)),
     ("lone surrogate", re.compile(r"\\u(\{0*)?[dD][89a-fA-F]")),
 ]
-# A match of Node that begins between the two halves of a surrogate pair is none: ECMA-262 2024 (RegExpBuiltinExec, section
-# 22.2.7.2) searches over characters there, and V8 finds `\B` within one. Then each place between characters is asked alone.
+# A match of Node that begins between the two halves of a surrogate pair is none: ECMA-262 2024 (RegExpBuiltinExec,
+# section 22.2.7.2) searches over characters there, and V8 finds `\B` within one. Then each place between characters is
+# asked alone.
 NODE = r"""
 const halves = (text, at) => /[\uD800-\uDBFF]/.test(text[at - 1] ?? "") && /[\uDC00-\uDFFF]/.test(text[at] ?? "");
 const told = [];
@@ -61,17 +63,21 @@ console.log(JSON.stringify([told, within]));
 """
 # Characters near the borders of what classes and assertions tell apart.
 LETTERS = "abcxyzABZ019_-"
-OTHERS = " \t\n\r\u2028\u2029\u00a0\ufeff\u0085\u00e9\u017f\u212a\u0391\u03c9\u0301\u0663\u01c5\u4e2d\U0001f600\U0001f601/:@[`{.,=!#&~\"'<>;%"
+OTHERS = (" \t\n\r\u2028\u2029\u00a0\ufeff\u0085\u00e9\u017f\u212a\u0391\u03c9\u0301\u0663\u01c5\u4e2d"
+          "\U0001f600\U0001f601/:@[`{.,=!#&~\"'<>;%")
 SYNTAX = "^$\\.*+?()[]{}|/"
-ESCAPES = ["\\d", "\\D", "\\s", "\\S", "\\w", "\\W", "\\n", "\\t", "\\r", "\\f", "\\v", "\\0", "\\cA", "\\x41", "\\u0061",
-           "\\u{62}", "\\u{1F600}", "\\uD83D\\uDE00", "\\u2028"]
+ESCAPES = ["\\d", "\\D", "\\s", "\\S", "\\w", "\\W", "\\n", "\\t", "\\r", "\\f", "\\v", "\\0", "\\cA", "\\x41",
+           "\\u0061", "\\u{62}", "\\u{1F600}", "\\uD83D\\uDE00", "\\u2028"]
 # Properties, whose answers on the characters here are the same in each version of Unicode since 15.
-PROPERTIES = ["\\p{Lu}", "\\p{Uppercase_Letter}", "\\P{Ll}", "\\p{L}", "\\P{Letter}", "\\p{LC}", "\\p{N}", "\\p{Nd}", "\\p{digit}",
-              "\\P{punct}", "\\p{Sm}", "\\p{S}", "\\p{Zs}", "\\P{Z}", "\\p{cntrl}", "\\p{C}", "\\p{gc=Lo}", "\\P{General_Category=Mn}",
-              "\\p{sc=Grek}", "\\P{Script=Greek}", "\\p{Script=Latin}", "\\p{sc=Han}", "\\p{sc=Zyyy}", "\\P{sc=Zinh}"]
+PROPERTIES = ["\\p{Lu}", "\\p{Uppercase_Letter}", "\\P{Ll}", "\\p{L}", "\\P{Letter}", "\\p{LC}", "\\p{N}", "\\p{Nd}",
+              "\\p{digit}", "\\P{punct}", "\\p{Sm}", "\\p{S}", "\\p{Zs}", "\\P{Z}", "\\p{cntrl}", "\\p{C}",
+              "\\p{gc=Lo}", "\\P{General_Category=Mn}", "\\p{sc=Grek}", "\\P{Script=Greek}", "\\p{Script=Latin}",
+              "\\p{sc=Han}", "\\p{sc=Zyyy}", "\\P{sc=Zinh}"]
 # Others: of properties that are not taken, and some that are none.
-OTHER_PROPERTIES = ["\\p{Any}", "\\p{Alphabetic}", "\\P{Emoji}", "\\p{scx=Grek}", "\\p{Greek}", "\\p{lu}", "\\p{gc=Greek}", "\\p{}", "\\pL"]
-QUANTIFIERS = ["*", "+", "?", "*?", "+?", "??", "{2}", "{0}", "{1,}", "{0,2}", "{1,3}?", "{2,2}", "{0,0}", "{3}?", "{2,}?"]
+OTHER_PROPERTIES = ["\\p{Any}", "\\p{Alphabetic}", "\\P{Emoji}", "\\p{scx=Grek}", "\\p{Greek}", "\\p{lu}",
+                    "\\p{gc=Greek}", "\\p{}", "\\pL"]
+QUANTIFIERS = ["*", "+", "?", "*?", "+?", "??", "{2}", "{0}", "{1,}", "{0,2}", "{1,3}?", "{2,2}", "{0,0}", "{3}?",
+               "{2,}?"]
 
 
 class Maker:
@@ -83,14 +89,16 @@ class Maker:
         self.looks = 0.16
 
     def character(self):
+        """A character by itself, escaped where the syntax wants that."""
         kind = self.random.random()
         if kind < 0.75:
             return self.random.choice(LETTERS)
         if kind < 0.9:
-            return self.random.choice([c for c in OTHERS if c not in SYNTAX])
+            return self.random.choice([character for character in OTHERS if character not in SYNTAX])
         return "\\" + self.random.choice(SYNTAX)
 
     def class_atom(self):
+        """What may stand in a class, alone or at an end of a range."""
         kind = self.random.random()
         if kind < 0.2:
             return self.random.choice(ESCAPES)
@@ -101,6 +109,7 @@ class Maker:
         return self.random.choice(LETTERS + OTHERS.replace("[", ""))
 
     def ranges(self):
+        """Up to three members of a class."""
         parts = []
         for _ in range(self.random.randrange(4)):
             atom = self.class_atom()
@@ -110,6 +119,7 @@ class Maker:
         return "".join(parts)
 
     def atom(self, depth):
+        """A group, a class, an escape, a property or a character, with groups up to so deep."""
         kind = self.random.random()
         if depth > 0 and kind < 0.25:
             start = self.random.choice(["(", "(", "(?:", "(?:", "(?<n%d>" % self.random.randrange(1000)])
@@ -127,6 +137,7 @@ class Maker:
         return self.character()
 
     def term(self, depth):
+        """An assertion, a lookaround, or an atom with a quantifier or without."""
         kind = self.random.random()
         if kind < 0.16:
             return self.random.choice(["^", "$", "^", "$", "\\b", "\\B"])
@@ -137,6 +148,7 @@ class Maker:
         return self.atom(depth) + quantifier
 
     def disjunction(self, depth):
+        """One to three alternatives."""
         alternatives = self.random.choice([1, 1, 1, 2, 3])
         return "|".join("".join(self.term(depth) for _ in range(self.random.randrange(5))) for _ in range(alternatives))
 
@@ -151,6 +163,7 @@ class Maker:
         return made
 
     def spoilt(self, pattern):
+        """The pattern with a character left out, put in or changed."""
         at = self.random.randrange(len(pattern) + 1)
         kind = self.random.random()
         if kind < 0.4:
@@ -160,12 +173,13 @@ class Maker:
 
     def text(self, pattern):
         """A text of characters that the pattern has, and of others."""
-        near = [c for c in pattern if c not in SYNTAX] or ["a"]
+        near = [character for character in pattern if character not in SYNTAX] or ["a"]
         pick = lambda: self.random.choice(near if self.random.random() < 0.65 else LETTERS + OTHERS)
         text = "".join(pick() for _ in range(self.random.choice([0, 1, 1, 2, 3, 4, 6, 9])))
         return text + "\n" if self.random.random() < 0.06 else text
 
     def row(self):
+        """A pattern and its texts."""
         pattern = self.pattern()
         return pattern, ["", "\n"] + [self.text(pattern) for _ in range(TEXTS - 2)]
 
@@ -234,6 +248,7 @@ def compare(rows, ours, theirs):
 
 
 def main():
+    """Makes patterns, asks both sides, and tells the differences."""
     patterns, seed = ([int(word) for word in sys.argv[1:]] + [PATTERNS, SEED][len(sys.argv) - 1:])[:2]
     version = subprocess.run(["node", "--version"], stdout=subprocess.PIPE, text=True, check=True).stdout.strip()
     maker = Maker(seed)

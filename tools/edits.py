@@ -62,13 +62,15 @@ def said_of(folder, body):
     for file, text in texts.items():
         (folder / file).write_text(text, encoding="utf-8")
     asked = [word for file in texts for word in ("--only", module_of(file))]
-    said = subprocess.run(["rt", "check", "--jobs", "1", *asked], cwd=folder, stdin=subprocess.DEVNULL, stdout=subprocess.PIPE, text=True, errors="replace", check=False)
+    said = subprocess.run(["rt", "check", "--jobs", "1", *asked], cwd=folder, stdin=subprocess.DEVNULL,
+                          stdout=subprocess.PIPE, text=True, errors="replace", check=False)
     for file, text in kept.items():
         (folder / file).write_text(text, encoding="utf-8")
     return said.stdout
 
 
 def is_refused(folder, body):
+    """Whether the prover refuses the wrong body; tells that, and what it said where it came to no end."""
     said = said_of(folder, body)
     ended = ENDED.search(said)
     refused = ended is not None and int(ended["proved"]) < int(ended["asked"])
@@ -91,6 +93,7 @@ def copy(room):
 
 
 def main():
+    """Tries the wrong bodies that the arguments name."""
     asked = sys.argv[1:]
     if not asked:
         print(__doc__)
@@ -99,9 +102,13 @@ def main():
         room = Path(folder)
         copy(room)
         tried = []
-        for name, _, wanted in (it.partition(":") for it in asked):
+        for word in asked:
+            name, _, wanted = word.partition(":")
             crate = room / "crates" / name
-            tried += [is_refused(crate, body) for body in wrong_bodies(crate) if wanted in ("", body.name)]
+            bodies = [body for body in wrong_bodies(crate) if wanted in ("", body.name)]
+            if not bodies:
+                print(f"{word}: there is no such wrong body", flush=True)
+            tried += [is_refused(crate, body) for body in bodies] or [False]
     print(f"{sum(tried)} refused, {len(tried) - sum(tried)} not")
     return 0 if tried and all(tried) else 1
 

@@ -18,6 +18,7 @@ import unicodedata
 from pathlib import Path
 
 CRATE = Path(__file__).resolve().parent.parent / "crates" / "strkw_test_grammars"
+FILES = ("stdin", "stdout")
 MARK = "# the rows of tools/grammar_rows.py"
 COUNTED = re.compile(r": (\d+) as expected$")
 LETTERS = "ABCDEFGHIJKLMNOPQRSTUVWXYZabcdefghijklmnopqrstuvwxyz"
@@ -38,6 +39,10 @@ def texts(of, candidates, is_right):
 
 
 def characters(of, accepted, places, tried=None):
+    """Which characters of those tried, or of ASCII, are accepted between the first two texts of each place.
+
+    Those of a third text of a place are accepted there too.
+    """
     row = {"ask": "characters", "of": of, "accepted": accepted, "places": places}
     if tried is not None:
         row["tried"] = tried
@@ -45,40 +50,49 @@ def characters(of, accepted, places, tried=None):
 
 
 def counts(of, part, low, high, below, places):
+    """The part so many times over, from none to one less than `below`: right from `low` to `high` times."""
     row = {"ask": "counts", "of": of, "part": part, "from": low, "to": high, "below": below, "places": places}
     return row, below * len(places)
 
 
 def searches(rows):
+    """A pattern, a text, and whether it is found there; `None` for a pattern that is not taken."""
     return {"ask": "searches", "rows": rows}, len(rows)
 
 
 def long_searches(rows):
+    """Searches whose patterns and texts are lists of parts, each with how many times it stands."""
     rows = [{"pattern": pattern, "text": text, "found": found} for pattern, text, found in rows]
     return {"ask": "long searches", "rows": rows}, len(rows)
 
 
 def decoded(of, rows):
+    """A text and the bytes that it encodes, in hexadecimal. Each row has three answers."""
     return {"ask": "decoded", "of": of, "rows": rows}, 3 * len(rows)
 
 
 def analyses(rows):
+    """A pattern, and which literal it stands for."""
     return {"ask": "analyses", "rows": rows}, len(rows)
 
 
 def first_labels(rows):
+    """A text, and the label at its front; `None` where there is none."""
     return {"ask": "first labels", "rows": rows}, len(rows)
 
 
 def payloads(rows):
+    """Texts of Punycode, and behind them what they encode; `None` for nothing."""
     return {"ask": "payloads", "rows": rows}, sum(len(row) - 1 for row in rows)
 
 
 def refusals(of, patterns):
+    """Patterns that are not taken for the same reason, or that are all taken."""
     return {"ask": "refusals", "of": of, "patterns": patterns}, len(patterns)
 
 
 def matches(of, yes, no):
+    """Texts that a pattern matches, and texts that it does not match."""
     return {"ask": "matches", "of": of, "yes": yes, "no": no}, len(yes) + len(no)
 
 
@@ -88,13 +102,30 @@ def whole(rule):
     return lambda text: compiled.fullmatch(text) is not None
 
 
+def never(text):
+    """The rule that derives no text."""
+    return False
+
+
 def span(first, last):
+    """The characters from one code point to another."""
     return "".join(map(chr, range(first, last + 1)))
+
+
+def in_forms(forms, parts):
+    """Each part, put into each form."""
+    return [form.format(part) for part in parts for form in forms]
+
+
+def words(letters, sizes):
+    """All words of these letters, of each of these sizes."""
+    return ["".join(word) for size in sizes for word in itertools.product(letters, repeat=size)]
 
 
 # Dates and times: RFC 3339, sections 5.6 and 5.7, with a leap second in the last minute of any day of UTC.
 
 def days_in(year, month):
+    """How many days the month has."""
     is_leap = year % 4 == 0 and (year % 100 != 0 or year % 400 == 0)
     return 28 + is_leap if month == 2 else 30 if month in (4, 6, 9, 11) else 31
 
@@ -109,6 +140,7 @@ def ends_of_months():
 
 
 def clock(minutes):
+    """A time of day in hours and minutes."""
     return f"{minutes // 60 % 24:02}:{minutes % 60:02}"
 
 
@@ -124,8 +156,10 @@ def leap_seconds():
             yield f"{local}:60{fraction}{sign}{clock(abs(east))}", beside == 0
 
 
-DURATION = (r"P(?:{D}(?:{T})?|{T}|[0-9]+W)".replace("{D}", r"(?:[0-9]+D|[0-9]+M(?:[0-9]+D)?|[0-9]+Y(?:[0-9]+M(?:[0-9]+D)?)?)")
-            .replace("{T}", r"T(?:[0-9]+H(?:[0-9]+M(?:[0-9]+S)?)?|[0-9]+M(?:[0-9]+S)?|[0-9]+S)"))
+# The rules `dur-date`, `dur-time` and `duration` of appendix A.
+DURATION_DATE = r"(?:[0-9]+D|[0-9]+M(?:[0-9]+D)?|[0-9]+Y(?:[0-9]+M(?:[0-9]+D)?)?)"
+DURATION_TIME = r"T(?:[0-9]+H(?:[0-9]+M(?:[0-9]+S)?)?|[0-9]+M(?:[0-9]+S)?|[0-9]+S)"
+DURATION = rf"P(?:{DURATION_DATE}(?:{DURATION_TIME})?|{DURATION_TIME}|[0-9]+W)"
 
 
 def durations():
@@ -138,8 +172,9 @@ def durations():
     for one, other in itertools.product("YMWDHST", repeat=2):
         yield from (f"P1{one}2{other}", f"PT1{one}2{other}", f"P1{one}T2{other}", f"P1{one}{other}", f"P{one}2{other}")
     for text in ("P1D", "P2W", "PT1S", "P1Y2M3DT4H5M6S"):
-        yield from (f"{BYTE_ORDER_MARK}{text}", f"{text}{BYTE_ORDER_MARK}", f"{text}\n", f" {text}", f"+{text}", f"-{text}",
-                    text.lower(), text.replace("1", "1.5"), text.replace("1", "-1"), text.replace("1", "1,5"))
+        yield from (f"{BYTE_ORDER_MARK}{text}", f"{text}{BYTE_ORDER_MARK}", f"{text}\n", f" {text}")
+        yield from (f"+{text}", f"-{text}", text.lower())
+        yield from (text.replace("1", number) for number in ("1.5", "-1", "1,5"))
 
 
 def around(text):
@@ -148,31 +183,46 @@ def around(text):
             f" {text}", f"{text}\u0000", f"{text}\u2028"]
 
 
-def time_rows():
+def day_rows():
+    """Days, and second 60 at the ends of months."""
     days = dict(ends_of_months())
     yield "the last day of each month and those beside it, in leap years and others (section 5.7)"
     yield texts("date", days, days.get)
     yield texts("date-time", [f"{day}T12:00:00Z" for day in days], lambda text: days[text[:10]])
     yield "second 60 at each month's end and beside it: on any day, and in the last minute of UTC alone"
-    at_ends = [f"{day}T{time}" for day in days if day[:4] in ("1900", "1972", "2016", "2023", "2024")
-               for time in ("23:59:60Z", "23:58:60Z", "22:59:60Z", "23:59:61Z", "00:59:60+01:00", "00:00:60Z")]
-    yield texts("date-time", at_ends, lambda text: days[text[:10]] and text[11:] in ("23:59:60Z", "00:59:60+01:00"))
+    leap_times = ("23:59:60Z", "00:59:60+01:00")
+    times = ("23:59:60Z", "23:58:60Z", "22:59:60Z", "23:59:61Z", "00:59:60+01:00", "00:00:60Z")
+    some_days = [day for day in days if day[:4] in ("1900", "1972", "2016", "2023", "2024")]
+    at_ends = [f"{day}T{time}" for day in some_days for time in times]
+    yield texts("date-time", at_ends, lambda text: days[text[:10]] and text[11:] in leap_times)
     leap = dict(leap_seconds())
     yield texts("time", leap, leap.get)
     yield texts("date-time", [f"2024-07-01T{time}" for time in leap], lambda text: leap[text[11:]])
+
+
+def offset_rows():
+    """Offsets from UTC, right and wrong ones, with a colon or another sign in them."""
     yield "offsets at their ends"
-    offsets = [f"{sign}{hour:02}:{minute:02}" for sign in "+-" for hour in (0, 1, 9, 12, 14, 19, 20, 23, 24, 29, 99)
-               for minute in (0, 1, 29, 30, 59, 60, 61, 99)]
+    hours, minutes = (0, 1, 9, 12, 14, 19, 20, 23, 24, 29, 99), (0, 1, 29, 30, 59, 60, 61, 99)
+    offsets = [f"{sign}{hour:02}:{minute:02}" for sign in "+-" for hour in hours for minute in minutes]
     is_offset = whole(r"[+-](?:[01][0-9]|2[0-3]):[0-5][0-9]")
     yield texts("time", [f"12:30:45{offset}" for offset in offsets], lambda text: is_offset(text[8:]))
     yield texts("time", [f"12:30:45.5{offset}" for offset in offsets], lambda text: is_offset(text[10:]))
-    yield texts("time", [f"12:30:45{offset.replace(':', other)}" for offset in offsets[:20] for other in ".\u0000;,/ 9"],
-                lambda text: False)
+    others = [offset.replace(":", sign) for offset in offsets[:20] for sign in ".\u0000;,/ 9"]
+    yield texts("time", [f"12:30:45{offset}" for offset in others], never)
+
+
+def time_rows():
+    """The rows of dates, times, date-times and durations."""
+    yield from day_rows()
+    yield from offset_rows()
     yield "what stands around a text"
-    for of, text in (("date", "2024-02-29"), ("time", "12:30:45Z"), ("time", "12:30:45.5+01:00"), ("date-time", "2024-02-29T12:30:45Z")):
+    wholes = [("date", "2024-02-29"), ("time", "12:30:45Z"), ("time", "12:30:45.5+01:00"),
+              ("date-time", "2024-02-29T12:30:45Z")]
+    for of, text in wholes:
         yield texts(of, [text] + around(text), lambda other, text=text: other == text)
-    yield texts("date-time", [f"2024-02-29{between}12:30:45Z" for between in ASCII + "\u0085\u00a0\u0422\u1e6a\uff34"],
-                lambda text: text[10] in "Tt")
+    between = ASCII + "\u0085\u00a0\u0422\u1e6a\uff34"
+    yield texts("date-time", [f"2024-02-29{sign}12:30:45Z" for sign in between], lambda text: text[10] in "Tt")
     yield "each choice of units, and each pair of them (appendix A)"
     yield texts("duration", durations(), whole(DURATION))
     for unit in ("Y", "M", "D", "W"):
@@ -209,7 +259,8 @@ def addresses_of_six():
     """So many groups before `::` and behind it, with an IPv4 address at the end or without; and with no `::`."""
     groups = ["1", "20", "3ab", "4CdE", "0", "00", "0000", "ffff", "9"]
     for before, behind in itertools.product(range(9), repeat=2):
-        front, back = ":".join(groups[:before]), ":".join(groups[before:before + behind] if before + behind < 10 else groups[:behind])
+        front = ":".join(groups[:before])
+        back = ":".join(groups[before:before + behind] if before + behind < 10 else groups[:behind])
         for last in ("", "1.2.3.4", "255.255.255.255", "256.1.1.1", "01.2.3.4", "1.2.3", "1.2.3.4.5"):
             end = f"{back}:{last}" if back and last else back + last
             yield from (f"{front}::{end}", f"{front}:{end}", f"{front}:::{end}", f"{front}::{end}::1")
@@ -218,13 +269,15 @@ def addresses_of_six():
 
 
 def addresses_of_four():
-    octets = ["0", "9", "10", "99", "100", "199", "200", "249", "250", "255", "256", "260", "300", "999", "1000", "00", "01", "010",
-              "001", "0255", "", "-1", "+1", "1a", "0x1", "٣", " 1", "1 "]
+    """Each octet at each place, and what stands around or within an address."""
+    octets = ["0", "9", "10", "99", "100", "199", "200", "249", "250", "255", "256", "260", "300", "999", "1000", "00",
+              "01", "010", "001", "0255", "", "-1", "+1", "1a", "0x1", "٣", " 1", "1 "]
     for place, octet in itertools.product(range(4), octets):
         yield ".".join([*["1"] * place, octet, *["22"] * (3 - place)])
     for text in ("1.2.3.4", "255.255.255.255"):
         yield from around(text)
-        yield from (f"{text}.", f".{text}", f"{text}/8", text.replace(".", "。"), text.replace(".", ","), text.replace(".", ".."))
+        yield from (f"{text}.", f".{text}", f"{text}/8")
+        yield from (text.replace(".", other) for other in ("。", ",", ".."))
 
 
 def labels_to_a_length(length, size):
@@ -234,40 +287,65 @@ def labels_to_a_length(length, size):
 
 
 def long_names():
-    for length in (1, 2, 62, 63, 64, 65, 127, 128, 191, 192, 250, 251, 252, 253, 254, 255, 256, 257, 319, 320, 512, 1000):
+    """Names about as long as a name may be and about as long as a block, of labels about as long as a label may be."""
+    of_blocks = (1, 2, 62, 63, 64, 65, 127, 128, 191, 192)
+    of_names = (250, 251, 252, 253, 254, 255, 256, 257, 319, 320, 512, 1000)
+    for length in of_blocks + of_names:
         for size in (1, 7, 62, 63, 64):
             yield labels_to_a_length(length, size)
 
 
-def net_rows():
-    yield "IPv4: each octet at each place, with leading zeros and above 255"
-    yield texts("ipv4", addresses_of_four(), whole(IPV4))
-    yield "IPv6: so many groups before `::` and behind it, and an IPv4 address at the end"
-    yield texts("ipv6", addresses_of_six(), whole(IPV6))
-    yield texts("ipv6", around("::1") + around("1:2:3:4:5:6:7:8"), lambda text: False)
+# Characters past ASCII that are near letters, digits, hyphens and full stops of ASCII, by their look or by a mapping.
+LIKE_ASCII = ("\u0080\u00a0\u00aa\u00b7\u00c0\u00d7\u00e9\u00ff\u0130\u0131\u017f\u0430\u0660\u0966\u212a\u3002\u4e00"
+              "\uff0d\uff10\uff21\uff41\uff0e\ufeff\U0001d7d8")
+
+
+def host_name_rows():
+    """Host names of RFC 1034, and the labels at the front of texts."""
     yield "lengths to 1,000"
     yield counts("hostname of RFC 1034", "a", 1, 63, 1001, [["", ""], ["", ".b"], ["b.", ""]])
     yield counts("hostname of RFC 1034", "1.", 0, 126, 501, [["", "a"]])
     yield texts("hostname of RFC 1034", long_names(), whole(NAME))
     yield "a character past ASCII at each place of a label"
-    wide = "\u0080\u00a0\u00aa\u00b7\u00c0\u00d7\u00e9\u00ff\u0130\u0131\u017f\u0430\u0660\u0966\u212a\u3002\u4e00\uff0d\uff10\uff21\uff41\uff0e\ufeff\U0001d7d8"
+    places = [["", ""], ["a", ""], ["", "a"], ["a", "b"], ["a.", ".b"], ["a.b", ""]]
     for of in ("hostname of RFC 1034", "hostname"):
-        yield characters(of, "", [["", ""], ["a", ""], ["", "a"], ["a", "b"], ["a.", ".b"], ["a.b", ""]], wide)
-        yield texts(of, around("a.b") + ["a.b.", ".a.b", "a..b"], lambda text: False)
+        yield characters(of, "", places, LIKE_ASCII)
+        yield texts(of, around("a.b") + ["a.b.", ".a.b", "a..b"], never)
     yield "the label at the front of a text, up to a length of 1,000"
-    fronts = [("a" * size, behind) for size in (1, 62, 63, 64, 65, 127, 128, 255, 256, 257, 319, 320, 512, 999) for behind in ("", ".", ".b", "é", "_", " .")]
-    yield first_labels([[label + behind, label if len(label) < 64 and behind[:1] in ("", ".") else None] for label, behind in fronts])
+    rows = []
+    for size in (1, 62, 63, 64, 65, 127, 128, 255, 256, 257, 319, 320, 512, 999):
+        for behind in ("", ".", ".b", "é", "_", " ."):
+            is_label = size < 64 and behind[:1] in ("", ".")
+            rows.append(["a" * size + behind, "a" * size if is_label else None])
+    yield first_labels(rows)
+
+
+def uuid_rows():
+    """A UUID with each character changed, left out or doubled, and its other notations."""
     yield "UUIDs"
     uuid = "f81d4fae-7dec-11d0-a765-00a0c91e6bf6"
+    notations = [uuid, uuid.upper(), f"{{{uuid}}}", f"urn:uuid:{uuid}", uuid.replace("-", "")]
     spoilt = [uuid[:at] + other + uuid[at + 1:] for at in range(36) for other in "0aAfFgG-/:@`"]
-    cut = [uuid[:at] + uuid[at + 1:] for at in range(36)] + [uuid[:at] + "0" + uuid[at:] for at in range(37)]
-    yield texts("uuid", [uuid, uuid.upper(), f"{{{uuid}}}", f"urn:uuid:{uuid}", uuid.replace("-", "")] + around(uuid) + spoilt + cut,
-                whole(UUID))
+    shorter = [uuid[:at] + uuid[at + 1:] for at in range(36)]
+    longer = [uuid[:at] + "0" + uuid[at:] for at in range(37)]
+    yield texts("uuid", notations + around(uuid) + spoilt + shorter + longer, whole(UUID))
+
+
+def net_rows():
+    """The rows of addresses, host names and UUIDs."""
+    yield "IPv4: each octet at each place, with leading zeros and above 255"
+    yield texts("ipv4", addresses_of_four(), whole(IPV4))
+    yield "IPv6: so many groups before `::` and behind it, and an IPv4 address at the end"
+    yield texts("ipv6", addresses_of_six(), whole(IPV6))
+    yield texts("ipv6", around("::1") + around("1:2:3:4:5:6:7:8"), never)
+    yield from host_name_rows()
+    yield from uuid_rows()
 
 
 # Mail addresses: RFC 5321, sections 4.1.2 and 4.1.3, with the lengths of section 4.5.3.1.
 
-ATOM = r"[A-Za-z0-9!#$%&'*+/=?^_`{|}~-]+"
+ATEXT = r"[A-Za-z0-9!#$%&'*+/=?^_`{|}~-]"
+ATOM = rf"{ATEXT}+"
 LOCAL_PART = rf'(?:{ATOM}(?:\.{ATOM})*|"(?:[ !#-\[\]-~]|\\[ -~])*")'
 SNUM = r"(?:25[0-5]|2[0-4][0-9]|[01]?[0-9]{1,2})"
 MAIL_IPV4 = rf"{SNUM}(?:\.{SNUM}){{3}}"
@@ -275,11 +353,15 @@ TAGGED = r"(?![Ii][Pp][Vv]6:)[A-Za-z0-9-]*[A-Za-z0-9]:[!-Z^-~]+"
 
 
 def some(group, most):
+    """No group, or up to so many with colons between them."""
     return rf"(?:{group}(?::{group}){{0,{most - 1}}})?"
 
 
 def mail_ipv6():
-    """IPv6-full, IPv6-comp, IPv6v4-full and IPv6v4-comp: beside `::` stand no more than six groups, or four and an address."""
+    """The rules IPv6-full, IPv6-comp, IPv6v4-full and IPv6v4-comp.
+
+    Beside `::` stand no more than six groups, or four and an address.
+    """
     rules = [rf"{GROUP}(?::{GROUP}){{7}}", rf"{GROUP}(?::{GROUP}){{5}}:{MAIL_IPV4}"]
     for before in range(7):
         front = rf"{GROUP}(?::{GROUP}){{{before - 1}}}" if before else ""
@@ -289,16 +371,18 @@ def mail_ipv6():
     return "|".join(rules)
 
 
-MAIL_DOMAIN = rf"(?=.{{1,255}}\Z)(?:{LABEL}(?:\.{LABEL})*|\[(?:{MAIL_IPV4}|[Ii][Pp][Vv]6:(?:{mail_ipv6()})|{TAGGED})\])"
-MAILBOX = rf"(?=(?:{LOCAL_PART})@)(?P<local>{LOCAL_PART})@{MAIL_DOMAIN}"
+MAIL_LITERAL = rf"\[(?:{MAIL_IPV4}|[Ii][Pp][Vv]6:(?:{mail_ipv6()})|{TAGGED})\]"
+MAIL_DOMAIN = rf"(?=.{{1,255}}\Z)(?:{LABEL}(?:\.{LABEL})*|{MAIL_LITERAL})"
+MAILBOX = rf"(?P<local>{LOCAL_PART})@{MAIL_DOMAIN}"
 
 
 def is_mailbox(text):
+    """The rule Mailbox, with a local part of up to 64 octets."""
     found = re.compile(MAILBOX).fullmatch(text)
     return found is not None and text.isascii() and len(found["local"]) <= 64
 
 
-WIDE_ATOM = rf"(?:{ATOM[:-1]}|[\u0080-\U0010ffff])+"
+WIDE_ATOM = rf"(?:{ATEXT}|[\u0080-\U0010ffff])+"
 WIDE_LOCAL_PART = rf'(?:{WIDE_ATOM}(?:\.{WIDE_ATOM})*|"(?:[ !#-\[\]-~\u0080-\U0010ffff]|\\[ -~])*")'
 
 
@@ -314,40 +398,56 @@ def wide_labels(low, high):
     return [label for label in labels if low <= len(b"xn--" + label.encode("punycode")) <= high]
 
 
+WIDE_LOCAL_PARTS = [
+    "é", "aé", "éa", "é.a", "a.é", "é.é", ".é", "é.", "é..é", '"é"', '"\\é"', '"é\\"', '"\\\\é"', '"é\\""', '"é', 'é"',
+    "é é", '"é é"', "é(a)", "\u0080", "\u00a0", "\u07ff", "\u0800", "\uffff", "\U00010000", "\U0010ffff", "\u007fé",
+    '"\u0080"', '"\t\u0080"', "é@", "日本語", "e\u0301", "\u0301"]
+WIDE_DOMAINS = ["b", "b.c", "[1.2.3.4]", "[IPv6:::]", "[b:c]", "b_c", "[b:é]", "[é:b]", "[é]", "-b", "xn--a", "",
+                "xn--bcher-kva", "xn--bcher-kvb"]
+
+
 def idn_mail_rows(texts_of_ascii):
+    """The rows of internationalised mail addresses, with the texts that are tried as mail addresses too."""
     yield "internationalised mail addresses: RFC 6531, section 3.3"
     yield texts("idn-email", [text for text in texts_of_ascii if text.isascii()], is_mailbox)
-    wide = ["é", "aé", "éa", "é.a", "a.é", "é.é", ".é", "é.", "é..é", '"é"', '"\\é"', '"é\\"', '"\\\\é"', '"é\\""', '"é', 'é"', "é é", '"é é"', "é(a)", "\u0080",
-            "\u00a0", "\u07ff", "\u0800", "\uffff", "\U00010000", "\U0010ffff", "\u007fé", '"\u0080"', '"\t\u0080"', "é@", "日本語", "e\u0301", "\u0301"]
-    domains = ["b", "b.c", "[1.2.3.4]", "[IPv6:::]", "[b:c]", "b_c", "[b:é]", "[é:b]", "[é]", "-b", "xn--a", "", "xn--bcher-kva", "xn--bcher-kvb"]
-    yield texts("idn-email", [f"{local}@{domain}" for local in wide for domain in domains], is_idn_mailbox)
+    both = [f"{local}@{domain}" for local in WIDE_LOCAL_PARTS for domain in WIDE_DOMAINS]
+    yield texts("idn-email", both, is_idn_mailbox)
     for part, octets in (("é", 2), ("日", 3), ("\U0001d400", 4)):
         yield counts("idn-email", part, 1, 64 // octets, 40, [["", "@b"]])
         yield counts("idn-email", part, 0, 62 // octets, 40, [['"', '"@b']])
     yield texts("idn-email", [f"a@{label}" for label in wide_labels(5, 63)], lambda text: True)
-    yield texts("idn-email", [f"a@{label}" for label in wide_labels(64, 70)], lambda text: False)
+    yield texts("idn-email", [f"a@{label}" for label in wide_labels(64, 70)], never)
     rest = ".".join(["a" * 63] * 3)
-    yield texts("idn-email", [f"a@é.{rest}.{'a' * size}" for size in range(1, 64)], lambda text: len(text.encode()) <= 257)
+    long_domains = [f"a@é.{rest}.{'a' * size}" for size in range(1, 64)]
+    yield texts("idn-email", long_domains, lambda text: len(text.encode()) <= 257)
+
+
+LOCAL_PARTS = [
+    "a", "a.b", "a..b", ".a", "a.", "", '""', '"a"', '" "', '"\\""', '"\\\\"', '"\\"', '"a"b', 'a"b"', '"a".b', "a\\@b",
+    '"\u007f"', '"\\\u007f"', '"\t"', '"\\~"', '"\\ "', "!#$%&'*+-/=?^_`{|}~", "a b", "(a)", "a,b", '"a\n"', '"a']
+DOMAINS = ["b", "b.c", "b-c", "b_c", "-b", "b-", "b.", ".b", "b..c", "1", "1.2.3.4", "[1.2.3.4]", "[01.002.000.255]",
+           "[1.2.3.256]", "[1.2.3.300]", "[1.2.3]", "[1.2.3.4", "1.2.3.4]", "[IPv6:::]", "[ipv6:1::2]",
+           "[IPv6:1:2:3:4:5:6:7::]", "[b:c]", "[b-:c]", "[-b:c]", "[b:]", "[:c]", "[]", "[b:[c]", "[b:c\\]", "[b:c d]",
+           "xn--a", "\u00e9", BYTE_ORDER_MARK]
 
 
 def mail_rows():
+    """The rows of mail addresses."""
     yield "local parts and domains of each kind, each with each other"
-    local_parts = ["a", "a.b", "a..b", ".a", "a.", "", '""', '"a"', '" "', '"\\""', '"\\\\"', '"\\"', '"a"b', 'a"b"', '"a".b', "a\\@b", '"\u007f"',
-                   '"\\\u007f"', '"\t"', '"\\~"', '"\\ "', "!#$%&'*+-/=?^_`{|}~", "a b", "(a)", "a,b", '"a\n"', '"a']
-    domains = ["b", "b.c", "b-c", "b_c", "-b", "b-", "b.", ".b", "b..c", "1", "1.2.3.4", "[1.2.3.4]", "[01.002.000.255]", "[1.2.3.256]",
-               "[1.2.3.300]", "[1.2.3]", "[1.2.3.4", "1.2.3.4]", "[IPv6:::]", "[ipv6:1::2]", "[IPv6:1:2:3:4:5:6:7::]", "[b:c]", "[b-:c]",
-               "[-b:c]", "[b:]", "[:c]", "[]", "[b:[c]", "[b:c\\]", "[b:c d]", "xn--a", "\u00e9", BYTE_ORDER_MARK]
-    both = [f"{local}@{domain}" for local in local_parts for domain in domains]
+    both = [f"{local}@{domain}" for local in LOCAL_PARTS for domain in DOMAINS]
     yield texts("email", both, is_mailbox)
     yield "IPv6 addresses: so many groups before `::` and behind it, and an IPv4 address at the end"
     yield texts("email", [f"a@[IPv6:{address}]" for address in addresses_of_six()], is_mailbox)
     yield texts("email", [f"a@[{address}]" for address in addresses_of_four()], is_mailbox)
     yield "lengths to 1,000"
-    for part, before, behind, most in (("a", "", "@b", 64), ("a", '"', '"@b', 62), ("a", "a@", "", 63), ("a", "a@b.", ".c", 63)):
-        yield counts("email", part, 0 if before == '"' else 1, most, 1001, [[before, behind]])
+    yield counts("email", "a", 1, 64, 1001, [["", "@b"]])
+    yield counts("email", "a", 0, 62, 1001, [['"', '"@b']])
+    yield counts("email", "a", 1, 63, 1001, [["a@", ""]])
+    yield counts("email", "a", 1, 63, 1001, [["a@b.", ".c"]])
     yield texts("email", [f"{local}@b" for local in ("a", "a" * 63, "a" * 64, "a" * 65, "a" * 999)], is_mailbox)
-    yield texts("email", [f"a@{labels_to_a_length(length, size)}" for length in (253, 254, 255, 256, 257, 511, 512) for size in (1, 7, 63, 64)],
-                is_mailbox)
+    lengths, sizes = (253, 254, 255, 256, 257, 511, 512), (1, 7, 63, 64)
+    domains = [labels_to_a_length(length, size) for length in lengths for size in sizes]
+    yield texts("email", [f"a@{domain}" for domain in domains], is_mailbox)
     yield texts("email", [f"a@[b:{'c' * rest}]" for rest in (1, 250, 251, 252, 253, 508, 1000)], is_mailbox)
     yield texts("email", around("a@b") + around('"a"@[1.2.3.4]'), is_mailbox)
     yield from idn_mail_rows(both)
@@ -355,13 +455,14 @@ def mail_rows():
 
 # URIs: RFC 3986, appendix A; IRIs: RFC 3987, section 2.2, with its classes of characters past ASCII.
 
-UCS_RANGES = [(0xA0, 0xD7FF), (0xF900, 0xFDCF), (0xFDF0, 0xFFEF)] + [(plane * 0x10000 + (0x1000 if plane == 14 else 0), plane * 0x10000 + 0xFFFD)
-                                                                for plane in range(1, 15)]
+ASTRAL_RANGES = [(plane * 0x10000 + (0x1000 if plane == 14 else 0), plane * 0x10000 + 0xFFFD) for plane in range(1, 15)]
+UCS_RANGES = [(0xA0, 0xD7FF), (0xF900, 0xFDCF), (0xFDF0, 0xFFEF)] + ASTRAL_RANGES
 PRIVATE_RANGES = [(0xE000, 0xF8FF), (0xF0000, 0xFFFFD), (0x100000, 0x10FFFD)]
 SUB_DELIMS = "!$&'()*+,;="
 
 
 def in_class(ranges):
+    """The ranges as they stand in a class of a pattern."""
     return "".join(f"\\U{low:08x}-\\U{high:08x}" for low, high in ranges)
 
 
@@ -385,15 +486,18 @@ def uri_rules(is_iri):
     return whole(with_scheme), whole(f"(?:{with_scheme})|(?:{relative})")
 
 
-URI_RULES = dict(zip(("uri", "uri-reference"), uri_rules(False))) | dict(zip(("iri", "iri-reference"), uri_rules(True)))
+URI_RULES = dict(zip(("uri", "uri-reference", "iri", "iri-reference"), (*uri_rules(False), *uri_rules(True))))
 
 
 def parts_of_uris():
     """Each part empty and not, with colons, ats and brackets: the parts that change are told by turns."""
-    users = ["", "@", "a@", ":@", "a:@", ":b@", "::@", "a:b:c@", "%41:@", "a@b@", "a:'@", "\u00e9:\u00a0@", "a:\ue000@", "%4:@", "[@"]
-    hosts = ["", "h", "[::1]", "1.2.3.4", "[v1.a:b]", "[V0F.']", "[1.2.3.4]", "[::1%25a]", "h%2e", "\u00e9", "a[b]", "256.1.1.1", "[]"]
+    users = ["", "@", "a@", ":@", "a:@", ":b@", "::@", "a:b:c@", "%41:@", "a@b@", "a:'@", "\u00e9:\u00a0@",
+             "a:\ue000@", "%4:@", "[@"]
+    hosts = ["", "h", "[::1]", "1.2.3.4", "[v1.a:b]", "[V0F.']", "[1.2.3.4]", "[::1%25a]", "h%2e", "\u00e9", "a[b]",
+             "256.1.1.1", "[]"]
     ports = ["", ":", ":0", ":8", ":65535", ":65536", ":9999999", ":a", ":8a", ":8:9", ":-1", ":٣"]
-    tails = ["", "/", "//", "/a//b", "/:", "?", "??", "?a/?", "#", "?#", "#?", "##", "/a?b#c", "?\ue000", "#\ue000", "/\ue000", "/%", "/%4"]
+    tails = ["", "/", "//", "/a//b", "/:", "?", "??", "?a/?", "#", "?#", "#?", "##", "/a?b#c", "?\ue000", "#\ue000",
+             "/\ue000", "/%", "/%4"]
     for heads in ("a://", "//", "a+-.1://", "1a://", "a:///", "///"):
         for user, host, port in itertools.product(users, hosts, ports[:4]):
             yield f"{heads}{user}{host}{port}"
@@ -402,7 +506,9 @@ def parts_of_uris():
 
 
 def paths_of_uris():
-    segments = ["", "a", ":", "@", "a:b", "%3A", "'", "\u00e9", "\ue000", "[", "%g", ".", "..", "1", "+", "\\", "|", BYTE_ORDER_MARK]
+    """Two segments of each kind, with a slash between them or none, behind each beginning of a URI."""
+    segments = ["", "a", ":", "@", "a:b", "%3A", "'", "\u00e9", "\ue000", "[", "%g", ".", "..", "1", "+", "\\", "|",
+                BYTE_ORDER_MARK]
     for one, other in itertools.product(segments, repeat=2):
         for head in ("", "/", "a:", "a:/", "./", "?", "#"):
             yield f"{head}{one}/{other}"
@@ -411,49 +517,71 @@ def paths_of_uris():
 
 def ends(ranges):
     """The ends of ranges, and the characters beside them."""
-    near = {at + step for low, high in ranges for at in (low, high) for step in (-1, 0, 1)}
-    return "".join(chr(at) for at in sorted(near) if at < 0xD800 or 0xDFFF < at <= 0x10FFFF)
+    beside = {at + step for low, high in ranges for at in (low, high) for step in (-1, 0, 1)}
+    return "".join(chr(at) for at in sorted(beside) if at < 0xD800 or 0xDFFF < at <= 0x10FFFF)
 
 
 URI_PLACES = {
-    "iri": [["a://", "b@c"], ["a://b:", "c@d"], ["a://b", ""], ["a://", ":8"], ["a://b@", "/"], ["a://b/", "c"], ["a:/", ""], ["a:", ""],
-            ["a:b", "/c"], ["a:?", ""], ["a:?b", "#"], ["a:#", ""], ["a:#b", "c"], ["a://[v1.", "]"], ["a", ":b"], ["a://b:8", ""]],
-    "iri-reference": [["//", "b@c"], ["//b:", "c@d"], ["//", ""], ["//b@", ":8"], ["/", ""], ["//b/c/", ""], ["", ""], ["b", "/c"], ["b/", ""],
-                      ["?", ""], ["?b", "#c"], ["#", ""], ["#b", ""], ["b/c:", ""], ["a:?b", ""]],
+    "iri": [["a://", "b@c"], ["a://b:", "c@d"], ["a://b", ""], ["a://", ":8"], ["a://b@", "/"], ["a://b/", "c"],
+            ["a:/", ""], ["a:", ""], ["a:b", "/c"], ["a:?", ""], ["a:?b", "#"], ["a:#", ""], ["a:#b", "c"],
+            ["a://[v1.", "]"], ["a", ":b"], ["a://b:8", ""]],
+    "iri-reference": [["//", "b@c"], ["//b:", "c@d"], ["//", ""], ["//b@", ":8"], ["/", ""], ["//b/c/", ""], ["", ""],
+                      ["b", "/c"], ["b/", ""], ["?", ""], ["?b", "#c"], ["#", ""], ["#b", ""], ["b/c:", ""],
+                      ["a:?b", ""]],
 }
 
 
-def uri_rows():
-    yield "URIs, IRIs and their references: empty parts, userinfos with colons, ports, and what follows (RFC 3986, appendix A; RFC 3987, section 2.2)"
-    authorities, paths = list(parts_of_uris()), list(paths_of_uris())
-    for of, step in (("uri", 0), ("uri-reference", 1), ("iri", 2), ("iri-reference", 3)):
-        yield texts(of, authorities[step::4] + paths[step::4], URI_RULES[of])
+def accepted_between(is_right, tried, before, behind):
+    """The characters that make a right text between the two others."""
+    return "".join(character for character in tried if is_right(before + character + behind))
+
+
+def uri_character_rows():
+    """Characters at each place of a URI, those past ASCII and all of ASCII."""
     yield "the ends of each range of characters past ASCII, and one off each end, at each place"
     tried = ends(UCS_RANGES + PRIVATE_RANGES)
     for of, places in URI_PLACES.items():
-        for before, after in places:
-            accepted = "".join(c for c in tried if URI_RULES[of](before + c + after))
-            yield characters(of, accepted, [[before, after]], tried)
-            yield characters(of.replace("iri", "uri"), "", [[before, after]], tried)
-            accepted = "".join(c for c in ASCII if URI_RULES[of](before + c + after))
-            yield characters(of, accepted, [[before, after]])
-            yield characters(of.replace("iri", "uri"), accepted, [[before, after]])
+        of_uri = of.replace("iri", "uri")
+        for before, behind in places:
+            accepted = accepted_between(URI_RULES[of], tried, before, behind)
+            yield characters(of, accepted, [[before, behind]], tried)
+            yield characters(of_uri, "", [[before, behind]], tried)
+            accepted = accepted_between(URI_RULES[of], ASCII, before, behind)
+            yield characters(of, accepted, [[before, behind]])
+            yield characters(of_uri, accepted, [[before, behind]])
     yield "the same in texts that are read by blocks"
     filled = "a" * 60
     for of, places in URI_PLACES.items():
-        for before, after in places[:13]:
-            before = before + filled
-            accepted = "".join(c for c in ASCII if URI_RULES[of](before + c + filled + after))
-            yield characters(of.replace("iri", "uri"), accepted, [[before, filled + after]])
+        for before, behind in places[:13]:
+            accepted = accepted_between(URI_RULES[of], ASCII, before + filled, filled + behind)
+            yield characters(of.replace("iri", "uri"), accepted, [[before + filled, filled + behind]])
+
+
+def uri_length_rows():
+    """Long parts of URIs, and escapes at each place of a block."""
     yield "lengths to 1,000: schemes, ports, userinfos, hosts, paths, queries and fragments"
-    for before, after in (["a", ":"], ["a://b:1", ""], ["a://", "@b"], ["a://b:", "@c"], ["a://", ""], ["a:/", ""], ["a:?", ""], ["a:#", ""], ["a://[v1.a", "]"]):
-        for of in ("uri", "iri"):
-            yield counts(of, "1", 0, 1000, 1001, [[before, after]])
+    places = (["a", ":"], ["a://b:1", ""], ["a://", "@b"], ["a://b:", "@c"], ["a://", ""], ["a:/", ""], ["a:?", ""],
+              ["a:#", ""], ["a://[v1.a", "]"])
+    for place, of in itertools.product(places, ("uri", "iri")):
+        yield counts(of, "1", 0, 1000, 1001, [place])
     yield "an escape at each place of a block, whole and broken"
+    whole_ones = [["/", "%4a"], ["/", "%4a" + "a" * 40], ["?", "%Fa"], ["#", "%fF"], ["//", "%00@b"]]
     for of in ("uri-reference", "iri-reference"):
         for escape in ("%4", "%", "%4g", "%g4", "%%41"):
-            yield counts(of, "a", 1, 0, 100, [["/", escape], ["/", escape + "g" * 40], ["?", escape], ["#", escape], ["//", escape + "@b"]])
-        yield counts(of, "a", 0, 99, 100, [["/", "%4a"], ["/", "%4a" + "a" * 40], ["?", "%Fa"], ["#", "%fF"], ["//", "%00@b"]])
+            broken = [["/", escape], ["/", escape + "g" * 40], ["?", escape], ["#", escape], ["//", escape + "@b"]]
+            yield counts(of, "a", 1, 0, 100, broken)
+        yield counts(of, "a", 0, 99, 100, whole_ones)
+
+
+def uri_rows():
+    """The rows of URIs, IRIs, their references, templates and pointers."""
+    yield ("URIs, IRIs and their references: empty parts, userinfos with colons, ports, and what follows "
+           "(RFC 3986, appendix A; RFC 3987, section 2.2)")
+    authorities, paths = list(parts_of_uris()), list(paths_of_uris())
+    for step, of in enumerate(("uri", "uri-reference", "iri", "iri-reference")):
+        yield texts(of, authorities[step::4] + paths[step::4], URI_RULES[of])
+    yield from uri_character_rows()
+    yield from uri_length_rows()
     yield from template_rows()
     yield from pointer_rows()
 
@@ -467,25 +595,30 @@ TEMPLATE = rf"(?:[!#$&'()*+,\-./0-9:;=?@A-Z\[\]_a-z~\u0080-\U0010ffff]|%[0-9A-Fa
 
 
 def templates():
-    names = ["a", "A_9", "a.b", "a..b", ".a", "a.", "", "%41", "%4", "a%41.b", "é", "a-b", "a b", "＿", "a.%41", "%41.", "*", "a" * 300]
-    modifiers = ["", "*", "**", ":1", ":9", ":10", ":9999", ":10000", ":12345", ":0", ":01", ":", ":a", ":1*", "*:1", ":1:2", ":٣"]
-    for operator, name in itertools.product(["", *"+#./;?&=,!@|", *"$^-_~()[]<>'\"%:*\\{}0", "++", "#+", "é"], ["a", "a,b", "", "a*", "a:3,b*"]):
+    """Each operator and what is none, names with modifiers, and braces in each order."""
+    names = ["a", "A_9", "a.b", "a..b", ".a", "a.", "", "%41", "%4", "a%41.b", "é", "a-b", "a b", "＿", "a.%41", "%41.",
+             "*", "a" * 300]
+    modifiers = ["", "*", "**", ":1", ":9", ":10", ":9999", ":10000", ":12345", ":0", ":01", ":", ":a", ":1*", "*:1",
+                 ":1:2", ":٣"]
+    operators = ["", *"+#./;?&=,!@|", *"$^-_~()[]<>'\"%:*\\{}0", "++", "#+", "é"]
+    for operator, name in itertools.product(operators, ["a", "a,b", "", "a*", "a:3,b*"]):
         yield f"{{{operator}{name}}}"
     for name, modifier in itertools.product(names, modifiers):
         yield from (f"{{{name}{modifier}}}", f"{{?b,{name}{modifier}}}", f"{{{name}{modifier},b:3}}")
-    for text in ("{a}{b}", "{a}}", "{{a}}", "{a", "a}", "{a{b}}", "x{a}y%20{+b}", "{a},{b}", "{a,,b}", "{,a,}", "{a\n}", "%", "%4", "%4g", "\ufeff{a}", "'"):
-        yield text
+    yield from ("{a}{b}", "{a}}", "{{a}}", "{a", "a}", "{a{b}}", "x{a}y%20{+b}", "{a},{b}", "{a,,b}", "{,a,}", "{a\n}")
+    yield from ("%", "%4", "%4g", "\ufeff{a}", "'")
 
 
 def template_rows():
+    """The rows of URI templates."""
     yield "templates: each operator, names and modifiers (RFC 6570, section 2)"
-    yield texts("uri-template", templates(), whole(TEMPLATE))
+    is_template = whole(TEMPLATE)
+    yield texts("uri-template", templates(), is_template)
     wide = ends(UCS_RANGES + PRIVATE_RANGES)
-    for before, after in (["", ""], ["a", "b"], ["{a}", "{b}"], ["{", "}"], ["{a", "}"], ["{a.", "}"], ["{a:", "}"], ["{a,", "}"]):
-        is_template = whole(TEMPLATE)
-        for tried in (ASCII, wide):
-            accepted = "".join(c for c in tried if is_template(before + c + after))
-            yield characters("uri-template", accepted, [[before, after]], tried)
+    places = (["", ""], ["a", "b"], ["{a}", "{b}"], ["{", "}"], ["{a", "}"], ["{a.", "}"], ["{a:", "}"], ["{a,", "}"])
+    for (before, behind), tried in itertools.product(places, (ASCII, wide)):
+        accepted = accepted_between(is_template, tried, before, behind)
+        yield characters("uri-template", accepted, [[before, behind]], tried)
     yield counts("uri-template", "9", 1, 4, 1001, [["{a:", "}"]])
     yield counts("uri-template", "9", 0, 1000, 1001, [["{a", "}"], ["{a,b", "*}"], ["", "{a}"]])
 
@@ -496,34 +629,42 @@ POINTER = r"(?:/(?:[^/~]|~[01])*)*"
 
 
 def pointers():
-    tokens = ["", "a", "~0", "~1", "~2", "~", "~~", "~0~1", "~01", "~ ", "~é", "é", "%7e", "\n", "\u0000", BYTE_ORDER_MARK, "#", "0", "a~", "\U0010ffff"]
+    """Two tokens of each kind, and escapes before and behind many letters."""
+    tokens = ["", "a", "~0", "~1", "~2", "~", "~~", "~0~1", "~01", "~ ", "~é", "é", "%7e", "\n", "\u0000",
+              BYTE_ORDER_MARK, "#", "0", "a~", "\U0010ffff"]
     for one, other in itertools.product(tokens, repeat=2):
         yield from (f"/{one}/{other}", f"/{one}{other}", f"{one}/{other}")
     for many in (1, 30, 31, 32, 33, 40, 41, 63, 64, 65, 699, 700, 701, 990):
-        yield from (f"/{'a' * many}~0", f"/{'a' * many}~2", f"/~0{'a' * many}", f"/~2{'a' * many}", f"/~{'a' * many}", f"{'/a' * many}~1", f"{'/~0' * many}")
+        letters = "a" * many
+        yield from (f"/{letters}~0", f"/{letters}~2", f"/~0{letters}", f"/~2{letters}", f"/~{letters}")
+        yield from (f"{'/a' * many}~1", f"{'/~0' * many}")
 
 
 def pointer_rows():
+    """The rows of JSON pointers and of relative ones."""
     yield "JSON pointers (RFC 6901, section 3) and relative ones"
     all_pointers = list(pointers())
     yield texts("json-pointer", all_pointers, whole(f"(?s:{POINTER})"))
-    heads = ["0", "1", "9", "10", "19", "90", "00", "01", "-1", "+1", "", " 1", "1a", "٣", "1" * 20, "9" * 21, "1" * 300, "0" * 300]
+    heads = ["0", "1", "9", "10", "19", "90", "00", "01", "-1", "+1", "", " 1", "1a", "٣", "1" * 20, "9" * 21,
+             "1" * 300, "0" * 300]
     bodies = ["", "#", "/", "/a", "/~0", "/~2", "##", "#/", "/#", "a", "-1", "+1", "+1/a", "\n", BYTE_ORDER_MARK]
-    yield texts("relative-json-pointer", [head + body for head in heads for body in bodies] + [f"1{text}" for text in all_pointers[::9]],
-                whole(rf"(?s:(?:0|[1-9][0-9]*)(?:#|{POINTER}))"))
+    relative = [head + body for head in heads for body in bodies] + [f"1{text}" for text in all_pointers[::9]]
+    yield texts("relative-json-pointer", relative, whole(rf"(?s:(?:0|[1-9][0-9]*)(?:#|{POINTER}))"))
     yield counts("json-pointer", "a", 0, 1000, 1001, [["/", ""], ["/~0", "~1"], ["/b/", ""]])
     yield counts("relative-json-pointer", "9", 1, 1000, 1001, [["", ""], ["", "#"], ["", "/a"]])
 
 
 # Encodings: RFC 4648, by Python's own encoders.
 
-ENCODERS = {"base64": (base64.b64encode, 4), "base64url": (base64.urlsafe_b64encode, 4), "base32": (base64.b32encode, 8),
-            "base32hex": (base64.b32hexencode, 8), "base16": (base64.b16encode, 2)}
+# Each encoder, with how many characters a block of its codes has.
+ENCODERS = {"base64": (base64.b64encode, 4), "base64url": (base64.urlsafe_b64encode, 4),
+            "base32": (base64.b32encode, 8), "base32hex": (base64.b32hexencode, 8), "base16": (base64.b16encode, 2)}
 ALPHABETS = {"base64": LETTERS + DIGITS + "+/", "base64url": LETTERS + DIGITS + "-_", "base32": LETTERS[:26] + "234567",
              "base32hex": DIGITS + LETTERS[:22], "base16": DIGITS + "ABCDEF"}
 
 
 def samples():
+    """Bytes of each length to eleven: of many values, all ones, all zeros, and UTF-8."""
     for length in range(12):
         yield bytes((0xFB * (at + 1) + 0x3F * at) % 256 for at in range(length))
         yield b"\xff" * length
@@ -531,18 +672,24 @@ def samples():
         yield ("a~é?>"[:length] * 3).encode()[:length]
 
 
+def beside_code(of, text):
+    """Texts that are one step from a right code: paddings, a last letter, and what stands around it."""
+    letters = text.rstrip("=")
+    yield from (letters + "=" * pads for pads in range(9))
+    yield from (letters[:-1] + "=" * pads for pads in range(8))
+    yield from around(text)
+    if letters and of != "base16":
+        if len(letters) < 14:
+            yield from (letters[:-1] + other + text[len(letters):] for other in ALPHABETS[of])
+        yield from (text + text, "=" + text, text[:2] + "=" + text[2:], text.swapcase())
+
+
 def codes_of(of):
     """Right codes and what is one step from them, with the bytes that a right one encodes."""
     encode, _ = ENCODERS[of]
-    right = {encode(sample).decode(): sample for sample in samples()}
-    found = {text: sample.hex() for text, sample in right.items()}
-    for text, sample in right.items():
-        letters = text.rstrip("=")
-        candidates = [letters + "=" * pads for pads in range(9)] + [letters[:-1] + "=" * pads for pads in range(8)] + around(text)
-        if letters and of != "base16":
-            candidates += [letters[:-1] + other + text[len(letters):] for other in ALPHABETS[of]] if len(letters) < 14 else []
-            candidates += [text + text, "=" + text, text[:2] + "=" + text[2:], text.swapcase()]
-        for other in candidates:
+    found = {encode(sample).decode(): sample.hex() for sample in samples()}
+    for text in list(found):
+        for other in beside_code(of, text):
             found.setdefault(other, by_trial(of, other))
     return [[text, digits] for text, digits in sorted(found.items())]
 
@@ -568,12 +715,14 @@ def by_trial(of, text):
 
 def single_bytes():
     """One byte that is not zero, at each place of up to six."""
+    values = (1, 2, 3, 4, 7, 8, 15, 16, 31, 32, 63, 64, 65, 127, 128, 129, 191, 192, 254)
     for length in range(1, 7):
-        for place, value in itertools.product(range(length), (1, 2, 3, 4, 7, 8, 15, 16, 31, 32, 63, 64, 65, 127, 128, 129, 191, 192, 254)):
+        for place, value in itertools.product(range(length), values):
             yield bytes([*[0] * place, value, *[0] * (length - place - 1)])
 
 
 def coding_rows():
+    """The rows of encodings."""
     yield "texts of each length, with each padding and each rest of bits: RFC 4648, sections 3.2, 3.5 and 4 to 8"
     for of in ENCODERS:
         rows = codes_of(of)
@@ -587,39 +736,58 @@ def coding_rows():
 # Literal patterns: what `RegExp` of ECMA-262 means by them.
 
 WHITE_SPACE = "\t\n\u000b\u000c\r \u00a0\u1680" + span(0x2000, 0x200A) + "\u2028\u2029\u202f\u205f\u3000\ufeff"
-NO_WHITE_SPACE = "\u0000\u0008\u000e\u001c\u001f!\u0085\u009f\u00a1\u180e\u167f\u1681\u1fff\u200b\u2027\u202a\u202e\u2030\u205e\u2060\u2fff\u3001\ufefe\uff00"
+NO_WHITE_SPACE = ("\u0000\u0008\u000e\u001c\u001f!\u0085\u009f\u00a1\u180e\u167f\u1681\u1fff\u200b\u2027\u202a\u202e"
+                  "\u2030\u205e\u2060\u2fff\u3001\ufefe\uff00")
+ANALYSES = [
+    ["^\n", "none"], ["^a\n", "none"], ["^a\n$", "none"], ["^a$\n", "none"], ["\n^a$", "none"], ["^(a|b)$\n", "none"],
+    ["^(a\n|b)$", "none"], ["^\\S*$\n", "none"], ["^\\s*$", "none"], ["^\\S*", "none"], ["\\S*$", "none"],
+    ["^\\S+$", "none"], ["^\\\n$", "none"], ["^a\r", "none"], ["^aB", "prefix aB"], ["^aB$", "exact aB"],
+    ["^(aB|Ab)$", "alternation Ab·aB"], ["^AZaz09$", "exact AZaz09"], ["^Ref$", "exact Ref"], ["\ufeff^a$", "none"],
+    ["^\ufeffa$", "none"], ["^a$\ufeff", "none"], ["^a\u0000", "none"], ["^a\t", "none"], ["^a\u007f", "none"],
+    ["^a\u2028$", "none"], ["^é$", "none"], ["^`$", "none"], ["^\\`$", "none"], ["^\\n$", "none"], ["^\\A$", "none"],
+    ["^a$$", "none"], ["^^a$", "none"], ["^()$", "none"], ["^(a)", "none"], ["^(a|)$", "none"], ["^(|a)$", "none"],
+    ["^(a)$a", "none"], ["^(a$", "none"], ["^a)$", "none"], ["^(?:a)$", "none"], ["^(a|(b))$", "none"],
+    ["^(a|b$)", "none"], ["^\\(a\\)$", "exact (a)"], ["^a|b$", "none"], ["^a\\|b$", "exact a|b"]]
+
+
+def literal_rows():
+    """What whole literals and prefixes match, and what they do not."""
+    for pattern, literal in (("^ab$", "ab"), ("^aB\\.c$", "aB.c"), ("^a b$", "a b")):
+        other_case = literal.lower() if literal != literal.lower() else literal.swapcase()
+        spoilt = [literal.upper(), other_case, literal[:-1], literal[1:], literal * 2, "", literal + literal[-1]]
+        yield matches(pattern, [literal], around(literal) + spoilt)
+    for pattern, literal in (("^ab", "ab"), ("^x-", "x-"), ("^aB\\/", "aB/")):
+        others = around(literal)
+        begun = [text for text in others if text.startswith(literal)]
+        spoilt = [text for text in others if not text.startswith(literal)] + [literal[:-1], literal.upper(), ""]
+        yield matches(pattern, [literal, literal + "é", literal * 2] + begun, spoilt)
+    others = ["GET", "put", "PUT", "get\n", "\nget", "getPut", "get|Put", "", "ge", "ets", "a  b", "\ufeffget"]
+    yield matches("^(get|Put|a b)$", ["get", "Put", "a b"], others)
 
 
 def pattern_rows():
+    """The rows of literal patterns."""
     yield "literal patterns with line feeds, with both letter cases, and with a byte order mark"
-    yield analyses([["^\n", "none"], ["^a\n", "none"], ["^a\n$", "none"], ["^a$\n", "none"], ["\n^a$", "none"], ["^(a|b)$\n", "none"], ["^(a\n|b)$", "none"],
-                    ["^\\S*$\n", "none"], ["^\\s*$", "none"], ["^\\S*", "none"], ["\\S*$", "none"], ["^\\S+$", "none"], ["^\\\n$", "none"], ["^a\r", "none"],
-                    ["^aB", "prefix aB"], ["^aB$", "exact aB"], ["^(aB|Ab)$", "alternation Ab·aB"], ["^AZaz09$", "exact AZaz09"], ["^Ref$", "exact Ref"],
-                    ["\ufeff^a$", "none"], ["^\ufeffa$", "none"], ["^a$\ufeff", "none"], ["^a\u0000", "none"], ["^a\t", "none"], ["^a\u007f", "none"],
-                    ["^a\u2028$", "none"], ["^é$", "none"], ["^`$", "none"], ["^\\`$", "none"], ["^\\n$", "none"], ["^\\A$", "none"], ["^a$$", "none"], ["^^a$", "none"],
-                    ["^()$", "none"], ["^(a)", "none"], ["^(a|)$", "none"], ["^(|a)$", "none"], ["^(a)$a", "none"], ["^(a$", "none"], ["^a)$", "none"],
-                    ["^(?:a)$", "none"], ["^(a|(b))$", "none"], ["^(a|b$)", "none"], ["^\\(a\\)$", "exact (a)"], ["^a|b$", "none"], ["^a\\|b$", "exact a|b"]])
-    for pattern, literal in (("^ab$", "ab"), ("^aB\\.c$", "aB.c"), ("^a b$", "a b")):
-        yield matches(pattern, [literal], around(literal) + [literal.upper(), literal.lower() if literal != literal.lower() else literal.swapcase(),
-                                                         literal[:-1], literal[1:], literal * 2, "", literal + literal[-1]])
-    for pattern, literal in (("^ab", "ab"), ("^x-", "x-"), ("^aB\\/", "aB/")):
-        others = around(literal)
-        yield matches(pattern, [literal, literal + "é", literal * 2] + [text for text in others if text.startswith(literal)],
-                      [text for text in others if not text.startswith(literal)] + [literal[:-1], literal.upper() if literal != literal.upper() else "X-", ""])
-    yield matches("^(get|Put|a b)$", ["get", "Put", "a b"], ["GET", "put", "PUT", "get\n", "\nget", "getPut", "get|Put", "", "ge", "ets", "a  b", "\ufeffget"])
+    yield analyses(ANALYSES)
+    yield from literal_rows()
     yield "`^\\S*$` with a member of white space, or a character beside one, at each place of a block"
     for length in (0, 1, 31, 32, 33, 64):
-        at_places = [("a" * at, "a" * (length - at)) for at in sorted({0, 1, length // 2, length - 1, length}) if 0 <= at <= length]
-        yield matches("^\\S*$", [one + c + other for one, other in at_places for c in NO_WHITE_SPACE], [one + c + other for one, other in at_places for c in WHITE_SPACE])
+        places = [at for at in sorted({0, 1, length // 2, length - 1, length}) if 0 <= at <= length]
+        of_each = [[f"{'a' * at}{sign}{'a' * (length - at)}" for at in places for sign in signs]
+                   for signs in (NO_WHITE_SPACE, WHITE_SPACE)]
+        yield matches("^\\S*$", *of_each)
 
 
 # Labels and host names: RFC 5890 to 5892 as the crate's README says them.
 
-RIGHT_LABELS = ["xn--ll-0ea", "xn--9krt00a", "XN--11b2ezcw70k", "a", "b-c", "0", "xn-a", "x--n", "xn", "abc-d", "ab-cd", "xnn-ll-0ea", "xn-nll-0ea"]
-WRONG_LABELS = ["xn--a", "xn--l-fda", "xn--", "ab--c", "xn--vek", "a--b-", "a---b", "xn-", "-xn--ll-0ea", "0n--ll-0ea", "xn--ss", "xn--\u00e9", "-a", "a-", "", "xn---", "xm--a"]
+RIGHT_LABELS = ["xn--ll-0ea", "xn--9krt00a", "XN--11b2ezcw70k", "a", "b-c", "0", "xn-a", "x--n", "xn", "abc-d", "ab-cd",
+                "xnn-ll-0ea", "xn-nll-0ea"]
+WRONG_LABELS = ["xn--a", "xn--l-fda", "xn--", "ab--c", "xn--vek", "a--b-", "a---b", "xn-", "-xn--ll-0ea", "0n--ll-0ea",
+                "xn--ss", "xn--\u00e9", "-a", "a-", "", "xn---", "xm--a"]
 
 
 def is_right_label(label):
+    """Whether the label is one of the right ones."""
     return label in RIGHT_LABELS
 
 
@@ -638,7 +806,27 @@ def encoded_labels():
             yield "xn--" + ("a" * letters + text).encode("punycode").decode()
 
 
+def payload_rows():
+    """Texts of Punycode that encode nothing."""
+    yield ("what encodes nothing: characters past ASCII before the last hyphen and behind it, and other characters "
+           "than digits behind it")
+    forms = ("{}-", "{}-a", "{}-fda", "a{}b-kva", "a-{}", "{}", "fd{}a", "{0}{0}-aaa")
+    yield payloads([[*in_forms(forms, character), None] for character in "\u0080\u00e9\u00ff\u4e00\U0001f600"])
+    forms = ("a-{}", "a-a{}", "a-{}a", "l-f{}a")
+    yield payloads([[*in_forms(forms, character), None] for character in "\u0000 !./:@[`{~\u007f"])
+
+
+def digit_rows():
+    """Digits of both Arabic sets in a label."""
+    yield "digits of both Arabic sets, in either order and beside one another"
+    digits = [chr(at) for at in (0x660, 0x661, 0x669, 0x6F0, 0x6F1, 0x6F9)] + ["a", "\u0628"]
+    has_one, has_other = re.compile("[\u0660-\u0669]").search, re.compile("[\u06f0-\u06f9]").search
+    labels = words(digits, (1, 2, 3)) + words(digits[::2], (4,))
+    yield texts("label", labels, lambda text: not (has_one(text) and has_other(text)))
+
+
 def label_rows():
+    """The rows of Punycode, labels and host names, and of internationalised ones."""
     yield "`xn--` labels at each place of a host name, right and wrong, among others"
     names = {".".join(labels): all(map(is_right_label, labels)) for labels in names_of_labels()}
     yield texts("hostname", names, names.get)
@@ -647,41 +835,41 @@ def label_rows():
     yield counts("hostname", "1.", 0, 126, 501, [["", "a"]])
     yield counts("hostname", "xn--ll-0ea.", 0, 22, 91, [["", "a"]])
     yield texts("hostname", long_names(), whole(NAME))
-    yield texts("hostname", [place.format(label) for label in encoded_labels() for place in ("{}", "a.{}", "{}.b")],
-                lambda text: all(len(label) <= 63 for label in text.split(".")))
-    yield "what encodes nothing: characters past ASCII before the last hyphen and behind it, and other characters than digits behind it"
-    yield payloads([[*(form.format(c) for form in ("{}-", "{}-a", "{}-fda", "a{}b-kva", "a-{}", "{}", "fd{}a", "{0}{0}-aaa")), None] for c in "\u0080\u00e9\u00ff\u4e00\U0001f600"])
-    yield payloads([[*(form.format(c) for form in ("a-{}", "a-a{}", "a-{}a", "l-f{}a")), None] for c in "\u0000 !./:@[`{~\u007f"])
-    yield "digits of both Arabic sets, in either order and beside one another"
-    digits = [chr(at) for at in (0x660, 0x661, 0x669, 0x6F0, 0x6F1, 0x6F9)] + ["a", "\u0628"]
-    yield texts("label", ["".join(some_digits) for size in (1, 2, 3, 4) for some_digits in itertools.product(digits[::1 if size < 4 else 2], repeat=size)],
-                lambda text: not (re.search("[\u0660-\u0669]", text) and re.search("[\u06f0-\u06f9]", text)))
+    names = in_forms(("{}", "a.{}", "{}.b"), encoded_labels())
+    yield texts("hostname", names, lambda text: all(len(label) <= 63 for label in text.split(".")))
+    yield from payload_rows()
+    yield from digit_rows()
     yield from code_point_rows()
     yield from idn_rows()
 
 
-# Characters that are admitted in Unicode 18 and were not assigned in Unicode 14, by the first edition that has them of 15.0,
-# 15.1, 17.0 and 18.0. Python 3.12 and 3.13 and Node 20.20.2 have the first three; the last is that of the toolchain alone.
+# Characters that are admitted in Unicode 18 and were not assigned in Unicode 14, by the first edition that has them of
+# 15.0, 15.1, 17.0 and 18.0. Python 3.12 and 3.13 and Node 20.20.2 have the first three; the last is that of the
+# toolchain alone.
 ADDED = {
-    "18.0": "558 58B-58C 5C8-5C9 B53-B54 1ADE-1ADF 1AEC-1AF0 208F 209D-209F A7DD A7E2 AB6C-AB6D 107BB-107BF 10ECB-10ECF 10ED9-10EEE "
-            "10EF0-10EF9 11B0A 11DF0-11DF1 18CD6-18CDA 18D1F-18D20 18E00-19191 191A0-191D2 1B123-1B128 1B168 1D127-1D128 "
-            "1D250-1D252 1D25B-1D25C 1D25F 1D280-1D281 1D6A6 1DF1F-1DF24 1DF2B-1DF81 1DF90-1DF96 1DFCD-1DFFF 2B81E 3D000-3FC3F ",
-    "17.0": "88F 897 C5C CDC 1ACF-1ADD 1AE0-1AEB 1C89-1C8A A7CB-A7CF A7D2 A7D4 A7DA-A7DC A7F1 105C0-105F3 10940-10959 10D40-10D65 "
-            "10D69-10D6D 10D6F-10D85 10EC2-10EC7 10EFA-10EFC 11380-11389 1138B 1138E 11390-113B5 113B7-113C0 113C2 113C5 "
-            "113C7-113CA 113CC-113D3 113E1-113E2 116D0-116E3 11B60-11B67 11BC0-11BE0 11BF0-11BF9 11DB0-11DDB 11DE0-11DE9 11F5A "
-            "13460-143FA 16100-16139 16D40-16D6C 16D70-16D79 16EA0-16EB8 16EBB-16ED3 16FF2-16FF3 187F8-187FF 18CFF 18D09-18D1E "
-            "18D80-18DF2 1CCF0-1CCF9 1E5D0-1E5FA 1E6C0-1E6DE 1E6E0-1E6F5 1E6FE-1E6FF 2B73A-2B73F 2CEA2-2CEAD 323B0-33479 ",
-    "15.0": "CF3 ECE 10EFD-10EFF 1123F-11241 11F00-11F10 11F12-11F3A 11F3E-11F42 11F50-11F59 1342F 13440-13455 1B132 1B155 "
-            "1DF25-1DF2A 1E030-1E06D 1E08F 1E4D0-1E4F9 2B739 31350-323AF ",
-    "15.1": "2EBF0-2EE5D ",
+    "18.0":
+        "558 58B-58C 5C8-5C9 B53-B54 1ADE-1ADF 1AEC-1AF0 208F 209D-209F A7DD A7E2 AB6C-AB6D 107BB-107BF 10ECB-10ECF "
+        "10ED9-10EEE 10EF0-10EF9 11B0A 11DF0-11DF1 18CD6-18CDA 18D1F-18D20 18E00-19191 191A0-191D2 1B123-1B128 1B168 "
+        "1D127-1D128 1D250-1D252 1D25B-1D25C 1D25F 1D280-1D281 1D6A6 1DF1F-1DF24 1DF2B-1DF81 1DF90-1DF96 1DFCD-1DFFF "
+        "2B81E 3D000-3FC3F",
+    "17.0":
+        "88F 897 C5C CDC 1ACF-1ADD 1AE0-1AEB 1C89-1C8A A7CB-A7CF A7D2 A7D4 A7DA-A7DC A7F1 105C0-105F3 10940-10959 "
+        "10D40-10D65 10D69-10D6D 10D6F-10D85 10EC2-10EC7 10EFA-10EFC 11380-11389 1138B 1138E 11390-113B5 113B7-113C0 "
+        "113C2 113C5 113C7-113CA 113CC-113D3 113E1-113E2 116D0-116E3 11B60-11B67 11BC0-11BE0 11BF0-11BF9 11DB0-11DDB "
+        "11DE0-11DE9 11F5A 13460-143FA 16100-16139 16D40-16D6C 16D70-16D79 16EA0-16EB8 16EBB-16ED3 16FF2-16FF3 "
+        "187F8-187FF 18CFF 18D09-18D1E 18D80-18DF2 1CCF0-1CCF9 1E5D0-1E5FA 1E6C0-1E6DE 1E6E0-1E6F5 1E6FE-1E6FF "
+        "2B73A-2B73F 2CEA2-2CEAD 323B0-33479",
+    "15.0":
+        "CF3 ECE 10EFD-10EFF 1123F-11241 11F00-11F10 11F12-11F3A 11F3E-11F42 11F50-11F59 1342F 13440-13455 1B132 1B155 "
+        "1DF25-1DF2A 1E030-1E06D 1E08F 1E4D0-1E4F9 2B739 31350-323AF",
+    "15.1": "2EBF0-2EE5D",
 }
 # Marks among them.
 ADDED_MARKS = (
-    "5C8-5C9 897 B53-B54 CF3 ECE 1ACF-1AF0 10D69-10D6D 10ECB-10ECF 10EF0-10EFF 11241 113B8-113C0 113C2 113C5 113C7-113CA "
-    "113CC-113D0 113D2 113E1-113E2 11B60-11B67 11DF0 11F00-11F01 11F03 11F34-11F3A 11F3E-11F42 11F5A 13440 13447-13455 "
-    "1611E-1612F 1D127-1D128 1D250-1D252 1D25B-1D25C 1D25F 1D280-1D281 1E08F 1E4EC-1E4EF 1E5EE-1E5EF 1E6E3 1E6E6 "
-    "1E6EE-1E6EF 1E6F5 "
-)
+    "5C8-5C9 897 B53-B54 CF3 ECE 1ACF-1AF0 10D69-10D6D 10ECB-10ECF 10EF0-10EFF 11241 113B8-113C0 113C2 113C5 "
+    "113C7-113CA 113CC-113D0 113D2 113E1-113E2 11B60-11B67 11DF0 11F00-11F01 11F03 11F34-11F3A 11F3E-11F42 11F5A 13440 "
+    "13447-13455 1611E-1612F 1D127-1D128 1D250-1D252 1D25B-1D25C 1D25F 1D280-1D281 1E08F 1E4EC-1E4EF 1E5EE-1E5EF 1E6E3 "
+    "1E6E6 1E6EE-1E6EF 1E6F5")
 
 
 def points_of(ranges):
@@ -692,13 +880,16 @@ def points_of(ranges):
 
 ADDED_POINTS = set().union(*map(points_of, ADDED.values()))
 ADDED_MARK_POINTS = points_of(ADDED_MARKS)
+# Exceptions and contextual rules of RFC 5892 that no letter on both sides fulfils.
+NOT_BETWEEN_LETTERS = (0x640, 0x7FA, 0x302E, 0x302F, 0x303B, 0x30FB, 0xB7, 0x375, 0x5F3, 0x5F4, 0x200C, 0x200D,
+                       *range(0x3031, 0x3036))
 
 
 def is_admitted(point):
     """Whether a character may stand between two letters: RFC 5892 by general categories, as the crate has it."""
     if point < 0x80 or point in (0x6FD, 0x6FE, 0xF0B, 0x3007):
         return True
-    if point in (0x640, 0x7FA, 0x302E, 0x302F, 0x303B, 0x30FB, 0xB7, 0x375, 0x5F3, 0x5F4, 0x200C, 0x200D) or 0x3031 <= point <= 0x3035:
+    if point in NOT_BETWEEN_LETTERS:
         return False
     if 0x3040 <= point <= 0x30FF or 0x4E00 <= point <= 0x9FFF or point in ADDED_POINTS:
         return True
@@ -718,16 +909,29 @@ def sums(of, places, is_right, step, end=0x110000):
 
 
 def is_mark(point):
+    """Whether the general category is that of a mark."""
     return unicodedata.category(chr(point)) in ("Mn", "Mc", "Me") or point in ADDED_MARK_POINTS
 
 
+def is_first(point):
+    """Whether a character may be first in a label."""
+    return is_admitted(point) and not is_mark(point)
+
+
+def is_of_host_names(point):
+    """Whether a character may stand in a host name of RFC 1034."""
+    return chr(point) in LETTERS + DIGITS + "-."
+
+
 def code_point_rows():
-    yield "all code points, by another edition of Unicode (docs/CODE_POINTS.md names what is added since): which are admitted in a label, and of the first 131,072 which first in one"
+    """All code points in labels and in host names."""
+    yield ("all code points, by another edition of Unicode (docs/CODE_POINTS.md names what is added since): which are "
+           "admitted in a label, and of the first 131,072 which first in one")
     yield sums("label", [["a", "a"]], is_admitted, 0x1000)
-    yield sums("label", [["", "a"]], lambda point: is_admitted(point) and not is_mark(point), 0x1000, 0x20000)
+    yield sums("label", [["", "a"]], is_first, 0x1000, 0x20000)
     yield "and which are characters of a host name, where the labels of both formats are read alike"
     for of, end in (("hostname of RFC 1034", 0x110000), ("hostname", 0x10000)):
-        yield sums(of, [["a", "a"]], lambda point: chr(point) in LETTERS + DIGITS + "-.", 0x10000, end)
+        yield sums(of, [["a", "a"]], is_of_host_names, 0x10000, end)
 
 
 # Internationalised host names: RFC 5890 to 5893, with the four dots of RFC 3490, section 3.1, between the labels.
@@ -739,55 +943,66 @@ EXCEPTIONS = {"PVALID": points_of("DF 3C2 6FD-6FE F0B 3007"),
               "CONTEXTO": points_of("B7 375 5F3-5F4 30FB 660-669 6F0-6F9"),
               "DISALLOWED": points_of("640 7FA 302E-302F 3031-3035 303B")}
 # Section 2.3 by PropList.txt and DerivedCoreProperties.txt: Default_Ignorable_Code_Point, and White_Space.
-IGNORABLE = points_of("AD 34F 61C 115F-1160 17B4-17B5 180B-180F 200B-200F 202A-202E 2060-206F 3164 FE00-FE0F FEFF FFA0 FFF0-FFF8 "
-                      "1BCA0-1BCA3 1D173-1D17A E0000-E0FFF 9-D 20 85 A0 1680 2000-200A 2028-2029 202F 205F 3000")
+IGNORABLE = points_of(
+    "AD 34F 61C 115F-1160 17B4-17B5 180B-180F 200B-200F 202A-202E 2060-206F 3164 FE00-FE0F FEFF FFA0 FFF0-FFF8 "
+    "1BCA0-1BCA3 1D173-1D17A E0000-E0FFF 9-D 20 85 A0 1680 2000-200A 2028-2029 202F 205F 3000")
 # Section 2.4, the three blocks, and section 2.9 by HangulSyllableType.txt, the types L, V and T.
 IGNORABLE_BLOCKS = "20D0-20FF 1D100-1D1FF 1D200-1D24F"
 OLD_JAMO = "1100-115F 1160-11A7 11A8-11FF A960-A97C D7B0-D7C6 D7CB-D7FB"
 DISALLOWED_POINTS = IGNORABLE | points_of(IGNORABLE_BLOCKS) | points_of(OLD_JAMO)
 LETTER_DIGITS = ("Ll", "Lu", "Lo", "Nd", "Lm", "Mn", "Mc")
-# Of what is admitted since Unicode 14: what has a compatibility mapping or is a capital letter, what runs from right to left,
-# Arabic numbers and a neutral among them, and what is a nonspacing mark. All else of it runs from left to right.
-ADDED_UNSTABLE = points_of("1C89 A7CB-A7CC A7CE A7D2 A7D4 A7DA A7DC A7F1 10D50-10D65 16EA0-16EB8 1CCF0-1CCF9 1E030-1E06D "
-                           "558 58B-58C 209D-209F 107BB-107BF 1B123-1B126 1D6A6 1DF95 1DFCD-1DFFF A7DD A7E2 AB6C-AB6D 1DF40 1DF48 "
-                           "1DF4A 1DF4D 1DF51 1DF68 1DF6A 1DF6C 1DF6E 1DF72 1DF74 1DF76 1DF78 1DF7A 1DF7C 1DF7E")
+# Of what is admitted since Unicode 14: what has a compatibility mapping or is a capital letter, what runs from right to
+# left, Arabic numbers and a neutral among them, and what is a nonspacing mark. All else of it runs from left to right.
+ADDED_UNSTABLE = points_of(
+    "1C89 A7CB-A7CC A7CE A7D2 A7D4 A7DA A7DC A7F1 10D50-10D65 16EA0-16EB8 1CCF0-1CCF9 1E030-1E06D 558 58B-58C "
+    "209D-209F 107BB-107BF 1B123-1B126 1D6A6 1DF95 1DFCD-1DFFF A7DD A7E2 AB6C-AB6D 1DF40 1DF48 1DF4A 1DF4D 1DF51 1DF68 "
+    "1DF6A 1DF6C 1DF6E 1DF72 1DF74 1DF76 1DF78 1DF7A 1DF7C 1DF7E")
 ADDED_RIGHT_TO_LEFT = points_of("88F 10940-10959 10D4A-10D65 10D6F-10D85 10EC2-10EC7 10ED9-10EEE")
 ADDED_ARABIC_NUMBERS = points_of("10D40-10D49")
 ADDED_NEUTRALS = points_of("208F")
-ADDED_NONSPACING = points_of("5C8-5C9 897 B53-B54 ECE 1ACF-1AF0 10D69-10D6D 10ECB-10ECF 10EF0-10EFF 11241 113BB-113C0 113CE 113D0 113D2 "
-                             "113E1-113E2 11B60 11B62-11B64 11B66 11DF0 11F00-11F01 11F36-11F3A 11F40 11F42 11F5A 13440 13447-13455 "
-                             "1611E-16129 1612D-1612F 1D127-1D128 1D25B-1D25C 1E08F 1E4EC-1E4EF 1E5EE-1E5EF 1E6E3 1E6E6 1E6EE-1E6EF 1E6F5")
+ADDED_NONSPACING = points_of(
+    "5C8-5C9 897 B53-B54 ECE 1ACF-1AF0 10D69-10D6D 10ECB-10ECF 10EF0-10EFF 11241 113BB-113C0 113CE 113D0 113D2 "
+    "113E1-113E2 11B60 11B62-11B64 11B66 11DF0 11F00-11F01 11F36-11F3A 11F40 11F42 11F5A 13440 13447-13455 1611E-16129 "
+    "1612D-1612F 1D127-1D128 1D25B-1D25C 1E08F 1E4EC-1E4EF 1E5EE-1E5EF 1E6E3 1E6E6 1E6EE-1E6EF 1E6F5")
 ADDED_VIRAMAS = points_of("113CE-113D0 11F41-11F42 1612F")
 # Marks of the class NSM in Unicode 14 that run from left to right since. The last is a spacing mark since.
 TURNED_LEFT = points_of("1B3A 1B3C 1B42 1171E")
 # Scripts.txt of Unicode 17.
 SCRIPT_RANGES = {
-    "Greek": "370-373 375-377 37A-37D 37F 384 386 388-38A 38C 38E-3A1 3A3-3E1 3F0-3FF 1D26-1D2A 1D5D-1D61 1D66-1D6A 1DBF 1F00-1F15 "
-             "1F18-1F1D 1F20-1F45 1F48-1F4D 1F50-1F57 1F59 1F5B 1F5D 1F5F-1F7D 1F80-1FB4 1FB6-1FC4 1FC6-1FD3 1FD6-1FDB 1FDD-1FEF "
-             "1FF2-1FF4 1FF6-1FFE 2126 AB65 10140-1018E 101A0 1D200-1D245",
+    "Greek":
+        "370-373 375-377 37A-37D 37F 384 386 388-38A 38C 38E-3A1 3A3-3E1 3F0-3FF 1D26-1D2A 1D5D-1D61 1D66-1D6A 1DBF "
+        "1F00-1F15 1F18-1F1D 1F20-1F45 1F48-1F4D 1F50-1F57 1F59 1F5B 1F5D 1F5F-1F7D 1F80-1FB4 1FB6-1FC4 1FC6-1FD3 "
+        "1FD6-1FDB 1FDD-1FEF 1FF2-1FF4 1FF6-1FFE 2126 AB65 10140-1018E 101A0 1D200-1D245",
     "Hebrew": "591-5C7 5D0-5EA 5EF-5F4 FB1D-FB36 FB38-FB3C FB3E FB40-FB41 FB43-FB44 FB46-FB4F",
     "Hiragana": "3041-3096 309D-309F 1B001-1B11F 1B132 1B150-1B152 1F200",
-    "Katakana": "30A1-30FA 30FD-30FF 31F0-31FF 32D0-32FE 3300-3357 FF66-FF6F FF71-FF9D 1AFF0-1AFF3 1AFF5-1AFFB 1AFFD-1AFFE 1B000 "
-                "1B120-1B122 1B155 1B164-1B167",
-    "Han": "2E80-2E99 2E9B-2EF3 2F00-2FD5 3005 3007 3021-3029 3038-303B 3400-4DBF 4E00-9FFF F900-FA6D FA70-FAD9 16FE2-16FE3 16FF0-16FF6 "
-           "20000-2A6DF 2A700-2B81D 2B820-2CEAD 2CEB0-2EBE0 2EBF0-2EE5D 2F800-2FA1D 30000-3134A 31350-33479",
+    "Katakana":
+        "30A1-30FA 30FD-30FF 31F0-31FF 32D0-32FE 3300-3357 FF66-FF6F FF71-FF9D 1AFF0-1AFF3 1AFF5-1AFFB 1AFFD-1AFFE "
+        "1B000 1B120-1B122 1B155 1B164-1B167",
+    "Han":
+        "2E80-2E99 2E9B-2EF3 2F00-2FD5 3005 3007 3021-3029 3038-303B 3400-4DBF 4E00-9FFF F900-FA6D FA70-FAD9 "
+        "16FE2-16FE3 16FF0-16FF6 20000-2A6DF 2A700-2B81D 2B820-2CEAD 2CEB0-2EBE0 2EBF0-2EE5D 2F800-2FA1D 30000-3134A "
+        "31350-33479",
 }
 # What Unicode 18 has more of each.
-ADDED_TO_SCRIPTS = {"Greek": "1DFF3-1DFF4", "Hebrew": "5C8-5C9", "Hiragana": "1B123", "Katakana": "1B124-1B128 1B168", "Han": "2B81E"}
-SCRIPT_POINTS = {script: points_of(ranges) | points_of(ADDED_TO_SCRIPTS[script]) for script, ranges in SCRIPT_RANGES.items()}
+ADDED_TO_SCRIPTS = {"Greek": "1DFF3-1DFF4", "Hebrew": "5C8-5C9", "Hiragana": "1B123", "Katakana": "1B124-1B128 1B168",
+                    "Han": "2B81E"}
+SCRIPT_POINTS = {script: points_of(f"{ranges} {ADDED_TO_SCRIPTS[script]}") for script, ranges in SCRIPT_RANGES.items()}
 JAPANESE = SCRIPT_POINTS["Hiragana"] | SCRIPT_POINTS["Katakana"] | SCRIPT_POINTS["Han"]
 # DerivedJoiningType.txt of Unicode 17: D, R and L; the last range of L is of Unicode 18.
 JOINING = {
-    "D": "620 626 628 62A-62E 633-63F 641-647 649-64A 66E-66F 678-687 69A-6BF 6C1-6C2 6CC 6CE 6D0-6D1 6FA-6FC 6FF 712-714 71A-71D "
-         "71F-727 729 72B 72D-72E 74E-758 75C-76A 76D-770 772 775-777 77A-77F 7CA-7EA 841-845 848 84A-853 855 860 862-865 868 886 "
-         "889-88D 88F 8A0-8A9 8AF-8B0 8B3-8B8 8BA-8C8 1807 1820-1878 1887-18A8 18AA A840-A871 10AC0-10AC4 10AD3-10AD6 10AD8-10ADC "
-         "10ADE-10AE0 10AEB-10AEE 10B80 10B82 10B86-10B88 10B8A-10B8B 10B8D 10B90 10BAD-10BAE 10D01-10D21 10D23 10EC3-10EC4 "
-         "10EC6-10EC7 10F30-10F32 10F34-10F44 10F51-10F53 10F70-10F73 10F76-10F81 10FB0 10FB2-10FB3 10FB8 10FBB-10FBC 10FBE-10FBF "
-         "10FC1 10FC4 10FCA 1E900-1E943",
-    "R": "622-625 627 629 62F-632 648 671-673 675-677 688-699 6C0 6C3-6CB 6CD 6CF 6D2-6D3 6D5 6EE-6EF 710 715-719 71E 728 72A 72C "
-         "72F 74D 759-75B 76B-76C 771 773-774 778-779 840 846-847 849 854 856-858 867 869-86A 870-882 88E 8AA-8AC 8AE 8B1-8B2 8B9 "
-         "10AC5 10AC7 10AC9-10ACA 10ACE-10AD2 10ADD 10AE1 10AE4 10AEF 10B81 10B83-10B85 10B89 10B8C 10B8E-10B8F 10B91 10BA9-10BAC "
-         "10D22 10EC2 10F33 10F54 10F74-10F75 10FB4-10FB6 10FB9-10FBA 10FBD 10FC2-10FC3 10FC9",
+    "D":
+        "620 626 628 62A-62E 633-63F 641-647 649-64A 66E-66F 678-687 69A-6BF 6C1-6C2 6CC 6CE 6D0-6D1 6FA-6FC 6FF "
+        "712-714 71A-71D 71F-727 729 72B 72D-72E 74E-758 75C-76A 76D-770 772 775-777 77A-77F 7CA-7EA 841-845 848 "
+        "84A-853 855 860 862-865 868 886 889-88D 88F 8A0-8A9 8AF-8B0 8B3-8B8 8BA-8C8 1807 1820-1878 1887-18A8 18AA "
+        "A840-A871 10AC0-10AC4 10AD3-10AD6 10AD8-10ADC 10ADE-10AE0 10AEB-10AEE 10B80 10B82 10B86-10B88 10B8A-10B8B "
+        "10B8D 10B90 10BAD-10BAE 10D01-10D21 10D23 10EC3-10EC4 10EC6-10EC7 10F30-10F32 10F34-10F44 10F51-10F53 "
+        "10F70-10F73 10F76-10F81 10FB0 10FB2-10FB3 10FB8 10FBB-10FBC 10FBE-10FBF 10FC1 10FC4 10FCA 1E900-1E943",
+    "R":
+        "622-625 627 629 62F-632 648 671-673 675-677 688-699 6C0 6C3-6CB 6CD 6CF 6D2-6D3 6D5 6EE-6EF 710 715-719 71E "
+        "728 72A 72C 72F 74D 759-75B 76B-76C 771 773-774 778-779 840 846-847 849 854 856-858 867 869-86A 870-882 88E "
+        "8AA-8AC 8AE 8B1-8B2 8B9 10AC5 10AC7 10AC9-10ACA 10ACE-10AD2 10ADD 10AE1 10AE4 10AEF 10B81 10B83-10B85 10B89 "
+        "10B8C 10B8E-10B8F 10B91 10BA9-10BAC 10D22 10EC2 10F33 10F54 10F74-10F75 10FB4-10FB6 10FB9-10FBA 10FBD "
+        "10FC2-10FC3 10FC9",
     "L": "A872 10ACD 10AD7 10D00 10FCB 10ED9-10EEE",
 }
 JOINING_POINTS = {kind: points_of(ranges) for kind, ranges in JOINING.items()}
@@ -818,6 +1033,7 @@ def derived_property(point):
 
 
 def is_permitted(point):
+    """Whether a character may stand in a U-label, in its context at least."""
     return derived_property(point) in ("PVALID", "CONTEXTJ", "CONTEXTO")
 
 
@@ -838,7 +1054,10 @@ def direction(point):
 
 
 def is_transparent(point):
-    return point in ADDED_NONSPACING or point == 0x1E94B or unicodedata.category(chr(point)) in ("Mn", "Me", "Cf") and point not in NOT_TRANSPARENT
+    """Whether the joining type is T."""
+    if point in ADDED_NONSPACING or point == 0x1E94B:
+        return True
+    return unicodedata.category(chr(point)) in ("Mn", "Me", "Cf") and point not in NOT_TRANSPARENT
 
 
 def joins(points, kinds):
@@ -868,14 +1087,22 @@ def fits_context(points, at):
 
 def is_unicode_label(label):
     """RFC 5891, section 4.2, and RFC 5890, section 2.3.2.1."""
-    points = [ord(c) for c in label]
-    return (not label.isascii() and unicodedata.normalize("NFC", label) == label and all(map(is_permitted, points))
-            and not label.startswith("-") and not label.endswith("-") and label[2:4] != "--"
-            and not is_mark(points[0]) and all(fits_context(points, at) for at in range(len(points))))
+    points = [ord(character) for character in label]
+    if label.isascii() or unicodedata.normalize("NFC", label) != label or not all(map(is_permitted, points)):
+        return False
+    if label.startswith("-") or label.endswith("-") or label[2:4] == "--" or is_mark(points[0]):
+        return False
+    return all(fits_context(points, at) for at in range(len(points)))
 
 
 def to_a_label(form):
+    """The A-label of a U-label, by Python's codec."""
     return "xn--" + form.encode("punycode").decode()
+
+
+def encoded(form):
+    """A label as it stands in a name in encoded form."""
+    return form if form.isascii() else to_a_label(form)
 
 
 # A character takes less than nine letters and digits of Punycode, so no A-label of so many is longer than 63, and no
@@ -883,59 +1110,79 @@ def to_a_label(form):
 SHORT_LABEL, SHORT_NAME = 6, 16
 
 
+def decoded_label(label):
+    """The U-label that an A-label stands for; `None` where it is no A-label."""
+    try:
+        form = label[4:].lower().encode().decode("punycode")
+    except (UnicodeError, ValueError, OverflowError):
+        return None
+    return form if is_unicode_label(form) and to_a_label(form) == label.lower() else None
+
+
 def unicode_form(label):
-    """The form that a label stands for: an NR-LDH label and a U-label for itself, an A-label for its U-label. `None` where it is none."""
+    """The form that a label stands for, or `None`.
+
+    An NR-LDH label and a U-label stand for themselves, an A-label for its U-label.
+    """
     if whole(LABEL)(label) and label[2:4] != "--":
         return label
-    form = label
-    if label.isascii() and label[:4].lower() == "xn--":
-        try:
-            form = label[4:].lower().encode().decode("punycode")
-        except (UnicodeError, ValueError, OverflowError):
-            return None
-        if not is_unicode_label(form) or to_a_label(form) != label.lower():
-            return None
-    is_short = len(form) <= SHORT_LABEL or len(to_a_label(form)) <= 63
-    return form if is_short and is_unicode_label(form) else None
+    form = decoded_label(label) if label.isascii() and label[:4].lower() == "xn--" else label
+    if form is None or len(form) > SHORT_LABEL and len(to_a_label(form)) > 63:
+        return None
+    return form if is_unicode_label(form) else None
 
 
 def keeps_bidi_rule(label):
     """RFC 5893, section 2."""
-    classes = [direction(ord(c)) for c in label]
+    classes = [direction(ord(character)) for character in label]
     ending = next((kind for kind in reversed(classes) if kind != "NSM"), None)
     others = {"EN", "ES", "CS", "ET", "ON", "BN", "NSM"}
     if classes[0] == "L":
         return set(classes) <= others | {"L"} and ending in ("L", "EN")
-    return classes[0] == "R" and set(classes) <= others | {"R", "AN"} and ending in ("R", "EN", "AN") and not {"EN", "AN"} <= set(classes)
+    if classes[0] != "R" or not set(classes) <= others | {"R", "AN"}:
+        return False
+    return ending in ("R", "EN", "AN") and not {"EN", "AN"} <= set(classes)
+
+
+def runs_to_left(form):
+    """Whether a character of the label makes the rule for both directions apply."""
+    return any(direction(ord(character)) in ("R", "AN") for character in form)
 
 
 def is_idn_host_name(text):
+    """Whether the text is a host name of A-labels, U-labels and NR-LDH labels, with each of the four dots."""
     forms = [unicode_form(label) for label in re.split(f"[{DOTS}]", text)]
     if None in forms:
         return False
-    is_bidi = any(direction(ord(c)) in ("R", "AN") for form in forms for c in form)
-    if is_bidi and not all(map(keeps_bidi_rule, forms)):
+    if any(map(runs_to_left, forms)) and not all(map(keeps_bidi_rule, forms)):
         return False
-    return len(text) <= SHORT_NAME or len(".".join(form if form.isascii() else to_a_label(form) for form in forms)) <= 253
+    return len(text) <= SHORT_NAME or len(".".join(map(encoded, forms))) <= 253
 
 
 def idn_sums(before, behind, end=0x110000):
     """Which characters make a host name there; those that no label has are no dots, and are left out at once."""
-    return sums(IDN, [[before, behind]], lambda point: (is_permitted(point) or chr(point) in DOTS) and is_idn_host_name(before + chr(point) + behind), 0x1000, end)
+    def is_right(point):
+        """Whether the character makes a host name there."""
+        is_tried = is_permitted(point) or chr(point) in DOTS
+        return is_tried and is_idn_host_name(before + chr(point) + behind)
+
+    return sums(IDN, [[before, behind]], is_right, 0x1000, end)
 
 
 def idn_texts(candidates):
+    """The texts, each by whether it is an internationalised host name."""
     return texts(IDN, candidates, is_idn_host_name)
 
 
 def idn_characters(places, tried):
     """The characters, each at each place by what the rules say of it there."""
     for before, behind in places:
-        accepted = "".join(c for c in dict.fromkeys(tried) if is_idn_host_name(before + c + behind))
+        accepted = accepted_between(is_idn_host_name, dict.fromkeys(tried), before, behind)
         yield characters(IDN, accepted, [[before, behind]], tried)
 
 
 def near(ranges):
+    """The ends of ranges that are written as `points_of` reads them, and the characters beside them."""
     return ends([(min(points), max(points)) for points in map(points_of, ranges.split())])
 
 
@@ -945,97 +1192,171 @@ WIDE_PLACES = [["\u4e00", "\u4e00"], ["\u05d0", "\u05d0"]]
 OF_CLASSES = "\u4e00\u05d0\u0628\u0660" + "0\u06f0-\u02b9\u05b0"
 
 
-def class_rows_of_idn():
-    yield "each exception of RFC 5892, section 2.6, alone and between letters of both directions, and the characters beside it"
+def permission_rows():
+    """Characters that the classes of RFC 5892 permit or disallow."""
+    yield ("each exception of RFC 5892, section 2.6, alone and between letters of both directions, and the characters "
+           "beside it")
     for value in EXCEPTIONS:
         tried = "".join(chr(point + step) for point in sorted(EXCEPTIONS[value]) for step in (-1, 0, 1))
-        yield from idn_characters(WIDE_PLACES + [["", ""], ["l", "l"], ["\u03b1", "\u03b1"], ["\u30a2", ""]], tried)
+        places = WIDE_PLACES + [["", ""], ["l", "l"], ["\u03b1", "\u03b1"], ["\u30a2", ""]]
+        yield from idn_characters(places, tried)
     yield "the ends of the classes of sections 2.3 to 2.5, 2.8 and 2.9, and one off each end"
-    for ranges in (IGNORABLE_BLOCKS, OLD_JAMO, "2D 30-39 41-5A 61-7A", "200C-200D FDD0-FDEF FFFE-FFFF 1FFFE-1FFFF 10FFFE-10FFFF E0000-E0FFF",
-                   "AD 34F 61C 17B4-17B5 180B-180F 200B-200F 2060-206F 3164 FE00-FE0F FFF0-FFF8 85 1680 2000-200A 2028-2029 202F 205F 3000"):
-        yield from idn_characters(WIDE_PLACES + [["", "\u4e00"], ["\u4e00", ""]], near(ranges))
+    beside_wide = WIDE_PLACES + [["", "\u4e00"], ["\u4e00", ""]]
+    of_ascii = "2D 30-39 41-5A 61-7A"
+    noncharacters = "200C-200D FDD0-FDEF FFFE-FFFF 1FFFE-1FFFF 10FFFE-10FFFF E0000-E0FFF"
+    ignorable = ("AD 34F 61C 17B4-17B5 180B-180F 200B-200F 2060-206F 3164 FE00-FE0F FFF0-FFF8 85 1680 2000-200A "
+                 "2028-2029 202F 205F 3000")
+    for ranges in (IGNORABLE_BLOCKS, OLD_JAMO, of_ascii, noncharacters, ignorable):
+        yield from idn_characters(beside_wide, near(ranges))
     yield "each ASCII character beside a character past ASCII"
-    yield from idn_characters(WIDE_PLACES + [["", "\u4e00"], ["\u4e00", ""], ["xn-", "\u00fc"], ["\u00fcn-", "a"]], ASCII)
+    yield from idn_characters(beside_wide + [["xn-", "\u00fc"], ["\u00fcn-", "a"]], ASCII)
+
+
+MAPPED = ("\u00aa\u00b2\u00b5\u00ba\u00bc\u00c0\u00e0\u00de\u00fe\u00df\u1e9e\u0130\u0131\u0149\u017f\u01c4\u01c5\u01c6"
+          "\u01f0\u0345\u0390\u03a3\u03c2\u03c3\u03d0\u03f4\u0587\u0675\u10a0\u10d0\u1c90\u13a0\u13f5\u13f8\uab70\uabbf"
+          "\u1e96\u1f80\u1fb3\u2071\u2126\u212a\u2160\u24d0\u2c2f\u2c5f\u3131\u32d0\uf900\ufb00\ufb1d\ufb2e\ufdfa\uff21"
+          "\uff41\uff10\uff66\uffdc\U00010400\U00010428\U0001d400\U0001d7ce\U0002f800")
+COMPOSED = [
+    "\u1112\u1161\u11ab", "\ud558\u11ab", "\ud55c", "\ud55c\u11ab", "\uac00", "\ud7a3", "\u0958", "\u0915\u093c",
+    "\u0928\u093c", "\u0929", "\u05d0\u05b7", "\ufb2e", "\u30cf\u3099", "\u30d0", "\u1025\u102e", "\u1026",
+    "\U00011131\U00011127", "\U0001112e", "\u0f71\u0f72", "\u0f73", "\u2126", "\u03a9", "\u03c9\u0301", "\u03ce"]
+
+
+def normal_form_rows():
+    """Letters with mappings, and letters and marks that compose."""
     yield "letters that have capital or wide forms, ligatures and other mappings (section 2.2)"
-    yield idn_texts([form.format(c) for c in "\u00aa\u00b2\u00b5\u00ba\u00bc\u00c0\u00e0\u00de\u00fe\u00df\u1e9e\u0130\u0131\u0149\u017f\u01c4\u01c5\u01c6\u01f0\u0345\u0390\u03a3\u03c2\u03c3\u03d0\u03f4\u0587"
-                     "\u0675\u10a0\u10d0\u1c90\u13a0\u13f5\u13f8\uab70\uabbf\u1e96\u1f80\u1fb3\u2071\u2126\u212a\u2160\u24d0\u2c2f\u2c5f\u3131\u32d0\uf900\ufb00\ufb1d\ufb2e\ufdfa\uff21\uff41\uff10\uff66\uffdc"
-                     "\U00010400\U00010428\U0001d400\U0001d7ce\U0002f800" for form in ("{}", "\u4e00{}\u4e00", "\u05d0{}\u05d0")])
+    yield idn_texts(in_forms(("{}", "\u4e00{}\u4e00", "\u05d0{}\u05d0"), MAPPED))
     yield "NFC: letters and marks that compose, marks in both orders, and Hangul"
-    composed = [c for c in span(0xC0, 0x17F) + span(0x1E00, 0x1EFF) if unicodedata.normalize("NFD", c) != c]
-    yield idn_texts([form for c in composed for form in (c, unicodedata.normalize("NFD", c))])
+    letters = {letter: unicodedata.normalize("NFD", letter) for letter in span(0xC0, 0x17F) + span(0x1E00, 0x1EFF)}
+    yield idn_texts([form for pair in letters.items() if pair[0] != pair[1] for form in pair])
     marks = "\u0301\u0308\u0316\u0323\u0327\u0338"
     yield idn_texts(["q" + one + other for one in marks for other in marks])
-    yield idn_texts(["\u1112\u1161\u11ab", "\ud558\u11ab", "\ud55c", "\ud55c\u11ab", "\uac00", "\ud7a3", "\u0958", "\u0915\u093c", "\u0928\u093c", "\u0929", "\u05d0\u05b7", "\ufb2e", "\u30cf\u3099", "\u30d0",
-                     "\u1025\u102e", "\u1026", "\U00011131\U00011127", "\U0001112e", "\u0f71\u0f72", "\u0f73", "\u2126", "\u03a9", "\u03c9\u0301", "\u03ce"])
+    yield idn_texts(COMPOSED)
 
 
 def label_rules_of_idn():
+    """Marks, hyphens and dots in labels and between them."""
     yield "marks, hyphens and dots: each at each place of a label, and each of the four dots between labels"
     letters = ["\u4e00", "a", "-", "\u0300", "\u0903", "\u05b0"]
-    yield idn_texts(["".join(some) for size in (1, 2, 3, 4) for some in itertools.product(letters[:6 if size < 4 else 4], repeat=size)])
-    yield idn_texts([f"{one}--{other}" for one in ("a", "aa", "aaa", "\u00fc", "a\u00fc", "\u00fca", "\u00fc\u00fc", "x\u00fc", "xn\u00fc") for other in ("", "a", "\u00fc")])
-    yield idn_texts([place.format(dot) for dot in DOTS + "\u00b7\u2024\u3001\ufe12\u0589\u06d4" for place in
-                     ("a{}b", "\u00fc{}b", "a{}\u00fc", "{}a", "a{}", "{}", "a{0}{0}b", "a{0}b{0}c", "a{0}b.c", "xn--bcher-kva{}a", "\u05d0{}\u05d0", "\u05d0{}1")])
-    yield "contextual rules: each character that has one, among others of each kind, at each place (RFC 5892, appendix A)"
-    for rule in ("l\u00b7a", "\u03b1\u0375a", "\u05d0\u05f3\u05f4b\u0628", "\u30fb\u30a2\u3042\u4e00a", "\u0660\u06f0\u0628", "\u094d\u200d\u0915\u200c", "\u0628\u200c\u0627\u064b", "\u1820\u200ca\u18a9"):
-        yield idn_texts(["".join(some) for size in (1, 2, 3, 4) for some in itertools.product(rule, repeat=size)])
-    digits = [chr(point) for point in (0x65F, 0x660, 0x661, 0x668, 0x669, 0x66A, 0x6EF, 0x6F0, 0x6F1, 0x6F8, 0x6F9, 0x6FA)]
+    yield idn_texts(words(letters, (1, 2, 3)) + words(letters[:4], (4,)))
+    heads = ("a", "aa", "aaa", "\u00fc", "a\u00fc", "\u00fca", "\u00fc\u00fc", "x\u00fc", "xn\u00fc")
+    yield idn_texts([f"{one}--{other}" for one in heads for other in ("", "a", "\u00fc")])
+    places = ("a{}b", "\u00fc{}b", "a{}\u00fc", "{}a", "a{}", "{}", "a{0}{0}b", "a{0}b{0}c", "a{0}b.c",
+              "xn--bcher-kva{}a", "\u05d0{}\u05d0", "\u05d0{}1")
+    yield idn_texts(in_forms(places, DOTS + "\u00b7\u2024\u3001\ufe12\u0589\u06d4"))
+
+
+def context_rows_of_idn():
+    """Characters that have contextual rules."""
+    yield ("contextual rules: each character that has one, among others of each kind, at each place "
+           "(RFC 5892, appendix A)")
+    for rule in ("l\u00b7a", "\u03b1\u0375a", "\u05d0\u05f3\u05f4b\u0628", "\u30fb\u30a2\u3042\u4e00a",
+                 "\u0660\u06f0\u0628", "\u094d\u200d\u0915\u200c", "\u0628\u200c\u0627\u064b", "\u1820\u200ca\u18a9"):
+        yield idn_texts(words(rule, (1, 2, 3, 4)))
+    digits = [chr(at) for at in (0x65F, 0x660, 0x661, 0x668, 0x669, 0x66A, 0x6EF, 0x6F0, 0x6F1, 0x6F8, 0x6F9, 0x6FA)]
     yield idn_texts([f"\u0628{one}{other}" for one in digits for other in digits])
-    yield "joining types: with a dual-joining letter on the one side, each of a transparent mark and an end of a type on the other"
+    yield ("joining types: with a dual-joining letter on the one side, each of a transparent mark and an end of a type "
+           "on the other")
+    places = [["", "\u200c\u0628"], ["\u0628\u200c", ""], ["\u0628\u064b\u200c\u064b", ""], ["", "\u064b\u200c\u0628"]]
     for kind in JOINING:
-        yield from idn_characters([["", "\u200c\u0628"], ["\u0628\u200c", ""], ["\u0628\u064b\u200c\u064b", ""], ["", "\u064b\u200c\u0628"]], near(JOINING[kind]))
-    yield from idn_characters([["\u0628", "\u200c\u0628"], ["\u0628\u200c", "\u0628"], ["\u0628", "\u200c\u0627"], ["\u0627", "\u200c\u0628"]], "\u0640\u07fa\u0883\u0884\u0885\U0001e94b\u064b\u05b0\u0300\u200c\u200d\u05d0-0")
+        yield from idn_characters(places, near(JOINING[kind]))
+    places = [["\u0628", "\u200c\u0628"], ["\u0628\u200c", "\u0628"], ["\u0628", "\u200c\u0627"],
+              ["\u0627", "\u200c\u0628"]]
+    tried = "\u0640\u07fa\u0883\u0884\u0885\U0001e94b\u064b\u05b0\u0300\u200c\u200d\u05d0-0"
+    yield from idn_characters(places, tried)
     yield "scripts: the ends of each range, and one off each end"
-    yield from idn_characters([["\u0375", ""], ["\u0375", "\u03b1"], ["\u4e00\u0375", ""]], near(SCRIPT_RANGES["Greek"]))
-    yield from idn_characters([["\u05d0", "\u05f3"], ["\u05d0", "\u05f4"], ["", "\u05f3"]], near(SCRIPT_RANGES["Hebrew"]))
-    for script in ("Hiragana", "Katakana", "Han"):
-        yield from idn_characters([["\u30fb", ""], ["", "\u30fb"]], near(SCRIPT_RANGES[script]))
+    middle_dots = [["\u30fb", ""], ["", "\u30fb"]]
+    places_of = {"Greek": [["\u0375", ""], ["\u0375", "\u03b1"], ["\u4e00\u0375", ""]],
+                 "Hebrew": [["\u05d0", "\u05f3"], ["\u05d0", "\u05f4"], ["", "\u05f3"]],
+                 "Hiragana": middle_dots, "Katakana": middle_dots, "Han": middle_dots}
+    for script, places in places_of.items():
+        yield from idn_characters(places, near(SCRIPT_RANGES[script]))
 
 
 def bidi_rows_of_idn():
-    yield "the Bidi rule: each row of up to four classes, alone and beside labels of both directions (RFC 5893, section 2)"
-    yield idn_texts(["".join(some) for size in (1, 2, 3) for some in itertools.product(OF_CLASSES, repeat=size)])
-    yield idn_texts([first + "".join(some) for first in OF_CLASSES[:3] for some in itertools.product(OF_CLASSES[:1] + OF_CLASSES[2:], repeat=3)])
-    labels = ["".join(some) for size in (1, 2) for some in itertools.product(OF_CLASSES, repeat=size)]
-    yield idn_texts([form.format(label) for label in labels for form in ("\u05d0.{}", "{}.\u05d0", "a.{}", "xn--4db.{}", "\u4e00{}.\u0628")])
-    yield idn_texts([".".join(some) for size in (2, 3) for some in itertools.product(["a", "1", "a1", "1a", "a-b", "\u05d0", "\u05d01", "xn--4db", "XN--BCHER-KVA", "\u00fc"], repeat=size)])
+    """Labels of characters of each class of direction."""
+    yield ("the Bidi rule: each row of up to four classes, alone and beside labels of both directions "
+           "(RFC 5893, section 2)")
+    yield idn_texts(words(OF_CLASSES, (1, 2, 3)))
+    behind = words(OF_CLASSES[:1] + OF_CLASSES[2:], (3,))
+    yield idn_texts([first + others for first in OF_CLASSES[:3] for others in behind])
+    forms = ("\u05d0.{}", "{}.\u05d0", "a.{}", "xn--4db.{}", "\u4e00{}.\u0628")
+    yield idn_texts(in_forms(forms, words(OF_CLASSES, (1, 2))))
+    labels = ["a", "1", "a1", "1a", "a-b", "\u05d0", "\u05d01", "xn--4db", "XN--BCHER-KVA", "\u00fc"]
+    yield idn_texts([".".join(some) for size in (2, 3) for some in itertools.product(labels, repeat=size)])
 
 
-WRONG_FORMS = ["", "a", "abc", "a-b", "-", "\u0080", "\u00dc", "b\u00dccher", "u\u0308", "bu\u0308cher", "\u0300a", "\u0903a", "\u0488a", "-\u00fc", "\u00fc-", "aa--\u00fc", "\u00fca--", "\u4e00--\u4e00", "\u30fb",
-               "a\u30fb", "a\u00b7l", "\u0375", "\u0375a", "a\u05f3", "\u200c", "a\u200cb", "\u0628\u200ca", "a\u200d", "\u0628\u0660\u06f0", "\u0640", "\u07fa", "\u302e", "\u3031\u3035", "\u303b", "\u1100", "\ua960",
-               "\u20d0a", "a\u20d0", "\U0001d165", "\u00aa", "\u3002", "a\u3002b", "\uff0e", "\u0378", "\ufdd0", "\uffff", "\ud7ff", "\ue000", "\U0010ffff", "\u00a0", "\u200b", "\u2160", "\U0001f600", "\uff41", "\ufb00",
-               "\u017f", "\u212a", "\uf900", "A\u00fc", "\u00fcA", "a b\u00fc", "a_\u00fc", "a.\u00fc", "\u05d0a", "1\u05d0", "\u0660", "\u0628a", "\u05d0-"]
-RIGHT_FORMS = ["\u00fc", "b\u00fccher", "fa\u00df", "\u4e00", "\u05d0", "\u0628", "\u0628\u0660", "\u03b1\u0375\u03b2", "\u05d0\u05f3", "\u30fb\u30a2", "l\u00b7l", "\u0915\u094d\u200d\u0937", "\u0628\u064a\u200c\u0628\u064a",
-               "\u3007", "\u0f0b", "\u06fd", "\u03c2", "a-\u00fc", "a--\u00fc", "1\u00fc", "\U00020000", "\u13a0", "\uac00", "q\u0301", "\u06f00", "xn\u00fc", "\u00fcxn--a"]
+WRONG_FORMS = [
+    "", "a", "abc", "a-b", "-", "\u0080", "\u00dc", "b\u00dccher", "u\u0308", "bu\u0308cher", "\u0300a", "\u0903a",
+    "\u0488a", "-\u00fc", "\u00fc-", "aa--\u00fc", "\u00fca--", "\u4e00--\u4e00", "\u30fb", "a\u30fb", "a\u00b7l",
+    "\u0375", "\u0375a", "a\u05f3", "\u200c", "a\u200cb", "\u0628\u200ca", "a\u200d", "\u0628\u0660\u06f0", "\u0640",
+    "\u07fa", "\u302e", "\u3031\u3035", "\u303b", "\u1100", "\ua960", "\u20d0a", "a\u20d0", "\U0001d165", "\u00aa",
+    "\u3002", "a\u3002b", "\uff0e", "\u0378", "\ufdd0", "\uffff", "\ud7ff", "\ue000", "\U0010ffff", "\u00a0", "\u200b",
+    "\u2160", "\U0001f600", "\uff41", "\ufb00", "\u017f", "\u212a", "\uf900", "A\u00fc", "\u00fcA", "a b\u00fc",
+    "a_\u00fc", "a.\u00fc", "\u05d0a", "1\u05d0", "\u0660", "\u0628a", "\u05d0-"]
+RIGHT_FORMS = [
+    "\u00fc", "b\u00fccher", "fa\u00df", "\u4e00", "\u05d0", "\u0628", "\u0628\u0660", "\u03b1\u0375\u03b2",
+    "\u05d0\u05f3", "\u30fb\u30a2", "l\u00b7l", "\u0915\u094d\u200d\u0937", "\u0628\u064a\u200c\u0628\u064a", "\u3007",
+    "\u0f0b", "\u06fd", "\u03c2", "a-\u00fc", "a--\u00fc", "1\u00fc", "\U00020000", "\u13a0", "\uac00", "q\u0301",
+    "\u06f00", "xn\u00fc", "\u00fcxn--a"]
+PAYLOADS = ["-", "--", "---", "-a", "a-", "a--", "kva", "99999999", "9999a", "a9999a", "-kva", "bcher--kva",
+            "bcher-kvab", "0", "z", "zz", "00000", "hb9b", "ib9b", "0y0c"]
+
+
+def beside_a_label(label):
+    """An A-label in each letter case, cut and lengthened, and beside other labels."""
+    yield from (label, label.upper(), "X" + label[1:], label[:4] + label[4:].upper())
+    yield from (label + "a", label[:-1], label + "-", label.replace("xn--", "xn-"))
+    yield from (label + ".a", "\u00fc." + label)
 
 
 def a_label_rows():
-    yield "A-labels: each reason for which what they encode is no U-label, in each letter case, and labels beside them (RFC 5890, section 2.3.2.1)"
-    a_labels = [to_a_label(form) for form in WRONG_FORMS + RIGHT_FORMS]
-    yield idn_texts([form for a_label in a_labels for form in (a_label, a_label.upper(), "X" + a_label[1:], a_label[:4] + a_label[4:].upper(), a_label + "a", a_label[:-1], a_label + "-", a_label.replace("xn--", "xn-"),
-                                                               a_label + ".a", "\u00fc." + a_label)])
-    yield idn_texts([text[:at] + text[at].upper() + text[at + 1:] for text in ("xn--bcher-kva", "xn--ll-0ea", "xn--fa-hia", "xn--9krt00a") for at in range(len(text))])
-    yield idn_texts([text[:at] + other + text[at + 1:] for text in ("xn--bcher-kva", "xn--4db.com") for at in range(len(text)) for other in "0a9z-Z_."])
-    yield idn_texts(["xn--" + payload for payload in ("-", "--", "---", "-a", "a-", "a--", "kva", "99999999", "9999a", "a9999a", "-kva", "bcher--kva", "bcher-kvab", "0", "z", "zz", "00000", "hb9b", "ib9b", "0y0c")])
+    """A-labels of right and wrong forms, and payloads that are spoilt."""
+    yield ("A-labels: each reason for which what they encode is no U-label, in each letter case, and labels beside "
+           "them (RFC 5890, section 2.3.2.1)")
+    yield idn_texts([text for form in WRONG_FORMS + RIGHT_FORMS for text in beside_a_label(to_a_label(form))])
+    labels = ("xn--bcher-kva", "xn--ll-0ea", "xn--fa-hia", "xn--9krt00a")
+    yield idn_texts([text[:at] + text[at].upper() + text[at + 1:] for text in labels for at in range(len(text))])
+    labels = ("xn--bcher-kva", "xn--4db.com")
+    places = [(text[:at], text[at + 1:]) for text in labels for at in range(len(text))]
+    yield idn_texts([before + other + behind for before, behind in places for other in "0a9z-Z_."])
+    yield idn_texts(["xn--" + payload for payload in PAYLOADS])
     yield from idn_characters([["", "n--4db"], ["x", "--4db"], ["xn", "-4db"], ["xn-", "4db"]], ASCII)
 
 
 def to_a_length(form, length):
     """A U-label that ends so, whose A-label has that length; `None` where there is none."""
-    return next(("a" * letters + form for letters in range(64) if len(to_a_label("a" * letters + form)) == length), None)
+    labels = ("a" * letters + form for letters in range(64))
+    return next((label for label in labels if len(to_a_label(label)) == length), None)
+
+
+def labels_about_63():
+    """U-labels whose A-labels have 58 to 69 characters."""
+    forms = ["\u00fc", "\u00fc\u00fc", "\u4e00", "\U00020000", "\u05d0"]
+    labels = [to_a_length(form, length) for form in forms for length in range(58, 70)]
+    return [label for label in labels if label]
+
+
+def names_about_253(heads):
+    """Names that begin with these labels, and have 252 to 255 characters in encoded form."""
+    used = len(".".join(map(encoded, heads))) + 1
+    sizes = [size - used for size in (252, 253, 254, 255)]
+    lasts = [last for size in sizes for last in ("b" * size, to_a_length("\u00e9", size)) if last]
+    return [dot.join([*heads, last]) for last in lasts for dot in DOTS[::3]]
 
 
 def size_rows():
-    yield "lengths: labels of 61 to 65 characters in encoded form, and names of 252 to 255, of NR-LDH labels, A-labels and U-labels"
-    forms = ["\u00fc", "\u00fc\u00fc", "\u4e00", "\U00020000", "\u05d0"]
-    labels = [label for form in forms for length in range(58, 70) if (label := to_a_length(form, length))]
-    yield idn_texts([text for label in labels for text in (label, to_a_label(label), to_a_label(label).upper(), label + ".b", f"a.{label}")])
-    yield idn_texts(["\u4e00" * count for count in range(1, 70)] + ["\u00fc" * count for count in range(1, 70)] + ["a" * count for count in range(60, 70)])
-    fillers = [to_a_length("\u00fc", 63), to_a_label(to_a_length("\u00fc", 63)), "a" * 63, to_a_length("\u00fc", 62)]
-    for heads in itertools.product(fillers, repeat=3):
-        used = sum(len(to_a_label(label)) if not label.isascii() else len(label) for label in heads) + 3
-        lasts = [last for size in (252, 253, 254, 255) for last in ("b" * (size - used), to_a_length("\u00e9", size - used)) if last]
-        yield idn_texts([dot.join([*heads, last]) for last in lasts for dot in DOTS[::3]])
+    """Labels and names about as long as they may be."""
+    yield ("lengths: labels of 61 to 65 characters in encoded form, and names of 252 to 255, of NR-LDH labels, "
+           "A-labels and U-labels")
+    for_labels = [(label, to_a_label(label)) for label in labels_about_63()]
+    yield idn_texts([text for label, encoded_form in for_labels
+                     for text in (label, encoded_form, encoded_form.upper(), label + ".b", f"a.{label}")])
+    of_one_letter = ["\u4e00" * count for count in range(1, 70)] + ["\u00fc" * count for count in range(1, 70)]
+    yield idn_texts(of_one_letter + ["a" * count for count in range(60, 70)])
+    longest = to_a_length("\u00fc", 63)
+    for heads in itertools.product([longest, to_a_label(longest), "a" * 63, to_a_length("\u00fc", 62)], repeat=3):
+        yield idn_texts(names_about_253(heads))
     yield counts(IDN, "a", 1, 63, 200, [["", ""], ["", ".\u00fc"], ["\u00fc.", ""]])
     yield counts(IDN, "1.", 0, 126, 200, [["", "a"]])
     yield counts(IDN, "\u3002b", 0, 126, 200, [["a", ""]])
@@ -1045,30 +1366,39 @@ def size_rows():
 
 def is_u_label(text):
     """RFC 5890, section 2.3.2.1, of a label by itself."""
-    is_bidi = any(direction(ord(c)) in ("R", "AN") for c in text)
-    return is_unicode_label(text) and (not is_bidi or keeps_bidi_rule(text)) and len(to_a_label(text)) <= 63
+    if not is_unicode_label(text) or len(to_a_label(text)) > 63:
+        return False
+    return not runs_to_left(text) or keeps_bidi_rule(text)
 
 
 def u_label_rows():
-    yield "U-labels by themselves (RFC 5890, section 2.3.2.1): each reason for which a text is none, dots, A-labels, classes of the Bidi rule, and lengths"
+    """The rows of U-labels by themselves."""
+    yield ("U-labels by themselves (RFC 5890, section 2.3.2.1): each reason for which a text is none, dots, A-labels, "
+           "classes of the Bidi rule, and lengths")
     forms = WRONG_FORMS + RIGHT_FORMS
-    yield texts("u-label", [*forms, *(to_a_label(form) for form in forms), *(f"{one}{dot}\u00fc" for one in ("", "a", "\u00fc") for dot in DOTS)], is_u_label)
-    yield texts("u-label", ["".join(some) for size in (1, 2, 3) for some in itertools.product(OF_CLASSES, repeat=size)], is_u_label)
-    lengths = [label for form in ("\u00fc", "\u00fc\u00fc", "\u4e00", "\U00020000", "\u05d0") for length in range(58, 70) if (label := to_a_length(form, length))]
-    yield texts("u-label", lengths + ["\u4e00" * count for count in range(1, 70)], is_u_label)
+    with_dots = [f"{one}{dot}\u00fc" for one in ("", "a", "\u00fc") for dot in DOTS]
+    yield texts("u-label", [*forms, *map(to_a_label, forms), *with_dots], is_u_label)
+    yield texts("u-label", words(OF_CLASSES, (1, 2, 3)), is_u_label)
+    yield texts("u-label", labels_about_63() + ["\u4e00" * count for count in range(1, 70)], is_u_label)
 
 
 def idn_rows():
+    """The rows of internationalised host names."""
     yield "internationalised host names: RFC 5890 to 5893"
-    yield from class_rows_of_idn()
+    yield from permission_rows()
+    yield from normal_form_rows()
     yield from label_rules_of_idn()
+    yield from context_rows_of_idn()
     yield from bidi_rows_of_idn()
     yield from a_label_rows()
     yield from size_rows()
     yield from u_label_rows()
-    yield "all code points, by the derived property of another edition of Unicode: between two letters of either direction; of the first 131,072 first, last and beside the characters that have contextual rules"
+    yield ("all code points, by the derived property of another edition of Unicode: between two letters of either "
+           "direction; of the first 131,072 first, last and beside the characters that have contextual rules")
     yield from (idn_sums(before, behind) for before, behind in WIDE_PLACES)
-    for before, behind in (["", "\u4e00"], ["\u05d0", ""], ["\u05d0.\u4e00", ""], ["\u0375", ""], ["\u05d0", "\u05f3"], ["\u30fb", ""], ["\u4e00", "\u200d\u4e00"], ["\u0628", "\u200c\u0628"], ["\u0628\u200c", "\u0628"]):
+    places = (["", "\u4e00"], ["\u05d0", ""], ["\u05d0.\u4e00", ""], ["\u0375", ""], ["\u05d0", "\u05f3"],
+              ["\u30fb", ""], ["\u4e00", "\u200d\u4e00"], ["\u0628", "\u200c\u0628"], ["\u0628\u200c", "\u0628"])
+    for before, behind in places:
         yield idn_sums(before, behind, 0x20000)
 
 
@@ -1076,8 +1406,8 @@ def idn_rows():
 
 SYNTAX = "^$\\.*+?()[]{}|/"
 LINE_ENDS = "\n\r\u2028\u2029"
-# The names of each value of General_Category and of Script (PropertyValueAliases.txt), and behind a colon its first character,
-# where Unicode 17 has one.
+# The names of each value of General_Category and of Script (PropertyValueAliases.txt), and behind a colon its first
+# character, where Unicode 17 has one.
 CATEGORIES = (
     "C/Other:0 Cc/cntrl/Control:0 Cf/Format:AD Cn/Unassigned:378 Co/Private_Use:E000 Cs/Surrogate L/Letter:41 "
     "LC/Cased_Letter:41 Ll/Lowercase_Letter:61 Lm/Modifier_Letter:2B0 Lo/Other_Letter:AA Lt/Titlecase_Letter:1C5 "
@@ -1125,11 +1455,17 @@ SCRIPTS = (
     "Yi/Yiii:A000 Zanb/Zanabazar_Square:11A00 Qaai/Zinh/Inherited:300 Zyyy/Common:0 Zzzz/Unknown:378 "
 )
 # Characters that may and may not be first in a name (ID_Start), and behind (ID_Continue, U+200C and U+200D).
-NAME_CHARACTERS = ("\u200b\u200c\u200d\u200e\u2118\u212e\u309b\u309c\u1885\u1886\u00b7\u0387\u1369\u1371\u19da\u30fb\uff65\u2e2f\u037a\u037e\u00aa\u00b5\u00ba"
-                   "\u00d7\u00f7\u0300\u0488\u0660\u0966\u2160\u3007\u3021\u303f\u2028\u00a0\u00a7\u2014\u203f\u2040\u2054\ufe33\uff3f\u0e33\ufdfa\U00010400"
-                   "\U0001d7ce\U000e0100\U0001f600\ud7a3\u4e00\u9fff\ufffd\U0010ffff\u0085\u00e9\u0430\u05d0")
-NAME_STARTS = "\u2118\u212e\u309b\u309c\u1885\u1886\u037a\u00aa\u00b5\u00ba\u2160\u3007\u3021\u0e33\ufdfa\U00010400\ud7a3\u4e00\u9fff\u00e9\u0430\u05d0"
-NAME_PARTS = NAME_STARTS + "\u200c\u200d\u00b7\u0387\u1369\u1371\u19da\u30fb\uff65\u0300\u0660\u0966\u203f\u2040\u2054\ufe33\uff3f\U0001d7ce\U000e0100"
+NAME_CHARACTERS = (
+    "\u200b\u200c\u200d\u200e\u2118\u212e\u309b\u309c\u1885\u1886\u00b7\u0387\u1369\u1371\u19da\u30fb\uff65\u2e2f"
+    "\u037a\u037e\u00aa\u00b5\u00ba\u00d7\u00f7\u0300\u0488\u0660\u0966\u2160\u3007\u3021\u303f\u2028\u00a0\u00a7"
+    "\u2014\u203f\u2040\u2054\ufe33\uff3f\u0e33\ufdfa\U00010400\U0001d7ce\U000e0100\U0001f600\ud7a3\u4e00\u9fff"
+    "\ufffd\U0010ffff\u0085\u00e9\u0430\u05d0")
+NAME_STARTS = (
+    "\u2118\u212e\u309b\u309c\u1885\u1886\u037a\u00aa\u00b5\u00ba\u2160\u3007\u3021\u0e33\ufdfa\U00010400\ud7a3\u4e00"
+    "\u9fff\u00e9\u0430\u05d0")
+NAME_PARTS = NAME_STARTS + (
+    "\u200c\u200d\u00b7\u0387\u1369\u1371\u19da\u30fb\uff65\u0300\u0660\u0966\u203f\u2040\u2054\ufe33\uff3f"
+    "\U0001d7ce\U000e0100")
 PATTERNS = "patterns of ECMA-262"
 
 
@@ -1141,74 +1477,117 @@ def values_of(table):
 
 
 def one_letter_off(name):
-    return {name[:-1], name[1:], name + "s", "_" + name, name.lower(), name.upper(), name.swapcase(), name[0].swapcase() + name[1:],
-            name[:-1] + name[-1].swapcase(), name[:-1] + ("y" if name[-1] == "x" else "x"), name.replace("_", ""), name.replace("_", "-"),
+    """Names that differ from it in a letter, a letter case, an underscore or what stands around it."""
+    return {name[:-1], name[1:], name + "s", "_" + name, name.lower(), name.upper(), name.swapcase(),
+            name[0].swapcase() + name[1:], name[:-1] + name[-1].swapcase(),
+            name[:-1] + ("y" if name[-1] == "x" else "x"), name.replace("_", ""), name.replace("_", "-"),
             name + " ", " " + name, "Is" + name}
 
 
+def property_searches(table, prefixes):
+    """Each value of a property by each of its names, with a character that has it and one that has not."""
+    rows = []
+    values = list(values_of(table))
+    for (names, point), (_, other) in zip(values, values[5:] + values[:5]):
+        for letter, prefix, name in itertools.product("pP", prefixes, names):
+            is_found = point is not None and letter == "p"
+            rows.append([f"^\\{letter}{{{prefix}{name}}}$", point or "", is_found])
+        if point and other and table is SCRIPTS:
+            rows += [[f"^\\p{{sc={names[0]}}}$", other, False], [f"^\\P{{sc={names[-1]}}}$", other, True]]
+    return searches(rows)
+
+
 def property_rows():
-    yield "each value of both properties by each of its names, with a character that has it and one that has not; and one letter off"
-    known = {}
-    for table, prefixes in ((CATEGORIES, ("", "gc=", "General_Category=")), (SCRIPTS, ("sc=", "Script="))):
-        values = list(values_of(table))
-        known[table] = {name for names, _ in values for name in names}
-        rows = []
-        for (names, point), (_, other) in zip(values, values[5:] + values[:5]):
-            taken = [f"\\{letter}{{{prefix}{name}}}" for letter in "pP" for prefix in prefixes for name in names]
-            rows += [[f"^{pattern}$", point or "", point is not None and pattern[1] == "p"] for pattern in taken]
-            if point and other and table is SCRIPTS:
-                rows += [[f"^\\p{{sc={names[0]}}}$", other, False], [f"^\\P{{sc={names[-1]}}}$", other, True]]
-        yield searches(rows)
+    """The rows of `\\p{..}` and `\\P{..}`."""
+    yield ("each value of both properties by each of its names, with a character that has it and one that has not; and "
+           "one letter off")
+    yield property_searches(CATEGORIES, ("", "gc=", "General_Category="))
+    yield property_searches(SCRIPTS, ("sc=", "Script="))
+    known = {table: {name for names, _ in values_of(table) for name in names} for table in (CATEGORIES, SCRIPTS)}
     for table, prefixes in ((CATEGORIES, ("", "gc=")), (SCRIPTS, ("sc=",))):
         off = sorted({spoilt for name in known[table] for spoilt in one_letter_off(name)} - known[table])
         for prefix in prefixes:
-            yield texts(PATTERNS, [f"\\p{{{prefix}{name}}}" for name in off], lambda text: False)
-    others = [f"\\p{{{name}}}" for name in sorted(known[SCRIPTS])] + [f"\\p{{sc={name}}}" for name in sorted(known[CATEGORIES])]
-    others += [f"\\p{{{prefix}={value}}}" for prefix in ("Sc", "SC", "script", "s", "scr", "sc ", "gC", "Gc", "g", "general_category", "Category", "")
-               for value in ("Latn", "Latin", "Lu")]
-    yield texts(PATTERNS, others + ["\\p{gc=Latn}", "\\p{sc=Zsye}", "\\p{sc=Zsym}", "\\p{sc=Jpan}", "\\p{sc=Kore}", "\\p{sc=Hans}", "\\p{sc=Xxxx}"], lambda text: False)
+            yield texts(PATTERNS, [f"\\p{{{prefix}{name}}}" for name in off], never)
+    exchanged = [*sorted(known[SCRIPTS]), *(f"sc={name}" for name in sorted(known[CATEGORIES]))]
+    properties = ("Sc", "SC", "script", "s", "scr", "sc ", "gC", "Gc", "g", "general_category", "Category", "")
+    others = [f"{prefix}={value}" for prefix in properties for value in ("Latn", "Latin", "Lu")]
+    others += ["gc=Latn", "sc=Zsye", "sc=Zsym", "sc=Jpan", "sc=Kore", "sc=Hans", "sc=Xxxx"]
+    yield texts(PATTERNS, [f"\\p{{{name}}}" for name in exchanged + others], never)
 
 
 def escape_rows():
+    """The rows of escapes."""
     yield "each character behind a backslash, in a pattern and in a class"
-    accepted = SYNTAX + "dDsSwWfnrtvbB0"
     wide = "\u00e9\u017f\u212a\u2028\u200d\ufeff\uff0d\U0001f600"
-    yield characters(PATTERNS, accepted, [["\\", ""], ["a\\", "b", "c"], ["(\\", ")"], ["a|\\", ""], ["\\\\\\", ""]])
-    yield characters(PATTERNS, SYNTAX + "dDsSwWfnrtvb0-", [["[\\", "]"], ["[a\\", "b]", "c"], ["[^\\", "]"], ["[\\\\\\", "]"]])
-    yield characters(PATTERNS, "", [["\\", ""], ["[\\", "]"], ["\\c", ""], ["[\\c", "]"], ["\\x4", ""], ["\\u004", ""], ["\\u{4", "}"]], wide)
-    yield searches([[f"^\\{c}$", other, other == c] for c in SYNTAX for other in (c, chr(ord(c) + 1), "\\", "")])
-    yield searches([[f"^[\\{c}]$", other, other == c] for c in SYNTAX + "-" for other in (c, chr(ord(c) - 1), "a")])
+    places = [["\\", ""], ["a\\", "b", "c"], ["(\\", ")"], ["a|\\", ""], ["\\\\\\", ""]]
+    yield characters(PATTERNS, SYNTAX + "dDsSwWfnrtvbB0", places)
+    places = [["[\\", "]"], ["[a\\", "b]", "c"], ["[^\\", "]"], ["[\\\\\\", "]"]]
+    yield characters(PATTERNS, SYNTAX + "dDsSwWfnrtvb0-", places)
+    places = [["\\", ""], ["[\\", "]"], ["\\c", ""], ["[\\c", "]"], ["\\x4", ""], ["\\u004", ""], ["\\u{4", "}"]]
+    yield characters(PATTERNS, "", places, wide)
+    beside = {sign: (sign, chr(ord(sign) + 1), "\\", "") for sign in SYNTAX}
+    yield searches([[f"^\\{sign}$", other, other == sign] for sign in beside for other in beside[sign]])
+    beside = {sign: (sign, chr(ord(sign) - 1), "a") for sign in SYNTAX + "-"}
+    yield searches([[f"^[\\{sign}]$", other, other == sign] for sign in beside for other in beside[sign]])
     yield "`\\c` before each character"
-    yield characters(PATTERNS, LETTERS, [["\\c", ""], ["[\\c", "]"], ["a\\c", "b"], ["[a-\\c", "]"]][:3])
-    yield searches([[f"^{form.format(letter)}$", chr(ord(letter) % 32 + off), off == 0] for letter in LETTERS for form in ("\\c{}", "[\\c{}]") for off in (-1, 0, 1)])
+    yield characters(PATTERNS, LETTERS, [["\\c", ""], ["[\\c", "]"], ["a\\c", "b"]])
+    rows = []
+    for letter, form, off in itertools.product(LETTERS, ("\\c{}", "[\\c{}]"), (-1, 0, 1)):
+        rows.append([f"^{form.format(letter)}$", chr(ord(letter) % 32 + off), off == 0])
+    yield searches(rows)
     yield "`\\0` before each character, and behind backslashes"
-    yield characters(PATTERNS, "".join(c for c in ASCII if c not in DIGITS + "\\()[]{}"), [["\\0", ""], ["[\\0", "]"], ["\\\\\\0", ""]][:1])
-    yield characters(PATTERNS, "".join(c for c in ASCII if c not in DIGITS + "\\]"), [["[\\0", "]"], ["[^a\\0", "]"]])
-    yield texts(PATTERNS, ["\\" * slashes + "0" + digit for slashes in range(1, 6) for digit in ["", *DIGITS]],
-                lambda text: text.count("\\") % 2 == 0 or text[-2] == "\\")
+    yield characters(PATTERNS, without(DIGITS + "\\()[]{}"), [["\\0", ""]])
+    yield characters(PATTERNS, without(DIGITS + "\\]"), [["[\\0", "]"], ["[^a\\0", "]"]])
+    zeros = ["\\" * slashes + "0" + digit for slashes in range(1, 6) for digit in ["", *DIGITS]]
+    yield texts(PATTERNS, zeros, lambda text: text.count("\\") % 2 == 0 or text[-2] == "\\")
     yield from code_rows()
 
 
-def code_rows():
-    yield "codes: each digit of base 16 at each place, surrogates at their ends, and the greatest code point"
-    hexadecimal = DIGITS + "ABCDEFabcdef"
-    yield characters(PATTERNS, hexadecimal, [["\\x", "1"], ["\\x1", ""], ["\\u", "061"], ["\\u0", "61"], ["\\u00", "1"], ["\\u006", ""], ["[\\x", "1]"], ["[\\u006", "]"],
-                                             ["\\u{", "}"], ["\\u{6", "}"], ["\\u{0", "1}"], ["[\\u{", "}]"]])
+def without(left_out):
+    """All characters of ASCII but these."""
+    return "".join(character for character in ASCII if character not in left_out)
+
+
+def is_surrogate(point):
+    """Whether the code point is that of half a pair."""
+    return 0xD800 <= point <= 0xDFFF
+
+
+def unit_searches():
+    """Two `\\u` in a row, alone and in a class: a pair of surrogates is one character, and any other one is refused."""
     units = [0x0000, 0x00FF, 0xD7FF, 0xD800, 0xD801, 0xDBFE, 0xDBFF, 0xDC00, 0xDC01, 0xDFFE, 0xDFFF, 0xE000, 0xFFFF]
     rows = []
     for one, other in itertools.product(units, repeat=2):
-        is_pair = one & 0xFC00 == 0xD800 and other & 0xFC00 == 0xDC00
-        point = 0x10000 + (one - 0xD800) * 0x400 + other - 0xDC00 if is_pair else None
-        is_taken = is_pair or not any(0xD800 <= unit <= 0xDFFF for unit in (one, other))
-        text = chr(point) if is_pair else chr(one) + chr(other) if is_taken else ""
-        rows.append([f"^\\u{one:04x}\\u{other:04X}$", text, True if is_taken else None])
-        rows.append([f"^[\\u{one:04X}\\u{other:04x}]$", text[:1], True if is_taken else None])
+        text, is_taken = "", True
+        if one & 0xFC00 == 0xD800 and other & 0xFC00 == 0xDC00:
+            text = chr(0x10000 + (one - 0xD800) * 0x400 + other - 0xDC00)
+        elif is_surrogate(one) or is_surrogate(other):
+            is_taken = None
+        else:
+            text = chr(one) + chr(other)
+        rows.append([f"^\\u{one:04x}\\u{other:04X}$", text, is_taken])
+        rows.append([f"^[\\u{one:04X}\\u{other:04x}]$", text[:1], is_taken])
+    return searches(rows)
+
+
+def code_rows():
+    """The rows of `\\x` and `\\u`."""
+    yield "codes: each digit of base 16 at each place, surrogates at their ends, and the greatest code point"
+    places = [["\\x", "1"], ["\\x1", ""], ["\\u", "061"], ["\\u0", "61"], ["\\u00", "1"], ["\\u006", ""],
+              ["[\\x", "1]"], ["[\\u006", "]"], ["\\u{", "}"], ["\\u{6", "}"], ["\\u{0", "1}"], ["[\\u{", "}]"]]
+    yield characters(PATTERNS, DIGITS + "ABCDEFabcdef", places)
+    yield unit_searches()
+    points = [0, 9, 0x41, 0x7F, 0xFF, 0xD7FF, 0xD800, 0xDFFF, 0xE000, 0xFFFF, 0x10000, 0x1F600, 0xFFFFF, 0x10FFFE,
+              0x10FFFF, 0x110000, 0x1000000, 0xFFFFFFFF]
+    rows = []
+    for point, zeros in itertools.product(points, ("", "0", "000000000")):
+        is_character = point <= 0x10FFFF and not is_surrogate(point)
+        rows.append([f"^\\u{{{zeros}{point:x}}}$", chr(point) if is_character else "", is_character or None])
     yield searches(rows)
-    points = [0, 9, 0x41, 0x7F, 0xFF, 0xD7FF, 0xD800, 0xDFFF, 0xE000, 0xFFFF, 0x10000, 0x1F600, 0xFFFFF, 0x10FFFE, 0x10FFFF, 0x110000, 0x1000000, 0xFFFFFFFF]
-    yield searches([[f"^\\u{{{zeros}{point:x}}}$", "" if point > 0x10FFFF or 0xD800 <= point <= 0xDFFF else chr(point),
-                     None if point > 0x10FFFF or 0xD800 <= point <= 0xDFFF else True] for point in points for zeros in ("", "0", "000000000")])
     yield searches([[f"^\\x{point:02x}$", chr(point + off), off == 0] for point in range(0, 256) for off in (0, 1)])
-    yield texts(PATTERNS, ["\\u{}", "[\\u{}]", "\\u{ 41}", "\\u{41 }", "\\u{4_1}", "\\u{+41}", "\\u{,}", "\\u(41)", "\\u{41", "\\u41}", "\\U0041", "\\X41", "\\u{{41}}"], lambda text: False)
+    spoilt = ["\\u{}", "[\\u{}]", "\\u{ 41}", "\\u{41 }", "\\u{4_1}", "\\u{+41}", "\\u{,}", "\\u(41)", "\\u{41",
+              "\\u41}", "\\U0041", "\\X41", "\\u{{41}}"]
+    yield texts(PATTERNS, spoilt, never)
 
 
 # What Python does not take in its own names, whose classes are XID_Start and XID_Continue, closed under compatibility.
@@ -1216,69 +1595,128 @@ OTHER_STARTS = "\u037a\u0e33\u0eb3\u309b\u309c"
 
 
 def is_name_start(point):
-    return chr(point) in "$_" + OTHER_STARTS or chr(point).isidentifier() or point in ADDED_POINTS - ADDED_MARK_POINTS
+    """Whether a name of a group may begin by the character."""
+    is_added = point in ADDED_POINTS - ADDED_MARK_POINTS
+    return chr(point) in "$_" + OTHER_STARTS or chr(point).isidentifier() or is_added
 
 
 def is_name_part(point):
-    return is_name_start(point) or chr(point) in "\u200c\u200d\u30fb" or ("a" + chr(point)).isidentifier() or point in ADDED_POINTS
+    """Whether the character may stand in a name behind another one."""
+    if is_name_start(point) or point in ADDED_POINTS:
+        return True
+    return chr(point) in "\u200c\u200d\u30fb" or ("a" + chr(point)).isidentifier()
+
+
+def escaped(character):
+    """The character by the escape of its code."""
+    point = ord(character)
+    return f"\\u{{{point:x}}}" if point > 0xFFFF else f"\\u{point:04x}"
 
 
 def name_rows():
+    """The rows of names of groups."""
     yield "names of groups: each ASCII character first and behind, U+200C and U+200D, and others"
     # behind `(?<` a lookbehind begins by `=` or `!`
-    yield characters(PATTERNS, LETTERS + "$_", [["(?<", ">a)", "=!"], ["a(?<", "b>)", "=!"], ["(?<\u00e9>x)(?<", ">a)", "=!"]])
+    firsts = [["(?<", ">a)", "=!"], ["a(?<", "b>)", "=!"], ["(?<\u00e9>x)(?<", ">a)", "=!"]]
+    yield characters(PATTERNS, LETTERS + "$_", firsts)
     yield characters(PATTERNS, LETTERS + DIGITS + "$_", [["(?<a", ">x)", ">"], ["(?<a", "b>x)", ">"]])
     yield characters(PATTERNS, NAME_STARTS, [["(?<", ">x)"], ["(?<", "b>x)"]], NAME_CHARACTERS)
     yield characters(PATTERNS, NAME_PARTS, [["(?<a", ">x)"], ["(?<a", "b>x)"], ["(?<$", ">x)"]], NAME_CHARACTERS)
-    escaped = [(f"\\u{{{ord(c):x}}}" if ord(c) > 0xFFFF else f"\\u{ord(c):04x}", c) for c in NAME_CHARACTERS + "a0$_-> "]
-    yield texts(PATTERNS, [f"(?<{code}>x)" for code, _ in escaped], {f"(?<{code}>x)": c in NAME_STARTS + "a$_" for code, c in escaped}.get)
-    yield texts(PATTERNS, [f"(?<a{code}>x)" for code, _ in escaped], {f"(?<a{code}>x)": c in NAME_PARTS + "a0$_" for code, c in escaped}.get)
+    for before, accepted in (("(?<", NAME_STARTS + "a$_"), ("(?<a", NAME_PARTS + "a0$_")):
+        tried = NAME_CHARACTERS + "a0$_-> "
+        expected = {f"{before}{escaped(character)}>x)": character in accepted for character in tried}
+        yield texts(PATTERNS, expected, expected.get)
     yield sums(PATTERNS, [["(?<", ">x)"]], lambda point: is_name_start(point) or chr(point) in "=!", 0x100, 0x3100)
     yield sums(PATTERNS, [["(?<a", ">x)"]], lambda point: is_name_part(point) or chr(point) == ">", 0x100, 0x3100)
     names = ["a", "ab", "abc", "a1", "A", "aB", "ab\u200c", "ab\u200d", "\u00e9", "e\u0301", "$", "_"]
-    yield texts(PATTERNS, [form.format(one, other) for one in names for other in names for form in ("(?<{}>x)(?<{}>y)", "(?<{}>x|(?<{}>y))", "(?<{}>x)|(?<{}>y)")],
-                lambda text: len(set(re.findall("<([^>]*)>", text))) == 2)
+    forms = ("(?<{}>x)(?<{}>y)", "(?<{}>x|(?<{}>y))", "(?<{}>x)|(?<{}>y)")
+    twice = [form.format(one, other) for one in names for other in names for form in forms]
+    yield texts(PATTERNS, twice, lambda text: len(set(re.findall("<([^>]*)>", text))) == 2)
 
 
 def class_rows():
-    yield "ranges of a class, upside down and not: each neighbour of ASCII, letter cases, escapes, sets at an end, and characters past ASCII"
-    pairs = [(at, at + step) for at in range(1, 127) for step in (-1, 0, 1)]
-    yield texts(PATTERNS, [f"[\\x{low:02x}-\\x{high:02x}]" for low, high in pairs], lambda text: int(text[3:5], 16) <= int(text[8:10], 16))
+    """The rows of classes."""
+    yield ("ranges of a class, upside down and not: each neighbour of ASCII, letter cases, escapes, sets at an end, "
+           "and characters past ASCII")
+    codes = {f"[\\x{at:02x}-\\x{at + step:02x}]": step >= 0 for at in range(1, 127) for step in (-1, 0, 1)}
+    yield texts(PATTERNS, codes, codes.get)
     letters = "aAbBmMyYzZ059"
     yield texts(PATTERNS, [f"[{one}-{other}]" for one in letters for other in letters], lambda text: text[1] <= text[3])
-    far = ["\u007f", "\u0080", "\u00e9", "\u00ea", "\u07ff", "\u0800", "\ud7ff", "\ue000", "\uffff", "\U00010000", "\U0001f600", "\U0001f601", "\U0010ffff"]
+    far = ["\u007f", "\u0080", "\u00e9", "\u00ea", "\u07ff", "\u0800", "\ud7ff", "\ue000", "\uffff", "\U00010000",
+           "\U0001f600", "\U0001f601", "\U0010ffff"]
     yield texts(PATTERNS, [f"[{one}-{other}]" for one in far for other in far], lambda text: text[1] <= text[3])
     yield searches([[f"^[{one}-{one}]$", other, one == other] for one in far for other in far])
     sets = ["\\d", "\\D", "\\s", "\\S", "\\w", "\\W", "\\p{L}", "\\P{L}"]
-    yield texts(PATTERNS, [form.format(letter) for letter in sets for form in ("[{}-a]", "[a-{}]", "[{0}-{0}]", "[{}-]", "[-{}]", "[{}a-]", "[a{}]", "[^{}]")],
-                lambda text: "-a]" not in text and "[a-" not in text and not re.search(r"(\\.(?:\{L\})?)-\\", text))
-    controls = {"\\t": 9, "\\n": 10, "\\v": 11, "\\f": 12, "\\r": 13, "\\b": 8, "\\0": 0, "\\-": 45, "\\]": 93, "\\cA": 1, "\\x41": 65, "\\u{1F600}": 0x1F600}
+    forms = {"[{}-a]": 0, "[a-{}]": 0, "[{0}-{0}]": 0, "[{}-]": 1, "[-{}]": 1, "[{}a-]": 1, "[a{}]": 1, "[^{}]": 1}
+    at_ends = {form.format(name): is_right for name in sets for form, is_right in forms.items()}
+    yield texts(PATTERNS, at_ends, at_ends.get)
+    controls = {"\\t": 9, "\\n": 10, "\\v": 11, "\\f": 12, "\\r": 13, "\\b": 8, "\\0": 0, "\\-": 45, "\\]": 93,
+                "\\cA": 1, "\\x41": 65, "\\u{1F600}": 0x1F600}
     order = {f"[{one}-{other}]": controls[one] <= controls[other] for one in controls for other in controls}
     yield texts(PATTERNS, order, order.get)
 
 
-def is_word(c):
-    return c in LETTERS + DIGITS + "_"
+def is_word(character):
+    """Whether `\\w` has the character."""
+    return character in LETTERS + DIGITS + "_"
+
+
+def is_no_word(character):
+    """Whether `\\W` has the character."""
+    return not is_word(character)
+
+
+# Patterns that match a character, by what the character has to be.
+MEMBERS = [
+    (("^\\w$", "^[\\w]$", "^[^\\W]$"), is_word),
+    (("^\\W$", "^[\\W]$", "^[^\\w]$"), is_no_word),
+    (("^\\d$", "^[\\d]$", "^[^\\D]$"), lambda character: character in DIGITS),
+    (("^\\D$", "^[\\D]$"), lambda character: character not in DIGITS),
+    (("^.$", "^(?:.)$", "^.+$", "^(?:a|.)$"), lambda character: character not in LINE_ENDS),
+    (("^\\b", "\\b$"), is_word),
+    (("^\\B", "\\B$"), is_no_word),
+]
+
+
+def space_searches():
+    """Searches by `\\s` and `\\S` for white space and the characters beside it."""
+    tried = WHITE_SPACE + NO_WHITE_SPACE + "a0_\U0010ffff"
+    no_spaces = "".join(character for character in tried if character not in WHITE_SPACE)
+    of_spaces = ("^\\s$", "^[\\s]$", "^[^\\S]$", "^(?:\\s|a\\b)$", "^a?\\s+$")
+    of_no_spaces = ("^\\S$", "^[\\S]$", "^[^\\s]$", "^(?:\\S)+$")
+    for patterns, found in ((of_spaces, WHITE_SPACE), (of_no_spaces, no_spaces)):
+        rows = []
+        for pattern, character in itertools.product(patterns, tried):
+            is_found = character in found or "a\\b" in pattern and character == "a"
+            rows.append([pattern, character, is_found])
+        yield searches(rows)
 
 
 def member_rows():
-    yield "each ASCII character and others: `\\d`, `\\w`, `.`, and word boundaries beside them; `$` and `^` beside ends of lines"
-    tried = ASCII + "\u0080\u0085\u00a0\u00e9\u017f\u2027\u2028\u2029\u202a\u212a\u0660\ufeff\uff10\U0001d7ce\U0010ffff"
-    for patterns, has in ((("^\\w$", "^[\\w]$", "^[^\\W]$"), is_word), (("^\\W$", "^[\\W]$", "^[^\\w]$"), lambda c: not is_word(c)),
-                          (("^\\d$", "^[\\d]$", "^[^\\D]$"), lambda c: c in DIGITS), (("^\\D$", "^[\\D]$"), lambda c: c not in DIGITS),
-                          (("^.$", "^(?:.)$", "^.+$", "^(?:a|.)$"), lambda c: c not in LINE_ENDS), (("^\\b", "\\b$"), is_word), (("^\\B", "\\B$"), lambda c: not is_word(c))):
-        yield searches([[pattern, c, has(c)] for pattern in patterns for c in tried])
-    yield searches([[pattern, "a" + c, expected] for c in tried for pattern, expected in (("^a\\b", not is_word(c)), ("^a\\B", is_word(c)), ("^a$", False), ("^a\\w?$", is_word(c)))])
-    yield searches([[pattern, c + "a", expected] for c in tried for pattern, expected in (("\\ba$", not is_word(c)), ("^a", c == "a"))])
-    yield searches([["^(?:a\n)*$", "a\n" * times, True] for times in range(4)] + [[f"a${end}b", f"a{end}b", False] for end in LINE_ENDS] + [[f"a{end}^b", f"a{end}b", False] for end in LINE_ENDS])
+    """The rows of sets of characters and of assertions."""
+    yield ("each ASCII character and others: `\\d`, `\\w`, `.`, and word boundaries beside them; `$` and `^` beside "
+           "ends of lines")
+    tried = ASCII + ("\u0080\u0085\u00a0\u00e9\u017f\u2027\u2028\u2029\u202a\u212a\u0660\ufeff\uff10\U0001d7ce"
+                     "\U0010ffff")
+    for patterns, has in MEMBERS:
+        yield searches([[pattern, character, has(character)] for pattern in patterns for character in tried])
+    behind, before = [], []
+    for character in tried:
+        by_pattern = {"^a\\b": is_no_word, "^a\\B": is_word, "^a$": never, "^a\\w?$": is_word}
+        behind += [[pattern, "a" + character, has(character)] for pattern, has in by_pattern.items()]
+        before += [["\\ba$", character + "a", is_no_word(character)], ["^a", character + "a", character == "a"]]
+    yield searches(behind)
+    yield searches(before)
+    rows = [["^(?:a\n)*$", "a\n" * times, True] for times in range(4)]
+    rows += [[f"a${end}b", f"a{end}b", False] for end in LINE_ENDS]
+    yield searches(rows + [[f"a{end}^b", f"a{end}b", False] for end in LINE_ENDS])
     yield "each member of `\\s`, and the characters beside them"
-    spaces = WHITE_SPACE + NO_WHITE_SPACE + "a0_\U0010ffff"
-    for patterns, is_in in ((("^\\s$", "^[\\s]$", "^[^\\S]$", "^(?:\\s|a\\b)$", "^a?\\s+$"), True), (("^\\S$", "^[\\S]$", "^[^\\s]$", "^(?:\\S)+$"), False)):
-        yield searches([[pattern, c, (c in WHITE_SPACE) == is_in if "a\\b" not in pattern else c in WHITE_SPACE + "a"] for pattern in patterns for c in spaces])
+    yield from space_searches()
 
 
 # What a lookbehind may look for, over a, b and c, which is a pattern of Python too.
-BODIES = ["", "a", "b", "ab", "a|b", "aab", "ba*", "(?:ab)+", "^", "^a", "a|^", "^|ba", "[^a]", "a?b?", "(?:a|ba)b*", "\\ba", "\\Ba", "[^]", "a{2}", "(?:ab?){1,2}"]
+BODIES = ["", "a", "b", "ab", "a|b", "aab", "ba*", "(?:ab)+", "^", "^a", "a|^", "^|ba", "[^a]", "a?b?", "(?:a|ba)b*",
+          "\\ba", "\\Ba", "[^]", "a{2}", "(?:ab?){1,2}"]
 
 
 def stands_before(body, text, place):
@@ -1287,95 +1725,169 @@ def stands_before(body, text, place):
     return any(body.fullmatch(text, start, place) for start in range(place + 1))
 
 
+def has_lone_b(text):
+    """Whether a `b` stands in the text with no `ab` at its left."""
+    return any(letter == "b" and not text[:at].endswith("ab") for at, letter in enumerate(text))
+
+
+# Patterns with lookbehinds, and in which texts of a and b each is found.
+LOOKS = [
+    ("^(?:[ab](?<!aa))*$", lambda text: "aa" not in text),
+    ("^(?:(?<!a)[ab])*$", lambda text: "a" not in text[:-1]),
+    ("^(?:(?<=^|b)a|b)*$", lambda text: "aa" not in text),
+    ("^(?:a|(?<!^)b)*$", lambda text: text[:1] != "b"),
+    ("b(?<=ab)a", lambda text: "aba" in text),
+    ("(?<=a)(?<!aa)b", lambda text: re.search("(?:^|b)ab", text)),
+    ("(?<=(?<!a)a)b", lambda text: re.search("(?:^|b)ab", text)),
+    ("(?<=(?<=a)b)a", lambda text: "aba" in text),
+    ("(?<!(?<=a)b)b", has_lone_b),
+    ("(?<=a*)b|(?<!a)$", lambda text: "b" in text or text == ""),
+    ("(?<![^])b", lambda text: text[:1] == "b"),
+    ("(?:a(?<=ba))+b", lambda text: "bab" in text),
+    ("(?<=b.*)a", lambda text: re.search("b.*a", text)),
+    ("a$(?<=a)(?<!ba)", lambda text: text.endswith("a") and not text.endswith("ba")),
+]
+
+
 def look_rows():
-    yield "lookbehinds: `(?<= )` and `(?<! )` with each body, behind each text of a and b; within groups and loops, in one another, and beside what they look at"
-    words = ["".join(word) for length in range(4) for word in itertools.product("ab", repeat=length)]
-    yield searches([[f"(?<{sign}{body})c", word + "c", stands_before(body, word + "c", len(word)) == (sign == "=")] for body in BODIES for word in words for sign in "=!"])
-    words += ["".join(word) for word in itertools.product("ab", repeat=4)]
-    for pattern, found in (("^(?:[ab](?<!aa))*$", lambda text: "aa" not in text), ("^(?:(?<!a)[ab])*$", lambda text: "a" not in text[:-1]),
-                           ("^(?:(?<=^|b)a|b)*$", lambda text: "aa" not in text), ("^(?:a|(?<!^)b)*$", lambda text: text[:1] != "b"),
-                           ("b(?<=ab)a", lambda text: "aba" in text), ("(?<=a)(?<!aa)b", lambda text: re.search("(?:^|b)ab", text)),
-                           ("(?<=(?<!a)a)b", lambda text: re.search("(?:^|b)ab", text)), ("(?<=(?<=a)b)a", lambda text: "aba" in text),
-                           ("(?<!(?<=a)b)b", lambda text: any(c == "b" and not text[:at].endswith("ab") for at, c in enumerate(text))),
-                           ("(?<=a*)b|(?<!a)$", lambda text: "b" in text or text == ""), ("(?<![^])b", lambda text: text[:1] == "b"),
-                           ("(?:a(?<=ba))+b", lambda text: "bab" in text), ("(?<=b.*)a", lambda text: re.search("b.*a", text)),
-                           ("a$(?<=a)(?<!ba)", lambda text: text.endswith("a") and not text.endswith("ba"))):
-        yield searches([[pattern, text, bool(found(text))] for text in words])
-    far = ["\u00e9", "\u0800", "\uffff", "\U0001f600"]
-    yield searches([[f"(?<={one})a", f"{other}a", one == other] for one in far for other in far] + [[f"(?<!{one})a", f"{other}a", one != other] for one in far for other in far])
-    yield searches([["(?<=\\n)a", f"{end}a", end == "\n"] for end in LINE_ENDS] + [["(?<=.)a", f"{end}a", False] for end in LINE_ENDS] + [["(?<=^)a", f"{end}a", False] for end in LINE_ENDS])
+    """The rows of lookbehinds."""
+    yield ("lookbehinds: `(?<= )` and `(?<! )` with each body, behind each text of a and b; within groups and loops, "
+           "in one another, and beside what they look at")
+    rows = []
+    for body, word in itertools.product(BODIES, words("ab", range(4))):
+        stands = stands_before(body, word + "c", len(word))
+        rows += [[f"(?<={body})c", word + "c", stands], [f"(?<!{body})c", word + "c", not stands]]
+    yield searches(rows)
+    for pattern, found in LOOKS:
+        yield searches([[pattern, text, bool(found(text))] for text in words("ab", range(5))])
+    far = list(itertools.product(["\u00e9", "\u0800", "\uffff", "\U0001f600"], repeat=2))
+    rows = [[f"(?<={one})a", f"{other}a", one == other] for one, other in far]
+    yield searches(rows + [[f"(?<!{one})a", f"{other}a", one != other] for one, other in far])
+    rows = [["(?<=\\n)a", f"{end}a", end == "\n"] for end in LINE_ENDS]
+    rows += [["(?<=.)a", f"{end}a", False] for end in LINE_ENDS]
+    yield searches(rows + [["(?<=^)a", f"{end}a", False] for end in LINE_ENDS])
+    yield from look_syntax_rows()
+
+
+# What may stand around a lookbehind, and what may not; `None` where that is right unless a name stands there twice.
+AROUND_LOOKS = {
+    "{}": True, "{}b": True, "a{}": True, "({})": True, "(?:{})*": True, "({}){{2}}": True, "(?<m>{})?": True,
+    "{}|{}": None, "^{}$": True, "{}*": False, "{}+": False, "{}?": False, "{}{{1}}": False, "{}{{0,1}}": False,
+    "{}{{2,}}": False, "{}??": False, "({}*)": False, "(?<n>{})": None, "{})": False, "({}": False}
+# Patterns that begin as a lookbehind or a named group does, and whether they are taken.
+LIKE_LOOKS = {
+    "(?<=": 0, "(?<!": 0, "(?<=a": 0, "(?<!a": 0, "(?<=*)": 0, "(?<=a|*)": 0, "(?<=a)(": 0, "(?<=>a)": 1, "(?<!>)": 1,
+    "(?<==)": 1, "(?<!!)": 1, "(?<=!)": 1, "(?<n=a)": 0, "(?<n!>a)": 0, "(?<=n>a)": 1, "(? <=a)": 0, "(?< =a)": 0,
+    "(?<=\\1)": 0, "(?<=[)": 0, "(?<=[)])": 1, "(?<=\\))": 1, "(?<=a)b)": 0, "((?<=a)": 0, "(?<=(?<n>a))(?<n>b)": 0,
+    "(?<=(?<n>a))(?<m>b)": 1, "(?<=^)": 1, "(?<=$)": 1}
+
+
+def look_syntax_rows():
+    """Where a lookbehind may stand."""
     yield "no quantifier follows a lookbehind, and its name is none of a group"
-    bodies = ["a", "", "a|b", "(?<n>a)", "(?<=a)", "(a)*"]
-    looks = [f"(?<{sign}{body})" for sign in "=!" for body in bodies]
-    forms = {"{}": True, "{}b": True, "a{}": True, "({})": True, "(?:{})*": True, "({}){{2}}": True, "(?<m>{})?": True, "{}|{}": None, "^{}$": True, "{}*": False, "{}+": False, "{}?": False,
-             "{}{{1}}": False, "{}{{0,1}}": False, "{}{{2,}}": False, "{}??": False, "({}*)": False, "(?<n>{})": None, "{})": False, "({}": False}
-    named = lambda text: len(re.findall("<n>", text)) < 2
-    expected = {form.format(look, look): named(form.format(look, look)) if right is None else right and named(form.format(look, look)) for look in looks for form, right in forms.items()}
+    expected = {}
+    for sign, body in itertools.product("=!", ["a", "", "a|b", "(?<n>a)", "(?<=a)", "(a)*"]):
+        for form, is_right in AROUND_LOOKS.items():
+            pattern = form.format(f"(?<{sign}{body})", f"(?<{sign}{body})")
+            expected[pattern] = is_right is not False and pattern.count("<n>") < 2
     yield texts(PATTERNS, expected, expected.get)
-    others = {"(?<=": 0, "(?<!": 0, "(?<=a": 0, "(?<!a": 0, "(?<=*)": 0, "(?<=a|*)": 0, "(?<=a)(": 0, "(?<=>a)": 1, "(?<!>)": 1, "(?<==)": 1, "(?<!!)": 1, "(?<=!)": 1, "(?<n=a)": 0, "(?<n!>a)": 0, "(?<=n>a)": 1,
-              "(? <=a)": 0, "(?< =a)": 0, "(?<=\\1)": 0, "(?<=[)": 0, "(?<=[)])": 1, "(?<=\\))": 1, "(?<=a)b)": 0, "((?<=a)": 0, "(?<=(?<n>a))(?<n>b)": 0, "(?<=(?<n>a))(?<m>b)": 1, "(?<=^)": 1, "(?<=$)": 1}
-    yield texts(PATTERNS, others, others.get)
+    yield texts(PATTERNS, LIKE_LOOKS, LIKE_LOOKS.get)
 
 
-# Atoms, and how many steps each takes: one for a class, and one more for each eight ranges and for each property; one for an
-# assertion, two around a loop and around what a lookbehind looks for, three around alternatives, and one between more of them.
-STEPS = {"a": 1, ".": 1, "\\d": 1, "\\D": 1, "\\w": 1, "\\W": 1, "\\s": 2, "\\S": 2, "[\\s]": 2, "[\\S]": 2, "[\\W]": 1, "\\p{L}": 2, "\\P{sc=Latn}": 2,
-         "[abcdefg]": 1, "[abcdefgh]": 2, "[a-bd-eg-hj-km-np-qs-t]": 1, "[a-bd-eg-hj-km-np-qs-tv-w]": 2, "[\\p{L}]": 2, "[\\p{L}abcdefg]": 2, "[\\p{L}abcdefgh]": 3,
-         "[\\p{L}\\p{N}]": 3, "[^]": 1, "[]": 1, "(?:ab)": 2, "(?:abc)": 3, "(?:a|b)": 5, "(?:a|b|c)": 7, "(?:a*)": 1, "(?:a?)": 1, "(?:a+)": 1, "(?:(?:ab)*)": 4,
-         "(?:(?:ab)+)": 4, "(?:(?:ab)?)": 5, "(?:^)": 1, "(?:\\b)": 1, "(?:^a$)": 3, "(?:(?:a|b)*)": 7, "(?:a{7})": 7, "(?:a{0,7})": 7, "(?:(?:ab){0,2})": 10, "(?:a|)": 4,
-         "(?:|a)": 4, "(?:(?:a|b)?)": 8, "(?:(?<=a))": 3, "(?:(?<!ab)c)": 5, "(?:(?<=a|b))": 7, "(?:(?<!))": 2, "(?:(?<=a{7}))": 9, "(?:(?<=(?<!a)))": 5}
+# Atoms, and how many steps each takes: one for a class, and one more for each eight ranges and for each property; one
+# for an assertion, two around a loop and around what a lookbehind looks for, three around alternatives, and one between
+# more of them.
+STEPS = {
+    "a": 1, ".": 1, "\\d": 1, "\\D": 1, "\\w": 1, "\\W": 1, "\\s": 2, "\\S": 2, "[\\s]": 2, "[\\S]": 2, "[\\W]": 1,
+    "\\p{L}": 2, "\\P{sc=Latn}": 2, "[abcdefg]": 1, "[abcdefgh]": 2, "[a-bd-eg-hj-km-np-qs-t]": 1,
+    "[a-bd-eg-hj-km-np-qs-tv-w]": 2, "[\\p{L}]": 2, "[\\p{L}abcdefg]": 2, "[\\p{L}abcdefgh]": 3, "[\\p{L}\\p{N}]": 3,
+    "[^]": 1, "[]": 1, "(?:ab)": 2, "(?:abc)": 3, "(?:a|b)": 5, "(?:a|b|c)": 7, "(?:a*)": 1, "(?:a?)": 1, "(?:a+)": 1,
+    "(?:(?:ab)*)": 4, "(?:(?:ab)+)": 4, "(?:(?:ab)?)": 5, "(?:^)": 1, "(?:\\b)": 1, "(?:^a$)": 3, "(?:(?:a|b)*)": 7,
+    "(?:a{7})": 7, "(?:a{0,7})": 7, "(?:(?:ab){0,2})": 10, "(?:a|)": 4, "(?:|a)": 4, "(?:(?:a|b)?)": 8, "(?:(?<=a))": 3,
+    "(?:(?<!ab)c)": 5, "(?:(?<=a|b))": 7, "(?:(?<!))": 2, "(?:(?<=a{7}))": 9, "(?:(?<=(?<!a)))": 5}
+MOST_STEPS, MOST_TIMES = 2000, 1000
 
 
 def limits_of_atoms():
     """Counts of each atom at the greatest that is taken, and one more."""
     for atom, steps in STEPS.items():
-        most = min(1000, 2000 // steps)
+        most = min(MOST_TIMES, MOST_STEPS // steps)
         yield f"{atom}{{{most}}}", True
         yield f"{atom}{{{most + 1}}}", False
-        yield f"{atom}{{{most},}}", (most + 1) * steps <= 2000
+        yield f"{atom}{{{most},}}", (most + 1) * steps <= MOST_STEPS
         yield f"{atom}{{{most - 1},}}", True
         yield f"{atom}{{{most + 1},}}", False
-    for count in (999, 1000, 1001):
-        for zeros in ("", "0", "0" * 20):
-            yield from ((f"a{{{zeros}{count}}}", count <= 1000), (f"a{{{zeros}{count},}}", count <= 1000), (f"a{{0,{zeros}{count}}}", count <= 1000),
-                        (f"a{{{zeros}{count},{count}}}", count <= 1000))
+    for count, zeros in itertools.product((999, 1000, 1001), ("", "0", "0" * 20)):
+        for bounds in (f"{zeros}{count}", f"{zeros}{count},", f"0,{zeros}{count}", f"{zeros}{count},{count}"):
+            yield f"a{{{bounds}}}", count <= MOST_TIMES
+
+
+def limits_of_patterns():
+    """Patterns of so many characters, of so many groups in one another, and of so many steps."""
+    for letter in ("a", "\u00e9", "\U0001f600", ".", "\\d"):
+        times = 2000 // len(letter)
+        found_in = letter if len(letter) == 1 and letter != "." else "7"
+        yield [[letter, times]], [[found_in, times]], True
+        yield [[letter, times], ["b", 1]], [], None
+    for opening in ("(", "(?:", "(?<="):
+        for deep, found in ((249, True), (250, True), (251, None)):
+            pattern = [[opening, deep], ["a", 1], [")", deep]]
+            yield pattern, [["a", 1]], found
+            yield pattern + [["b", 1]], [["ab", 1]], found
+    for steps in (599, 600, 601):
+        found = True if steps <= 600 else None
+        yield [["a{1000}", 2], [f"a{{{steps}}}", 1]], [["a", 2000 + steps]], found
+        yield [["(?:ab){1000}", 1], ["c", steps]], [["ab", 1000], ["c", steps]], found
+        alternatives = [["a{1000}", 1], ["|b{1000}", 1], [f"|c{{{steps - 4}}}", 1]]
+        yield alternatives, [["c", steps - 4]], found
+        yield [["\\p{L}{1000}", 1], ["c", steps]], [["c", 1000 + steps]], found
+
+
+def refusal_rows():
+    """Patterns by why they are not taken, and some that are."""
+    yield "why patterns are not taken"
+    forms = ("\\{}", "a\\{}b", "(a)\\{}", "(?:\\{})", "a|\\{}")
+    yield refusals("it has a back reference", in_forms(forms, "123456789k"))
+    forms = ("(?{}a)", "a(?{}", "(?:(?{}))", "(?<n>(?{}a))", "a|(?{}b)", "(?<=(?{}a))", "(?<!a)(?{}b)")
+    yield refusals("it has a look-ahead", in_forms(forms, "=!"))
+    forms = ("(?<{}a)", "a(?<{})", "(?:(?<{}))", "(?<n>(?<{}a))", "a|(?<{}b)")
+    yield refusals("taken", in_forms(forms, "=!"))
+    above = ("1001}", "1001,}", "1001,1002}", "0,1001}", "1000,1001}", "2000}", "10000}", "01001}")
+    yield refusals("it has a count above 1000", [f"a{{{count}" for count in above])
+    most = {atom: MOST_STEPS // steps for atom, steps in STEPS.items()}
+    above = [f"{atom}{{{count + 1}}}" for atom, count in most.items() if count < MOST_TIMES]
+    yield refusals("a counted term takes more than 2000 steps", above)
+    yield refusals("taken", [f"{atom}{{{min(MOST_TIMES, count)}}}" for atom, count in most.items()])
+    names = ("Any", "ASCII", "Alphabetic", "lu", "gc=lu", "sc=latn", "scx=Latn", "Latin", "x", "_", "gc=x")
+    forms = ("\\p{{{}}}", "\\P{{{}}}", "[\\p{{{}}}]", "a\\p{{{}}}b")
+    yield refusals("it has a property that is not known here", in_forms(forms, names))
+
+
+# Braces and quantifiers, and whether the pattern is taken.
+BRACES = {
+    "a{1}": 1, "a{1,}": 1, "a{1,2}": 1, "a{0}": 1, "a{0,0}": 1, "a{00,01}": 1, "a{1}?": 1, "a{1,}?": 1, "a{1,2}?": 1,
+    "a{,1}": 0, "a{}": 0, "a{,}": 0, "a{1,2": 0, "a{1": 0, "a{1,0}": 0, "a{2,1}": 0, "a{10,9}": 0, "a{1000,999}": 0,
+    "a{1 }": 0, "a{ 1}": 0, "a{1, 2}": 0, "a{-1}": 0, "a{+1}": 0, "a{1.}": 0, "a{1;2}": 0, "a{a}": 0, "a{1,a}": 0,
+    "a{1,2,3}": 0, "a{\u0661}": 0, "a{1}{1}": 0, "a{1}+": 0, "a{1}??": 0, "{1}": 0, "a|{1}": 0, "({1})": 0, "^{1}": 0,
+    "${1}": 0, "\\b{1}": 0, "\\B{1}": 0, "(?:){1}": 1, "(){1}": 1, "[]{1}": 1, "\\{1}": 0, "a\\{1}": 0, "a\\{1\\}": 1,
+    "}": 0, "a}": 0, "]": 0, "a]": 0, "[a]]": 0, "{": 0, "a{": 0, "[{]": 1, "[}]": 1, "[[]": 1, "[(]": 1, "[)]": 1,
+    "(])": 0, "a,b": 1, "a-b": 1, "a:b": 1, "<>": 1, "=!": 1}
 
 
 def limit_rows():
-    yield "limits, each at it and one off: counts, steps of a counted term and of the whole, characters, groups in one another"
+    """The rows of limits, of refusals and of braces."""
+    yield ("limits, each at it and one off: counts, steps of a counted term and of the whole, characters, groups "
+           "in one another")
     limits = dict(limits_of_atoms())
     yield texts(PATTERNS, limits, limits.get)
-    rows = []
-    for letter in ("a", "\u00e9", "\U0001f600", ".", "\\d"):
-        size = len(letter)
-        rows += [([[letter, 2000 // size]], [[letter if size == 1 and letter != "." else "7", 2000 // size]], True), ([[letter, 2000 // size], ["b", 1]], [], None)]
-    for opening in ("(", "(?:", "(?<="):
-        for deep, found in ((249, True), (250, True), (251, None)):
-            rows += [([[opening, deep], ["a", 1], [")", deep]], [["a", 1]], found), ([[opening, deep], ["a", 1], [")", deep], ["b", 1]], [["ab", 1]], found)]
-    for steps in (599, 600, 601):
-        found = True if steps <= 600 else None
-        rows += [([["a{1000}", 2], [f"a{{{steps}}}", 1]], [["a", 2000 + steps]], found), ([["(?:ab){1000}", 1], ["c", steps]], [["ab", 1000], ["c", steps]], found),
-                 ([["a{1000}", 1], ["|b{1000}", 1], [f"|c{{{steps - 4}}}", 1]], [["c", steps - 4]], found), ([["\\p{L}{1000}", 1], ["c", steps]], [["c", 1000 + steps]], found)]
-    yield long_searches(rows)
-    yield "why patterns are not taken"
-    yield refusals("it has a back reference", [form.format(c) for c in "123456789k" for form in ("\\{}", "a\\{}b", "(a)\\{}", "(?:\\{})", "a|\\{}")])
-    yield refusals("it has a look-ahead", [form.format(c) for c in "=!" for form in ("(?{}a)", "a(?{}", "(?:(?{}))", "(?<n>(?{}a))", "a|(?{}b)", "(?<=(?{}a))", "(?<!a)(?{}b)")])
-    yield refusals("taken", [form.format(c) for c in "=!" for form in ("(?<{}a)", "a(?<{})", "(?:(?<{}))", "(?<n>(?<{}a))", "a|(?<{}b)")])
-    yield refusals("it has a count above 1000", [f"a{{{count}" for count in ("1001}", "1001,}", "1001,1002}", "0,1001}", "1000,1001}", "2000}", "10000}", "01001}")])
-    yield refusals("a counted term takes more than 2000 steps",
-                   [f"{atom}{{{2000 // steps + 1}}}" for atom, steps in STEPS.items() if 2000 // steps < 1000])
-    yield refusals("taken", [f"{atom}{{{min(1000, 2000 // steps)}}}" for atom, steps in STEPS.items()])
-    yield refusals("it has a property that is not known here", [form.format(name) for name in ("Any", "ASCII", "Alphabetic", "lu", "gc=lu", "sc=latn", "scx=Latn", "Latin", "x", "_", "gc=x")
-                                                                for form in ("\\p{{{}}}", "\\P{{{}}}", "[\\p{{{}}}]", "a\\p{{{}}}b")])
+    yield long_searches(limits_of_patterns())
+    yield from refusal_rows()
     yield "braces and quantifiers"
-    forms = {"a{1}": 1, "a{1,}": 1, "a{1,2}": 1, "a{0}": 1, "a{0,0}": 1, "a{00,01}": 1, "a{1}?": 1, "a{1,}?": 1, "a{1,2}?": 1, "a{,1}": 0, "a{}": 0, "a{,}": 0, "a{1,2": 0, "a{1": 0,
-             "a{1,0}": 0, "a{2,1}": 0, "a{10,9}": 0, "a{1000,999}": 0, "a{1 }": 0, "a{ 1}": 0, "a{1, 2}": 0, "a{-1}": 0, "a{+1}": 0, "a{1.}": 0, "a{1;2}": 0, "a{a}": 0, "a{1,a}": 0, "a{1,2,3}": 0,
-             "a{\u0661}": 0, "a{1}{1}": 0, "a{1}+": 0, "a{1}??": 0, "{1}": 0, "a|{1}": 0, "({1})": 0, "^{1}": 0, "${1}": 0, "\\b{1}": 0, "\\B{1}": 0, "(?:){1}": 1, "(){1}": 1, "[]{1}": 1, "\\{1}": 0,
-             "a\\{1}": 0, "a\\{1\\}": 1, "}": 0, "a}": 0, "]": 0, "a]": 0, "[a]]": 0, "{": 0, "a{": 0, "[{]": 1, "[}]": 1, "[[]": 1, "[(]": 1, "[)]": 1, "(])": 0, "a,b": 1, "a-b": 1, "a:b": 1, "<>": 1, "=!": 1}
-    yield texts(PATTERNS, forms, forms.get)
+    yield texts(PATTERNS, BRACES, BRACES.get)
 
 
 def ecma_rows():
+    """The rows of patterns of ECMA-262."""
     yield from escape_rows()
     yield from name_rows()
     yield from class_rows()
@@ -1386,11 +1898,11 @@ def ecma_rows():
 
 
 # The parts of `stdin`, by their crates.
-PARTS = {"strkw_label": label_rows, "strkw_coding": coding_rows, "strkw_pattern": pattern_rows,
-         "strkw_ecma": ecma_rows, "strkw_uri": uri_rows,
-         "strkw_net": net_rows, "strkw_mail": mail_rows, "strkw_time": time_rows}
+PARTS = {"strkw_label": label_rows, "strkw_coding": coding_rows, "strkw_pattern": pattern_rows, "strkw_ecma": ecma_rows,
+         "strkw_uri": uri_rows, "strkw_net": net_rows, "strkw_mail": mail_rows, "strkw_time": time_rows}
 
 
+@functools.lru_cache(None)
 def made(crate):
     """The lines of a part, for `stdin` and for `stdout`."""
     given, told = [MARK], [MARK]
@@ -1406,33 +1918,49 @@ def made(crate):
     return given, told
 
 
-def with_parts(text, place):
-    """The lines of `stdin` (place 0) or `stdout` (place 1), with the parts of this script in place of what stands there."""
-    lines, crate, is_kept = [], None, True
-    for line in text.splitlines() + ["# strkw_"]:
+def stored(name):
+    """The lines of a file. Only a line feed ends one."""
+    return (CRATE / name).read_text().removesuffix("\n").split("\n")
+
+
+def with_parts(name):
+    """The lines of `stdin` or of `stdout`, with the parts of this script anew."""
+    lines, headings, is_kept = [], [None], True
+    for line in stored(name) + ["# strkw_"]:
         if line.startswith("# strkw_") or re.fullmatch(r"\d+ rows, .*", line):
-            if crate in PARTS:
-                lines += made(crate)[place]
-            crate, is_kept = line[2:], True
+            if headings[-1] in PARTS:
+                lines += made(headings[-1])[FILES.index(name)]
+            headings.append(line[2:])
+            is_kept = True
         is_kept = is_kept and line != MARK
         if is_kept:
             lines.append(line)
+    for crate in PARTS:
+        if headings.count(crate) != 1:
+            raise SystemExit(f"grammar_rows: {name} has {headings.count(crate)} lines `# {crate}`, where a part begins")
     return lines[:-1]
+
+
+def answers_told(line):
+    """How many answers a line of `stdout` counts as expected."""
+    found = COUNTED.search(line)
+    if found is None:
+        raise SystemExit(f"grammar_rows: a line of stdout counts no answers that are as expected: {line!r}")
+    return int(found[1])
 
 
 def whole_files():
     """Both files as they are to be."""
-    given = with_parts((CRATE / "stdin").read_text(), 0)
-    told = [line for line in with_parts((CRATE / "stdout").read_text(), 1) if not re.fullmatch(r"\d+ rows, .*", line)]
+    given, told = map(with_parts, FILES)
+    told = [line for line in told if not re.fullmatch(r"\d+ rows, .*", line)]
     rows = sum(bool(line) and not line.startswith("#") for line in given)
-    answers = sum(int(COUNTED.search(line)[1]) for line in told if not line.startswith("#"))
+    answers = sum(answers_told(line) for line in told if not line.startswith("#"))
     return given, told + [f"{rows} rows, {answers} answers, 0 of them wrong"]
 
 
 def compare(name, wanted):
     """Counts the lines of a file that are as they are to be, and the others."""
-    found = (CRATE / name).read_text().splitlines()
-    pairs = list(itertools.zip_longest(found, wanted))
+    pairs = list(itertools.zip_longest(stored(name), wanted))
     wrong = [place for place, (one, other) in enumerate(pairs) if one != other]
     for place in wrong[:5]:
         print(f"{name}, line {place + 1} is not what the standards' rules make")
@@ -1440,8 +1968,11 @@ def compare(name, wanted):
 
 
 def main():
-    files = dict(zip(("stdin", "stdout"), whole_files()))
-    if "--check" not in sys.argv[1:]:
+    """Writes both files, or compares them with what is made."""
+    if sys.argv[1:] not in ([], ["--check"]):
+        raise SystemExit(__doc__)
+    files = dict(zip(FILES, whole_files()))
+    if not sys.argv[1:]:
         for name, lines in files.items():
             (CRATE / name).write_text("".join(f"{line}\n" for line in lines))
         print(files["stdout"][-1])

@@ -3,14 +3,16 @@
 
     python3 tools/idna_compare.py                  4,000 names, by the seed 1
     python3 tools/idna_compare.py 500 7            another number of names, and another seed
-    python3 tools/idna_compare.py --code-points    the derived property of each code point, by the rows' rules and by `idna`
+    python3 tools/idna_compare.py --code-points    the derived property of each code point, by the rules of the rows
+                                                   and by `idna`
 
-It wants the package `idna`, and the toolchain: `rt try` in `crates/strkw_test_grammars` asks the program without a proof,
-or the program that `rt run` has built there answers. `idna` is asked with `strict=True` and no mapping of UTS 46.
+It wants the package `idna`, and the toolchain: `rt try` in `crates/strkw_test_grammars` asks the program without a
+proof, or the program that `rt run` has built there answers. `idna` is asked with `strict=True` and no mapping of
+UTS 46.
 
-Names are made of labels of scripts with contextual rules, of scripts that run from right to left, with hyphens, marks and
-digits, and of A-labels, of which some are then spoilt. Each difference is told with both answers and classed by the rule
-that explains it. One that no rule explains is told as such, and the status is then 1. It is no part of the gate.
+Names are made of labels of scripts with contextual rules, of scripts that run from right to left, with hyphens, marks
+and digits, and of A-labels, of which some are then spoilt. Each difference is told with both answers and classed by the
+rule that explains it. One that no rule explains is told as such, and the status is then 1. It is no part of the gate.
 """
 import json
 import random
@@ -33,9 +35,12 @@ MOST_TOLD = 5
 SECONDS = 900
 STEPS = 4_000_000_000
 # Characters of a kind, from which labels are made.
-KINDS = ["abclxyz0189", "abcl-", "ABX", "\u00fc\u00e9\u00df\u00b7l", "\u03b1\u03b2\u03c2\u0375\u1f00", "\u05d0\u05d1\u05ea\u05f3\u05f4\u05b00", "\u0628\u0627\u064a\u064b\u0660\u06f0\u200c",
-         "\u0915\u094d\u0937\u200c\u200d\u093f", "\u30fb\u30a2\u3042\u4e00\u3007\u30fc", "\u0430\u0431\u0432\u0301", "a\u0301\u0308\u0323u", "\u1100\u1161\uac00\u11a8", "\u0640\u07fa\u302e\u3031",
-         "\u0710\u0712\u070f\u200c\u0730", "\u1820\u1821\u200c\u180b\u18a9", "\u00c0\u2126\uff21\ufb01\u00aa", "\u0378\u20d0\u2c2f\U0001f600", "\u088f\u1c8a\ua7cb\U00010d4a\U0002ebf0", "_ !@"]
+KINDS = ["abclxyz0189", "abcl-", "ABX", "\u00fc\u00e9\u00df\u00b7l", "\u03b1\u03b2\u03c2\u0375\u1f00",
+         "\u05d0\u05d1\u05ea\u05f3\u05f4\u05b00", "\u0628\u0627\u064a\u064b\u0660\u06f0\u200c",
+         "\u0915\u094d\u0937\u200c\u200d\u093f", "\u30fb\u30a2\u3042\u4e00\u3007\u30fc", "\u0430\u0431\u0432\u0301",
+         "a\u0301\u0308\u0323u", "\u1100\u1161\uac00\u11a8", "\u0640\u07fa\u302e\u3031",
+         "\u0710\u0712\u070f\u200c\u0730", "\u1820\u1821\u200c\u180b\u18a9", "\u00c0\u2126\uff21\ufb01\u00aa",
+         "\u0378\u20d0\u2c2f\U0001f600", "\u088f\u1c8a\ua7cb\U00010d4a\U0002ebf0", "_ !@"]
 
 
 class Maker:
@@ -45,12 +50,14 @@ class Maker:
         self.random = random.Random(seed)
 
     def plain(self):
+        """Some characters of one kind, or of two."""
         kind = self.random.choice(KINDS)
         if self.random.random() < 0.25:
             kind += self.random.choice(KINDS)
         return "".join(self.random.choice(kind) for _ in range(self.random.choice([1, 1, 2, 2, 3, 4, 5, 8])))
 
     def label(self):
+        """A label: as it is made, as an A-label, very long, or with two hyphens."""
         made = self.plain()
         kind = self.random.random()
         if kind < 0.3:
@@ -64,20 +71,23 @@ class Maker:
         return made
 
     def spoilt(self, label):
+        """An A-label with a character behind `xn--` left out, put in or changed."""
         at = self.random.randrange(4, len(label) + 1)
         put = self.random.choice(["", *"-0a9zZ"])
         return label[:at] + put + label[at + self.random.randrange(2):]
 
     def name(self):
+        """One to three labels with dots between them, and rarely a dot at the end."""
         labels = [self.label() for _ in range(self.random.choice([1, 1, 1, 1, 2, 2, 3]))]
         name = labels[0] + "".join(self.random.choice("....\u3002\uff0e\uff61") + label for label in labels[1:])
         return name + "." if self.random.random() < 0.02 else name
 
 
 def answers_of(program, names):
-    """What the program answers: the names that it accepts. A row expects that each name is accepted, and tells a wrong answer."""
+    """Which of the names the program accepts: each has a row that expects so, and that tells a wrong answer."""
     rows = "".join(json.dumps({"ask": "texts", "of": "idn-hostname", "yes": [name]}) + "\n" for name in names)
-    run = subprocess.run(program, cwd=CRATE, input=rows, stdout=subprocess.PIPE, stderr=subprocess.PIPE, text=True, errors="replace")
+    run = subprocess.run(program, cwd=CRATE, input=rows, stdout=subprocess.PIPE, stderr=subprocess.PIPE, text=True,
+                         errors="replace")
     told = re.findall(r"^texts of idn-hostname: (1 as expected|1 WRONG of 1)$", run.stdout, re.MULTILINE)
     if len(told) != len(names):
         raise SystemExit(f"idna_compare: {len(told)} answers to {len(names)} names: {(run.stdout + run.stderr)[-500:]}")
@@ -85,6 +95,7 @@ def answers_of(program, names):
 
 
 def here(names):
+    """Which of the names the program accepts, as it is built or as `rt try` runs it."""
     if PROGRAM.exists():
         return answers_of([PROGRAM], names)
     return answers_of(["rt", "try", "--seconds", str(SECONDS), "--steps", str(STEPS)], names)
@@ -110,11 +121,12 @@ def forms(labels):
 
 def is_of_later_editions(name):
     """Whether a character is assigned since the edition that Python has, which `idna` asks for directions and marks."""
-    return any(unicodedata.category(c) == "Cn" and rules.is_permitted(ord(c)) for form in forms(re.split(f"[{rules.DOTS}]", name)) for c in form)
+    characters = "".join(forms(re.split(f"[{rules.DOTS}]", name)))
+    return any(unicodedata.category(one) == "Cn" and rules.is_permitted(ord(one)) for one in characters)
 
 
-# Why one side refuses a name that the other accepts, by what the name has: only here, and only there.
 def reason(name, is_here):
+    """The rule by which one side alone accepts a name, by what the name has; `None` where none is known."""
     dots = re.split(f"[{rules.DOTS}]", name)
     if is_here and re.search(f"[{rules.DOTS[1:]}]", name):
         return "`strict=True` separates labels by the full stop alone"
@@ -141,7 +153,8 @@ def compare(names):
         unexplained += why is None
         told[why or "no rule known"] += 1
         if why is None or told[why] <= MOST_TOLD:
-            print(f"{json.dumps(name)}: here {is_here}, idna {is_there}{': ' + said if said else ''}: {why or 'NO RULE KNOWN'}")
+            answers = f"here {is_here}, idna {is_there}{': ' + said if said else ''}"
+            print(f"{json.dumps(name)}: {answers}: {why or 'NO RULE KNOWN'}")
     for what, count in [*sorted(counts.items()), *sorted(told.items())]:
         print(f"  {count} {what}")
     return unexplained
@@ -161,19 +174,24 @@ def code_points():
     for (mine, other), points in differences.items():
         unknown = [point for point in points if point not in later]
         unexplained += len(unknown)
-        print(f"{mine} here, {other} by idna: {len(points)}, of which {len(points) - len(unknown)} are of Unicode 18.0; others: {[hex(point) for point in unknown[:20]]}")
-    print(f"idna_compare: {unexplained} code points differ without a reason; idna {idna.__version__} has Unicode {idna.idnadata.__version__}")
+        print(f"{mine} here, {other} by idna: {len(points)}, "
+              f"of which {len(points) - len(unknown)} are of Unicode 18.0; "
+              f"others: {[hex(point) for point in unknown[:20]]}")
+    print(f"idna_compare: {unexplained} code points differ without a reason; idna {idna.__version__} has Unicode "
+          f"{idna.idnadata.__version__}")
     return unexplained
 
 
 def main():
+    """Compares names, or all code points."""
     if "--code-points" in sys.argv[1:]:
         return 1 if code_points() else 0
     count, seed = ([int(word) for word in sys.argv[1:]] + [NAMES, SEED][len(sys.argv) - 1:])[:2]
     maker = Maker(seed)
     names = [maker.name() for _ in range(count)]
     unexplained = compare(names)
-    print(f"idna_compare: {count} names of the seed {seed}, idna {idna.__version__}: {unexplained} differences without a reason")
+    print(f"idna_compare: {count} names of the seed {seed}, idna {idna.__version__}: "
+          f"{unexplained} differences without a reason")
     return 1 if unexplained else 0
 
 

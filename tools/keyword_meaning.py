@@ -9,7 +9,7 @@ import json
 import re
 from dataclasses import dataclass, field
 
-from keyword_texts import DRAFTS, ENCODERS, FORMATS, MOST, encoded_bytes, format_in, is_json
+from keyword_texts import DRAFTS, ENCODERS, MOST, encoded_bytes, format_in, is_json
 
 # The order in which entries are looked at, and errors and notes stand.
 KEYWORDS = ("contentMediaType", "contentEncoding", "contentSchema", "format", "minLength", "maxLength", "pattern")
@@ -37,6 +37,7 @@ class Number:
 
 
 def parsed(text):
+    """The value of a JSON text, with its numbers as they are written."""
     return json.loads(text, parse_int=Number, parse_float=Number)
 
 
@@ -109,13 +110,14 @@ def lists_of(row):
     """The caller's lists with which a row compiles: all rows, or the ranges that are named."""
     ends = row.get("with")
     names = ("formats", "media_types", "codecs")
-    return {name: row.get(name, [])[slice(*ends[2 * i:2 * i + 2]) if ends else slice(None)]
-            for i, name in enumerate(names)}
+    return {name: row.get(name, [])[slice(*ends[2 * position:2 * position + 2]) if ends else slice(None)]
+            for position, name in enumerate(names)}
 
 
 def first_named(rows, name):
     """The first row of a name, with its position, or None."""
-    return next(((i, script) for i, (called, script) in enumerate(rows) if called == name), None)
+    found = ((position, script) for position, (called, script) in enumerate(rows) if called == name)
+    return next(found, None)
 
 
 # What the scripted checks admit, and what the scripted codecs take and decode.
@@ -129,8 +131,9 @@ SCRIPTED_CODECS = {
 
 # ---- minLength and maxLength (2020-12, sections 6.3.1 and 6.3.2)
 
-def characters(n):
-    return f"{n} character" if n == 1 else f"{n} characters"
+def characters(count):
+    """So many characters, in words."""
+    return f"{count} character" if count == 1 else f"{count} characters"
 
 
 def min_length(row):
@@ -138,6 +141,7 @@ def min_length(row):
     least = limit_at(row, "minLength")
 
     def failures(text):
+        """What the text fails at."""
         short = f"{compact(text)} is shorter than {characters(least)}"
         return [Failure("minLength", f"MinLength {least}", short)] if len(text) < least else []
     return Entry("minLength", "MinLength", failures, window=(least, MOST))
@@ -148,6 +152,7 @@ def max_length(row):
     greatest = limit_at(row, "maxLength")
 
     def failures(text):
+        """What the text fails at."""
         long = f"{compact(text)} is longer than {characters(greatest)}"
         return [Failure("maxLength", f"MaxLength {greatest}", long)] if len(text) > greatest else []
     return Entry("maxLength", "MaxLength", failures, window=(0, greatest))
@@ -178,6 +183,7 @@ def format_entry(row):
         return Entry("format", "AnnotationOnlyFormat", note=name)
 
     def failures_by(admits):
+        """What texts fail at that a rule does not admit."""
         return lambda text: [] if admits(text) else [
             Failure("format", f"Format {name}", f'{compact(text)} is not a "{name}"')]
     registered = first_named(lists_of(row)["formats"], name)
@@ -224,6 +230,7 @@ def codec_named(row, name):
         return None
 
     def decoded(text):
+        """The text that is encoded; `None` where nothing is, and `NO_TEXT` where the bytes are no text."""
         found = encoded_bytes(name, text)
         if found is None:
             return None
@@ -235,11 +242,13 @@ def codec_named(row, name):
 
 
 def no_encoding(text, name):
+    """The failure of a text that is not of the encoding."""
     return Failure("contentEncoding", f"ContentEncoding {name}",
                    f'{compact(text)} is not compliant with "{name}" content encoding')
 
 
 def no_media_type(text, name):
+    """The failure of a text that is not of the media type."""
     return Failure("contentMediaType", f"ContentMediaType {name}",
                    f'{compact(text)} is not compliant with "{name}" media type')
 
@@ -271,6 +280,7 @@ def encoded_media_type(row, name, admits, rests_on):
     _, decode, more = known
 
     def failures(text):
+        """What the text fails at."""
         decoded = decode(text)
         if decoded is None:
             return [no_encoding(text, encoding)]
@@ -333,6 +343,7 @@ def literal_pattern(pattern):
 
 
 def no_match(text, pattern):
+    """The failure of a text that the pattern does not match."""
     return Failure("pattern", f"Pattern {pattern}", f'{compact(text)} does not match "{pattern}"')
 
 
@@ -349,6 +360,7 @@ def pattern_entry(row):
         raise Refusal("pattern", f"Regex {pattern}", f'{compact(pattern)} is not a "regex"')
 
     def failures(text):
+        """What the text fails at."""
         outcome = next((it for of, it in outcomes if of == text), "no match")
         return {
             "match": [],
@@ -374,6 +386,7 @@ def entry_at(row, keyword):
 
 
 def is_good_limit(row, keyword):
+    """Whether the keyword is asked and its value is a limit."""
     return keyword not in row.get("left_out", ()) and is_limit(row["schema"].get(keyword))
 
 
@@ -391,6 +404,7 @@ def validator_at(row, keyword):
 
 
 def entries_of(row):
+    """The entries of all keywords of a row, in their order."""
     return [it for it in (entry_at(row, keyword) for keyword in KEYWORDS) if it is not None]
 
 
@@ -411,6 +425,7 @@ def failure_lines(row, failure, text):
 
 
 def note_line(row, entry, is_alone):
+    """The line of a note, with its place where the entry is not alone."""
     where = "" if is_alone else " " + place([*row.get("location", ()), entry.keyword])
     return f"    note{where}: {compact(entry.note)}"
 

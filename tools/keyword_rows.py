@@ -34,7 +34,7 @@ class Made:
 def escaped(text):
     """A text of JSON in ASCII alone."""
     units = text.encode("utf-16-be", "surrogatepass")
-    pairs = [int.from_bytes(units[i:i + 2], "big") for i in range(0, len(units), 2)]
+    pairs = [int.from_bytes(units[at:at + 2], "big") for at in range(0, len(units), 2)]
     return "".join(chr(it) if it < 127 else f"\\u{it:04x}" for it in pairs)
 
 
@@ -61,6 +61,7 @@ def asked(draft, schema, instances=(), **more):
 
 
 def named(name, texts=()):
+    """A row that asks for a format by its name, with texts."""
     return made(compact({"format": name, "texts": list(texts)}), named_lines(name, texts))
 
 
@@ -195,7 +196,8 @@ def folding_by_windows():
         draft = it.last if it.last < 7 else 202012
         least, greatest = it.window
         ends = {least - 1, least, least + 1, greatest - 1, greatest, greatest + 1, 0}
-        for end, keyword in product(sorted(n for n in ends if 0 <= n <= MOST), ("minLength", "maxLength")):
+        limits = sorted(end for end in ends if 0 <= end <= MOST)
+        for end, keyword in product(limits, ("minLength", "maxLength")):
             yield asked(draft, {"format": it.name, keyword: end}, validate_formats=True)
     for wanted in (True, False):
         schema = {"format": "date", "minLength": 11}
@@ -209,21 +211,20 @@ def folding_by_windows():
 
 CHARACTERS = ("a", "\u00e9", "\u20ac", "\U0001f4a9")
 MIXED = "a\u00e9\u20ac\U0001f4a9"
-
-
 RANGES = ((0, 0), (0, 1), (1, 1), (1, 2), (2, 1), (2, 4), (3, 3), (5, 3), (1, 0), (4, 1), (32, 32), (65, 63))
 
 
 def texts_at_bounds():
     """Texts of each width of characters at each bound, one below and one above."""
-    for draft, n in product(DRAFTS, (0, 1, 2, 31, 33)):
-        texts = [it * m for it in CHARACTERS for m in range(max(n - 1, 0), n + 2)]
-        texts = texts if n < 3 else [it for it in texts if it[0] in CHARACTERS[n % 4::2]]
-        if draft in (7, 202012) or n in (1, 2):
+    for draft, limit in product(DRAFTS, (0, 1, 2, 31, 33)):
+        texts = [it * length for it in CHARACTERS for length in range(max(limit - 1, 0), limit + 2)]
+        texts = texts if limit < 3 else [it for it in texts if it[0] in CHARACTERS[limit % 4::2]]
+        if draft in (7, 202012) or limit in (1, 2):
             for keyword in ("minLength", "maxLength"):
-                yield asked(draft, {keyword: n}, list(dict.fromkeys(texts)))
+                yield asked(draft, {keyword: limit}, list(dict.fromkeys(texts)))
     for least, greatest in RANGES:
-        texts = [(MIXED * 20)[:n] for n in sorted({least - 1, least, least + 1, greatest, greatest + 1, 0}) if n >= 0]
+        lengths = sorted({least - 1, least, least + 1, greatest, greatest + 1, 0})
+        texts = [(MIXED * 20)[:length] for length in lengths if length >= 0]
         schema = {"minLength": least, "maxLength": greatest}
         for draft in DRAFTS if least < 6 else (7,):
             yield asked(draft, schema, texts)
@@ -236,11 +237,11 @@ def texts_at_bounds():
 
 def limits_of_64_bits():
     """Limits from 31 bits up to the greatest of 64."""
-    for n in (2 ** 31, 2 ** 32, 2 ** 53 + 1, 2 ** 63 - 1, 2 ** 63, MOST):
+    for limit in (2 ** 31, 2 ** 32, 2 ** 53 + 1, 2 ** 63 - 1, 2 ** 63, MOST):
         for draft in DRAFTS:
-            yield asked(draft, {"minLength": n}, ["ab"])
-            yield asked(draft, {"minLength": n, "maxLength": n}, ["ab"])
-            yield asked(draft, {"maxLength": n}, ["ab"])
+            yield asked(draft, {"minLength": limit}, ["ab"])
+            yield asked(draft, {"minLength": limit, "maxLength": limit}, ["ab"])
+            yield asked(draft, {"maxLength": limit}, ["ab"])
 
 
 def good_beside_bad_limits():
@@ -428,9 +429,9 @@ def keywords_left_out():
 def places():
     """The places of errors, notes and refusals, with segments that are escaped (RFC 6901)."""
     segments = (["a/b"], ["~"], ["", "\u00e9~1/"], ["$defs", "0"])
-    for draft, (i, location) in product(DRAFTS, enumerate(segments)):
-        more = {"location": location, "way": segments[i - 1], "at": segments[i - 2],
-                "absolute": f"https://example.com/{i}"}
+    for draft, (number, location) in product(DRAFTS, enumerate(segments)):
+        more = {"location": location, "way": segments[number - 1], "at": segments[number - 2],
+                "absolute": f"https://example.com/{number}"}
         yield asked(draft, WHOLE, ["ab"], validate_formats=True, **more)
         yield asked(draft, {"format": 5}, **more)
         yield asked(draft, {"contentMediaType": JSON, "contentEncoding": 5}, **more)
@@ -562,28 +563,39 @@ def stored_rows(lines):
     return rows
 
 
+def input_of(rows):
+    """What stands below the mark in `stdin`."""
+    return "".join(f"{it.line}\n" for it in rows)
+
+
+def output_of(rows):
+    """What stands below the mark in `stdout`."""
+    return "".join(f"{line}\n" for it in rows for line in (it.line, *it.below))
+
+
 def write(rows):
     """Writes the rows below the mark; what stands above it stays."""
-    for name, lines in (("stdin", [it.line for it in rows]),
-                        ("stdout", [line for it in rows for line in (it.line, *it.below)])):
+    for name, text in (("stdin", input_of(rows)), ("stdout", output_of(rows))):
         front = stored(name)[0]
-        (CRATE / name).write_bytes((front + MARK + "\n" + "\n".join(lines) + "\n").encode())
+        (CRATE / name).write_bytes(f"{front}{MARK}\n{text}".encode())
 
 
 def check(rows):
     """How many rows are stored as they are made, and how many are not."""
     wanted = {it.line: it.below for it in rows}
-    given = stored("stdin")[1].split("\n")[:-1]
     found = {it.line: it.below for it in stored_rows(wanted)}
     wrong = [line for line in wanted if found.get(line) != wanted[line]]
-    if given != list(wanted) or list(found) != list(wanted):
+    if stored("stdin")[1] != input_of(rows) or list(found) != list(wanted):
         wrong.append("other rows are stored, or in another order")
+    elif not wrong and stored("stdout")[1] != output_of(rows):
+        wrong.append("a row is stored twice in stdout, or lines that are of no row")
     for line in wrong[:20]:
         print(f"keyword_rows: {line}")
     return len(wanted) - min(len(wrong), len(wanted)), len(wrong)
 
 
 def main():
+    """Writes the rows, or compares them."""
     rows = made_rows()
     if sys.argv[1:] == ["--check"]:
         passed, failed = check(rows)

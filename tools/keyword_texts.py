@@ -10,7 +10,7 @@ from dataclasses import dataclass
 
 DRAFTS = {4: "Draft4", 6: "Draft6", 7: "Draft7", 201909: "Draft201909", 202012: "Draft202012"}
 MOST = 2 ** 64 - 1
-LONGEST_HOST_NAME = ".".join("a" * n for n in (63, 63, 63, 61))
+LONGEST_HOST_NAME = ".".join("a" * size for size in (63, 63, 63, 61))
 
 
 @dataclass(frozen=True)
@@ -25,6 +25,7 @@ class Format:
     last: int = 202012
 
     def is_in(self, draft):
+        """Whether the draft has the format."""
         return self.first <= draft <= self.last
 
     def admits(self, text):
@@ -174,6 +175,7 @@ NO_JSON_TEXTS = ("", "{:}", "{", "01", "'a'", "[1,]", "nul", "{\"a\":1,}", "1 2"
 def is_json(text):
     """Whether it is a JSON text (RFC 8259); NaN and the infinities of Python's reader are none."""
     def refuse(name):
+        """Refuses a number that JSON has not."""
         raise ValueError(name)
     try:
         json.loads(text, parse_constant=refuse)

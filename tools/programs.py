@@ -69,6 +69,7 @@ class Row:
 
 
 def bytes_of(value):
+    """The bytes that a value of a row stands for."""
     if isinstance(value, list):
         return b"".join(map(bytes_of, value))
     if isinstance(value, dict):
@@ -140,6 +141,7 @@ class Talk:
             thread.start()
 
     def give(self, stream, parts):
+        """Writes the parts of the input, each once an answer to those before it has come."""
         with suppress(BrokenPipeError), stream:
             for number, part in enumerate(parts):
                 if number > 0:
@@ -149,6 +151,7 @@ class Talk:
                 stream.flush()
 
     def take(self, stream):
+        """Reads the output as it comes."""
         with stream:
             while piece := stream.read1():
                 self.written += piece
@@ -159,6 +162,7 @@ class Talk:
         self.has_come.set()
 
     def hear(self, stream):
+        """Reads the errors."""
         with stream:
             self.errors += stream.read()
 
@@ -193,6 +197,7 @@ def ran(row, words, folder):
 
 
 def left_in(folder):
+    """The files in a folder, with what is in them."""
     return {str(path.relative_to(folder)): path.read_bytes() for path in folder.glob("**/*") if path.is_file()}
 
 
@@ -211,6 +216,7 @@ def wrongs(row, words):
 
 
 def is_right(program, row, words):
+    """Whether a row is answered as it is to be; tells what is not."""
     try:
         wrong = wrongs(row, words)
     except (OSError, TypeError, ValueError) as why:
@@ -242,6 +248,7 @@ def tried_of(file, pool):
 
 
 def main():
+    """Runs the rows of the programs that the arguments name, or of all."""
     files = [ROWS / f"{name}.toml" for name in sys.argv[1:]] or sorted(ROWS.glob("*.toml"))
     with ThreadPoolExecutor() as pool:
         answers = [answer for file in files for answer in tried_of(file, pool)]

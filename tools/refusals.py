@@ -2,9 +2,10 @@
 """Runs built tests and programs with one call failing at a time: each growth, and each read and write.
 
     python3 tools/refusals.py           on the binaries that the last `rt ci` left in crates/*/out
-    python3 tools/refusals.py --gate    first tools/claims.py and `rt ci` itself, and last `tools/grammar_rows.py --check`,
-                                        `tools/keyword_rows.py --check`, tools/programs.py, `tools/sizes.py --bounded`,
-                                        bindings/test and bindings/test_calls; the last line counts all
+    python3 tools/refusals.py --gate    first tools/claims.py and `rt ci` itself, and last
+                                        `tools/grammar_rows.py --check`, `tools/keyword_rows.py --check`,
+                                        tools/programs.py, `tools/sizes.py --bounded`, bindings/test,
+                                        bindings/test_calls and tools/test_packages.py; the last line counts all
     python3 tools/refusals.py --gate --store    the same; its minutes and counts go to docs/gate.txt
 
 A *row* is a test whose name ends in `_under_refusal`. With ample memory it passes only where its calls answer what
@@ -56,6 +57,7 @@ FAILINGS = {
 
 
 def say(line):
+    """Prints a line at once."""
     print(line, flush=True)
 
 
@@ -118,6 +120,7 @@ class Run:
         self.calls, self.failures = (growths, refusals) if is_growth else (moves, failures)
 
     def shown(self):
+        """The run in a line."""
         said = (self.said + self.written).decode(errors="replace").strip()[:300]
         return f"status {self.status}, {self.failures} failed of {self.calls} calls: {said}"
 
@@ -182,6 +185,7 @@ class Stored:
         self.status = int((folder / "status").read_text()) if (folder / "status").exists() else 0
 
     def is_whole(self, run):
+        """Whether a run ended as one without refusals does."""
         return run.status == self.status and run.written == self.written and not run.said
 
     def is_faulty(self, run, faults):
@@ -204,6 +208,7 @@ class Stored:
         may_end_well = failing in ("REFUSE_GROWTH", "INTERRUPT_MOVE") and self.name != "strkw"
 
         def right(run):
+            """Whether a run ended as it may."""
             if run.failures == 0 or faults is None:
                 return self.is_whole(run)
             return self.is_faulty(run, faults) or (may_end_well and self.is_whole(run))
@@ -265,8 +270,10 @@ def refusals():
 
 
 def checks_at_once():
-    """How many checks `rt ci` is to run at a time: one for each processor, as far as the memory goes. By itself it counts
-    on several times the memory that a check takes, and lets the longest ones wait for the others."""
+    """How many checks `rt ci` is to run at a time: one for each processor, as far as the memory goes.
+
+    By itself it counts on several times the memory that a check takes, and lets the longest ones wait for the others.
+    """
     available = int(re.search(r"MemAvailable: *(\d+)", Path("/proc/meminfo").read_text())[1])
     return max(1, min(len(os.sched_getaffinity(0)), available // MEMORY_FOR_A_CHECK))
 
@@ -274,6 +281,7 @@ def checks_at_once():
 def gate():
     """The steps of the gate by name, each with its counts. The library for C is built over what this `rt ci` proved."""
     def asked(*words):
+        """A step that is a script of its own."""
         return " ".join(words), counted([sys.executable, *words], words[0])
 
     with tempfile.NamedTemporaryFile() as begun:
@@ -292,6 +300,7 @@ def gate():
 
 
 def main():
+    """Runs the refusals, or the whole gate."""
     began = time.monotonic()
     is_gate = "--gate" in sys.argv[1:]
     counts = dict(gate() if is_gate else [("tools/refusals.py", refusals())])

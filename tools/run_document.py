@@ -24,6 +24,7 @@ def installed(prefix):
 
 
 def run_document(rows, document, prefix, folder):
+    """Runs the commands of a document, with a row for each."""
     commands = commands_of(document.read_text(encoding="utf-8"))
     results = folder / "results"
     results.mkdir()
@@ -35,6 +36,10 @@ def run_document(rows, document, prefix, folder):
 
 
 def main():
+    """Runs the documents that the arguments name."""
+    if not sys.argv[1:]:
+        print(__doc__, file=sys.stderr)
+        return 2
     rows = Rows()
     with tempfile.TemporaryDirectory() as made:
         prefix = Path(made) / "prefix"

@@ -32,14 +32,17 @@ WRITE_FAULT, MEMORY_FAULT = b"strkw: write failed\n", b"strkw: out of memory\n"
 
 
 def request(schema, instance, more=b""):
+    """A request line."""
     return b'{"draft":7,%s"schema":%s,"instance":%s}\n' % (more, schema, instance)
 
 
 def text_of(size):
+    """A JSON string of so many letters."""
     return b'"' + b"a" * size + b'"'
 
 
 def error(size, said):
+    """The line of an error, with a text of so many letters in place of `@`."""
     return b"error %s\n" % said.replace(b"@", text_of(size))
 
 
@@ -61,10 +64,12 @@ def four_errors(half):
 
 
 def members_of(count):
-    return b"{" + b",".join(b'"m%d":%d' % (i, i) for i in range(count)) + b"}"
+    """A JSON object of so many members."""
+    return b"{" + b",".join(b'"m%d":%d' % (number, number) for number in range(count)) + b"}"
 
 
 def list_of(count, value):
+    """A request whose instance is a list of so many values."""
     return request(b"{}", b"[" + b",".join([value] * count) + b"]")
 
 
@@ -118,6 +123,7 @@ def line_with(member, kind, size):
 
 
 def is_request(member, kind):
+    """Whether a line with such a value at a member is a request."""
     return member == "instance" or member == "schema" and kind == "an object"
 
 
@@ -155,6 +161,7 @@ NESTED = "(([a-z]{1,9}[0-9]{1,9})*-)*"
 def growing_rows(times):
     """The inputs of strangers that were slow, so many times as large: what is asked is how time and memory grow."""
     def csv(schema, **more):
+        """A row for `strkw_csv` with a plan of one column."""
         return {"program": "strkw_csv", "plan": {"draft": 7, "columns": {"a": schema}, **more}}
     size = times * MEGABYTE
     yield Row("nested arrays as `draft`", lambda: line_with("draft", "nested arrays", size), lambda: BAD)
@@ -193,6 +200,7 @@ def print_growth(folder):
 
 
 def built(row):
+    """The program of a row, as it was built."""
     return TOP / "crates" / row.program / "out" / row.program
 
 
@@ -202,6 +210,7 @@ def print_shares(program, folder, size=16 * MEGABYTE):
     given, written = Path(folder) / "given", Path(folder) / "written"
 
     def peak_of(member, kind, size):
+        """The length of a line, and the most memory that its run takes."""
         row = Row(member, partial(line_with, member, kind, size), bytes)
         return write_input(row, given)[1], outcome(row, program, given, written)[4]
     print("| | " + " | ".join(VALUES) + " |")
@@ -215,7 +224,10 @@ def print_shares(program, folder, size=16 * MEGABYTE):
 
 
 def limited(room):
+    """What a run does before it begins: it limits its processor time, and its memory where there is a limit."""
     def limit():
+        """Sets the limits of this process."""
+        resource.setrlimit(resource.RLIMIT_CPU, (SECONDS_FOR_A_RUN, SECONDS_FOR_A_RUN))
         if room is not None:
             resource.setrlimit(resource.RLIMIT_AS, (room, room))
     return limit
@@ -226,9 +238,14 @@ def write_input(row, path):
     length and that of its longest line."""
     writer = os.fork()
     if writer == 0:
-        path.write_bytes(row.given())
-        os._exit(0)
-    os.waitpid(writer, 0)
+        status = 1
+        try:
+            path.write_bytes(row.given())
+            status = 0
+        finally:
+            os._exit(status)
+    if os.waitpid(writer, 0)[1]:
+        raise OSError(f"the input of the row {row.name!r} could not be written")
     longest = line = 0
     with open(path, "rb") as file:
         while piece := file.read(1 << 16):
@@ -258,6 +275,7 @@ def outcome(row, program, given, written, longest=0):
 
 
 def is_right(row, status, output, said):
+    """Whether a run ended as the row says."""
     if (status, said) != (row.status, row.said):
         return False
     if row.said != MEMORY_FAULT and row.said != WRITE_FAULT:
@@ -267,6 +285,7 @@ def is_right(row, status, output, said):
 
 
 def main():
+    """Runs the rows, and tells how time and memory grow."""
     words = [word for word in sys.argv[1:] if not word.startswith("--")]
     small, bounded = "--small" in sys.argv[1:], "--bounded" in sys.argv[1:]
     program = Path(words[0]).resolve() if words else TOP / "crates/strkw/out/strkw"

@@ -20,6 +20,7 @@ PARTS = ["install", "wheel", "rust", "release"]
 
 
 def main():
+    """Runs the rows of the parts that the arguments name, or of all."""
     wanted = sys.argv[1:] or PARTS
     if not set(wanted) <= set(PARTS):
         print(__doc__, file=sys.stderr)

@@ -1,5 +1,5 @@
 #!/usr/bin/env python3
-"""Makes the rows of crates/strkw_test_files that ask for each keyword of each draft, from the meta-schemas of the drafts.
+"""Makes the rows of crates/strkw_test_files that ask for each keyword of each draft, from the drafts' meta-schemas.
 
     python3 tools/vocabulary.py           whether the rows in `stdin` and `stdout` are those that are made here
     python3 tools/vocabulary.py write     writes them: they are the last part of both files, from the comment TITLE on
@@ -49,11 +49,13 @@ def members_of(registry, address):
 
 
 def keywords_by_draft():
+    """The keywords of each draft, by its meta-schema."""
     from jsonschema_specifications import REGISTRY
     return {draft: members_of(REGISTRY, address) | LEFT_OUT.get(draft, set()) for draft, address in SCHEMAS.items()}
 
 
 def row(draft, keyword, value):
+    """A row: a plan with one keyword, and a file with the text "x"."""
     plan = {"draft": draft, "columns": {"a": {keyword: value}}}
     return json.dumps({"plan": plan, "file": "a\nx\n"}, ensure_ascii=False, separators=(",", ":"))
 
@@ -110,6 +112,7 @@ def of_misspelled(draft, keyword, kind, keywords):
 
 
 def lines():
+    """All lines of the rows, for both files."""
     drafts = keywords_by_draft()
     every = sorted(set().union(*drafts.values()))
     made = [TITLE]
@@ -136,6 +139,7 @@ def parted(path):
 
 
 def main():
+    """Compares the rows with what is made, or writes them."""
     out = lines()
     wanted = {ROWS / "stdin": [line for line in out if line[0] in "#{"], ROWS / "stdout": out}
     is_same = True

@@ -128,6 +128,7 @@ def apply(stored, crate):
 
 
 def undo(before):
+    """Puts the texts of files back."""
     for file, text in before.items():
         file.write_text(text)
 
@@ -170,6 +171,7 @@ def lines_of(text):
 
 
 def output_of(words, folder, given=""):
+    """The status of a command, what it writes, and its errors."""
     ran = subprocess.run(words, cwd=folder, input=given, stdout=subprocess.PIPE, stderr=subprocess.PIPE,
                          text=True, errors="replace", timeout=SECONDS_FOR_A_RUN, check=False)
     return ran.returncode, ran.stdout, ran.stderr
@@ -229,11 +231,15 @@ def noticed_by(crate, texts):
 def judge(crate_name, wanted):
     """Judges each stored edit of a crate, or the wanted one. Answers how many were noticed, and how many were not."""
     noticed, missed = 0, 0
+    found = sorted((STORED / crate_name).glob(f"{wanted or '*'}.edit"))
+    if not found:
+        print(f"{crate_name}:{wanted or '*'}: there is no such wrong definition", flush=True)
+        return 0, 1
     with tempfile.TemporaryDirectory() as scratch:
         folder = Path(scratch)
         (folder / "crates").mkdir()
         crate = scratch_copy(folder, crate_name)
-        for stored in sorted((STORED / crate_name).glob(f"{wanted or '*'}.edit")):
+        for stored in found:
             name = f"{crate_name}:{stored.stem}"
             try:
                 before = apply(stored, crate)
@@ -251,6 +257,7 @@ def judge(crate_name, wanted):
 
 
 def main():
+    """Tries the wrong definitions that the arguments name."""
     asked = sys.argv[1:] or sorted(folder.name for folder in STORED.iterdir() if folder.is_dir())
     counts = [judge(crate, name) for crate, _, name in (word.partition(":") for word in asked)]
     noticed, missed = (sum(column) for column in zip(*counts))

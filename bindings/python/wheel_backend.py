@@ -39,6 +39,7 @@ Description-Content-Type: text/plain
 
 
 def get_requires_for_build_wheel(config_settings=None):
+    """The packages that a build needs: none."""
     return []
 
 
@@ -67,6 +68,7 @@ def contents(tag):
 def recorded(files):
     """The record: each file with its digest and its size, and itself with neither."""
     def digest(data):
+        """The digest of a file, as a record has it."""
         return base64.urlsafe_b64encode(hashlib.sha256(data).digest()).rstrip(b"=").decode()
 
     lines = [f"{name},sha256={digest(data)},{len(data)}\n" for name, data in sorted(files.items())]

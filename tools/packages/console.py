@@ -1,8 +1,8 @@
 """The examples of a document: its blocks that begin with `$ `, as a script of sh, and what each of them has to write.
 
 A line `$ COMMAND` is a command, and the lines below it are what it writes, on either output. A command with no line
-below it may write anything, and has to end with status 0. Lines `>>> ` below a command are a session of Python, which
-the command has to begin. All commands of a document run in one shell, one after the other.
+below it may write anything, and has to end with status 0. Lines `>>> ` below a command are a dialogue with Python,
+which the command has to begin. All commands of a document run in one shell, one after the other.
 """
 import re
 import shlex
@@ -10,18 +10,19 @@ from dataclasses import dataclass
 from pathlib import Path
 
 BLOCK = re.compile(r"^```\w*\n(\$ .*?)^```$", re.M | re.S)
-SESSION = ">>> "
+PROMPT = ">>> "
 
 
 @dataclass
 class Command:
-    """A command, what it has to write, and whether that is a session of Python."""
+    """A command, what it has to write, and whether that is a dialogue with Python."""
     words: str
     wanted: str
 
     @property
-    def is_session(self):
-        return self.wanted.startswith(SESSION)
+    def is_dialogue(self):
+        """Whether what is wanted begins as a dialogue with Python does."""
+        return self.wanted.startswith(PROMPT)
 
 
 def commands_of(document):
@@ -42,7 +43,7 @@ def script_of(commands, folder, results):
     lines = []
     for number, command in enumerate(commands):
         words = command.words
-        if command.is_session:
+        if command.is_dialogue:
             Path(folder, f"{number}.txt").write_text(command.wanted, encoding="utf-8")
             words += f" -m doctest {shlex.quote(f'{results}/{number}.txt')}"
         place = shlex.quote(f"{results}/{number}")
@@ -59,7 +60,7 @@ def judged(commands, folder):
             continue
         ended = status.read_text(encoding="utf-8").strip()
         output = Path(folder, f"{number}.out").read_text(encoding="utf-8", errors="replace")
-        if command.wanted and not command.is_session:
+        if command.wanted and not command.is_dialogue:
             yield command, output == command.wanted, f"{output!r}, and not {command.wanted!r}"
         else:
             yield command, ended == "0", f"status {ended}: {output}"

@@ -48,6 +48,7 @@ def refusals(rows, folder):
 
 
 def commands(rows, prefix):
+    """The programs can be run where they were put."""
     for program in PROGRAMS:
         path = prefix / "bin" / program
         rows.row(f"{program} can be run", path.stat().st_mode & 0o111 == 0o111, oct(path.stat().st_mode))
@@ -96,6 +97,7 @@ def completions(rows, prefix, options):
     neldrafi = prefix / "bin/neldrafi"
     if having("bash", "the completion for bash"):
         def completed(*words):
+            """The words that the shell offers behind these."""
             done = run(["bash", "-c", COMPLETE, "bash", prefix, neldrafi, *words])
             return set(done.stdout.split()) if done.returncode == 0 else done.stderr
 
@@ -170,6 +172,7 @@ def by_make(rows, folder):
 
 
 def rows_of(rows):
+    """Installs what was built into a folder, and asks what is there."""
     with tempfile.TemporaryDirectory() as made:
         folder = Path(made)
         refusals(rows, folder)

@@ -76,6 +76,7 @@ def installs(rows, tree, prefix):
 
 
 def rows_of(rows):
+    """Packs a release twice, and asks what is in it."""
     if not having("rt", "the archive of a release"):
         return
     with tempfile.TemporaryDirectory() as made:

@@ -25,6 +25,7 @@ class Rows:
         return bool(holds)
 
     def equal(self, name, found, wanted):
+        """A row that holds where both are equal."""
         return self.row(name, found == wanted, f"{found!r}, and not {wanted!r}")
 
     def ran(self, name, words, output=None, status=0, **how):

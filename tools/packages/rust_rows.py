@@ -41,6 +41,7 @@ def tests(rows):
 
 
 def rows_of(rows):
+    """Asks the crates for Rust."""
     declarations(rows)
     for path in CALLERS:
         rows.row(f"{path.name} has no unsafe code", not re.search(r"unsafe\b *[{f(]", path.read_text(encoding="utf-8")))

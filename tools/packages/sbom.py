@@ -54,6 +54,7 @@ class Crates:
 
 
 def package(name, version, licence, comment, supplier="NOASSERTION"):
+    """The entry of a package."""
     return {
         "SPDXID": f"SPDXRef-{name.replace('_', '-')}", "name": name, "versionInfo": version, "supplier": supplier,
         "downloadLocation": "NOASSERTION", "filesAnalyzed": False, "licenseConcluded": "NOASSERTION",
@@ -77,6 +78,7 @@ def packages(crates, identity):
 def relationships(crates):
     """What describes, contains, is built by and depends on what."""
     def related(one, kind, other):
+        """The entry of a relationship between two packages."""
         first, second = (f"SPDXRef-{end.replace('_', '-')}" for end in (one, other))
         return {"spdxElementId": first, "relationshipType": kind, "relatedSpdxElement": second}
 

@@ -37,6 +37,7 @@ def made(rows, folder):
 
 
 def rows_of(rows):
+    """Builds the wheel, installs it into an environment, and calls it there."""
     for module in ["pip", "venv", "ensurepip"]:
         if run([sys.executable, "-c", f"import {module}"]).returncode:
             print(f"packages: the wheel is left out: {module} of Python is not installed", flush=True)

@@ -68,8 +68,10 @@ def is_idn_email(text: Text) -> bool:
 def is_idn_hostname(text: Text) -> bool:
     """Whether a text is an internationalised host name, by RFC 5890 to 5893 and Unicode 18.0.
 
-    >>> is_idn_hostname("b\u00fccher.example"), is_idn_hostname("xn--bcher-kva.example"), is_idn_hostname("b\u00fccher-")
-    (True, True, False)
+    >>> is_idn_hostname("b\u00fccher.example"), is_idn_hostname("xn--bcher-kva.example")
+    (True, True)
+    >>> is_idn_hostname("b\u00fccher-")
+    False
     """
     return is_format("idn-hostname", text)
 

@@ -24,6 +24,7 @@ def _places() -> list[str]:
 
 
 def _load() -> ctypes.CDLL:
+    """The shared library, from the first of its places."""
     place = _places()[0]
     try:
         return ctypes.CDLL(place)

@@ -45,12 +45,14 @@ class ValidationError(ValueError):
 
 
 def _source(schema: Any) -> bytes:
+    """A schema as JSON."""
     if isinstance(schema, Mapping):
         schema = json.dumps(dict(schema), allow_nan=False)
     return bytes_of(schema, "a schema is a dict, or JSON as a str or bytes-like")
 
 
 def _draft_number(draft: Any) -> int:
+    """The number of a draft, if there is such a draft."""
     if not isinstance(draft, int) or isinstance(draft, bool):
         raise TypeError(f"a draft is an int, and no {type(draft).__name__}")
     if draft not in DRAFTS:
@@ -66,11 +68,13 @@ def _option(name: str, value: Any, default: str, other: str, bit: int) -> int:
 
 
 def _options(formats: Any, unknown_formats: Any) -> int:
+    """Both options as the bits of one number."""
     return (_option("formats", formats, "checked", "as-draft", _FORMATS_AS_DRAFT)
             | _option("unknown_formats", unknown_formats, "refuse", "ignore", _IGNORE_UNKNOWN_FORMATS))
 
 
 def _why(status: int, *compiled: Any) -> str:
+    """Why a schema was not taken."""
     if status == REFUSED:
         _, text = written(_REFUSAL, *compiled, room=256)
         return f"the schema object is refused at {text.decode()}"
@@ -78,6 +82,7 @@ def _why(status: int, *compiled: Any) -> str:
 
 
 def _verdicts(compiled: Sequence[Any], texts: Iterable[Text]) -> list[Optional[bool]]:
+    """What the library answers of each text: valid, not valid, or `None` for a text that is not UTF-8."""
     if isinstance(texts, (str, bytes, bytearray, memoryview)):
         raise TypeError(f"texts are a list of them, and no {type(texts).__name__}")
     data = [bytes_of(text) for text in texts]
@@ -159,6 +164,7 @@ class Schema:
         return json.dumps(members).encode()
 
     def _text(self, text: Text) -> tuple[bytes, str]:
+        """A text as bytes and as a str."""
         data = bytes_of(text)
         try:
             return data, data.decode()
