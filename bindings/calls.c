@@ -146,6 +146,8 @@ static void call_answer(void) {
     row("answer", "refused", "nothing was written", written == 77 && !is_written(out, 8));
 }
 
+static const char *MAIL = "{\"format\":\"email\"}", *IDN_HOST = "{\"format\":\"idn-hostname\"}";
+
 /* strkw_check on five texts: a date, one that is none, one that is no UTF-8, and two empty ones. */
 static bool checks(uint32_t draft, uint32_t options, const char *schema, uint8_t status, const char *verdicts) {
     static const size_t ends[] = {10, 20, 21, 21, 21};
@@ -167,6 +169,7 @@ static bool checks_ends(size_t first, size_t second, size_t room, uint8_t status
 static void call_check(void) {
     static const char *date = "{\"format\":\"date\"}", *other = "{\"format\":\"no-format\"}";
     static const uint32_t as_draft = STRKW_FORMATS_AS_DRAFT, ignored = STRKW_IGNORE_UNKNOWN_FORMATS;
+    static const uint32_t companions = STRKW_COMPANION_FORMATS;
     static const size_t ends[] = {2};
     const uint8_t *object = text_of("{}");
     uint8_t *out = room_of(1);
@@ -175,7 +178,10 @@ static void call_check(void) {
     row("check", "right", "a format that is ignored", checks(7, ignored, other, STRKW_DONE, "\1\1\2\1\1"));
     row("check", "wrong", "texts that are too short", checks(4, 0, "{\"minLength\":11}", STRKW_DONE, "\0\0\2\0\0"));
     row("check", "refused", "draft 5", checks(5, 0, date, STRKW_NO_DRAFT, NULL));
-    row("check", "refused", "option 4", checks(7, 4, date, STRKW_NO_OPTION, NULL));
+    row("check", "wrong", "mail addresses", checks(4, companions, MAIL, STRKW_DONE, "\0\0\2\0\0"));
+    row("check", "refused", "host names in draft 6", checks(6, companions, IDN_HOST, STRKW_REFUSED, NULL));
+    row("check", "refused", "mail addresses with no option", checks(4, 0, MAIL, STRKW_REFUSED, NULL));
+    row("check", "refused", "option 8", checks(7, 8, date, STRKW_NO_OPTION, NULL));
     row("check", "refused", "no object", checks(7, 0, "[]", STRKW_NO_SCHEMA, NULL));
     row("check", "refused", "no JSON", checks(7, 0, "{", STRKW_NO_SCHEMA, NULL));
     row("check", "refused", "an unknown format", checks(7, 0, other, STRKW_REFUSED, NULL));
@@ -214,7 +220,7 @@ static void call_refusal(void) {
     row("refusal", "wrong", "a pattern, and more room", tells(7, 0, pattern, 99, STRKW_REFUSED, count, why));
     row("refusal", "refused", "too little room", tells(7, 0, pattern, count - 1, STRKW_NO_ROOM, count, NULL));
     row("refusal", "refused", "draft 5", tells(5, 0, pattern, 99, STRKW_NO_DRAFT, 77, NULL));
-    row("refusal", "refused", "option 4", tells(7, 4, pattern, 99, STRKW_NO_OPTION, 77, NULL));
+    row("refusal", "refused", "option 8", tells(7, 8, pattern, 99, STRKW_NO_OPTION, 77, NULL));
     row("refusal", "refused", "no object", tells(7, 0, "[]", 99, STRKW_NO_SCHEMA, 77, NULL));
     row("refusal", "refused", "no schema", strkw_refusal(7, 0, NULL, 2, out, 1, &written) == STRKW_NULL);
     row("refusal", "refused", "no room", strkw_refusal(7, 0, object, 2, NULL, 1, &written) == STRKW_NULL);
@@ -237,18 +243,26 @@ static const char *DATE = "{\"format\":\"date\"}", *NO_FORMAT = "{\"format\":\"n
 static const char *NOTED = "note /format: \"date\"\n";
 static const char *WRONG = "error /format: \"2023-02-29\" is not a \"date\"\nnote /format: \"date\"\n";
 
+static const char *NO_MAIL = "error /format: \"ada\" is not a \"email\"\nnote /format: \"email\"\n";
+static const char *HOST = "note /format: \"idn-hostname\"\n";
+
 static void call_errors(void) {
-    const size_t noted = strlen(NOTED), wrong = strlen(WRONG);
+    const size_t noted = strlen(NOTED), wrong = strlen(WRONG), no_mail = strlen(NO_MAIL), host = strlen(HOST);
+    const uint32_t companions = STRKW_COMPANION_FORMATS;
     const uint8_t *object = text_of("{}");
     uint8_t *out = room_of(1);
     size_t written = 77;
     row("errors", "right", "a date", writes(7, 0, DATE, "2024-02-29", noted, STRKW_DONE, noted, NOTED));
     row("errors", "right", "nothing to write", writes(7, 0, "{}", "a", 0, STRKW_DONE, 0, NULL));
     row("errors", "wrong", "no date", writes(7, 0, DATE, "2023-02-29", wrong, STRKW_DONE, wrong, WRONG));
+    row("errors", "wrong", "no mail address",
+        writes(7, companions, MAIL, "ada", no_mail, STRKW_DONE, no_mail, NO_MAIL));
+    row("errors", "right", "a host name",
+        writes(7, companions, IDN_HOST, "b\303\274cher.example", host, STRKW_DONE, host, HOST));
     row("errors", "refused", "too little room",
         writes(7, 0, DATE, "2023-02-29", wrong - 1, STRKW_NO_ROOM, wrong, NULL));
     row("errors", "refused", "draft 5", writes(5, 0, DATE, "a", 99, STRKW_NO_DRAFT, 77, NULL));
-    row("errors", "refused", "option 4", writes(7, 4, DATE, "a", 99, STRKW_NO_OPTION, 77, NULL));
+    row("errors", "refused", "option 8", writes(7, 8, DATE, "a", 99, STRKW_NO_OPTION, 77, NULL));
     row("errors", "refused", "no UTF-8", writes(7, 0, DATE, "\377", 99, STRKW_NOT_UTF8, 77, NULL));
     row("errors", "refused", "no object", writes(7, 0, "[]", "a", 99, STRKW_NO_SCHEMA, 77, NULL));
     row("errors", "refused", "an unknown format", writes(7, 0, NO_FORMAT, "a", 99, STRKW_REFUSED, 77, NULL));
@@ -301,7 +315,7 @@ static void call_schemas(void) {
         strkw_schema_errors(NULL, text_of("a"), 1, out, 1, &written) == STRKW_NULL);
     row("schema_compile", "wrong", "an unknown format", makes_none(7, 0, NO_FORMAT, STRKW_REFUSED));
     row("schema_compile", "refused", "draft 5", makes_none(5, 0, DATE, STRKW_NO_DRAFT));
-    row("schema_compile", "refused", "option 4", makes_none(7, 4, DATE, STRKW_NO_OPTION));
+    row("schema_compile", "refused", "option 8", makes_none(7, 8, DATE, STRKW_NO_OPTION));
     row("schema_compile", "refused", "no object", makes_none(7, 0, "[]", STRKW_NO_SCHEMA));
     row("schema_compile", "refused", "nowhere", strkw_schema_compile(7, 0, text_of("{}"), 2, NULL) == STRKW_NULL);
     /* The sanitiser of addresses tells of one that is freed twice or not at all. */

@@ -1,7 +1,7 @@
 /* The string checks of Neldrafi, from C. Link libstrkw.a or libstrkw.so, which ./build makes.
 
-   email, idn-email, idn-hostname and regex are formats that no schema object knows. strkw_is_email, strkw_is_idn_email
-   and strkw_is_idn_hostname are calls by themselves.
+   email, idn-email, idn-hostname and regex are formats that no schema object knows, but email and idn-hostname by
+   STRKW_COMPANION_FORMATS. strkw_is_email, strkw_is_idn_email and strkw_is_idn_hostname are calls by themselves.
 
    A text is bytes and their count: no zero byte ends it, and it may hold zero bytes. Bytes that are not UTF-8 have no
    format and are no encoding. NULL with a count of 0 is an empty text, list or buffer everywhere. NULL with another
@@ -66,7 +66,7 @@ enum {
     STRKW_NO_DRAFT = 3,      /* the draft is none of 4, 6, 7, 201909, 202012 */
     STRKW_NO_SCHEMA = 4,     /* the schema is no JSON object, or not UTF-8 */
     STRKW_REFUSED = 5,       /* the schema object is refused; strkw_refusal tells why */
-    STRKW_NO_OPTION = 6,     /* a bit of the options is none of the two below */
+    STRKW_NO_OPTION = 6,     /* a bit of the options is none of the three below */
     STRKW_NULL = 7,          /* a pointer is NULL, and its count is not 0 */
     STRKW_NOT_UTF8 = 8       /* the text of strkw_errors is not UTF-8 */
 };
@@ -80,6 +80,7 @@ uint8_t strkw_answer(const uint8_t *requests, size_t count, uint8_t *out, size_t
 /* Options of the functions below. By 0 the formats are checked in every draft, and an unknown one is refused. */
 #define STRKW_FORMATS_AS_DRAFT ((uint32_t)1)       /* drafts 4, 6 and 7 check formats, 2019-09 and 2020-12 do not */
 #define STRKW_IGNORE_UNKNOWN_FORMATS ((uint32_t)2) /* an unknown format lets every text pass */
+#define STRKW_COMPANION_FORMATS ((uint32_t)4)      /* email is known, and from draft 7 on idn-hostname (RFC 5890) */
 
 /* Checks many texts by one schema object, which is compiled once: JSON, of a draft.
    A pattern is one of ECMA-262 in Unicode mode, of a part of its syntax: no look-ahead and no back reference,

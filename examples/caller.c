@@ -120,10 +120,10 @@ static void check_many(void) {
     static const size_t falling[] = {10, 9, 21, 21};
     static const size_t past[] = {10, 20, 21, 22};
     uint8_t verdicts[] = {7, 7, 7, 7};
-    expect(check_dates(5, 4, "[]", falling, verdicts) == STRKW_NO_ROOM, "ends that fall");
+    expect(check_dates(5, 8, "[]", falling, verdicts) == STRKW_NO_ROOM, "ends that fall");
     expect(check_dates(7, 0, date, past, verdicts) == STRKW_NO_ROOM, "an end past the texts");
-    expect(check_dates(5, 4, "[]", ends, verdicts) == STRKW_NO_DRAFT, "draft 5");
-    expect(check_dates(7, 4, "[]", ends, verdicts) == STRKW_NO_OPTION, "an option that is none");
+    expect(check_dates(5, 8, "[]", ends, verdicts) == STRKW_NO_DRAFT, "draft 5");
+    expect(check_dates(7, 8, "[]", ends, verdicts) == STRKW_NO_OPTION, "an option that is none");
     expect(check_dates(7, 0, "[]", ends, verdicts) == STRKW_NO_SCHEMA, "a schema that is no object");
     expect(check_dates(7, 0, "{\"maxLength\":-1}", ends, verdicts) == STRKW_REFUSED, "a negative limit");
     expect(check_dates(7, 0, mail, ends, verdicts) == STRKW_REFUSED, "draft 7 knows no email");
@@ -137,6 +137,8 @@ static void check_many(void) {
     expect(memcmp(verdicts, "\1\1\2\1", 4) == 0, "draft 2020-12 only notes them");
     expect(check_dates(7, STRKW_IGNORE_UNKNOWN_FORMATS, mail, ends, verdicts) == STRKW_DONE, "email is passed over");
     expect(memcmp(verdicts, "\1\1\2\1", 4) == 0, "an unknown format lets every text pass");
+    expect(check_dates(7, STRKW_COMPANION_FORMATS, mail, ends, verdicts) == STRKW_DONE, "email is known");
+    expect(memcmp(verdicts, "\0\0\2\0", 4) == 0, "no date is a mail address");
 }
 
 static uint8_t tell(uint32_t draft, uint32_t options, const char *schema, uint8_t *out, size_t room, size_t *written) {
@@ -163,8 +165,8 @@ static void check_refusals(void) {
     check_refusal(1, "{\"format\":5}", "/format: 5 is not of type \"string\"");
     check_refusal(1, "{\"format\":\"uuid\"}",
                   "/format: Unknown format: 'uuid'. Adjust configuration to ignore unrecognized formats");
-    expect(tell(5, 4, "[]", out, 1, &written) == STRKW_NO_DRAFT, "no refusal by draft 5");
-    expect(tell(7, 4, "[]", out, 1, &written) == STRKW_NO_OPTION, "no refusal by an option that is none");
+    expect(tell(5, 8, "[]", out, 1, &written) == STRKW_NO_DRAFT, "no refusal by draft 5");
+    expect(tell(7, 8, "[]", out, 1, &written) == STRKW_NO_OPTION, "no refusal by an option that is none");
     expect(tell(7, 0, "[]", out, 1, &written) == STRKW_NO_SCHEMA, "no refusal of what is no object");
     expect(written == 7, "these leave the count as it was");
     expect(tell(7, 2, "{\"format\":\"uuid\"}", out, 1, &written) == STRKW_DONE, "nothing is refused");
@@ -191,7 +193,7 @@ static void check_errors(void) {
     expect(written == count && out[0] == '?', "too little room writes no error");
     expect(errors_of(0, schema, "2023-02-29", out, sizeof out, &written) == STRKW_DONE, "errors are written");
     expect(written == count && memcmp(out, want, count) == 0, "these are the errors");
-    expect(errors_of(4, "[]", "\xFF", out, 1, &written) == STRKW_NO_OPTION, "no errors by an option that is none");
+    expect(errors_of(8, "[]", "\xFF", out, 1, &written) == STRKW_NO_OPTION, "no errors by an option that is none");
     expect(errors_of(0, "[]", "\xFF", out, 1, &written) == STRKW_NOT_UTF8, "no errors of what is not UTF-8");
     expect(errors_of(0, "[]", "a", out, 1, &written) == STRKW_NO_SCHEMA, "no errors by what is no object");
     expect(errors_of(0, "{\"maxLength\":-1}", "a", out, 1, &written) == STRKW_REFUSED, "no errors by a refused object");

@@ -43,7 +43,7 @@ def check_refused(draft, schema):
 
 
 def check_many(rows):
-    """The rows of each format as texts by one schema object; as the draft says, 2020-12 only notes formats."""
+    """The rows of each format and companion by one schema object; as the draft says, 2020-12 only notes formats."""
     for name in strkw.FORMATS + ("hostname-draft4",):
         texts = [(text, want == "yes") for row, want, text in rows if row == name]
         schema = {"format": name.removesuffix("-draft4")}
@@ -52,6 +52,10 @@ def check_many(rows):
         check(found == [want for _, want in texts], f"draft {draft}, {name}")
         noted = strkw.check_texts(202012, schema, [text for text, _ in texts], formats="as-draft")
         check(all(noted), f"draft 2020-12, {name}")
+    for name in ("email", "idn-hostname"):
+        texts = [(text, want == "yes") for row, want, text in rows if row == name]
+        found = strkw.check_texts(7, {"format": name}, [text for text, _ in texts], companion_formats=True)
+        check(found == [want for _, want in texts], f"the companion {name}")
     found = strkw.check_texts(7, b'{"maxLength":1}', [b"\xff", "\ud800", "", "\u00e9", "ab"])
     check(found == [None, None, True, True, False], "texts and bytes")
     check(strkw.check_texts(7, {}, []) == [], "no text has no verdict")

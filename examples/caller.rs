@@ -102,9 +102,10 @@ mod strkw {
         }
     }
 
-    /// Formats are checked as the draft says, and unknown ones let every text pass.
+    /// Formats are checked as the draft says, unknown ones let every text pass, and the companions are known.
     pub const FORMATS_AS_DRAFT: u32 = 1;
     pub const IGNORE_UNKNOWN_FORMATS: u32 = 2;
+    pub const COMPANION_FORMATS: u32 = 4;
 
     /// Why a schema object is refused, or `None` where it is not; or the status of the library.
     pub fn refusal(draft: u32, options: u32, schema: &[u8]) -> Result<Option<String>, u8> {
@@ -157,7 +158,7 @@ fn main() {
     assert_eq!(strkw::check(202012, strkw::FORMATS_AS_DRAFT, date, &texts), Ok(vec![1, 1, 2, 1]));
     assert_eq!(strkw::check(7, 0, date, &[]), Ok(vec![]));
     assert_eq!(strkw::check(5, 0, date, &texts), Err(3));
-    assert_eq!(strkw::check(7, 4, date, &texts), Err(6));
+    assert_eq!(strkw::check(7, 8, date, &texts), Err(6));
     assert_eq!(strkw::check(7, 0, b"[]", &texts), Err(4));
     assert_eq!(strkw::check(7, 0, br#"{"maxLength":-1}"#, &texts), Err(5));
     let mail = br#"{"format":"email"}"#;
@@ -166,6 +167,7 @@ fn main() {
     assert_eq!(strkw::refusal(7, 0, mail), Ok(Some(unknown.to_string())));
     assert_eq!(strkw::refusal(7, strkw::IGNORE_UNKNOWN_FORMATS, mail), Ok(None));
     assert_eq!(strkw::check(7, strkw::IGNORE_UNKNOWN_FORMATS, mail, &texts), Ok(vec![1, 1, 2, 1]));
-    assert_eq!(strkw::refusal(7, 4, mail), Err(6));
+    assert_eq!(strkw::check(7, strkw::COMPANION_FORMATS, mail, &texts), Ok(vec![0, 0, 2, 0]));
+    assert_eq!(strkw::refusal(7, 8, mail), Err(6));
     println!("caller.rs: {rows} rows");
 }

@@ -17,7 +17,7 @@ DRAFTS = (4, 6, 7, 201909, 202012)
 _KEYWORDS = (
     "contentMediaType", "contentEncoding", "contentSchema", "format", "minLength", "maxLength", "pattern")
 _NOTING_DRAFTS = (201909, 202012)
-_FORMATS_AS_DRAFT, _IGNORE_UNKNOWN_FORMATS = 1, 2
+_FORMATS_AS_DRAFT, _IGNORE_UNKNOWN_FORMATS, _COMPANION_FORMATS = 1, 2, 4
 _VERDICTS = (False, True, None)
 
 _OBJECT = (NUMBER, NUMBER, BYTES, COUNT)
@@ -67,10 +67,13 @@ def _option(name: str, value: Any, default: str, other: str, bit: int) -> int:
     return bit if value == other else 0
 
 
-def _options(formats: Any, unknown_formats: Any) -> int:
-    """Both options as the bits of one number."""
+def _options(formats: Any, unknown_formats: Any, companion_formats: Any) -> int:
+    """The options as the bits of one number."""
+    if not isinstance(companion_formats, bool):
+        raise TypeError(f"companion_formats is a bool, and no {type(companion_formats).__name__}")
     return (_option("formats", formats, "checked", "as-draft", _FORMATS_AS_DRAFT)
-            | _option("unknown_formats", unknown_formats, "refuse", "ignore", _IGNORE_UNKNOWN_FORMATS))
+            | _option("unknown_formats", unknown_formats, "refuse", "ignore", _IGNORE_UNKNOWN_FORMATS)
+            | (_COMPANION_FORMATS if companion_formats else 0))
 
 
 def _why(status: int, *compiled: Any) -> str:
@@ -97,7 +100,7 @@ def _verdicts(compiled: Sequence[Any], texts: Iterable[Text]) -> list[Optional[b
 
 
 def check_texts(draft: int, schema: SchemaObject, texts: Iterable[Text], formats: Formats = "checked",
-                unknown_formats: UnknownFormats = "refuse") -> list[Optional[bool]]:
+                unknown_formats: UnknownFormats = "refuse", *, companion_formats: bool = False) -> list[Optional[bool]]:
     """Whether each of a list of texts is valid by one schema object, in one call that compiles it once.
 
     >>> check_texts(7, {"format": "date", "maxLength": 10}, ["2024-02-29", "2023-02-29", b"\\xff"])
@@ -105,14 +108,16 @@ def check_texts(draft: int, schema: SchemaObject, texts: Iterable[Text], formats
 
     The draft is one of DRAFTS, the schema a dict, or JSON as a str or bytes-like, and a text a str or bytes-like.
     Formats are checked in every draft; with formats="as-draft" drafts 2019-09 and 2020-12 do not. A format that the
-    draft or the library does not know is refused; with unknown_formats="ignore" it lets every text pass. A pattern is
-    one of ECMA-262 in Unicode mode, with no look-ahead or back reference, and of a bounded size. An answer
-    is True or False, and None for what is not UTF-8, as a lone surrogate.
+    draft or the library does not know is refused; with unknown_formats="ignore" it lets every text pass. With
+    companion_formats=True `email` is known, and from draft 7 on `idn-hostname`. A pattern is one of ECMA-262 in Unicode
+    mode, with no look-ahead or back reference, and of a bounded size. An answer is True or False, and None for what is
+    not UTF-8, as a lone surrogate.
 
     ValueError where the draft is none of DRAFTS, an option is another word, or the schema is no object or refused; it
     says why. TypeError where an argument is of another type.
     """
-    number, options, source = _draft_number(draft), _options(formats, unknown_formats), _source(schema)
+    number, source = _draft_number(draft), _source(schema)
+    options = _options(formats, unknown_formats, companion_formats)
     return _verdicts((number, options, source, len(source)), texts)
 
 
@@ -133,13 +138,20 @@ class Schema:
     >>> mail.are_valid(["joe@example.com", "joe"])
     [True, False]
 
+    With companion_formats=True the library checks `email` itself, and from draft 7 on `idn-hostname`:
+
+    >>> Schema(7, {"format": "idn-hostname"}, companion_formats=True).are_valid(["b\u00fccher.example", "-a.example"])
+    [True, False]
+
     A schema object is never changed. Threads may share one without a lock, and so may processes after a fork. Each call
     compiles it, which takes up to 12 milliseconds for a pattern: hand many texts to one are_valid.
     """
 
     def __init__(self, draft: int, schema: SchemaObject, formats: Formats = "checked",
-                 unknown_formats: UnknownFormats = "refuse", checks: Optional[Mapping[str, Check]] = None) -> None:
-        number, options, source = _draft_number(draft), _options(formats, unknown_formats), _source(schema)
+                 unknown_formats: UnknownFormats = "refuse", checks: Optional[Mapping[str, Check]] = None, *,
+                 companion_formats: bool = False) -> None:
+        number, source = _draft_number(draft), _source(schema)
+        options = _options(formats, unknown_formats, companion_formats)
         self._name, self._check = None, None
         if checks is not None:
             if not isinstance(checks, Mapping):

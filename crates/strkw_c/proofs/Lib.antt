@@ -1,4 +1,5 @@
 mod LineLemmas
+mod RegisteredLemmas
 mod StatusLemmas
 mod TextLemmas
 mod VerdictLemmas

@@ -6,7 +6,7 @@ use Rattle.serde_json.specs.Data.{Data, Members}
 use Rattle.serde_json.specs.Find.{as_object}
 use Rattle.strkw_report.specs.Refusals.{Refusal, reason_of, refusal_of, prints_float}
 use Rattle.strkw_pattern.specs.declared.engine.Outcome.{Outcome}
-use Rattle.strkw_keywords.specs.Meanings.{no_lists}
+use Rattle.strkw_keywords.specs.Meanings.{Lists}
 use Rattle.strkw_keywords.specs.Errors.{NodeReports}
 use Rattle.strkw_keywords.specs.Object.{Settings, Errors, FirstRefusal}
 use Rattle.strkw_json.specs.Json.{IsReading}
@@ -46,12 +46,13 @@ FailsObject (Refused why) s schema =
 
 -- a text has no errors by a schema object
 abbrev pub IsValid : Settings → Members → List ℕ → Type 0
-IsValid s schema text = Errors s schema no_lists root_site (Some text) []
+IsValid s schema text = Errors s schema s.lists root_site (Some text) []
 
--- nor by a compiled one, by the outcomes of its engines
-abbrev pub Passes : {E : Type 0} → (E → List ℕ → Outcome) → StringKeywords E → List ℕ → Type 0
-Passes outcome k text =
-    NodeReports (keywords_assertions outcome k) no_lists root_site (Some text) []
+-- nor by a compiled one, by the outcomes of its engines and the checks that are registered
+abbrev pub Passes : {E : Type 0} → (E → List ℕ → Outcome) → StringKeywords E → Lists → List ℕ
+    → Type 0
+Passes outcome k lists text =
+    NodeReports (keywords_assertions outcome k) lists root_site (Some text) []
 
 -- the verdict on bytes: 1 for a valid text, 0 for one that is not, 2 for bytes that are not UTF-8
 abbrev pub IsVerdict : (List ℕ → Type 0) → List ℕ → ℕ → Type 0

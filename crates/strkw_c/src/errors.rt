@@ -6,33 +6,34 @@ ghost use Rattle.strkw_report.specs.Drafts.{draft_numbered};
 ghost use Rattle.strkw_report.specs.Refusals.{Refusal};
 ghost use Rattle.strkw_report.specs.Standings.{root_site};
 ghost use Rattle.strkw_keywords.specs.Demands.{IsInUse};
-ghost use Rattle.strkw_keywords.specs.Meanings.{no_lists};
+ghost use Rattle.strkw_keywords.specs.Handed.{lists_of};
 ghost use Rattle.strkw_keywords.specs.Object.{Settings};
 ghost use Rattle.strkw_object.specs.Compiled.{keywords_demands, keywords_remarks};
 ghost use Rattle.strkw_object.specs.Printable.{ArePrintable};
 ghost use Rattle.strkw_c.specs.Buffers.{IsPut, IsTooLong};
 ghost use Rattle.strkw_c.specs.Errors.{HasLines, AreLinesOf};
-ghost use Rattle.strkw_c.specs.Settings.{options_of, settings_for, settings_of};
-ghost use Rattle.strkw_c.specs.Verdicts.{IsSchema, HasFirstRefusal, Fails};
+ghost use Rattle.strkw_c.specs.Settings.{choices_of, settings_of};
+ghost use Rattle.strkw_c.specs.Verdicts.{IsSchema, HasFirstRefusal};
 ghost use Rattle.strkw_c.specs.declared.statuses.TheConstants.{DONE, NO_DRAFT, NO_OPTION, NO_ROOM, NO_SCHEMA, NOT_UTF8, REFUSED};
 
 use crate::buffers::put;
 use crate::lines::{push_errors, push_notes};
-use crate::schemas::{Failure, compile};
-use crate::settings::options_of;
+use crate::questions::{Question, answer_to};
+use crate::schemas::Failure;
+use crate::settings::choices_of;
 use crate::statuses::{
     DONE, NO_DRAFT, NO_OPTION, NO_ROOM, NO_SCHEMA, NOT_UTF8, OUT_OF_MEMORY, REFUSED,
 };
 use std::alloc::{AllocError, Global};
 use strkw_ecma::EcmaMatcher;
-use strkw_keywords::{Checks, Options};
+use strkw_keywords::Checks;
 use strkw_object::StringKeywords;
 use strkw_object::laws::{
     compiled_errors_are_those_of_the_object, compiled_notes_are_those_of_the_object,
     notes_have_texts,
 };
 use strkw_pattern::RegexEngine;
-use strkw_report::{Draft, Location, Site, draft_numbered};
+use strkw_report::{Location, Site, draft_numbered};
 
 /// Writes the errors of one text by a schema object, and then what the object notes of it, under a draft and options as
 /// `strkw_nonnull_check` has them. Status 0: at the head of `out` stands a line for each, and the count of bytes is in
@@ -41,7 +42,7 @@ use strkw_report::{Draft, Location, Site, draft_numbered};
 /// feed. A text that is valid has no line of an error.
 ///
 /// The others: 2, `out` has too little room and is as it was, and `written` is the room that is needed; 3, the draft is
-/// none of the five; 6, a bit of the options is none of the two; 8, the text is not UTF-8; 4, `schema` is no JSON
+/// none of the five; 6, a bit of the options is none of the three; 8, the text is not UTF-8; 4, `schema` is no JSON
 /// object; 5, an entry of it is refused; 1, out of memory, where none of 3, 6 and 8 holds. After all but 0 and 2 `out`
 /// and `written` are as they were.
 #[unsafe(no_mangle)]
@@ -57,9 +58,9 @@ pub extern "C" fn strkw_nonnull_errors(
     ensures status { (result ≤ NO_OPTION) ⊎ (result ≡ NOT_UTF8) }
     ensures no_draft { (result ≡ NO_DRAFT) ↔ (draft_numbered draft ≡ None) }
     ensures no_option { (result ≡ NO_OPTION)
-        ↔ (IsSome (draft_numbered draft) × (options_of options ≡ None)) }
+        ↔ (IsSome (draft_numbered draft) × (choices_of options ≡ None)) }
     ensures not_utf8 { (result ≡ NOT_UTF8) ↔ (IsSome (draft_numbered draft)
-        × IsSome (options_of options) × (IsUtf8 text.now → ⊥)) }
+        × IsSome (choices_of options) × (IsUtf8 text.now → ⊥)) }
     ensures no_schema { result ≡ NO_SCHEMA → IsSchema schema.now None }
     ensures refused { result ≡ REFUSED → (s : Settings) × (why : Refusal)
         × (settings_of draft options ≡ Some s) × HasFirstRefusal s schema.now (Some why) }
@@ -75,13 +76,13 @@ pub extern "C" fn strkw_nonnull_errors(
     let Some(draft) = draft_numbered(u64::from(draft)) else {
         return NO_DRAFT;
     };
-    let Some(options) = options_of(options) else {
+    let Some(choices) = choices_of(options) else {
         return NO_OPTION;
     };
     let Ok(text) = str::from_utf8(text) else {
         return NOT_UTF8;
     };
-    match lines_by(alloc, draft, options, schema, text) {
+    match answer_to(alloc, draft, choices, schema, &LinesOf { text }) {
         Ok(lines) => {
             if put(&lines, out, written) {
                 DONE
@@ -95,37 +96,47 @@ pub extern "C" fn strkw_nonnull_errors(
     }
 }
 
-// The lines of a text by the schema object of some bytes.
-fn lines_by(
-    alloc: Global,
-    draft: Draft,
-    options: Options,
-    schema: &[u8],
-    text: &str,
-) -> Result<Vec<u8>, Failure>
-    ensures done { IfOk result
-        (λ lines. HasLines (settings_for draft options) schema.now text.now lines.items) }
-    ensures failed { IfErr result
-        (λ failure. Fails failure (settings_for draft options) schema.now) }
-{
-    compiled_errors_are_those_of_the_object::<EcmaMatcher>();
-    compiled_notes_are_those_of_the_object::<EcmaMatcher>();
-    notes_have_texts();
-    let keywords = compile(alloc, draft, options, schema)?;
-    Ok(lines_on(alloc, &keywords, text)?)
+// What is asked: the lines of a text.
+#[derive(Clone, Copy)]
+struct LinesOf<'a> {
+    text: &'a str,
+}
+
+impl Question for LinesOf<'_> {
+    ghost use Rattle.std.specs.Prelude.{⊤};
+    ghost use Rattle.strkw_c.specs.Errors.{AreLines};
+
+    ghost askable = { λ _. ⊤ };
+
+    ghost answered = { λ asked s object made. AreLines s object asked.text.now made };
+
+    fn ask(
+        &self,
+        alloc: Global,
+        keywords: &StringKeywords<EcmaMatcher>,
+        checks: &Checks,
+    ) -> Result<Vec<u8>, AllocError> {
+        compiled_errors_are_those_of_the_object::<EcmaMatcher>();
+        compiled_notes_are_those_of_the_object::<EcmaMatcher>();
+        notes_have_texts();
+        lines_on(alloc, keywords, checks, self.text)
+    }
 }
 
 // The lines of a text by a compiled object.
 fn lines_on<E: RegexEngine>(
     alloc: Global,
     keywords: &StringKeywords<E>,
+    checks: &Checks,
     text: &str,
 ) -> Result<Vec<u8>, AllocError>
-    requires in_use { IsInUse (keywords_demands E.outcome keywords.now) no_lists }
+    requires in_use { IsInUse (keywords_demands E.outcome keywords.now)
+        (lists_of admits accepted encoded decoding checks.now) }
     requires printable { ArePrintable (keywords_remarks keywords.now) }
-    ensures { IfOk result (λ lines. AreLinesOf E.outcome keywords.now text.now lines.items) }
+    ensures { IfOk result (λ lines. AreLinesOf E.outcome keywords.now
+        (lists_of admits accepted encoded decoding checks.now) text.now lines.items) }
 {
-    let found = keywords.evaluate(alloc, &text, &root_site(alloc), &Checks::none())?;
+    let found = keywords.evaluate(alloc, &text, &root_site(alloc), checks)?;
     let mut lines = Vec::new(alloc);
     push_errors(alloc, &found.errors, &mut lines)?;
     push_notes(alloc, &found.notes, &mut lines)?;

@@ -10,6 +10,7 @@ mod errors;
 mod formats;
 mod internationalised;
 mod lines;
+mod questions;
 mod refusals;
 mod schemas;
 mod settings;

@@ -6,17 +6,20 @@ ghost use Rattle.strkw_keywords.specs.Object.{Settings};
 ghost use Rattle.strkw_report.specs.Drafts.{draft_numbered};
 ghost use Rattle.strkw_c.specs.Buffers.{IsPut, IsTooLong};
 ghost use Rattle.strkw_c.specs.Refusals.{reason_text, refusal_text};
-ghost use Rattle.strkw_c.specs.Settings.{options_of, settings_of};
+ghost use Rattle.strkw_c.specs.Settings.{choices_of, settings_of};
 ghost use Rattle.strkw_c.specs.Verdicts.{HasFirstRefusal, IsSchema};
 ghost use Rattle.strkw_c.specs.declared.statuses.TheConstants.{DONE, NO_DRAFT, NO_OPTION, NO_ROOM, NO_SCHEMA, OUT_OF_MEMORY, REFUSED};
 
 use crate::buffers::put;
-use crate::schemas::{Failure, compile};
-use crate::settings::options_of;
+use crate::questions::{Question, answer_to};
+use crate::schemas::Failure;
+use crate::settings::choices_of;
 use crate::statuses::{DONE, NO_DRAFT, NO_OPTION, NO_ROOM, NO_SCHEMA, OUT_OF_MEMORY, REFUSED};
 use serde_json::Value;
 use std::alloc::{AllocError, Global};
-use strkw_ecma::why_refused;
+use strkw_ecma::{EcmaMatcher, why_refused};
+use strkw_keywords::Checks;
+use strkw_object::StringKeywords;
 use strkw_report::{CompileError, CompileErrorKind, draft_numbered};
 
 /// Tells why a schema object is refused, under a draft and options as `strkw_nonnull_check` has them. Status 5: it is
@@ -26,7 +29,7 @@ use strkw_report::{CompileError, CompileErrorKind, draft_numbered};
 /// not refused, and `written` is 0.
 ///
 /// The others: 2, `out` has too little room and is as it was, and `written` is the room that is needed; 3, the draft is
-/// none of the five; 6, a bit of the options is none of the two; 4, `schema` is no JSON object; 1, out of memory, where
+/// none of the five; 6, a bit of the options is none of the three; 4, `schema` is no JSON object; 1, out of memory, where
 /// neither 3 nor 6 holds. After 1, 3, 4 and 6 `out` and `written` are as they were.
 #[unsafe(no_mangle)]
 pub extern "C" fn strkw_nonnull_refusal(
@@ -40,7 +43,7 @@ pub extern "C" fn strkw_nonnull_refusal(
     ensures status { result ≤ NO_OPTION }
     ensures no_draft { (result ≡ NO_DRAFT) ↔ (draft_numbered draft ≡ None) }
     ensures no_option { (result ≡ NO_OPTION)
-        ↔ (IsSome (draft_numbered draft) × (options_of options ≡ None)) }
+        ↔ (IsSome (draft_numbered draft) × (choices_of options ≡ None)) }
     ensures no_schema { result ≡ NO_SCHEMA → IsSchema schema.now None }
     ensures taken { result ≡ DONE → (s : Settings) × (settings_of draft options ≡ Some s)
         × HasFirstRefusal s schema.now None × IsPut [] out.old out.new written.new }
@@ -56,10 +59,10 @@ pub extern "C" fn strkw_nonnull_refusal(
     let Some(draft) = draft_numbered(u64::from(draft)) else {
         return NO_DRAFT;
     };
-    let Some(options) = options_of(options) else {
+    let Some(choices) = choices_of(options) else {
         return NO_OPTION;
     };
-    match compile(alloc, draft, options, schema) {
+    match answer_to(alloc, draft, choices, schema, &NothingMore) {
         Ok(_) => {
             *written = 0;
             DONE
@@ -67,6 +70,27 @@ pub extern "C" fn strkw_nonnull_refusal(
         Err(Failure::Refused(refusal)) => tell(alloc, &refusal, out, written),
         Err(Failure::NoSchema) => NO_SCHEMA,
         Err(Failure::Memory) => OUT_OF_MEMORY,
+    }
+}
+
+// What is asked: nothing but whether the object is refused.
+#[derive(Clone, Copy)]
+struct NothingMore;
+
+impl Question for NothingMore {
+    ghost use Rattle.std.specs.Prelude.{⊤};
+
+    ghost askable = { λ _. ⊤ };
+
+    ghost answered = { λ _ _ _ _. ⊤ };
+
+    fn ask(
+        &self,
+        alloc: Global,
+        _keywords: &StringKeywords<EcmaMatcher>,
+        _checks: &Checks,
+    ) -> Result<Vec<u8>, AllocError> {
+        Ok(Vec::new(alloc))
     }
 }
 

@@ -21,7 +21,7 @@ pub(crate) const NO_SCHEMA: u8 = 4;
 /// An entry of the schema object is refused.
 pub(crate) const REFUSED: u8 = 5;
 
-/// A bit of the options is none of the two.
+/// A bit of the options is none of the three.
 pub(crate) const NO_OPTION: u8 = 6;
 
 /// The text is not UTF-8. 7 is that of a pointer which is null, which no call here answers.

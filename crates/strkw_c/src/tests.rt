@@ -49,13 +49,18 @@ fn refusals_under_refusal(rt: HostRuntime) -> Result<(), Fail> {
 
 // Whether the three texts `2024-02-29`, `2023-02-29` and the byte 255 have these verdicts. Out of memory, the verdicts
 // are as they were.
-fn are_judged_so(alloc: Global, schema: &str, want: [u8; 3]) -> Result<bool, AllocError> {
+fn are_judged_so(
+    alloc: Global,
+    options: u32,
+    schema: &str,
+    want: [u8; 3],
+) -> Result<bool, AllocError> {
     let texts = b"2024-02-292023-02-29\xFF";
     let mut verdicts = [7u8; 3];
     let status = strkw_nonnull_check(
         alloc,
         202012,
-        0,
+        options,
         schema.as_bytes(),
         texts,
         &[10, 20, 21],
@@ -70,12 +75,14 @@ fn are_judged_so(alloc: Global, schema: &str, want: [u8; 3]) -> Result<bool, All
 
 #[test]
 fn verdicts_under_refusal(rt: HostRuntime) -> Result<(), Fail> {
-    for (schema, want) in [
-        ("{\"format\":\"date\",\"minLength\":2}", [1, 0, 2]),
-        ("{\"pattern\":\"^2023\"}", [0, 1, 2]),
-        ("{\"pattern\":\"^\\\\d{3}4\"}", [1, 0, 2]),
+    for (options, schema, want) in [
+        (0, "{\"format\":\"date\",\"minLength\":2}", [1, 0, 2]),
+        (0, "{\"pattern\":\"^2023\"}", [0, 1, 2]),
+        (0, "{\"pattern\":\"^\\\\d{3}4\"}", [1, 0, 2]),
+        (4, "{\"format\":\"email\"}", [0, 0, 2]),
+        (4, "{\"format\":\"idn-hostname\"}", [1, 1, 2]),
     ] {
-        if !are_judged_so(rt.alloc(), schema, want)? {
+        if !are_judged_so(rt.alloc(), options, schema, want)? {
             return Err(Fail::new(schema));
         }
     }

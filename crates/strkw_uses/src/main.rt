@@ -2,6 +2,7 @@
 #![tactic(auto)]
 
 mod answered;
+mod companions;
 mod document;
 mod engine;
 mod errors;
@@ -45,6 +46,7 @@ fn main(rt: HostRuntime) -> Result<()> {
     print_matches(&rt, alloc)?;
     print_patterns(&rt, alloc)?;
     print_registered(&rt, alloc)?;
+    print_companions(&rt, alloc)?;
     print_document(&rt, alloc)?;
     print_answers(&rt, alloc)
 }
@@ -150,6 +152,22 @@ fn print_registered(rt: &impl Print, alloc: Global) -> Result<()> {
         r#"{"contentMediaType":"text/plain;charset=us-ascii","contentEncoding":"8bit"}"#,
     ] {
         print_verdicts(rt, alloc, schema, &checks)?;
+    }
+    Ok(())
+}
+
+// A mail address and an internationalised host name, and a text that is neither.
+fn print_companions(rt: &impl Print, alloc: Global) -> Result<()> {
+    for (schema, text) in [
+        (r#"{"format":"email"}"#, "joe@example.com"),
+        (r#"{"format":"email"}"#, "-joe"),
+        (r#"{"format":"idn-hostname"}"#, "bücher.example"),
+        (r#"{"format":"idn-hostname"}"#, "-joe"),
+    ] {
+        let value = Value::from_str(alloc, schema)?;
+        let object = value.as_object().context("the schema is no object")?;
+        let valid = companions::is_valid_with_companions(alloc, object, text)?;
+        println!(rt; "{schema} on {text}: {valid}")?;
     }
     Ok(())
 }

@@ -22,6 +22,7 @@ pub const STRKW_NOT_UTF8: u8 = 8;
 /// The options.
 pub const STRKW_FORMATS_AS_DRAFT: u32 = 1;
 pub const STRKW_IGNORE_UNKNOWN_FORMATS: u32 = 2;
+pub const STRKW_COMPANION_FORMATS: u32 = 4;
 
 macro_rules! judges {
     ($answer:ty: $($name:ident),* $(,)?) => {

@@ -1,6 +1,6 @@
 //! The drafts, and how formats are checked.
 
-use strkw_sys::{STRKW_FORMATS_AS_DRAFT, STRKW_IGNORE_UNKNOWN_FORMATS};
+use strkw_sys::{STRKW_COMPANION_FORMATS, STRKW_FORMATS_AS_DRAFT, STRKW_IGNORE_UNKNOWN_FORMATS};
 
 /// A draft of JSON Schema.
 #[derive(Clone, Copy, Debug, PartialEq, Eq, Hash)]
@@ -37,6 +37,8 @@ pub struct Options {
     pub formats_as_draft: bool,
     /// A format that is not known lets every text pass.
     pub ignore_unknown_formats: bool,
+    /// `email` is known, and from draft 7 on `idn-hostname`.
+    pub companion_formats: bool,
 }
 
 impl Options {
@@ -44,6 +46,7 @@ impl Options {
     pub(crate) fn bits(self) -> u32 {
         let as_draft = if self.formats_as_draft { STRKW_FORMATS_AS_DRAFT } else { 0 };
         let ignoring = if self.ignore_unknown_formats { STRKW_IGNORE_UNKNOWN_FORMATS } else { 0 };
-        as_draft | ignoring
+        let companions = if self.companion_formats { STRKW_COMPANION_FORMATS } else { 0 };
+        as_draft | ignoring | companions
     }
 }

@@ -83,6 +83,9 @@ fn options_say_how_formats_are_checked() {
     let ignoring = Options { ignore_unknown_formats: true, ..Options::default() };
     let mail = Schema::compile(Draft::Draft7, ignoring, r#"{"format": "email"}"#).unwrap();
     assert!(mail.is_valid("nonsense").unwrap());
+    let companions = Options { companion_formats: true, ..Options::default() };
+    let mail = Schema::compile(Draft::Draft4, companions, r#"{"format": "email"}"#).unwrap();
+    assert!(mail.is_valid("joe@example.com").unwrap() && !mail.is_valid("joe").unwrap());
 }
 
 #[test]

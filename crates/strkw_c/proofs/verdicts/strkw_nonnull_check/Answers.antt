@@ -6,6 +6,6 @@ use Rattle.strkw_c.proofs.verdicts.strkw_nonnull_check.Goals as goal
 pub returns-clause-refused : goal.returns-clause-refused
 returns-clause-refused c =
     let err = c.in-Err-Refused in
-    let (are, first) = refused_under c.args.draft c.args.options c.in-Some.draft c.in-Some-options_of.options err.field-0 err.field-0-0 c.args.schema.now
+    let (are, first) = refused_under c.args.draft c.args.options c.in-Some.draft c.in-Some-choices_of.choices err.field-0 err.field-0-0 c.args.schema.now
     (search rules) (search rules) (search rules) err.ensures.failed in
     λ refused. (_, refusal_of err.field-0-0, are, first)

@@ -1,5 +1,6 @@
 use Rattle.std.proofs.Common.{◌≡◌, [], length, drop, subst, append-nil, ap, arith}
 use Rattle.std.proofs.lemmas.List.{drop_all}
+use Rattle.strkw_keywords.specs.Handed.{lists_of}
 use Rattle.strkw_c.specs.Verdicts.{Passes, AreVerdicts}
 use Rattle.strkw_c.proofs.TextLemmas.{ascends, are_texts, texts_from}
 use Rattle.strkw_c.proofs.verdicts.verdicts_on.Goals as goal
@@ -14,10 +15,13 @@ loop-end-init g c = (
 
 pub returns-clause-verdicts : goal.returns-clause-verdicts
 returns-clause-verdicts g c =
+    let lists =
+    lists_of (λ b. (goal.Format-dyn g b).admits b.1) (λ b. (goal.MediaTypeCheck-dyn g b).accepted b.1)
+    (λ b. (goal.ContentCodec-dyn g b).encoded b.1) (λ b. (goal.ContentCodec-dyn g b).decoding b.1) c.args.checks.now in
     let (count, up, all) = c.loop-end.invariant in
     let texts = texts_from c.args.texts.now 0 c.args.ends.now in
     let none : drop c.loop-end.end-index c.args.ends.now ≡ [] = drop_all c.loop-end.end-index c.args.ends.now (omega (arith, c.loop-end-test.false)) in (
       texts,
       are_texts c.args.texts.now c.args.ends.now (ascends c.args.texts.now c.args.ends.now c.requires.texts.0 c.requires.texts.1),
-      subst (AreVerdicts (Passes g.E.RegexEngine.outcome c.args.keywords.now) texts) (append-nil c.loop-end.made.items) (all [] (rw none tt)),
+      subst (AreVerdicts (Passes g.E.RegexEngine.outcome c.args.keywords.now lists) texts) (append-nil c.loop-end.made.items) (all [] (rw none tt)),
     )

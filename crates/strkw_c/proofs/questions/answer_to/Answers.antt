@@ -1,0 +1,18 @@
+use Rattle.std.proofs.Common.{◌∙◌, refl, ap}
+use denote.Param.Object.{read_made}
+use Rattle.strkw_companions.specs.Companions.{admits}
+use Rattle.strkw_c.proofs.questions.answer_to.OwnLists.{own-1, at-1-1}
+use Rattle.strkw_c.proofs.questions.answer_to.Goals as goal
+
+-- a box that was made of a companion reads as the entry of companions does, and so admits what the companion admits
+pub answer_with-requires-clause-email : goal.answer_with-requires-clause-email
+answer_with-requires-clause-email g c = λ text.
+    let box = c.into_dyn_box in
+    read_made own-1 (own-1.entry at-1-1) at-1-1 refl _ (λ j v. j.1.admits v text) box.result.vtable box.result.value c.in_ok-email.email.value box.ensures.1
+    ∙ ap (λ x. admits x text) c.in_ok-email.ensures.ok
+
+pub answer_with-requires-clause-host : goal.answer_with-requires-clause-host
+answer_with-requires-clause-host g c = λ text.
+    let box = c.into_dyn_box-2 in
+    read_made own-1 (own-1.entry at-1-1) at-1-1 refl _ (λ j v. j.1.admits v text) box.result.vtable box.result.value c.in_ok-host.host.value box.ensures.1
+    ∙ ap (λ x. admits x text) c.in_ok-host.ensures.ok
