@@ -5,9 +5,9 @@ _neldrafi_options() {
     case $1 in
     text) echo --draft --output --quiet --help ;;
     formats | requests) echo --output --help ;;
-    csv) echo --max-errors --output --progress --quiet --report --summary --help ;;
-    json) echo --max-errors --output --quiet --help ;;
-    check) echo --draft --ignore --ignore-unknown-formats --json --max-errors --output --quiet --help ;;
+    csv) echo --color --max-errors --output --progress --quiet --report --summary --help ;;
+    json) echo --color --max-errors --output --quiet --help ;;
+    check) echo --color --draft --ignore --ignore-unknown-formats --json --max-errors --output --quiet --help ;;
     explain) echo --draft --ignore --output --help ;;
     plan) echo --draft --output --records --help ;;
     *) echo --help --version ;;
@@ -28,6 +28,8 @@ _neldrafi() {
         words='4 6 7 2019-09 2020-12'
     elif [ "$before" = --output ]; then
         words='text json'
+    elif [ "$before" = --color ]; then
+        words='auto always never'
     elif [[ $before == --@(max-errors|records|ignore) ]]; then
         words=
     elif [[ $word == -* ]]; then

@@ -17,6 +17,7 @@ complete -c neldrafi -f -n '__fish_seen_subcommand_from formats'
 set -l names "(neldrafi formats | string match -rg '^(\S+)' | tail -n +2)"
 complete -c neldrafi -f -n '__fish_seen_subcommand_from text' -a $names
 complete -c neldrafi -n '__fish_seen_subcommand_from text check explain plan' -x -l draft -a '4 6 7 2019-09 2020-12' -d 'The draft'
+complete -c neldrafi -n '__fish_seen_subcommand_from csv json check' -x -l color -a 'auto always never' -d 'When there are colours'
 complete -c neldrafi -n '__fish_seen_subcommand_from csv json check' -x -l max-errors -d 'Stop after so many messages'
 complete -c neldrafi -n '__fish_seen_subcommand_from text csv json check' -s q -l quiet -d 'No standard output'
 complete -c neldrafi -n '__fish_seen_subcommand_from csv' -l progress -d 'Tell of every million records'

@@ -1,14 +1,13 @@
 //! Why a run, or the check of a file, ended early; and how that is told.
 
+use crate::columns::ColumnsFault;
 use crate::commands::text::FormatFault;
 use crate::inputs::InputFault;
 use crate::schemas::SchemaFault;
 use std::alloc::{AllocError, AllocFailed};
 use std::{fmt, io};
-use strkw_cli::RunFault;
-use strkw_document::{DocumentFault, DocumentTextFault};
-use strkw_ecma::PatternRefusal;
-use strkw_plan::{PlanFault, PlanFileFault, Shown};
+use strkw_plan::Shown;
+use strkw_shells::FileFault;
 use strkw_table::TableFault;
 
 /// Why a run, or the check of a file, ended early.
@@ -24,25 +23,12 @@ pub(crate) enum Fault {
     Format(FormatFault),
     /// A file cannot be read, or a line of it.
     Input(InputFault),
-    /// The file of the plan has no plan's JSON.
-    PlanFile(PlanFileFault),
-    /// The plan is refused.
-    Plan {
-        /// Why.
-        fault: PlanFault,
-        /// Why a pattern of it is not taken, where that is the reason.
-        pattern: Option<PatternRefusal>,
-    },
+    /// A file is not checked to its end by a plan.
+    File(FileFault),
     /// The schema is refused.
     Schema(SchemaFault),
-    /// A CSV file was not checked to its end.
-    Table(TableFault),
-    /// A text is no JSON document.
-    DocumentText(DocumentTextFault),
-    /// A document was not checked.
-    Document(DocumentFault),
-    /// Not all requests were answered.
-    Requests(RunFault),
+    /// A CSV file lacks columns of the plan.
+    Columns(ColumnsFault),
     /// There are more messages than so many, and no more are wanted.
     Stopped(u64),
     /// Nobody reads the standard output any more.
@@ -65,10 +51,8 @@ impl Fault {
     pub(crate) fn ends_all(&self) -> bool {
         matches!(
             self,
-            Fault::PlanFile(_)
-                | Fault::Plan { .. }
+            Fault::File(FileFault::PlanFile(_) | FileFault::Plan(_) | FileFault::Document(_))
                 | Fault::Schema(_)
-                | Fault::Document(_)
                 | Fault::Closed
                 | Fault::Write
                 | Fault::Memory
@@ -93,22 +77,27 @@ impl<T: Drop> From<AllocFailed<T>> for Fault {
     }
 }
 
-impl From<InputFault> for Fault {
-    fn from(e: InputFault) -> Fault {
-        Fault::Input(e)
+impl From<FileFault> for Fault {
+    fn from(e: FileFault) -> Fault {
+        match e {
+            FileFault::Memory => Fault::Memory,
+            _ => Fault::File(e),
+        }
     }
 }
 
-// Why a pattern is not taken, behind what is told of it.
-#[derive(Clone, Copy)]
-struct Because(Option<PatternRefusal>);
-
-impl fmt::Display for Because {
-    fn fmt<W: fmt::Write>(&self, f: &mut fmt::Formatter<W>) -> fmt::Result {
-        match self.0 {
-            Some(why) => write!(f, ": {why}"),
-            None => Ok(()),
+impl From<TableFault> for Fault {
+    fn from(e: TableFault) -> Fault {
+        match e {
+            TableFault::Memory => Fault::Memory,
+            _ => Fault::File(FileFault::Table(e)),
         }
+    }
+}
+
+impl From<InputFault> for Fault {
+    fn from(e: InputFault) -> Fault {
+        Fault::Input(e)
     }
 }
 
@@ -123,16 +112,9 @@ impl fmt::Display for Fault {
             }
             Fault::Format(e) => write!(f, "{e}"),
             Fault::Input(e) => write!(f, "{e}"),
-            Fault::PlanFile(e) => write!(f, "{e}"),
-            Fault::Plan { fault, pattern } => {
-                let because = Because(*pattern);
-                write!(f, "{fault}{because}")
-            }
+            Fault::File(e) => write!(f, "{e}"),
             Fault::Schema(e) => write!(f, "{e}"),
-            Fault::Table(e) => write!(f, "{e}"),
-            Fault::DocumentText(e) => write!(f, "{e}"),
-            Fault::Document(e) => write!(f, "{e}"),
-            Fault::Requests(e) => f.write_str(words_of_run(e)),
+            Fault::Columns(e) => write!(f, "{e}"),
             Fault::Stopped(1) => f.write_str("stopped after 1 message"),
             Fault::Stopped(most) => write!(f, "stopped after {most} messages"),
             Fault::Closed => f.write_str("the standard output is closed"),
@@ -143,15 +125,5 @@ impl fmt::Display for Fault {
             }
             Fault::Memory => f.write_str("out of memory"),
         }
-    }
-}
-
-// What is said of a run of requests that ended early, without the name of another program before it.
-fn words_of_run(fault: &RunFault) -> &'static str {
-    match fault {
-        RunFault::Read => "read failed",
-        RunFault::Write => "write failed",
-        RunFault::Memory => "out of memory",
-        RunFault::TooLong => "input too long",
     }
 }

@@ -1,18 +1,24 @@
 //! One command over the libraries: `neldrafi SUBCOMMAND ..`. Each subcommand is a module of `commands`.
 #![tactic(auto)]
 
+mod bad_requests;
+mod colours;
+mod columns;
 mod commands;
 mod drafts;
+mod encodings;
 mod errors;
 mod faults;
 mod files;
 mod html;
 mod inputs;
+mod known_formats;
 mod lines;
 mod options;
 mod outcome;
 mod output;
 mod plans;
+mod progress;
 mod report;
 mod schemas;
 mod strip;

@@ -4,6 +4,9 @@ use crate::drafts::{DEFAULT_DRAFT_NAME, DRAFT_NAMES, draft_named};
 use clap::builder::ValueParser;
 use clap::{Arg, ArgAction, ArgMatches};
 use std::alloc::Global;
+use std::env;
+use std::env::VarError;
+use std::io::IsTerminal;
 use strkw_report::Draft;
 
 // The option for no output.
@@ -22,6 +25,22 @@ const JSON: &str = "json";
 
 // The names of the forms.
 const FORM_NAMES: &[&str] = &[TEXT, JSON];
+
+// The option for colours.
+const COLOR: &str = "color";
+
+// When there are colours: on a terminal, always, or never.
+const AUTO: &str = "auto";
+
+const ALWAYS: &str = "always";
+
+const NEVER: &str = "never";
+
+// These words.
+const COLOR_NAMES: &[&str] = &[AUTO, ALWAYS, NEVER];
+
+// The variable by which the environment wants no colours (no-color.org).
+const NO_COLOR: &str = "NO_COLOR";
 
 // The option for the draft.
 const DRAFT: &str = "draft";
@@ -62,11 +81,43 @@ pub(crate) fn output<'a>(alloc: Global) -> Arg<'a> {
         .help("The form of each line: text, or an object of JSON")
 }
 
+// Whether the environment wants no colours: the variable is there, and not empty.
+fn has_no_color(rt: &HostRuntime) -> bool {
+    match env::var(rt, NO_COLOR) {
+        Ok(value) => !value.is_empty(),
+        Err(VarError::NotPresent) => false,
+        // It is there and is not UTF-8, or it is out of memory.
+        Err(_) => true,
+    }
+}
+
+// Whether messages have colours.
+fn is_coloured(rt: &HostRuntime, matches: &ArgMatches<'_>) -> bool {
+    let is_asked = match matches.get_str(COLOR) {
+        Some(ALWAYS) => true,
+        Some(AUTO) => rt.stdout().is_terminal(),
+        _ => false,
+    };
+    is_asked && OutputForm::of(matches) == OutputForm::Text && !has_no_color(rt)
+}
+
+/// The option `--color`.
+pub(crate) fn color<'a>(alloc: Global) -> Arg<'a> {
+    Arg::new(alloc, COLOR)
+        .long(COLOR)
+        .value_name("WHEN")
+        .value_parser(COLOR_NAMES)
+        .default_value(AUTO)
+        .help("When messages have colours: on a terminal, always or never; with NO_COLOR never")
+}
+
 /// What is wanted of the lines of the standard output.
 #[derive(Clone, Copy)]
 pub(crate) struct Wanted {
     /// None are written.
     pub is_quiet: bool,
+    /// They have colours.
+    pub is_coloured: bool,
     /// No more than so many are written about a file.
     pub most_messages: Option<u64>,
     /// In which form.
@@ -78,15 +129,17 @@ impl Wanted {
     pub(crate) fn all() -> Wanted {
         Wanted {
             is_quiet: false,
+            is_coloured: false,
             most_messages: None,
             form: OutputForm::Text,
         }
     }
 
-    /// What the options `--quiet`, `--max-errors` and `--output` say.
-    pub(crate) fn of(matches: &ArgMatches<'_>) -> Wanted {
+    /// What the options `--quiet`, `--color`, `--max-errors` and `--output` say.
+    pub(crate) fn of(rt: &HostRuntime, matches: &ArgMatches<'_>) -> Wanted {
         Wanted {
             is_quiet: matches.get_flag(QUIET),
+            is_coloured: is_coloured(rt, matches),
             most_messages: matches.get_one::<u64>(MAX_ERRORS),
             form: OutputForm::of(matches),
         }

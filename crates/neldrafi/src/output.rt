@@ -1,5 +1,6 @@
 //! Standard output: messages with a label before each, up to so many, and none where none are wanted.
 
+use crate::colours::{push_label, push_line};
 use crate::faults::Fault;
 use crate::options::Wanted;
 use std::alloc::{AllocError, Global};
@@ -70,17 +71,28 @@ impl<'a> Output<'a> {
         false
     }
 
+    // Appends the label and the front of a line, or the whole line, in their colours where these are wanted.
+    fn push_front(&self, line: &[u8], out: &mut Vec<u8>) -> Result<(), AllocError> {
+        if self.wanted.is_coloured {
+            push_label(self.label.as_bytes(), out)?;
+            return push_line(line, out);
+        }
+        out.extend_from_slice(self.label.as_bytes())?;
+        out.extend_from_slice(line)
+    }
+
     // Appends these bytes to those that are to be written, with the label before each line. It ends before a line that
     // may not begin.
     fn push_labelled(&mut self, bytes: &[u8], out: &mut Vec<u8>) -> Result<(), AllocError> {
         for line in bytes.split_inclusive(|byte| *byte == b'\n') {
-            if !self.is_in_line {
+            if self.is_in_line {
+                out.extend_from_slice(line)?;
+            } else {
                 if !self.may_begin() {
                     return Ok(());
                 }
-                out.extend_from_slice(self.label.as_bytes())?;
+                self.push_front(line, out)?;
             }
-            out.extend_from_slice(line)?;
             self.is_in_line = line.last() != Some(&b'\n');
         }
         Ok(())
@@ -94,9 +106,14 @@ impl<'a> Output<'a> {
         self.rt.write_all(bytes)
     }
 
-    // Writes bytes with the label, up to so many lines.
+    // Whether lines are written as they are, and all of them.
+    fn is_plain(&self) -> bool {
+        self.label.is_empty() && self.wanted.most_messages.is_none() && !self.wanted.is_coloured
+    }
+
+    // Writes bytes with the label, up to so many lines, and in colours where these are wanted.
     fn put_labelled(&mut self, bytes: &[u8]) -> io::Result<()> {
-        if self.label.is_empty() && self.wanted.most_messages.is_none() {
+        if self.is_plain() {
             return self.put(bytes);
         }
         let mut out = Vec::new(self.rt.alloc());

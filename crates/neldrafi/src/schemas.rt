@@ -15,7 +15,7 @@ use strkw_object::StringKeywords;
 use strkw_pattern::EngineBuilder;
 use strkw_plan::{
     PlanFault, PlanFileFault, PlanKind, PlanTextFault, Rules, Shown, compile_schema, plan_in,
-    read_plan_file,
+    read_marked_plan_file,
 };
 use strkw_report::{CompileError, CompileErrorKind, Draft};
 
@@ -83,7 +83,7 @@ impl fmt::Display for SchemaFault {
 
 /// The JSON value of the file of a schema, in which no member stands twice.
 pub(crate) fn read_schema(rt: &HostRuntime, path: &str) -> Result<Value, Fault> {
-    match read_plan_file(rt, path) {
+    match read_marked_plan_file(rt, path) {
         Ok(schema) => Ok(schema),
         Err(PlanFileFault::Memory) => Err(Fault::Memory),
         Err(e) => Err(Fault::Schema(SchemaFault::File(e))),

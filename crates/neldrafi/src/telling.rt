@@ -1,4 +1,4 @@
-//! What is told on standard error: faults, and how far a check is; each on one line.
+//! What is told on standard error: faults, how far a check is, and bad requests; each on one line.
 
 use crate::options::OutputForm;
 use serde_json::{Value, json};
@@ -33,6 +33,8 @@ pub(crate) enum Notice {
     Stopped,
     /// How far a check is.
     Progress,
+    /// Why a line is no request.
+    BadRequest,
 }
 
 impl Notice {
@@ -42,6 +44,7 @@ impl Notice {
             Notice::Fault => "fault",
             Notice::Stopped => "stopped",
             Notice::Progress => "progress",
+            Notice::BadRequest => "badRequest",
         }
     }
 }

@@ -10,7 +10,7 @@ use crate::files::{FileCheck, check_files};
 use crate::inputs::{InputFault, InputFile, Lines};
 use crate::lines::JsonLine;
 use crate::options::{
-    FILE, IGNORE, OutputForm, Wanted, draft, draft_of, files, ignore, max_errors,
+    FILE, IGNORE, OutputForm, Wanted, color, draft, draft_of, files, ignore, max_errors,
     output as output_form, quiet, required,
 };
 use crate::outcome::Outcome;
@@ -21,12 +21,14 @@ use clap::{Arg, ArgAction, ArgMatches, Command};
 use itoa::Buffer;
 use serde_json::Value;
 use std::alloc::{AllocError, Global};
+use strkw_companions::companions_of;
 use strkw_ecma::EcmaPatterns;
-use strkw_keywords::Checks;
+use strkw_keywords::{Checks, NamedFormat};
 use strkw_object::StringKeywords;
 use strkw_pattern::RegexEngine;
 use strkw_plan::{InstancePlace, MessageLine, Rules, push_messages_as, push_shown};
 use strkw_report::{Draft, Node};
+use strkw_shells::checks_of;
 
 /// The name of the subcommand.
 pub(crate) const NAME: &str = "check";
@@ -68,6 +70,7 @@ pub(crate) fn command<'a>(alloc: Global) -> Result<Command<'a>, AllocError> {
         .after_help(AFTER_HELP)
         .arg(required(alloc, SCHEMA, "The file of the schema object"))?
         .arg(files(alloc))?
+        .arg(color(alloc))?
         .arg(draft(alloc))?
         .arg(ignore(alloc))?
         .arg(ignore_formats)?
@@ -198,10 +201,13 @@ impl FileCheck for LineCheck<'_> {
     fn check(
         &mut self,
         rt: &HostRuntime,
-        file: InputFile,
+        mut file: InputFile,
         subject: Subject<'_>,
         output: &mut Output<'_>,
     ) -> Result<u64, Fault> {
+        if self.reads_json {
+            file.skip_mark();
+        }
         let alloc = rt.alloc();
         let keywords = compile(alloc, &self.rules, self.draft, self.schema)?;
         let mut lines = Lines::new(alloc, file)?;
@@ -224,7 +230,14 @@ pub(crate) fn run(rt: &HostRuntime, matches: &ArgMatches<'_>) -> Result<Outcome,
         matches.get_strs(IGNORE).unwrap_or(&[]),
         &schema,
     )?;
+    let mut formats = Vec::new(rt.alloc());
+    for companion in companions_of(draft) {
+        let name = String::from_str(rt.alloc(), companion.as_str())?;
+        let check = Box::new(rt.alloc(), *companion)?;
+        formats.push(NamedFormat { name, check })?;
+    }
     let mut rules = Rules::new(&EcmaPatterns);
+    rules.checks = checks_of(&formats);
     rules.options.ignore_unknown_formats = matches.get_flag(IGNORE_UNKNOWN_FORMATS);
     let mut check = LineCheck {
         schema: &schema,
@@ -235,5 +248,10 @@ pub(crate) fn run(rt: &HostRuntime, matches: &ArgMatches<'_>) -> Result<Outcome,
     };
     // So that a schema that is refused is told of before any file.
     let _ = compile(rt.alloc(), &check.rules, check.draft, &schema)?;
-    check_files(rt, matches.get_strs(FILE), Wanted::of(matches), &mut check)
+    check_files(
+        rt,
+        matches.get_strs(FILE),
+        Wanted::of(rt, matches),
+        &mut check,
+    )
 }

@@ -1,26 +1,28 @@
 //! `neldrafi csv`: checks CSV files by a plan.
 
+use crate::columns::fault_of_missing;
 use crate::errors::ErrorLines;
 use crate::faults::Fault;
 use crate::files::{FileCheck, check_files};
 use crate::inputs::{InputFile, STANDARD_INPUT};
 use crate::lines::JsonLines;
 use crate::options::{
-    FILE, MAX_ERRORS, OutputForm, Wanted, files, max_errors, output as output_form, quiet, required,
+    FILE, MAX_ERRORS, OutputForm, Wanted, color, files, max_errors, output as output_form, quiet,
+    required,
 };
 use crate::outcome::Outcome;
 use crate::output::{FaultyWrite, Output};
-use crate::plans::{fault_of_plan, read_plan_of};
+use crate::plans::read_plan_of;
+use crate::progress::Progress;
 use crate::report::{FileReport, Page};
 use crate::summary::Summary;
-use crate::telling::{Notice, Subject, tell};
+use crate::telling::Subject;
 use clap::{Arg, ArgAction, ArgMatches, Command};
 use serde_json::Value;
 use std::alloc::{AllocError, Global};
-use std::fmt;
-use strkw_ecma::EcmaPatterns;
-use strkw_plan::{PlanKind, Rules};
-use strkw_table::{Checked, FieldForm, FieldLines, TableFault, Watch, check_table_as};
+use strkw_plan::PlanKind;
+use strkw_shells::{FileFault, check_csv};
+use strkw_table::{Checked, FieldForm, FieldLines, TableFault};
 
 /// The name of the subcommand.
 pub(crate) const NAME: &str = "csv";
@@ -54,9 +56,6 @@ Examples:
   neldrafi csv --report errors.html plan.json people.csv
   neldrafi csv --quiet plan.json < people.csv";
 
-// So many records are checked between two lines about how far the check is.
-const RECORDS_BETWEEN: u64 = 1_000_000;
-
 /// What the subcommand takes.
 pub(crate) fn command<'a>(alloc: Global) -> Result<Command<'a>, AllocError> {
     let progress = Arg::new(alloc, PROGRESS)
@@ -79,51 +78,13 @@ pub(crate) fn command<'a>(alloc: Global) -> Result<Command<'a>, AllocError> {
         .after_help(AFTER_HELP)
         .arg(required(alloc, PLAN, "The file of the plan"))?
         .arg(files(alloc))?
+        .arg(color(alloc))?
         .arg(max_errors(alloc))?
         .arg(output_form(alloc))?
         .arg(progress)?
         .arg(quiet(alloc))?
         .arg(summary)?
         .arg(report)
-}
-
-// How many records and errors there are, as it is told.
-#[derive(Clone, Copy)]
-struct Told(Checked);
-
-impl fmt::Display for Told {
-    fn fmt<W: fmt::Write>(&self, f: &mut fmt::Formatter<W>) -> fmt::Result {
-        let records = self.0.records;
-        let errors = self.0.errors;
-        write!(f, "{records} records, {errors} errors")
-    }
-}
-
-// Tells how far the check of a file is, where that is asked.
-#[derive(Drop)]
-struct Progress<'a> {
-    rt: &'a HostRuntime,
-    form: OutputForm,
-    subject: Subject<'a>,
-    is_asked: bool,
-}
-
-impl Watch for Progress<'_> {
-    fn at(&mut self, checked: Checked) {
-        if checked.records % RECORDS_BETWEEN == 0 {
-            self.tell(checked);
-        }
-    }
-}
-
-impl Progress<'_> {
-    // Tells of so many records, where that is asked.
-    fn tell(&self, checked: Checked) {
-        if self.is_asked {
-            let told = Told(checked);
-            tell(self.rt, self.form, self.subject, Notice::Progress, &told);
-        }
-    }
 }
 
 // Checks a CSV file by a plan.
@@ -190,31 +151,26 @@ impl TableCheck<'_> {
     }
 
     // Checks a file, and writes its errors in this form.
-    fn check_as<F: FieldForm, W: FaultyWrite>(
+    fn check_as<'a, F: FieldForm, W: FaultyWrite>(
         &self,
-        rt: &HostRuntime,
+        rt: &'a HostRuntime,
         file: InputFile,
-        subject: Subject<'_>,
+        subject: Subject<'a>,
         output: &mut W,
         form: &F,
     ) -> Result<Checked, Fault> {
-        let mut progress = Progress {
-            rt,
-            form: self.form,
-            subject,
-            is_asked: self.asks_progress,
-        };
         let alloc = rt.alloc();
-        let rules = Rules::new(&EcmaPatterns);
-        match check_table_as(alloc, &rules, self.plan, file, output, &mut progress, form) {
-            Ok(checked) => {
-                progress.tell(checked);
-                Ok(checked)
-            }
-            Err(TableFault::Write) => Err(output.fault()),
-            Err(TableFault::Memory) => Err(Fault::Memory),
-            Err(TableFault::Plan(e)) => Err(fault_of_plan(alloc, e)),
-            Err(e) => Err(Fault::Table(e)),
+        let mut progress = Progress::begin(rt, self.form, subject, self.asks_progress, &file);
+        let checked = check_csv(alloc, self.plan, file, output, &mut progress, form);
+        progress.end(checked.as_ref().ok().copied());
+        match checked {
+            Ok(checked) => Ok(checked),
+            Err(FileFault::Write) => Err(output.fault()),
+            Err(FileFault::Table(TableFault::Missing(_))) => match progress.into_names() {
+                Some(names) => Err(fault_of_missing(alloc, self.plan, names)),
+                None => Err(Fault::Memory),
+            },
+            Err(e) => Err(Fault::from(e)),
         }
     }
 }
@@ -277,7 +233,10 @@ pub(crate) fn run(rt: &HostRuntime, matches: &ArgMatches<'_>) -> Result<Outcome,
         asks_summary: matches.get_flag(SUMMARY),
         page: page_of(rt.alloc(), page),
     };
-    let outcome = check_files(rt, files, Wanted::of(matches), &mut check)?;
+    let mut wanted = Wanted::of(rt, matches);
+    // A table of the errors has no places in front of its lines.
+    wanted.is_coloured = wanted.is_coloured && !check.asks_summary;
+    let outcome = check_files(rt, files, wanted, &mut check)?;
     if let (Some(made), Some(path)) = (&check.page, page) {
         made.write(rt, path)?;
     }

@@ -1,6 +1,7 @@
 //! `neldrafi explain`: what a schema object compiles to, in words.
 
 use crate::faults::Fault;
+use crate::known_formats::KnownFormat;
 use crate::lines::push_line;
 use crate::options::{
     IGNORE, OutputForm, draft, draft_of, ignore, output as output_form, required,
@@ -11,11 +12,13 @@ use crate::schemas::{compile, read_schema, require_keywords};
 use clap::{ArgMatches, Command};
 use serde_json::{Value, json};
 use std::alloc::{AllocError, Global};
+use strkw_companions::companions_of;
 use strkw_ecma::EcmaPatterns;
-use strkw_formats::builtin_format;
+use strkw_keywords::NamedFormat;
 use strkw_pattern::{BuildRefusal, EngineBuilder, PatternOptimization, analyze_pattern};
 use strkw_plan::{Rules, Shown, Standing, standing_of};
 use strkw_report::Draft;
+use strkw_shells::checks_of;
 
 /// The name of the subcommand.
 pub(crate) const NAME: &str = "explain";
@@ -70,7 +73,7 @@ fn lengths(alloc: Global, least: u64, greatest: u64) -> Result<String, AllocErro
 // What a format is checked for.
 fn words_of_format(alloc: Global, draft: Draft, name: &str) -> Result<String, AllocError> {
     let shown = Shown(name);
-    let Some(format) = builtin_format(draft, name) else {
+    let Some(format) = KnownFormat::named(draft, name) else {
         return format!(in alloc; "the draft has no format \"{shown}\" that is known here");
     };
     match format.length_window() {
@@ -265,7 +268,15 @@ fn push_schema(
         matches.get_strs(IGNORE).unwrap_or(&[]),
         schema,
     )?;
-    let keywords = compile(alloc, &Rules::new(&EcmaPatterns), draft, schema)?;
+    let mut formats = Vec::new(alloc);
+    for companion in companions_of(draft) {
+        let name = String::from_str(alloc, companion.as_str())?;
+        let check = Box::new(alloc, *companion)?;
+        formats.push(NamedFormat { name, check })?;
+    }
+    let mut rules = Rules::new(&EcmaPatterns);
+    rules.checks = checks_of(&formats);
+    let keywords = compile(alloc, &rules, draft, schema)?;
     if keywords.folds_to_false() {
         push_folded(alloc, form, out)?;
     }

@@ -2,6 +2,7 @@
 
 use crate::drafts::{DRAFTS, draft_name};
 use crate::faults::Fault;
+use crate::known_formats::KnownFormat;
 use crate::lines::push_line;
 use crate::options::{OutputForm, output as output_form};
 use crate::outcome::Outcome;
@@ -9,7 +10,6 @@ use crate::output::write_text;
 use clap::{ArgMatches, Command};
 use serde_json::json;
 use std::alloc::{AllocError, Global};
-use strkw_formats::{BuiltinFormat, builtin_format};
 
 /// The name of the subcommand.
 pub(crate) const NAME: &str = "formats";
@@ -32,11 +32,11 @@ pub(crate) fn command<'a>(alloc: Global) -> Result<Command<'a>, AllocError> {
 }
 
 // The names of the first and the last draft that has a format.
-fn drafts_of(format: BuiltinFormat) -> (&'static str, &'static str) {
+fn drafts_of(format: KnownFormat) -> (&'static str, &'static str) {
     let mut first = "";
     let mut last = "";
     for draft in DRAFTS {
-        if builtin_format(*draft, format.as_str()) == Some(format) {
+        if format.is_of(*draft) {
             last = draft_name(*draft);
             if first.is_empty() {
                 first = last;
@@ -58,10 +58,10 @@ fn push_row(
 }
 
 // Appends the table.
-fn push_table(out: &mut String) -> Result<(), AllocError> {
+fn push_table(alloc: Global, out: &mut String) -> Result<(), AllocError> {
     push_row("name", "first", "last", "example", out)?;
-    for format in BuiltinFormat::VARIANTS {
-        let (first, last) = drafts_of(*format);
+    for format in KnownFormat::all(alloc)? {
+        let (first, last) = drafts_of(format);
         push_row(format.as_str(), first, last, format.example(), out)?;
     }
     Ok(())
@@ -69,9 +69,9 @@ fn push_table(out: &mut String) -> Result<(), AllocError> {
 
 // Appends an object for each format.
 fn push_objects(alloc: Global, out: &mut String) -> Result<(), AllocError> {
-    for format in BuiltinFormat::VARIANTS {
+    for format in KnownFormat::all(alloc)? {
         let (name, example) = (format.as_str(), format.example());
-        let (first, last) = drafts_of(*format);
+        let (first, last) = drafts_of(format);
         let row = json!(in alloc; {
             "name": name,
             "first": first,
@@ -87,7 +87,7 @@ fn push_objects(alloc: Global, out: &mut String) -> Result<(), AllocError> {
 pub(crate) fn run(rt: &HostRuntime, matches: &ArgMatches<'_>) -> Result<Outcome, Fault> {
     let mut table = String::new(rt.alloc());
     match OutputForm::of(matches) {
-        OutputForm::Text => push_table(&mut table)?,
+        OutputForm::Text => push_table(rt.alloc(), &mut table)?,
         OutputForm::Json => push_objects(rt.alloc(), &mut table)?,
     }
     write_text(rt, &table)?;

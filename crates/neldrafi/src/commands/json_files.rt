@@ -5,20 +5,18 @@ use crate::files::{FileCheck, check_files};
 use crate::inputs::InputFile;
 use crate::lines::JsonLines;
 use crate::options::{
-    FILE, OutputForm, Wanted, files, max_errors, output as output_form, quiet, required,
+    FILE, OutputForm, Wanted, color, files, max_errors, output as output_form, quiet, required,
 };
 use crate::outcome::Outcome;
 use crate::output::{FaultyWrite, Output};
-use crate::plans::{fault_of_plan, read_plan_of};
+use crate::plans::read_plan_of;
 use crate::telling::Subject;
 use clap::{ArgMatches, Command};
 use serde_json::Value;
 use std::alloc::{AllocError, Global};
-use strkw_document::{
-    DocumentFault, DocumentTextFault, PlaceForm, PlaceLines, check_document_as, read_document,
-};
-use strkw_ecma::EcmaPatterns;
-use strkw_plan::{PlanKind, Rules, plan_in};
+use strkw_document::{PlaceForm, PlaceLines};
+use strkw_plan::PlanKind;
+use strkw_shells::{FileFault, check_json};
 
 /// The name of the subcommand.
 pub(crate) const NAME: &str = "json";
@@ -44,6 +42,7 @@ pub(crate) fn command<'a>(alloc: Global) -> Result<Command<'a>, AllocError> {
         .after_help(AFTER_HELP)
         .arg(required(alloc, PLAN, "The file of the plan"))?
         .arg(files(alloc))?
+        .arg(color(alloc))?
         .arg(max_errors(alloc))?
         .arg(output_form(alloc))?
         .arg(quiet(alloc))
@@ -54,34 +53,21 @@ pub(crate) fn command<'a>(alloc: Global) -> Result<Command<'a>, AllocError> {
 struct DocumentCheck<'a> {
     plan: &'a Value,
     form: OutputForm,
-    longest: Option<u64>,
 }
 
 impl DocumentCheck<'_> {
-    // The JSON value of a file.
-    fn read(&self, rt: &HostRuntime, file: InputFile) -> Result<Value, Fault> {
-        match read_document(rt.alloc(), file, self.longest) {
-            Ok(document) => Ok(document),
-            Err(DocumentTextFault::Memory) => Err(Fault::Memory),
-            Err(e) => Err(Fault::DocumentText(e)),
-        }
-    }
-
     // Checks a document, and writes its errors in this form.
     fn check_as<F: PlaceForm>(
         &self,
         alloc: Global,
-        document: &Value,
+        file: InputFile,
         output: &mut Output<'_>,
         form: &F,
     ) -> Result<u64, Fault> {
-        let rules = Rules::new(&EcmaPatterns);
-        match check_document_as(alloc, &rules, self.plan, document, output, form) {
+        match check_json(alloc, self.plan, file, output, form) {
             Ok(errors) => Ok(errors),
-            Err(DocumentFault::Write) => Err(output.fault()),
-            Err(DocumentFault::Memory) => Err(Fault::Memory),
-            Err(DocumentFault::Plan(e)) => Err(fault_of_plan(alloc, e)),
-            Err(e) => Err(Fault::Document(e)),
+            Err(FileFault::Write) => Err(output.fault()),
+            Err(e) => Err(Fault::from(e)),
         }
     }
 }
@@ -90,26 +76,18 @@ impl FileCheck for DocumentCheck<'_> {
     fn check(
         &mut self,
         rt: &HostRuntime,
-        file: InputFile,
+        mut file: InputFile,
         subject: Subject<'_>,
         output: &mut Output<'_>,
     ) -> Result<u64, Fault> {
-        let document = self.read(rt, file)?;
+        file.skip_mark();
         match self.form {
-            OutputForm::Text => self.check_as(rt.alloc(), &document, output, &PlaceLines),
+            OutputForm::Text => self.check_as(rt.alloc(), file, output, &PlaceLines),
             OutputForm::Json => {
                 let form = JsonLines::about(subject);
-                self.check_as(rt.alloc(), &document, output, &form)
+                self.check_as(rt.alloc(), file, output, &form)
             }
         }
-    }
-}
-
-// How many bytes a document may have by a plan.
-fn longest_document(alloc: Global, plan: &Value) -> Result<Option<u64>, Fault> {
-    match plan_in(alloc, PlanKind::Places, plan) {
-        Ok(plan) => Ok(plan.limits.longest_document),
-        Err(e) => Err(fault_of_plan(alloc, e)),
     }
 }
 
@@ -120,7 +98,11 @@ pub(crate) fn run(rt: &HostRuntime, matches: &ArgMatches<'_>) -> Result<Outcome,
     let mut check = DocumentCheck {
         plan: &plan,
         form: OutputForm::of(matches),
-        longest: longest_document(rt.alloc(), &plan)?,
     };
-    check_files(rt, matches.get_strs(FILE), Wanted::of(matches), &mut check)
+    check_files(
+        rt,
+        matches.get_strs(FILE),
+        Wanted::of(rt, matches),
+        &mut check,
+    )
 }

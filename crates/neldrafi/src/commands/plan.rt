@@ -3,6 +3,7 @@
 use crate::drafts::draft_number;
 use crate::faults::Fault;
 use crate::inputs::{InputFile, STANDARD_INPUT};
+use crate::known_formats::KnownFormat;
 use crate::options::{OutputForm, draft, draft_of, output as output_form};
 use crate::outcome::Outcome;
 use crate::output::write_text;
@@ -12,7 +13,6 @@ use csv::StringRecord;
 use serde_json::{Map, Value, json};
 use std::alloc::{AllocError, Global};
 use std::collections::BTreeMap;
-use strkw_formats::{BuiltinFormat, builtin_format};
 use strkw_records::RecordReader;
 use strkw_report::Draft;
 use strkw_table::TableFault;
@@ -32,7 +32,8 @@ const SAMPLE: u64 = 10_000;
 // What its help ends with.
 const AFTER_HELP: &str = "\
 The plan has for each column the first of these formats that all its values are of:
-date-time, date, time, duration, uuid, ipv4, ipv6, uri, iri; and the lengths of its values.
+date-time, date, time, duration, uuid, ipv4, ipv6, email, uri, iri; and the lengths of its
+values.
 Where a column has empty values it has no format, and its description says which one the
 others are of. A plan from a sample is a start: edit it.
 
@@ -49,6 +50,7 @@ const PROPOSED: &[&str] = &[
     "uuid",
     "ipv4",
     "ipv6",
+    "email",
     "uri",
     "iri",
 ];
@@ -77,7 +79,7 @@ pub(crate) fn command<'a>(alloc: Global) -> Result<Command<'a>, AllocError> {
 #[derive(Debug, Drop)]
 struct Column {
     // The formats of which all values are that are not empty.
-    formats: Vec<BuiltinFormat>,
+    formats: Vec<KnownFormat>,
     // How many values there are, and how many of them are empty.
     values: u64,
     empty: u64,
@@ -87,10 +89,10 @@ struct Column {
 }
 
 // The formats of a draft that are proposed.
-fn proposed(alloc: Global, draft: Draft) -> Result<Vec<BuiltinFormat>, AllocError> {
+fn proposed(alloc: Global, draft: Draft) -> Result<Vec<KnownFormat>, AllocError> {
     let mut formats = Vec::new(alloc);
     for name in PROPOSED {
-        if let Some(format) = builtin_format(draft, name) {
+        if let Some(format) = KnownFormat::named(draft, name) {
             formats.push(format)?;
         }
     }
@@ -110,16 +112,23 @@ impl Column {
     }
 
     // A value is seen.
-    fn see(&mut self, value: &str) {
+    fn see(&mut self, alloc: Global, value: &str) -> Result<(), AllocError> {
         let characters = value.chars().count() as u64;
         self.values = self.values.saturating_add(1);
         self.least = self.least.min(characters);
         self.greatest = self.greatest.max(characters);
         if value.is_empty() {
             self.empty = self.empty.saturating_add(1);
-        } else {
-            self.formats.retain(|format| format.is_valid(value));
+            return Ok(());
         }
+        let mut formats = Vec::new(alloc);
+        for format in &self.formats {
+            if format.is_valid(alloc, value)? {
+                formats.push(*format)?;
+            }
+        }
+        self.formats = formats;
+        Ok(())
     }
 
     // The format that is proposed, where a value was seen that has one.
@@ -177,9 +186,9 @@ impl Sample {
     }
 
     // The values of a record, which begins on a line, are seen.
-    fn see(&mut self, line: u64, row: &StringRecord) -> Result<(), Fault> {
+    fn see(&mut self, alloc: Global, line: u64, row: &StringRecord) -> Result<(), Fault> {
         if row.len() != self.names.len() {
-            return Err(Fault::Table(TableFault::Fields {
+            return Err(Fault::from(TableFault::Fields {
                 line,
                 expected: self.names.len(),
                 found: row.len(),
@@ -187,7 +196,7 @@ impl Sample {
         }
         for (name, value) in self.names.iter().zip(row.iter()) {
             if let Some(column) = self.columns.get_mut(name) {
-                column.see(value);
+                column.see(alloc, value)?;
             }
         }
         Ok(())
@@ -209,14 +218,6 @@ impl Sample {
     }
 }
 
-// The fault of a file of which a record cannot be read.
-fn fault_of_record(fault: TableFault) -> Fault {
-    match fault {
-        TableFault::Memory => Fault::Memory,
-        fault => Fault::Table(fault),
-    }
-}
-
 // The next record, and the line on which it begins.
 fn next_record(
     reader: &mut RecordReader<InputFile>,
@@ -224,7 +225,7 @@ fn next_record(
 ) -> Result<Option<u64>, Fault> {
     match reader.read(row) {
         Ok(line) => Ok(line),
-        Err(e) => Err(fault_of_record(TableFault::from(e))),
+        Err(e) => Err(Fault::from(TableFault::from(e))),
     }
 }
 
@@ -233,7 +234,7 @@ fn take_sample(alloc: Global, draft: Draft, file: InputFile, most: u64) -> Resul
     let mut reader = RecordReader::new(alloc, file)?;
     let mut names = StringRecord::new(alloc);
     if next_record(&mut reader, &mut names)?.is_none() {
-        return Err(Fault::Table(TableFault::NoHeader));
+        return Err(Fault::from(TableFault::NoHeader));
     }
     let mut sample = Sample::new(alloc, draft, names)?;
     let mut row = StringRecord::new(alloc);
@@ -241,7 +242,7 @@ fn take_sample(alloc: Global, draft: Draft, file: InputFile, most: u64) -> Resul
         let Some(line) = next_record(&mut reader, &mut row)? else {
             return Ok(sample);
         };
-        sample.see(line, &row)?;
+        sample.see(alloc, line, &row)?;
     }
     Ok(sample)
 }

@@ -1,13 +1,15 @@
 //! `neldrafi requests`: answers requests, one a line.
 
+use crate::bad_requests::why_bad;
 use crate::faults::Fault;
-use crate::inputs::{InputFile, STANDARD_INPUT};
-use crate::options::{Wanted, output as output_form};
+use crate::inputs::{InputFault, InputFile, LineBytes, Lines, STANDARD_INPUT};
+use crate::options::{OutputForm, Wanted, output as output_form};
 use crate::outcome::Outcome;
-use crate::output::{FaultyWrite, Output};
+use crate::output::{Gathered, Output};
+use crate::telling::{Notice, Subject, tell};
 use clap::{Arg, ArgMatches, Command};
 use std::alloc::{AllocError, Global};
-use strkw_cli::{HostSink, HostSource, RunFault, run as run_requests};
+use strkw_cli::answer;
 
 /// The name of the subcommand.
 pub(crate) const NAME: &str = "requests";
@@ -15,11 +17,15 @@ pub(crate) const NAME: &str = "requests";
 // The argument for the file of the requests.
 const FILE: &str = "FILE";
 
+// The answer to a line that is no request.
+const BAD_REQUEST: &[u8] = b"bad request\nend\n";
+
 // What its help ends with.
 const AFTER_HELP: &str = "\
 A request is a line of JSON with a draft, a schema object and an instance. The status
 is 0 where all requests are answered, whatever the answers are. The answers are lines of
-text; with `--output json` a fault is an object.
+text. Why a line is a bad request is told on standard error; with `--output json` that is an
+object, and so is a fault.
 
 Examples:
   neldrafi requests requests.jsonl
@@ -38,26 +44,68 @@ pub(crate) fn command<'a>(alloc: Global) -> Result<Command<'a>, AllocError> {
         .arg(output_form(alloc))
 }
 
-// Answers the requests of a file.
-fn answer(rt: &HostRuntime, file: InputFile, output: &mut Output<'_>) -> Result<(), RunFault> {
-    let mut source = HostSource::new(file);
-    let mut sink = HostSink::new(output);
-    run_requests(rt.alloc(), &mut source, &mut sink)
+// What requests are answered with, and how it is told that a line is none.
+#[derive(Clone, Copy)]
+struct Answering<'a> {
+    rt: &'a HostRuntime,
+    form: OutputForm,
+}
+
+impl Answering<'_> {
+    // Appends the answer to a line, and tells why the line is no request where it is none.
+    fn answer_line(
+        &self,
+        line: LineBytes<'_>,
+        made: &mut Vec<u8>,
+        out: &mut String,
+    ) -> Result<(), Fault> {
+        let alloc = self.rt.alloc();
+        made.clear();
+        answer(alloc, line.bytes, made)?;
+        if made.as_slice() == BAD_REQUEST {
+            if let Some(why) = why_bad(alloc, line)? {
+                tell(
+                    self.rt,
+                    self.form,
+                    Subject::none(),
+                    Notice::BadRequest,
+                    &why,
+                );
+            }
+        }
+        // An answer is text, so there is no other case.
+        if let Ok(text) = str::from_utf8(made) {
+            out.push_str(text)?;
+        }
+        Ok(())
+    }
+
+    // Answers each line of a file.
+    fn answer_lines(&self, lines: &mut Lines, answers: &mut Gathered<'_, '_>) -> Result<(), Fault> {
+        let mut made = Vec::new(self.rt.alloc());
+        for _ in 0..u64::MAX {
+            let Some(line) = lines.next_bytes()? else {
+                return Ok(());
+            };
+            self.answer_line(line, &mut made, &mut answers.text)?;
+            answers.write_some(lines.is_drained())?;
+        }
+        Err(Fault::Input(InputFault::TooLong))
+    }
 }
 
 /// Runs the subcommand.
 pub(crate) fn run(rt: &HostRuntime, matches: &ArgMatches<'_>) -> Result<Outcome, Fault> {
     let path = matches.get_str(FILE).unwrap_or(STANDARD_INPUT);
-    let file = InputFile::open(rt, path)?;
+    let mut file = InputFile::open(rt, path)?;
+    file.skip_mark();
+    let mut lines = Lines::new(rt.alloc(), file)?;
     let mut output = Output::new(rt, "", Wanted::all());
-    let fault = match answer(rt, file, &mut output) {
-        Ok(()) => return Ok(Outcome::AllValid),
-        Err(RunFault::Write) => output.fault(),
-        Err(RunFault::Memory) => Fault::Memory,
-        Err(fault) => Fault::Requests(fault),
-    };
-    match fault {
-        Fault::Closed => Ok(Outcome::AllValid),
-        fault => Err(fault),
+    let mut answers = Gathered::new(rt.alloc(), &mut output);
+    let form = OutputForm::of(matches);
+    let answered = Answering { rt, form }.answer_lines(&mut lines, &mut answers);
+    match answers.end(answered) {
+        Ok(()) | Err(Fault::Closed) => Ok(Outcome::AllValid),
+        Err(fault) => Err(fault),
     }
 }

@@ -3,6 +3,7 @@
 use crate::drafts::draft_name;
 use crate::faults::Fault;
 use crate::inputs::{InputFile, Lines, STANDARD_INPUT};
+use crate::known_formats::KnownFormat;
 use crate::lines::push_line;
 use crate::options::{OutputForm, Wanted, draft, draft_of, output as output_form, quiet, required};
 use crate::outcome::Outcome;
@@ -11,7 +12,6 @@ use clap::{Arg, ArgMatches, Command};
 use serde_json::json;
 use std::alloc::{AllocError, Global};
 use std::fmt;
-use strkw_formats::{BuiltinFormat, builtin_format};
 use strkw_plan::Shown;
 use strkw_report::Draft;
 use strsim::osa_distance;
@@ -86,9 +86,9 @@ fn nearest_format(
     if name.len() > LONGEST_NAME {
         return Ok(None);
     }
-    for format in BuiltinFormat::VARIANTS {
+    for format in KnownFormat::all(alloc)? {
         let other = format.as_str();
-        if builtin_format(draft, other).is_some() && osa_distance(alloc, name, other)? == 1 {
+        if format.is_of(draft) && osa_distance(alloc, name, other)? == 1 {
             return Ok(Some(other));
         }
     }
@@ -96,8 +96,8 @@ fn nearest_format(
 }
 
 // The format of a name in a draft.
-fn format_named(alloc: Global, draft: Draft, name: &str) -> Result<BuiltinFormat, Fault> {
-    match builtin_format(draft, name) {
+fn format_named(alloc: Global, draft: Draft, name: &str) -> Result<KnownFormat, Fault> {
+    match KnownFormat::named(draft, name) {
         Some(format) => Ok(format),
         None => Err(Fault::Format(FormatFault {
             name: String::from_str(alloc, name)?,
@@ -115,7 +115,7 @@ fn push_verdict(valid: bool, out: &mut String) -> Result<(), AllocError> {
 // The verdicts on texts, and what they come to.
 #[derive(Drop)]
 struct Verdicts<'o, 'a> {
-    format: BuiltinFormat,
+    format: KnownFormat,
     form: OutputForm,
     outcome: Outcome,
     lines: Gathered<'o, 'a>,
@@ -124,7 +124,7 @@ struct Verdicts<'o, 'a> {
 impl Verdicts<'_, '_> {
     // Judges the text of this number.
     fn judge(&mut self, alloc: Global, record: u64, text: &str) -> Result<(), Fault> {
-        let valid = self.format.is_valid(text);
+        let valid = self.format.is_valid(alloc, text)?;
         if !valid {
             self.outcome = Outcome::Errors;
         }
@@ -182,7 +182,7 @@ impl Verdicts<'_, '_> {
 pub(crate) fn run(rt: &HostRuntime, matches: &ArgMatches<'_>) -> Result<Outcome, Fault> {
     let name = matches.get_str(FORMAT).unwrap_or("");
     let format = format_named(rt.alloc(), draft_of(matches), name)?;
-    let mut output = Output::new(rt, "", Wanted::of(matches));
+    let mut output = Output::new(rt, "", Wanted::of(rt, matches));
     let mut verdicts = Verdicts {
         format,
         form: OutputForm::of(matches),
