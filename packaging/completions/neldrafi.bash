@@ -5,7 +5,7 @@ _neldrafi_options() {
     case $1 in
     text) echo --draft --output --quiet --help ;;
     formats | requests) echo --output --help ;;
-    csv) echo --color --max-errors --output --progress --quiet --report --summary --help ;;
+    csv) echo --color --delimiter --max-errors --output --progress --quiet --report --summary --help ;;
     json) echo --color --max-errors --output --quiet --help ;;
     check) echo --color --draft --ignore --ignore-unknown-formats --json --max-errors --output --quiet --help ;;
     explain) echo --draft --ignore --output --help ;;
@@ -30,7 +30,7 @@ _neldrafi() {
         words='text json'
     elif [ "$before" = --color ]; then
         words='auto always never'
-    elif [[ $before == --@(max-errors|records|ignore) ]]; then
+    elif [[ $before == --@(delimiter|max-errors|records|ignore) ]]; then
         words=
     elif [[ $word == -* ]]; then
         words=$(_neldrafi_options "$subcommand")

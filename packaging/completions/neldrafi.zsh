@@ -36,7 +36,8 @@ _neldrafi() {
     formats) _arguments $help $output ;;
     requests) _arguments $help $output '*:file:_files' ;;
     csv)
-        _arguments $help $quiet $color $most $output '--progress[tell of every million records]' \
+        _arguments $help $quiet $color $most $output '--delimiter[what parts the columns]:character:' \
+            '--progress[tell of every million records]' \
             '--summary[write a table of the errors]' '--report[write a page about the errors]:page:_files' '*:file:_files'
         ;;
     json) _arguments $help $quiet $color $most $output '*:file:_files' ;;

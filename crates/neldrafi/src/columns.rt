@@ -1,6 +1,7 @@
 //! What is told where a file lacks columns of a plan: which, which it has, and why that may be.
 
 use crate::faults::Fault;
+use crate::plans::delimiter_of;
 use csv::StringRecord;
 use serde_json::Value;
 use std::alloc::{AllocError, Global};
@@ -10,8 +11,8 @@ use strkw_plan::{PlanKind, Shown};
 // No more names of a file than so many are told.
 const MOST_TOLD: usize = 20;
 
-// What may part the columns of a file in place of commas.
-const DELIMITERS: &[char] = &[';', '\t', '|'];
+// What may part the columns of a file.
+const DELIMITERS: &[&str] = &[",", ";", "\t", "|"];
 
 // A byte order mark.
 const MARK: char = '\u{FEFF}';
@@ -54,6 +55,8 @@ impl Likeness {
 pub(crate) struct ColumnsFault {
     missing: Vec<String>,
     found: Vec<String>,
+    // What parted them.
+    delimiter: String,
 }
 
 /// The names in a first record.
@@ -87,8 +90,8 @@ fn is_among(name: &str, names: &[String]) -> bool {
 
 /// The fault that tells of the columns of a plan that a file of these names lacks.
 pub(crate) fn fault_of_missing(alloc: Global, plan: &Value, found: Vec<String>) -> Fault {
-    match missing_in(alloc, plan, &found) {
-        Ok(missing) => Fault::Columns(ColumnsFault { missing, found }),
+    match ColumnsFault::new(alloc, plan, found) {
+        Ok(fault) => Fault::Columns(fault),
         Err(_) => Fault::Memory,
     }
 }
@@ -115,11 +118,37 @@ impl fmt::Display for Listed<'_> {
     }
 }
 
+// What parts columns, in words.
+#[derive(Clone, Copy)]
+struct Delimiters<'a>(&'a str);
+
+impl fmt::Display for Delimiters<'_> {
+    fn fmt<W: fmt::Write>(&self, f: &mut fmt::Formatter<W>) -> fmt::Result {
+        match self.0 {
+            "," => f.write_str("commas"),
+            "\t" => f.write_str("tabs"),
+            delimiter => {
+                let delimiter = Shown(delimiter);
+                write!(f, "`{delimiter}`")
+            }
+        }
+    }
+}
+
 impl ColumnsFault {
-    // What seems to part the columns in place of commas.
-    fn delimiter(&self) -> Option<char> {
+    // Of a plan, and a file that has these names.
+    fn new(alloc: Global, plan: &Value, found: Vec<String>) -> Result<ColumnsFault, AllocError> {
+        Ok(ColumnsFault {
+            missing: missing_in(alloc, plan, &found)?,
+            found,
+            delimiter: String::from_str(alloc, delimiter_of(plan))?,
+        })
+    }
+
+    // What seems to part the columns in place of what parted them.
+    fn other_delimiter(&self) -> Option<&'static str> {
         for delimiter in DELIMITERS {
-            if self.is_parted_by(*delimiter) {
+            if *delimiter != self.delimiter.as_str() && self.is_parted_by(delimiter) {
                 return Some(*delimiter);
             }
         }
@@ -127,7 +156,7 @@ impl ColumnsFault {
     }
 
     // Whether a name that was found has one that is missing, parted by a delimiter.
-    fn is_parted_by(&self, delimiter: char) -> bool {
+    fn is_parted_by(&self, delimiter: &str) -> bool {
         for found in &self.found {
             if found.contains(delimiter) && self.has_part(found, delimiter) {
                 return true;
@@ -137,7 +166,7 @@ impl ColumnsFault {
     }
 
     // Whether one of these parts is a name that is missing.
-    fn has_part(&self, found: &str, delimiter: char) -> bool {
+    fn has_part(&self, found: &str, delimiter: &str) -> bool {
         for part in found.split(delimiter) {
             if is_among(part.trim().trim_matches('"'), &self.missing) {
                 return true;
@@ -171,13 +200,13 @@ impl fmt::Display for ColumnsFault {
         for missing in &self.missing {
             self.tell_likely(missing, f)?;
         }
-        match self.delimiter() {
-            Some('\t') => f.write_str("; its columns seem to be parted by tabs, and not by commas"),
-            Some(delimiter) => write!(
-                f,
-                "; its columns seem to be parted by `{delimiter}`, and not by commas"
-            ),
-            None => Ok(()),
-        }
+        let Some(other) = self.other_delimiter() else {
+            return Ok(());
+        };
+        let (other, delimiter) = (Delimiters(other), Delimiters(&self.delimiter));
+        write!(
+            f,
+            "; its columns seem to be parted by {other}, and not by {delimiter}: `--delimiter` says so"
+        )
     }
 }

@@ -2,16 +2,54 @@
 
 use crate::faults::Fault;
 use serde_json::Value;
+use std::alloc::{AllocError, Global};
 use strkw_plan::{PlanKind, read_marked_plan_file};
 use strkw_shells::{FileFault, read_plan};
 
+// The member of a plan of columns that says what parts the fields.
+const DELIMITER: &str = "delimiter";
+
 /// The JSON value of the file of a plan, which is a plan of this kind.
 pub(crate) fn read_plan_of(rt: &HostRuntime, kind: PlanKind, path: &str) -> Result<Value, Fault> {
+    let plan = read_value(rt, path)?;
+    let _ = read_plan(rt.alloc(), kind, &plan)?;
+    Ok(plan)
+}
+
+/// That of a plan of columns. A delimiter that is given stands in it in place of its own.
+pub(crate) fn read_plan_by(
+    rt: &HostRuntime,
+    path: &str,
+    delimiter: Option<&str>,
+) -> Result<Value, Fault> {
+    let mut plan = read_value(rt, path)?;
+    if let Some(delimiter) = delimiter {
+        set_delimiter(rt.alloc(), &mut plan, delimiter)?;
+    }
+    let _ = read_plan(rt.alloc(), PlanKind::Columns, &plan)?;
+    Ok(plan)
+}
+
+// The JSON value of a file.
+fn read_value(rt: &HostRuntime, path: &str) -> Result<Value, Fault> {
     match read_marked_plan_file(rt, path) {
-        Ok(plan) => {
-            let _ = read_plan(rt.alloc(), kind, &plan)?;
-            Ok(plan)
-        }
+        Ok(value) => Ok(value),
         Err(e) => Err(Fault::from(FileFault::from(e))),
     }
+}
+
+// Puts a delimiter into a plan, in place of its own. A value that is no object stays as it is.
+fn set_delimiter(alloc: Global, plan: &mut Value, delimiter: &str) -> Result<(), AllocError> {
+    if let Some(members) = plan.as_object_mut() {
+        let name = String::from_str(alloc, DELIMITER)?;
+        let value = Value::String(String::from_str(alloc, delimiter)?);
+        drop(members.insert(name, value)?);
+    }
+    Ok(())
+}
+
+/// What parts the fields of a file by a plan of columns: a comma, where it does not say it.
+pub(crate) fn delimiter_of(plan: &Value) -> &str {
+    let delimiter = plan.get(DELIMITER).and_then(Value::as_str);
+    delimiter.unwrap_or(",")
 }

@@ -6,3 +6,4 @@ mod InstanceLemmas
 mod MessageLemmas
 mod Names
 mod Twice
+mod Delimiters

@@ -30,6 +30,7 @@ Refuses s kind name schema (fault.NoPlan k) = ⊥
 Refuses s kind name schema (fault.UnknownMember k unknown nearest) = ⊥
 Refuses s kind name schema fault.NoNames = ⊥
 Refuses s kind name schema fault.NoEach = ⊥
+Refuses s kind name schema fault.NoDelimiter = ⊥
 Refuses s kind name schema fault.NoLimits = ⊥
 Refuses s kind name schema (fault.UnknownLimit k unknown nearest) = ⊥
 Refuses s kind name schema (fault.NoWholeLimit limit) = ⊥

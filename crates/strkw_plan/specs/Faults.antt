@@ -5,9 +5,9 @@ use Rattle.strkw_report.specs.declared.refusal.CompileErrorKind.TheVariants.{Reg
 use Rattle.strkw_plan.specs.declared.kind.PlanKind.{PlanKind}
 use Rattle.strkw_plan.specs.declared.faults.PlanFault.{PlanFault}
 use Rattle.strkw_plan.specs.declared.faults.PlanFault.TheVariants as fault
-use Rattle.strkw_plan.specs.Plan.{Problem, no_plan, unknown_member, no_names, no_each, no_limits}
-use Rattle.strkw_plan.specs.Plan.{unknown_limit, no_whole_limit, empty, no_object, unknown_keyword}
-use Rattle.strkw_plan.specs.Plan.{unchecked_keyword, schema_place}
+use Rattle.strkw_plan.specs.Plan.{Problem, no_plan, unknown_member, no_names, no_each}
+use Rattle.strkw_plan.specs.Plan.{no_delimiter, no_limits, unknown_limit, no_whole_limit, empty}
+use Rattle.strkw_plan.specs.Plan.{no_object, unknown_keyword, unchecked_keyword, schema_place}
 
 -- The fault tells of the problem of a plan of this kind, with the place of the schema object. That
 -- a keyword that it proposes is near is said by `nearest_keyword`.
@@ -17,6 +17,7 @@ Tells kind (fault.UnknownMember k name nearest) p = (k ≡ kind)
     × (p ≡ unknown_member (string_bytes name))
 Tells kind fault.NoNames p = p ≡ no_names
 Tells kind fault.NoEach p = p ≡ no_each
+Tells kind fault.NoDelimiter p = p ≡ no_delimiter
 Tells kind fault.NoLimits p = p ≡ no_limits
 Tells kind (fault.UnknownLimit k name nearest) p = (k ≡ kind)
     × (p ≡ unknown_limit (string_bytes name))

@@ -18,13 +18,15 @@ use Rattle.strkw_plan.specs.declared.kind.PlanKind.TheVariants.{Columns, Places}
 use Rattle.strkw_plan.specs.Limits.{limit_names, limits_in, whole_in}
 use Rattle.strkw_plan.specs.declared.limits.Limits.{Limits}
 use Rattle.strkw_plan.specs.Vocabulary.{standing_of}
+use Rattle.strkw_records.specs.Delimiters.{comma, is_delimiter}
 
 -- a draft, the schemas by the names of what they check, whether each of several columns of one name
--- is checked, and how much a file may have
+-- is checked, the byte that parts the fields of a CSV file, and how much a file may have
 pub record Plan : Type 0 where
   pub draft : Draft
   pub schemas : Members
   pub checks_each : Bool
+  pub delimiter : ℕ
   pub limits : Limits
 
 -- the member that has the schemas, and all members that a plan may have
@@ -34,7 +36,8 @@ schemas_member Places = codes "places"
 
 abbrev pub plan_members : PlanKind → List (List ℕ)
 plan_members Columns =
-    codes "draft" ∷ codes "columns" ∷ codes "ignore" ∷ codes "duplicates" ∷ codes "limits" ∷ []
+    codes "draft" ∷ codes "columns" ∷ codes "ignore" ∷ codes "duplicates" ∷ codes "delimiter" ∷
+    codes "limits" ∷ []
 plan_members Places = codes "draft" ∷ codes "places" ∷ codes "ignore" ∷ codes "limits" ∷ []
 
 -- the place of the schema of a name in a plan, a JSON pointer
@@ -65,6 +68,16 @@ abbrev pub each_in : Option Data → Option Bool
 each_in None = Some false
 each_in (Some d) = if is_text (codes "each") (as_str d) then Some true else None
 
+-- the byte that `delimiter` says: a text of one byte that may part fields; a comma, where it is not
+-- there
+abbrev pub delimiter_of : List ℕ → Option ℕ
+delimiter_of (c ∷ []) = if is_delimiter c then Some c else None
+delimiter_of _ = None
+
+abbrev pub delimiter_in : Option Data → Option ℕ
+delimiter_in None = Some comma
+delimiter_in (Some d) = option_and_then delimiter_of (as_str d)
+
 -- ---- what is wrong
 
 -- why a value is no plan
@@ -73,9 +86,10 @@ pub data Problem : Type 0 where
   no_plan : Problem
   -- it has a member of this name, which a plan does not have
   unknown_member : List ℕ → Problem
-  -- `ignore` is no array of strings, `duplicates` is not "each"
+  -- `ignore` is no array of strings, `duplicates` is not "each", `delimiter` is no delimiter
   no_names : Problem
   no_each : Problem
+  no_delimiter : Problem
   -- `limits` is no object, has a member of this name, which is no limit of such a plan, or one that
   -- is no whole number of 64 bits
   no_limits : Problem
@@ -149,13 +163,14 @@ abbrev pub is_empty : Members → Bool
 is_empty no_members = true
 is_empty (member name d ms) = false
 
-abbrev pub parts_problem : Option Draft → Option Members → Option Items → Option Bool
+abbrev pub parts_problem : Option Draft → Option Members → Option Items → Option Bool → Option ℕ
     → Option Problem
-parts_problem None schemas ignored each = Some no_plan
-parts_problem (Some draft) None ignored each = Some no_plan
-parts_problem (Some draft) (Some schemas) None each = Some no_names
-parts_problem (Some draft) (Some schemas) (Some ignored) None = Some no_each
-parts_problem (Some draft) (Some schemas) (Some ignored) (Some each) =
+parts_problem None schemas ignored each delimiter = Some no_plan
+parts_problem (Some draft) None ignored each delimiter = Some no_plan
+parts_problem (Some draft) (Some schemas) None each delimiter = Some no_names
+parts_problem (Some draft) (Some schemas) (Some ignored) None delimiter = Some no_each
+parts_problem (Some draft) (Some schemas) (Some ignored) (Some each) None = Some no_delimiter
+parts_problem (Some draft) (Some schemas) (Some ignored) (Some each) (Some delimiter) =
     if is_empty schemas then Some empty else schemas_problem draft ignored schemas
 
 abbrev pub object_problem : PlanKind → Option Members → Option Problem
@@ -165,26 +180,34 @@ object_problem kind (Some ms) = option_or (member_problem kind ms)
     (option_and_then draft_in (get_member (codes "draft") ms))
     (option_and_then as_object (get_member (schemas_member kind) ms))
     (ignored_in (get_member (codes "ignore") ms))
-    (each_in (get_member (codes "duplicates") ms))))
+    (each_in (get_member (codes "duplicates") ms))
+    (delimiter_in (get_member (codes "delimiter") ms))))
 
 -- what is wrong first with a value that is to be a plan, if anything is
 abbrev pub plan_problem : PlanKind → Data → Option Problem
 plan_problem kind d = object_problem kind (as_object d)
 
-abbrev pub plan_with : Draft → Members → Limits → Bool → Plan
-plan_with d s l each = record { draft = d; schemas = s; checks_each = each; limits = l }
+abbrev pub plan_with : Draft → Members → Limits → Bool → ℕ → Plan
+plan_with d s l each c = record {
+  draft = d;
+  schemas = s;
+  checks_each = each;
+  delimiter = c;
+  limits = l;
+}
 
 -- the plan that a value is with which nothing is wrong
-abbrev pub plan_of_parts : Option Draft → Option Members → Option Bool → Limits → Option Plan
-plan_of_parts draft schemas each limits =
-    option_and_then (λ d. option_and_then (λ s. option_map (plan_with d s limits) each) schemas)
-    draft
+abbrev pub plan_of_parts : Option Draft → Option Members → Option Bool → Option ℕ → Limits
+    → Option Plan
+plan_of_parts draft schemas each delimiter limits = option_and_then (λ d. option_and_then (λ s.
+    option_and_then (λ e. option_map (plan_with d s limits e) delimiter) each) schemas) draft
 
 abbrev pub plan_of_members : PlanKind → Members → Option Plan
 plan_of_members kind ms = plan_of_parts
     (option_and_then draft_in (get_member (codes "draft") ms))
     (option_and_then as_object (get_member (schemas_member kind) ms))
     (each_in (get_member (codes "duplicates") ms))
+    (delimiter_in (get_member (codes "delimiter") ms))
     (limits_in (get_member (codes "limits") ms))
 
 abbrev pub plan_of : PlanKind → Data → Option Plan

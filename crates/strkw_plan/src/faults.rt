@@ -32,6 +32,8 @@ pub enum PlanFault {
     NoNames,
     /// Its `duplicates` is not `"each"`.
     NoEach,
+    /// Its `delimiter` is not one character of ASCII, or is a quote, CR or LF.
+    NoDelimiter,
     /// Its `limits` is no object.
     NoLimits,
     /// Its `limits` has a member of this name, which is no limit of such a plan.
@@ -137,6 +139,7 @@ impl Problem<'_> {
             },
             Problem::NoNames => PlanFault::NoNames,
             Problem::NoEach => PlanFault::NoEach,
+            Problem::NoDelimiter => PlanFault::NoDelimiter,
             Problem::NoLimits => PlanFault::NoLimits,
             Problem::UnknownLimit(name) => PlanFault::UnknownLimit {
                 kind,
@@ -190,6 +193,9 @@ impl fmt::Display for PlanFault {
             }
             PlanFault::NoNames => f.write_str("`ignore` is to be an array of names of keywords"),
             PlanFault::NoEach => f.write_str("`duplicates` is to be \"each\", or left out"),
+            PlanFault::NoDelimiter => {
+                f.write_str("`delimiter` is to be one character of ASCII, and no quote, CR or LF")
+            }
             PlanFault::NoLimits => f.write_str("`limits` is to be an object of whole numbers"),
             PlanFault::UnknownLimit { name, nearest, .. } => {
                 let (name, nearest) = (Shown(name), Nearest(*nearest));

@@ -33,7 +33,14 @@ impl PlanKind {
         ensures { map (λ name. name.now) result.now ≡ plan_members self }
     {
         match self {
-            PlanKind::Columns => &["draft", "columns", "ignore", "duplicates", "limits"],
+            PlanKind::Columns => &[
+                "draft",
+                "columns",
+                "ignore",
+                "duplicates",
+                "delimiter",
+                "limits",
+            ],
             PlanKind::Places => &["draft", "places", "ignore", "limits"],
         }
     }

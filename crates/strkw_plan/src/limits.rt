@@ -18,7 +18,7 @@ const MOST_COLUMNS: u64 = 10_000;
 /// member, memory is the only bound, but on columns.
 #[derive(Clone, Copy, Debug, PartialEq, Eq)]
 pub struct Limits {
-    /// How many bytes a record of a CSV file may have: those of its fields, and one for each comma. The member
+    /// How many bytes a record of a CSV file may have: those of its fields, and one for each delimiter. The member
     /// `record`.
     pub longest_record: Option<u64>,
     /// How many bytes a field of a CSV file may have. The member `field`.

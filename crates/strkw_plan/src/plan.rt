@@ -6,7 +6,7 @@ ghost use Rattle.serde_json.specs.View.{items_view, members_view, view};
 ghost use Rattle.strkw_plan.specs.Borrowed.{plan_view, problem_view};
 ghost use Rattle.strkw_plan.specs.Faults.{Tells};
 ghost use Rattle.strkw_plan.specs.Plan as written;
-ghost use Rattle.strkw_plan.specs.Plan.{each_in, ignored_in, object_problem, parts_problem, plan_of, plan_of_members, plan_of_parts, plan_problem, schemas_member};
+ghost use Rattle.strkw_plan.specs.Plan.{delimiter_in, delimiter_of, each_in, ignored_in, object_problem, parts_problem, plan_of, plan_of_members, plan_of_parts, plan_problem, schemas_member};
 ghost use Rattle.strkw_report.specs.Drafts.{draft_in};
 
 use crate::faults::PlanFault;
@@ -16,6 +16,7 @@ use crate::problems::{Problem, are_strings, member_problem, schemas_problem};
 use serde_json::{Map, Value};
 use std::alloc::Global;
 use strkw_keywords::member;
+use strkw_records::Delimiter;
 use strkw_report::{Draft, draft_in};
 
 /// A plan, inside its JSON value.
@@ -27,6 +28,8 @@ pub struct Plan<'a> {
     pub schemas: &'a Map<String, Value>,
     /// Whether each of several columns of one name is checked; if not, such columns are a fault.
     pub checks_each: bool,
+    /// What parts the fields of a CSV file: a comma, where the plan does not say it.
+    pub delimiter: Delimiter,
     /// How much a file may have.
     pub limits: Limits,
 }
@@ -74,28 +77,55 @@ fn each_in(value: Option<&Value>) -> Option<bool>
     }
 }
 
+// The delimiter that a text is, or `None` where it is none.
+fn delimiter_of(text: &str) -> Option<Delimiter>
+    ensures { option_map (λ delimiter. delimiter.byte) result ≡ delimiter_of text.now }
+{
+    let bytes = text.as_bytes();
+    if bytes.len() != 1 {
+        return None;
+    }
+    Delimiter::new(bytes[0])
+}
+
+// The delimiter that `delimiter` says, or `None` where it says something else.
+fn delimiter_in(value: Option<&Value>) -> Option<Delimiter>
+    ensures { option_map (λ delimiter. delimiter.byte) result
+        ≡ delimiter_in (option_map (λ v. view v.now) value.entry) }
+{
+    match value {
+        Some(value) => delimiter_of(value.as_str()?),
+        None => Some(Delimiter::comma()),
+    }
+}
+
 // The plan of these parts, or what is wrong with them first.
 fn plan_of_parts<'v>(
     draft: Option<Draft>,
     schemas: Option<&'v Map<String, Value>>,
     ignored: Option<&'v [Value]>,
     checks_each: Option<bool>,
+    delimiter: Option<Delimiter>,
     limits: Limits,
 ) -> Result<Plan<'v>, Problem<'v>>
     ensures plan { let ms = option_map (λ m. members_view m.now.entries) schemas.entry in
-        IfOk result (λ p. plan_of_parts draft ms checks_each limits ≡ Some (plan_view p)) }
+        let byte = option_map (λ d. d.byte) delimiter in
+        IfOk result (λ p. plan_of_parts draft ms checks_each byte limits ≡ Some (plan_view p)) }
     ensures good { let ms = option_map (λ m. members_view m.now.entries) schemas.entry in
         let values = option_map (λ vs. items_view vs.now) ignored.entry in
-        IfOk result (λ p. parts_problem draft ms values checks_each ≡ None) }
+        let byte = option_map (λ d. d.byte) delimiter in
+        IfOk result (λ p. parts_problem draft ms values checks_each byte ≡ None) }
     ensures problem { let ms = option_map (λ m. members_view m.now.entries) schemas.entry in
         let values = option_map (λ vs. items_view vs.now) ignored.entry in
+        let byte = option_map (λ d. d.byte) delimiter in
         IfErr result (λ problem.
-        parts_problem draft ms values checks_each ≡ Some (problem_view problem)) }
+        parts_problem draft ms values checks_each byte ≡ Some (problem_view problem)) }
 {
     let draft = draft.ok_or(Problem::NoPlan)?;
     let schemas = schemas.ok_or(Problem::NoPlan)?;
     let ignored = ignored.ok_or(Problem::NoNames)?;
     let checks_each = checks_each.ok_or(Problem::NoEach)?;
+    let delimiter = delimiter.ok_or(Problem::NoDelimiter)?;
     if schemas.is_empty() {
         return Err(Problem::Empty);
     }
@@ -105,6 +135,7 @@ fn plan_of_parts<'v>(
             draft,
             schemas,
             checks_each,
+            delimiter,
             limits,
         }),
     }
@@ -134,6 +165,7 @@ fn plan_of_members<'v>(
         schemas_at(members, kind),
         ignored_in(member(members, "ignore")),
         each_in(member(members, "duplicates")),
+        delimiter_in(member(members, "delimiter")),
         limits_in(limits),
     )
 }
@@ -152,8 +184,8 @@ fn plan_or_problem<'v>(kind: PlanKind, value: &'v Value) -> Result<Plan<'v>, Pro
 }
 
 /// The plan of this kind that a value is: `{"draft": .., "columns": {NAME: SCHEMA, ..}}`, or `places` in place of
-/// `columns`. The members `ignore`, an array of names of keywords that are let pass, `duplicates` and `limits` may
-/// stand beside them.
+/// `columns`. The members `ignore`, an array of names of keywords that are let pass, and `limits` may stand beside
+/// them, and in a plan of columns `duplicates` and `delimiter`.
 ///
 /// Errors: what is wrong with the value first, as `PlanFault` says, but for `Refused`; and `Memory`.
 pub fn plan_in<'v>(alloc: Global, kind: PlanKind, value: &'v Value) -> Result<Plan<'v>, PlanFault>

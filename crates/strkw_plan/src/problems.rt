@@ -18,6 +18,7 @@ pub(crate) enum Problem<'a> {
     UnknownMember(&'a str),
     NoNames,
     NoEach,
+    NoDelimiter,
     NoLimits,
     UnknownLimit(&'a str),
     NoWholeLimit(&'a str),

@@ -4,7 +4,6 @@ use Rattle.std.proofs.Common.{Option, Some, None, subst, inl, inr, length-append
 use Rattle.std.specs.Prelude.{IfSome, unwrap_or}
 use Rattle.std.proofs.lemmas.List.{append-nil, take_more, take-append-drop}
 use Rattle.csv.specs.Machine.{Runs}
-use Rattle.csv.specs.Reading.{default_config}
 use Rattle.csv.specs.Records.{Row, fields_of, partial_of}
 use Rattle.csv.specs.declared.parser.State.{State}
 use Rattle.csv.specs.declared.parser.State.TheVariants as st
@@ -15,8 +14,9 @@ use Rattle.strkw_records.specs.declared.gathered.FieldEnd.TheVariants as end
 use Rattle.strkw_records.specs.declared.gathered.Gathered.{Gathered}
 use Rattle.strkw_records.specs.declared.limits.Limits.{Limits}
 use Rattle.strkw_records.specs.declared.place.Place.{Place}
-use Rattle.strkw_records.specs.Counts.{Counts, CountsTo, Ends, FailsByRun, HasComma, HasRoom, IsCounted, IsLongBy, IsLongByComma, size_of}
-use Rattle.strkw_records.specs.Limits.{AreShort, AreWithin, IsFirstPast, with_commas}
+use Rattle.strkw_records.specs.Delimiters.{table_config}
+use Rattle.strkw_records.specs.Counts.{Counts, CountsTo, Ends, FailsByRun, HasDelimiter, HasRoom, IsCounted, IsLongBy, IsLongByDelimiter, size_of}
+use Rattle.strkw_records.specs.Limits.{AreShort, AreWithin, IsFirstPast, with_delimiters}
 use Rattle.strkw_records.specs.Outcomes.{FailsOutside, Outcome, fields_read, front_of_field, read_from, whole_fields}
 use Rattle.strkw_records.specs.Records.{quote}
 use Rattle.strkw_records.proofs.InputLemmas.{take-length, take-none}
@@ -36,10 +36,10 @@ at-some (Some m) P n e h = let same : m ≡ n = cc in subst P same h
 
 -- one more field
 -- adds its bytes to the length, and one for the comma behind it
-pub with_commas-more : (fields : List (List ℕ)) (field : List ℕ) → with_commas (fields ++ (field ∷ [])) ≡ with_commas fields + (length field + 1)
-unfolding with_commas
-with_commas-more [] field = omega arith
-with_commas-more (f ∷ fields) field = let more = with_commas-more fields field in omega (arith, more)
+pub with_delimiters-more : (fields : List (List ℕ)) (field : List ℕ) → with_delimiters (fields ++ (field ∷ [])) ≡ with_delimiters fields + (length field + 1)
+unfolding with_delimiters
+with_delimiters-more [] field = omega arith
+with_delimiters-more (f ∷ fields) field = let more = with_delimiters-more fields field in omega (arith, more)
 
 -- with one more that is not too long, fields that are not too long stay so
 pub short-more : (limit : ℕ) (fields : List (List ℕ)) (field : List ℕ) → AreShort limit fields → length field ≤ limit → AreShort limit (fields ++ (field ∷ []))
@@ -53,7 +53,7 @@ pub within-more : (g : Gathered) (y : List ℕ) → IsCounted g → HasRoom g (l
 within-more g y k h = record {
   whole = each-some g.limits.«record» _ (λ n is.
       let fits = at-some g.limits.«record» _ n is h.whole in
-      let more = with_commas-more (whole_fields g) (front_of_field g ++ y) in
+      let more = with_delimiters-more (whole_fields g) (front_of_field g ++ y) in
       let long = length-append (front_of_field g) y in
       omega (arith, fits, more, long));
   each = each-some g.limits.field _ (λ n is.
@@ -66,7 +66,7 @@ within-more g y k h = record {
 -- no field at all
 -- is within all limits
 pub within-none : (limits : Limits) → AreWithin limits []
-unfolding with_commas
+unfolding with_delimiters
 within-none limits = record {
   whole = each-some limits.«record» _ (λ n is. omega arith);
   each = each-some limits.field _ (λ n is. tt);
@@ -103,13 +103,13 @@ front-items g e = ap (λ (l : List ℕ). l ++ g.field.items) e
 -- what was gathered is within the limits, where it is nothing and the room is the whole limit
 pub counted-none : (g : Gathered) (most : ℕ) → whole_fields g ≡ [] → partial_of g.fields ≡ [] → g.field.items ≡ []
     → g.room ≡ unwrap_or g.limits.«record» most → IsCounted g
-unfolding with_commas
+unfolding with_delimiters
 counted-none g most w p i e = record {
   no_partial = p;
   whole = each-some g.limits.«record» _ (λ n is.
       let room : g.room ≡ n = rw is at e in
       let size = ap length (front-items g p ∙ i) in
-      let none = ap with_commas w in
+      let none = ap with_delimiters w in
       (omega (arith, none, room), omega (arith, size)));
   each = each-some g.limits.field _ (λ n is. let size = ap length (front-items g p ∙ i) in (rw w tt, omega (arith, size)));
 }
@@ -124,7 +124,7 @@ counted-run g g2 y k h limits room fields f = record {
       let given = sym (ap (λ (l : Limits). l.«record») limits) ∙ is in
       let have = at-some g.limits.«record» _ n given k.whole in
       let fits = at-some g.limits.«record» _ n given h.whole in
-      let same = ap (λ (r : Row). with_commas (fields_of r)) fields in
+      let same = ap (λ (r : Row). with_delimiters (fields_of r)) fields in
       let long = ap length f ∙ length-append (front_of_field g) y in
       (omega (arith, have.0, room, same), omega (arith, have.0, fits, room, long)));
   each = each-some g2.limits.field _ (λ n is.
@@ -137,7 +137,7 @@ counted-run g g2 y k h limits room fields f = record {
 
 -- the end of the field, and a comma
 -- leave what was gathered within the same limits, where there is room for both
-pub counted-comma : (g g2 : Gathered) (n : ℕ) (y : List ℕ) → length y ≡ n → IsCounted g → HasRoom g n → HasComma g n → Ends g n g2
+pub counted-comma : (g g2 : Gathered) (n : ℕ) (y : List ℕ) → length y ≡ n → IsCounted g → HasRoom g n → HasDelimiter g n → Ends g n g2
     → whole_fields g2 ≡ whole_fields g ++ ((front_of_field g ++ y) ∷ []) → front_of_field g2 ≡ [] → Counts g g2
 counted-comma g g2 n y size k h comma e w f = record {
   limits = e.limits;
@@ -148,7 +148,7 @@ counted-comma g g2 n y size k h comma e w f = record {
         let given = sym (ap (λ (l : Limits). l.«record») e.limits) ∙ is in
         let have = at-some g.limits.«record» _ r given k.whole in
         let fits = at-some g.limits.«record» _ r given comma in
-        let all = ap with_commas w ∙ with_commas-more (whole_fields g) (front_of_field g ++ y) in
+        let all = ap with_delimiters w ∙ with_delimiters-more (whole_fields g) (front_of_field g ++ y) in
         let long = length-append (front_of_field g) y in
         let items = ap length (front-items g k.no_partial) in
         let room = e.room in
@@ -173,7 +173,7 @@ counted-whole g g2 field k fits short limits room w f = record {
   whole = each-some g2.limits.«record» _ (λ r is.
       let given = sym (ap (λ (l : Limits). l.«record») limits) ∙ is in
       let have = at-some g.limits.«record» _ r given k.whole in
-      let all = ap with_commas w ∙ with_commas-more (whole_fields g) field in
+      let all = ap with_delimiters w ∙ with_delimiters-more (whole_fields g) field in
       let none = ap length f in
       (omega (arith, have.0, fits, all, room), omega (arith, none)));
   each = each-some g2.limits.field _ (λ r is.
@@ -190,7 +190,7 @@ pub within-whole : (g : Gathered) (field : List ℕ) (all : List (List ℕ)) →
 within-whole g field all k fits short w = record {
   whole = each-some g.limits.«record» _ (λ r is.
       let have = at-some g.limits.«record» _ r is k.whole in
-      let size = ap with_commas w ∙ with_commas-more (whole_fields g) field in
+      let size = ap with_delimiters w ∙ with_delimiters-more (whole_fields g) field in
       omega (arith, have.0, fits, size));
   each = each-some g.limits.field _ (λ r is.
       let have = at-some g.limits.field _ r is k.each in
@@ -215,7 +215,7 @@ counts-later g g1 g2 h k = record { limits = k.limits ∙ h.limits; line = k.lin
 
 -- and so it is up to what ended a field
 pub counts-to : (g g1 g2 : Gathered) (end : FieldEnd) → Counts g g1 → CountsTo g1 g2 end → CountsTo g g2 end
-counts-to g g1 g2 end.Comma h k = counts-later g g1 g2 h k
+counts-to g g1 g2 end.Delimiter h k = counts-later g g1 g2 h k
 counts-to g g1 g2 end.Record h k = rw h.limits at k
 
 -- a text, at one of the bytes of its front
@@ -229,19 +229,19 @@ split-at x rest text n e h =
 
 -- what is read behind bytes that only join the field
 -- each front of them reads as more of the field at hand, behind the whole fields
-abbrev pub Joins : State → Gathered → List ℕ → Type 0
-Joins s g x = (k : ℕ) → read_from s g (take k x) ≡ whole_fields g ++ ((front_of_field g ++ take k x) ∷ [])
+abbrev pub Joins : ℕ → State → Gathered → List ℕ → Type 0
+Joins sep s g x = (k : ℕ) → read_from sep s g (take k x) ≡ whole_fields g ++ ((front_of_field g ++ take k x) ∷ [])
 
 -- with the byte behind as many as fit, these are the first fields that may be too long
-first-at : (s : State) (g : Gathered) (text x rest : List ℕ) (n : ℕ) → text ≡ x ++ rest → n < length x → Joins s g x → IsCounted g → HasRoom g n
-    → IsFirstPast (read_from s g) g.limits text (whole_fields g ++ ((front_of_field g ++ take (n + 1) x) ∷ []))
-first-at s g text x rest n e lt j k h = record {
+first-at : (sep : ℕ) (s : State) (g : Gathered) (text x rest : List ℕ) (n : ℕ) → text ≡ x ++ rest → n < length x → Joins sep s g x → IsCounted g → HasRoom g n
+    → IsFirstPast (read_from sep s g) g.limits text (whole_fields g ++ ((front_of_field g ++ take (n + 1) x) ∷ []))
+first-at sep s g text x rest n e lt j k h = record {
   before = take n x;
   byte = get_or x n 0;
   rest = drop (n + 1) x ++ rest;
   splits = split-at x rest text n e lt;
-  within = within-end g n (take n x) (read_from s g (take n x)) (sym (take-length n x (omega (arith, lt)))) k h (j n);
-  behind = sym (ap (λ (l : List ℕ). read_from s g l) (sym (take_more x n 0 lt)) ∙ j (n + 1));
+  within = within-end g n (take n x) (read_from sep s g (take n x)) (sym (take-length n x (omega (arith, lt)))) k h (j n);
+  behind = sym (ap (λ (l : List ℕ). read_from sep s g l) (sym (take_more x n 0 lt)) ∙ j (n + 1));
 }
 
 -- so long is the field behind them
@@ -253,9 +253,9 @@ front-size g x n lt =
 
 -- bytes of a field, of which one passes a limit
 -- the fault that tells of that limit is why reading on failed
-pub long-joins : (p : Place) (s : State) (g : Gathered) (text x rest : List ℕ) (e : ReadFault) → text ≡ x ++ rest → Joins s g x → IsCounted g
-    → IsLongBy g (length x) e → FailsOutside p s g text e
-long-joins p s g text x rest (fault.LongField line number limit) is j k h =
+pub long-joins : (sep : ℕ) (p : Place) (s : State) (g : Gathered) (text x rest : List ℕ) (e : ReadFault) → text ≡ x ++ rest → Joins sep s g x → IsCounted g
+    → IsLongBy g (length x) e → FailsOutside sep p s g text e
+long-joins sep p s g text x rest (fault.LongField line number limit) is j k h =
     let have = at-some g.limits.field _ limit h.given k.each in
     let lt : limit - length (front_of_field g) < length x = let long = h.long in omega (arith, have.1, long) in
     let room : HasRoom g (limit - length (front_of_field g)) = record {
@@ -268,13 +268,13 @@ long-joins p s g text x rest (fault.LongField line number limit) is j k h =
       record {
         earlier = whole_fields g;
         field = front_of_field g ++ take ((limit - length (front_of_field g)) + 1) x;
-        first = first-at s g text x rest (limit - length (front_of_field g)) is lt j k room;
+        first = first-at sep s g text x rest (limit - length (front_of_field g)) is lt j k room;
         counts = h.counts;
         given = h.given;
         long = omega (arith, have.1, size);
       },
     )
-long-joins p s g text x rest (fault.LongRecord line limit) is j k h =
+long-joins sep p s g text x rest (fault.LongRecord line limit) is j k h =
     let have = at-some g.limits.«record» _ limit h.given k.whole in
     let long = h.long in
     let lt : limit - size_of g < length x = omega (arith, have.0, have.1, long) in
@@ -283,12 +283,12 @@ long-joins p s g text x rest (fault.LongRecord line limit) is j k h =
       each = each-some g.limits.field _ (λ r given. let first = at-some g.limits.field _ r given h.first in omega (arith, have.0, have.1, first));
     } in
     let size = front-size g x (limit - size_of g) lt in
-    let all = with_commas-more (whole_fields g) (front_of_field g ++ take ((limit - size_of g) + 1) x) in
+    let all = with_delimiters-more (whole_fields g) (front_of_field g ++ take ((limit - size_of g) + 1) x) in
     inr (
       h.at_line,
       record {
         fields = whole_fields g ++ ((front_of_field g ++ take ((limit - size_of g) + 1) x) ∷ []);
-        first = first-at s g text x rest (limit - size_of g) is lt j k room;
+        first = first-at sep s g text x rest (limit - size_of g) is lt j k room;
         given = h.given;
         long = omega (arith, have.0, have.1, size, all);
         each = each-some g.limits.field _ (λ r given.
@@ -297,45 +297,45 @@ long-joins p s g text x rest (fault.LongRecord line limit) is j k h =
             short-more r (whole_fields g) _ short.0 (omega (arith, have.0, have.1, first, size)));
       },
     )
-long-joins p s g text x rest (fault.Read e) is j k h = absurd h
-long-joins p s g text x rest (fault.OpenQuote line) is j k h = absurd h
-long-joins p s g text x rest (fault.NotUtf8 line number) is j k h = absurd h
-long-joins p s g text x rest fault.Memory is j k h = inl tt
-long-joins p s g text x rest fault.TooLong is j k h = absurd h
+long-joins sep p s g text x rest (fault.Read e) is j k h = absurd h
+long-joins sep p s g text x rest (fault.OpenQuote line) is j k h = absurd h
+long-joins sep p s g text x rest (fault.NotUtf8 line number) is j k h = absurd h
+long-joins sep p s g text x rest fault.Memory is j k h = inl tt
+long-joins sep p s g text x rest fault.TooLong is j k h = absurd h
 
 -- the same, of bytes that were not gathered
-pub by-run : (p : Place) (s : State) (g : Gathered) (text x rest : List ℕ) (n : ℕ) (e : ReadFault) → length x ≡ n → text ≡ x ++ rest → Joins s g x
-    → IsCounted g → FailsByRun p g n text e → FailsOutside p s g text e
-by-run p s g text x rest n e size is j k (inl h) = inl h
-by-run p s g text x rest n e size is j k (inr h) = long-joins p s g text x rest e is j k (rw (← size) at h)
+pub by-run : (sep : ℕ) (p : Place) (s : State) (g : Gathered) (text x rest : List ℕ) (n : ℕ) (e : ReadFault) → length x ≡ n → text ≡ x ++ rest → Joins sep s g x
+    → IsCounted g → FailsByRun p g n text e → FailsOutside sep p s g text e
+by-run sep p s g text x rest n e size is j k (inl h) = inl h
+by-run sep p s g text x rest n e size is j k (inr h) = long-joins sep p s g text x rest e is j k (rw (← size) at h)
 
 -- a run of bytes that only join the field outside quotes is read so
-pub joins-plain : (g : Gathered) (x : List ℕ) → Runs default_config st.InField x → Joins st.InField g x
-joins-plain g x r k = read-plain (whole_fields g) (front_of_field g) (take k x) (runs-take st.InField k x r)
+pub joins-plain : (sep : ℕ) (g : Gathered) (x : List ℕ) → Runs (table_config sep) st.InField x → Joins sep st.InField g x
+joins-plain sep g x r k = read-plain sep (whole_fields g) (front_of_field g) (take k x) (runs-take sep st.InField k x r)
 
 -- and so is one in quotes
-pub joins-quoted : (g : Gathered) (x : List ℕ) → Runs default_config st.InQuoted x → Joins st.InQuoted g x
-joins-quoted g x r k = read-quoted (whole_fields g) (front_of_field g) (take k x) (runs-take st.InQuoted k x r)
+pub joins-quoted : (sep : ℕ) (g : Gathered) (x : List ℕ) → Runs (table_config sep) st.InQuoted x → Joins sep st.InQuoted g x
+joins-quoted sep g x r k = read-quoted sep (whole_fields g) (front_of_field g) (take k x) (runs-take sep st.InQuoted k x r)
 
 -- the second of a pair of quotes
 -- joins the field, as a quote
-pub joins-pair : (g : Gathered) → Joins st.AfterQuote g (quote ∷ [])
-joins-pair g zero = read-none st.AfterQuote (whole_fields g) (front_of_field g) closed
+pub joins-pair : (sep : ℕ) (g : Gathered) → Joins sep st.AfterQuote g (quote ∷ [])
+joins-pair sep g zero = read-none sep st.AfterQuote (whole_fields g) (front_of_field g) closed
     ∙ ap (λ (f : List ℕ). whole_fields g ++ (f ∷ [])) (sym (append-nil (front_of_field g)))
-joins-pair g (suc k) =
-    ap (λ (l : List ℕ). read_from st.AfterQuote g (quote ∷ l)) (take-none k)
-    ∙ ap (λ (o : Outcome). fields_read o) (outcome-step st.AfterQuote (whole_fields g) (front_of_field g) quote [] refl)
-    ∙ read-inside (whole_fields g) (front_of_field g ++ (quote ∷ []))
+joins-pair sep g (suc k) =
+    ap (λ (l : List ℕ). read_from sep st.AfterQuote g (quote ∷ l)) (take-none k)
+    ∙ ap (λ (o : Outcome). fields_read o) (outcome-step sep st.AfterQuote (whole_fields g) (front_of_field g) quote [] refl)
+    ∙ read-inside sep (whole_fields g) (front_of_field g ++ (quote ∷ []))
     ∙ ap (λ (l : List ℕ). whole_fields g ++ ((front_of_field g ++ (quote ∷ l)) ∷ [])) (sym (take-none k))
 
 -- a comma that passes the limit of the record
 -- is why reading on failed, where there is room for the bytes before it
-pub long-comma : (p : Place) (g : Gathered) (text x rest : List ℕ) (n : ℕ) (e : ReadFault) → length x ≡ n → text ≡ x ++ (44 ∷ rest)
-    → Runs default_config st.InField x → IsCounted g → HasRoom g n → IsLongByComma g n e → FailsOutside p st.InField g text e
-long-comma p g text x rest n e count is r k h c =
+pub long-comma : (sep : ℕ) (p : Place) (g : Gathered) (text x rest : List ℕ) (n : ℕ) (e : ReadFault) → length x ≡ n → text ≡ x ++ (sep ∷ rest)
+    → Runs (table_config sep) st.InField x → IsCounted g → HasRoom g n → IsLongByDelimiter g n e → FailsOutside sep p st.InField g text e
+long-comma sep p g text x rest n e count is r k h c =
     let size = length-append (front_of_field g) x in
-    let one = with_commas-more (whole_fields g) (front_of_field g ++ x) in
-    let all = with_commas-more (whole_fields g ++ ((front_of_field g ++ x) ∷ [])) [] in
+    let one = with_delimiters-more (whole_fields g) (front_of_field g ++ x) in
+    let all = with_delimiters-more (whole_fields g ++ ((front_of_field g ++ x) ∷ [])) [] in
     let full = c.full in
     rw c.is (inr (
       refl,
@@ -343,13 +343,13 @@ long-comma p g text x rest n e count is r k h c =
         fields = (whole_fields g ++ ((front_of_field g ++ x) ∷ [])) ++ ([] ∷ []);
         first = record {
           before = x;
-          byte = 44;
+          byte = sep;
           rest = rest;
           splits = is;
-          within = within-end g n x (read_from st.InField g x) count k h (read-plain (whole_fields g) (front_of_field g) x r);
-          behind = sym (ap (λ (o : Outcome). fields_read o) (outcome-run st.InField (whole_fields g) (front_of_field g) x (44 ∷ []) r
-              ∙ outcome-comma (whole_fields g) (front_of_field g ++ x) [])
-              ∙ read-none st.StartField (whole_fields g ++ ((front_of_field g ++ x) ∷ [])) [] opened);
+          within = within-end g n x (read_from sep st.InField g x) count k h (read-plain sep (whole_fields g) (front_of_field g) x r);
+          behind = sym (ap (λ (o : Outcome). fields_read o) (outcome-run sep st.InField (whole_fields g) (front_of_field g) x (sep ∷ []) r
+              ∙ outcome-comma sep (whole_fields g) (front_of_field g ++ x) [])
+              ∙ read-none sep st.StartField (whole_fields g ++ ((front_of_field g ++ x) ∷ [])) [] opened);
         };
         given = c.given;
         long = omega (arith, size, one, all, full, count);

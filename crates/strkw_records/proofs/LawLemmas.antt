@@ -2,23 +2,24 @@
 use Rattle.std.proofs.Common.{◌≡◌, ℕ, List, [], ◌∷◌, ◌++◌, Bool, true, false, refl, sym, ap, ◌∙◌, append_assoc, Option, Some, None, inl, inr}
 use Rattle.std.specs.Prelude.{◌==◌, ◌⊎◌, ◌||◌, if◌then◌else◌}
 use Rattle.csv.specs.Machine.{Read, ends_at_end, field_after, fields_after, in_field, is_end, next_record, start_field, start_record, step}
-use Rattle.csv.specs.Reading.{AreRecords, Reached, default_config}
+use Rattle.csv.specs.Reading.{AreRecords, Reached}
 use Rattle.csv.specs.declared.parser.Action.{Action}
 use Rattle.csv.specs.declared.parser.Action.TheVariants as act
 use Rattle.csv.specs.declared.parser.State.{State}
 use Rattle.csv.specs.declared.parser.State.TheVariants as st
 use Rattle.strkw_records.specs.declared.place.Place.{Place}
+use Rattle.strkw_records.specs.Delimiters.{table_config}
 use Rattle.strkw_records.specs.Lines.{blank_front, first_place, place_after}
 use Rattle.strkw_records.specs.Records.{AreLinedRecords, BeginsOnLine, LinedRecord, fields_of_each}
 use Rattle.strkw_records.proofs.LineLemmas.{place_after-append}
 
 -- a state from which the next record is read as from the start of one
-abbrev pub Fresh : State → Type 0
-Fresh s = (text : List ℕ) → next_record default_config s [] [] text ≡ next_record default_config st.StartRecord [] [] text
+abbrev pub Fresh : ℕ → State → Type 0
+Fresh sep s = (text : List ℕ) → next_record (table_config sep) s [] [] text ≡ next_record (table_config sep) st.StartRecord [] [] text
 
 -- the start of a record is such a state
-fresh-start : Fresh st.StartRecord
-fresh-start text = refl
+fresh-start : (sep : ℕ) → Fresh sep st.StartRecord
+fresh-start sep text = refl
 
 -- an LF is a part of a line end
 line_feed-line : (c : ℕ) → (c == 10) ≡ true → ((c == 13) || (c == 10)) ≡ true
@@ -29,12 +30,13 @@ line_feed-line c h = by (c == 13)
     by false = h
 
 -- the state behind a CR that ended a record is such a state too
-fresh-after_cr : Fresh st.AfterCr
+fresh-after_cr : (sep : ℕ) → Fresh sep st.AfterCr
 unfolding next_record
-fresh-after_cr [] = refl
-fresh-after_cr (c ∷ rest) = by (c == 10) refl
+fresh-after_cr sep [] = refl
+fresh-after_cr sep (c ∷ rest) = by (c == 10) refl
   where
-    by : (b : Bool) → (c == 10) ≡ b → next_record default_config st.AfterCr [] [] (c ∷ rest) ≡ next_record default_config st.StartRecord [] [] (c ∷ rest)
+    by : (b : Bool) → (c == 10) ≡ b → next_record (table_config sep) st.AfterCr [] [] (c ∷ rest)
+        ≡ next_record (table_config sep) st.StartRecord [] [] (c ∷ rest)
     by true e = rw (line_feed-line c e, e) refl
     by false e = rw e refl
 
@@ -43,9 +45,9 @@ abbrev pub IsBehind : State → Type 0
 IsBehind s = (s ≡ st.StartRecord) ⊎ (s ≡ st.AfterCr)
 
 -- from each of them, the next record is read as from the start of one
-fresh-behind : (s : State) → IsBehind s → Fresh s
-fresh-behind s (inl e) = rw e fresh-start
-fresh-behind s (inr e) = rw e fresh-after_cr
+fresh-behind : (sep : ℕ) (s : State) → IsBehind s → Fresh sep s
+fresh-behind sep s (inl e) = rw e (fresh-start sep)
+fresh-behind sep s (inr e) = rw e (fresh-after_cr sep)
 
 -- what a byte does outside quotes, by what it is
 abbrev outside : Bool → Bool → Bool → State × Action
@@ -60,8 +62,8 @@ outside-behind false true false h = inl refl
 outside-behind false false cr h = cc h
 
 -- and so does a byte in the midst of a field that ends the record
-in_field-behind : (c : ℕ) → is_end (in_field default_config c).1 ≡ true → IsBehind (in_field default_config c).0
-in_field-behind c h = outside-behind (c == 44) ((c == 13) || (c == 10)) (c == 13) h
+in_field-behind : (sep : ℕ) (c : ℕ) → is_end (in_field (table_config sep) c).1 ≡ true → IsBehind (in_field (table_config sep) c).0
+in_field-behind sep c h = outside-behind (c == sep) ((c == 13) || (c == 10)) (c == 13) h
 
 -- what skips a byte or does something else leads behind the record it ends, where that does
 unless-skipped : (skips : Bool) (s : State) (q : State × Action) → is_end (if skips then (s, act.Skip) else q).1 ≡ true → (is_end q.1 ≡ true → IsBehind q.0)
@@ -76,24 +78,24 @@ unless-copied true s q h f = cc h
 unless-copied false s q h f = f h
 
 -- a byte that ends a record at the start of a field leads to a state behind it
-start_field-behind : (c : ℕ) → is_end (start_field default_config c).1 ≡ true → IsBehind (start_field default_config c).0
-start_field-behind c h = unless-skipped (c == 34) st.InQuoted (in_field default_config c) h (in_field-behind c)
+start_field-behind : (sep : ℕ) (c : ℕ) → is_end (start_field (table_config sep) c).1 ≡ true → IsBehind (start_field (table_config sep) c).0
+start_field-behind sep c h = unless-skipped (c == 34) st.InQuoted (in_field (table_config sep) c) h (in_field-behind sep c)
 
 -- and so does one at the start of a record
-start_record-behind : (c : ℕ) → is_end (start_record default_config c).1 ≡ true → IsBehind (start_record default_config c).0
-start_record-behind c h = unless-skipped ((c == 13) || (c == 10)) st.StartRecord (start_field default_config c) h (start_field-behind c)
+start_record-behind : (sep : ℕ) (c : ℕ) → is_end (start_record (table_config sep) c).1 ≡ true → IsBehind (start_record (table_config sep) c).0
+start_record-behind sep c h = unless-skipped ((c == 13) || (c == 10)) st.StartRecord (start_field (table_config sep) c) h (start_field-behind sep c)
 
 -- a byte that ends a record
 -- leads from each state to one behind the record
-step-behind : (s : State) (c : ℕ) → is_end (step default_config s c).1 ≡ true → IsBehind (step default_config s c).0
-step-behind st.StartRecord c h = start_record-behind c h
-step-behind st.StartField c h = start_field-behind c h
-step-behind st.InField c h = in_field-behind c h
-step-behind st.InQuoted c h = unless-skipped (c == 34) st.AfterQuote (st.InQuoted, act.Copy) h (λ no. cc no)
-step-behind st.InEscape c h = cc h
-step-behind st.AfterQuote c h = unless-copied (c == 34) st.InQuoted (in_field default_config c) h (in_field-behind c)
-step-behind st.InComment c h = unless-skipped (c == 10) st.StartRecord (st.InComment, act.Skip) h (λ no. cc no)
-step-behind st.AfterCr c h = unless-skipped (c == 10) st.StartRecord (start_record default_config c) h (start_record-behind c)
+step-behind : (sep : ℕ) (s : State) (c : ℕ) → is_end (step (table_config sep) s c).1 ≡ true → IsBehind (step (table_config sep) s c).0
+step-behind sep st.StartRecord c h = start_record-behind sep c h
+step-behind sep st.StartField c h = start_field-behind sep c h
+step-behind sep st.InField c h = in_field-behind sep c h
+step-behind sep st.InQuoted c h = unless-skipped (c == 34) st.AfterQuote (st.InQuoted, act.Copy) h (λ no. cc no)
+step-behind sep st.InEscape c h = cc h
+step-behind sep st.AfterQuote c h = unless-copied (c == 34) st.InQuoted (in_field (table_config sep) c) h (in_field-behind sep c)
+step-behind sep st.InComment c h = unless-skipped (c == 10) st.StartRecord (st.InComment, act.Skip) h (λ no. cc no)
+step-behind sep st.AfterCr c h = unless-skipped (c == 10) st.StartRecord (start_record (table_config sep) c) h (start_record-behind sep c)
 
 -- the state behind a read
 abbrev read_state : Option Read → State
@@ -101,60 +103,61 @@ read_state None = st.StartRecord
 read_state (Some r) = r.1
 
 -- behind a record that was read, the state is one behind the end of a record
-record-behind : (s : State) (fields : List (List ℕ)) (field text : List ℕ) (got : List (List ℕ)) (s2 : State) (rest : List ℕ)
-    → next_record default_config s fields field text ≡ Some (got, s2, rest) → IsBehind s2
+record-behind : (sep : ℕ) (s : State) (fields : List (List ℕ)) (field text : List ℕ) (got : List (List ℕ)) (s2 : State) (rest : List ℕ)
+    → next_record (table_config sep) s fields field text ≡ Some (got, s2, rest) → IsBehind s2
 unfolding next_record
-record-behind s fields field [] got s2 rest h = by (ends_at_end s) h
+record-behind sep s fields field [] got s2 rest h = by (ends_at_end s) h
   where
     by : (b : Bool) → if◌then◌else◌ {A = Option Read} b (Some (fields ++ (field ∷ []), st.StartRecord, [])) None ≡ Some (got, s2, rest) → IsBehind s2
     by true e = let same : st.StartRecord ≡ s2 = ap read_state e in inl (sym same)
     by false e = cc e
-record-behind s fields field (c ∷ text) got s2 rest h =
-    by (is_end (step default_config s c).1) refl h
-    (record-behind (step default_config s c).0 (fields_after (step default_config s c).1 fields field) (field_after (step default_config s c).1 c field) text
+record-behind sep s fields field (c ∷ text) got s2 rest h =
+    by (is_end (step (table_config sep) s c).1) refl h
+    (record-behind sep (step (table_config sep) s c).0 (fields_after (step (table_config sep) s c).1 fields field) (field_after (step
+    (table_config sep) s c).1 c field) text
     got s2 rest)
   where
-    by : (b : Bool) → is_end (step default_config s c).1 ≡ b
-        → if◌then◌else◌ {A = Option Read} b (Some (fields_after (step default_config s c).1 fields field, (step default_config s c).0, text))
-        (next_record default_config (step default_config s c).0 (fields_after (step default_config s c).1 fields field)
-        (field_after (step default_config s c).1 c field) text)
+    by : (b : Bool) → is_end (step (table_config sep) s c).1 ≡ b
+        → if◌then◌else◌ {A = Option Read} b (Some (fields_after (step (table_config sep) s c).1 fields field, (step (table_config sep) s c).0, text))
+        (next_record (table_config sep) (step (table_config sep) s c).0 (fields_after (step (table_config sep) s c).1 fields field)
+        (field_after (step (table_config sep) s c).1 c field) text)
         ≡ Some (got, s2, rest)
-        → (next_record default_config (step default_config s c).0 (fields_after (step default_config s c).1 fields field)
-        (field_after (step default_config s c).1 c field) text
+        → (next_record (table_config sep) (step (table_config sep) s c).0 (fields_after (step (table_config sep) s c).1 fields field)
+        (field_after (step (table_config sep) s c).1 c field) text
         ≡ Some (got, s2, rest)
         → IsBehind s2)
         → IsBehind s2
-    by true e t more = let same : (step default_config s c).0 ≡ s2 = ap read_state t in rw same at (step-behind s c e)
+    by true e t more = let same : (step (table_config sep) s c).0 ≡ s2 = ap read_state t in rw same at (step-behind sep s c e)
     by false e t more = more t
 
 -- the fields of lined records are all the records of their text, from each state like the start of one
-lined-records : (place : Place) (text : List ℕ) (records : List LinedRecord) (s : State) → Fresh s → AreLinedRecords place text records
-    → AreRecords default_config s text (fields_of_each records)
+lined-records : (sep : ℕ) (place : Place) (text : List ℕ) (records : List LinedRecord) (s : State) → Fresh sep s → AreLinedRecords sep place text records
+    → AreRecords (table_config sep) s text (fields_of_each records)
 unfolding AreLinedRecords Reached
-lined-records place text [] s fresh h = (s, text, (refl, refl), fresh text ∙ h)
-lined-records place text (r ∷ more) s fresh h =
+lined-records sep place text [] s fresh h = (s, text, (refl, refl), fresh text ∙ h)
+lined-records sep place text (r ∷ more) s fresh h =
     let (behind, rest, takes, others) = h in
-    let next = fresh-behind takes.state (record-behind st.StartRecord [] [] text r.fields takes.state rest takes.reads) in
-    let (s2, ys, reached, none) = lined-records behind rest more takes.state next others in
+    let next = fresh-behind sep takes.state (record-behind sep st.StartRecord [] [] text r.fields takes.state rest takes.reads) in
+    let (s2, ys, reached, none) = lined-records sep behind rest more takes.state next others in
     (s2, ys, ((r.fields, takes.state, rest), fresh text ∙ takes.reads, refl, reached), none)
 
 -- the fields of lined records are all the records of their text
-pub lined-are_records : (place : Place) (text : List ℕ) (records : List LinedRecord) → AreLinedRecords place text records
-    → AreRecords default_config st.StartRecord text (fields_of_each records)
-lined-are_records place text records h = lined-records place text records st.StartRecord fresh-start h
+pub lined-are_records : (sep : ℕ) (place : Place) (text : List ℕ) (records : List LinedRecord) → AreLinedRecords sep place text records
+    → AreRecords (table_config sep) st.StartRecord text (fields_of_each records)
+lined-are_records sep place text records h = lined-records sep place text records st.StartRecord (fresh-start sep) h
 
 -- where a record begins, behind the records before it
 -- its line is that behind the bytes of the records before it and the blank lines that follow
-begins-behind : (place : Place) (text : List ℕ) (earlier later : List LinedRecord) (r : LinedRecord) (s : State) → Fresh s
-    → AreLinedRecords place text (earlier ++ (r ∷ later))
-    → (taken : List ℕ) × (state : State) × (rest : List ℕ) × (text ≡ taken ++ rest) × Reached default_config s text (fields_of_each earlier) state rest
+begins-behind : (sep : ℕ) (place : Place) (text : List ℕ) (earlier later : List LinedRecord) (r : LinedRecord) (s : State) → Fresh sep s
+    → AreLinedRecords sep place text (earlier ++ (r ∷ later))
+    → (taken : List ℕ) × (state : State) × (rest : List ℕ) × (text ≡ taken ++ rest) × Reached (table_config sep) s text (fields_of_each earlier) state rest
     × (r.line ≡ (place_after place (taken ++ blank_front rest)).line)
 unfolding AreLinedRecords Reached
-begins-behind place text [] later r s fresh h = let (behind, rest, takes, others) = h in ([], s, text, refl, (refl, refl), takes.begins)
-begins-behind place text (e ∷ earlier) later r s fresh h =
+begins-behind sep place text [] later r s fresh h = let (behind, rest, takes, others) = h in ([], s, text, refl, (refl, refl), takes.begins)
+begins-behind sep place text (e ∷ earlier) later r s fresh h =
     let (behind, rest, takes, others) = h in
-    let next = fresh-behind takes.state (record-behind st.StartRecord [] [] text e.fields takes.state rest takes.reads) in
-    let (taken, state, left, splits, reached, line) = begins-behind behind rest earlier later r takes.state next others in (
+    let next = fresh-behind sep takes.state (record-behind sep st.StartRecord [] [] text e.fields takes.state rest takes.reads) in
+    let (taken, state, left, splits, reached, line) = begins-behind sep behind rest earlier later r takes.state next others in (
       takes.bytes ++ taken,
       state,
       left,
@@ -166,8 +169,9 @@ begins-behind place text (e ∷ earlier) later r s fresh h =
     )
 
 -- the line of a record is the one on which it begins, counted from the start of the text
-pub begins-on_line : (text : List ℕ) (earlier later : List LinedRecord) (r : LinedRecord) → AreLinedRecords first_place text (earlier ++ (r ∷ later))
-    → BeginsOnLine text (fields_of_each earlier) r.line
-begins-on_line text earlier later r h =
-    let (taken, state, rest, splits, reached, line) = begins-behind first_place text earlier later r st.StartRecord fresh-start h in
+pub begins-on_line : (sep : ℕ) (text : List ℕ) (earlier later : List LinedRecord) (r : LinedRecord)
+    → AreLinedRecords sep first_place text (earlier ++ (r ∷ later))
+    → BeginsOnLine sep text (fields_of_each earlier) r.line
+begins-on_line sep text earlier later r h =
+    let (taken, state, rest, splits, reached, line) = begins-behind sep first_place text earlier later r st.StartRecord (fresh-start sep) h in
     record { taken = taken; state = state; rest = rest; splits = splits; behind = reached; counts = line }

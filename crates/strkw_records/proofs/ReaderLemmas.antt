@@ -5,7 +5,6 @@ use Rattle.std.specs.Str.{IsAscii}
 use Rattle.std.proofs.lemmas.List.{append-nil}
 use Rattle.std.proofs.lemmas.Str.{IsAscii-drop, IsAscii-take, IsUtf8-from_ascii}
 use Rattle.csv.specs.Machine.{next_record}
-use Rattle.csv.specs.Reading.{default_config}
 use Rattle.csv.specs.Records.{AllText, cut_from}
 use Rattle.csv.specs.declared.parser.State.TheVariants as st
 use Rattle.strkw_records.specs.declared.faults.ReadFault.{ReadFault}
@@ -15,11 +14,12 @@ use Rattle.strkw_records.specs.declared.input.Input.{Input}
 use Rattle.strkw_records.specs.declared.limits.Limits.{Limits}
 use Rattle.strkw_records.specs.declared.place.Place.{Place}
 use Rattle.strkw_records.specs.declared.reader.RecordReader.{RecordReader}
+use Rattle.strkw_records.specs.Delimiters.{table_config}
 use Rattle.strkw_records.specs.Limits.{AreWithin, IsFirstPast, fields_so_far}
 use Rattle.strkw_records.specs.Lines.{blank_front, is_line_byte, place_after}
 use Rattle.strkw_records.specs.Outcomes.{Completes, Fails, FailsInRecord, Open, OpensIn, Outcome, Passes, PassesLimit, Taken, fields_read, front_of_field}
 use Rattle.strkw_records.specs.Outcomes.{outcome, read_from, rest_of, whole_fields}
-use Rattle.strkw_records.specs.Reading.{Explains, limits_of, place_of, unread_of}
+use Rattle.strkw_records.specs.Reading.{Explains, delimiter_of, limits_of, place_of, unread_of}
 use Rattle.strkw_records.specs.Records.{IsBeforeField, IsOpenAt, TakesRecord, quote, state_behind}
 use Rattle.strkw_records.proofs.CountLemmas.{within-none}
 use Rattle.strkw_records.proofs.GatherLemmas.{fails-later, passes-trans}
@@ -51,51 +51,54 @@ explains-fails rem old new text fault.TooLong h = h
 
 -- nothing but blank lines
 -- a text that is nothing but blank lines has no record
-pub no_record : (text rest : List ℕ) → text ≡ blank_front text ++ rest → (0 < length rest → ⊥) → next_record default_config st.StartRecord [] [] text ≡ None
+pub no_record : (sep : ℕ) (text rest : List ℕ) → text ≡ blank_front text ++ rest → (0 < length rest → ⊥)
+    → next_record (table_config sep) st.StartRecord [] [] text ≡ None
 unfolding outcome
-no_record text [] e h =
-    let here : outcome st.StartRecord [] [] text ≡ outcome st.StartRecord [] [] [] =
-    ap (λ (l : List ℕ). outcome st.StartRecord [] [] l) e ∙ outcome-blank (blank_front text) [] (blank_front-lines text)
-    in none-of_outcome st.StartRecord [] [] text here
-no_record text (c ∷ rest) e h = absurd (h (omega arith))
+no_record sep text [] e h =
+    let here : outcome sep st.StartRecord [] [] text ≡ outcome sep st.StartRecord [] [] [] =
+    ap (λ (l : List ℕ). outcome sep st.StartRecord [] [] l) e ∙ outcome-blank sep (blank_front text) [] (blank_front-lines text)
+    in none-of_outcome sep st.StartRecord [] [] text here
+no_record sep text (c ∷ rest) e h = absurd (h (omega arith))
 
 -- the blank lines before a record, and the record
 -- behind its blank lines, a text that goes on comes to the same at the start of a field
-begins : (text rest : List ℕ) → text ≡ blank_front text ++ rest → 0 < length rest → outcome st.StartRecord [] [] text ≡ outcome st.StartField [] [] rest
-begins text [] e h = absurd (omega arith)
-begins text (c ∷ rest) e h =
-    ap (λ (l : List ℕ). outcome st.StartRecord [] [] l) e ∙ outcome-blank (blank_front text) (c ∷ rest) (blank_front-lines text)
-    ∙ outcome-begins c rest (blank_front-next text c rest e)
+begins : (sep : ℕ) (text rest : List ℕ) → text ≡ blank_front text ++ rest → 0 < length rest → outcome sep st.StartRecord [] [] text
+    ≡ outcome sep st.StartField [] [] rest
+begins sep text [] e h = absurd (omega arith)
+begins sep text (c ∷ rest) e h =
+    ap (λ (l : List ℕ). outcome sep st.StartRecord [] [] l) e ∙ outcome-blank sep (blank_front text) (c ∷ rest) (blank_front-lines text)
+    ∙ outcome-begins sep c rest (blank_front-next text c rest e)
 
 -- a quote that is open
 -- a text in which one is open at the end comes to an open quote
-open-outcome : (p : Place) (text : List ℕ) (line : ℕ) → IsOpenAt p text line → (got : List (List ℕ)) × (outcome st.StartRecord [] [] text ≡ Open got)
+open-outcome : (sep : ℕ) (p : Place) (text : List ℕ) (line : ℕ) → IsOpenAt sep p text line → (got : List (List ℕ))
+    × (outcome sep st.StartRecord [] [] text ≡ Open got)
 unfolding state_behind
-open-outcome p text line h =
-    let inside = state_behind-in_quotes h.inside h.stays in
+open-outcome sep p text line h =
+    let inside = state_behind-in_quotes sep h.inside h.stays in
     let whole = by h.before h.inside h.opens inside in
-    outcome-open st.StartRecord [] [] text (ap (λ (l : List ℕ). state_behind st.StartRecord l) h.splits ∙ whole)
+    outcome-open sep st.StartRecord [] [] text (ap (λ (l : List ℕ). state_behind sep st.StartRecord l) h.splits ∙ whole)
   where
-    by : (before inside : List ℕ) → IsBeforeField before → state_behind st.InQuoted inside ≡ Some st.InQuoted
-        → state_behind st.StartRecord (before ++ (quote ∷ inside)) ≡ Some st.InQuoted
-    by before inside (inl e) k = state_behind-append st.StartRecord st.StartRecord before (quote ∷ inside) e ∙ k
-    by before inside (inr e) k = state_behind-append st.StartRecord st.StartField before (quote ∷ inside) e ∙ k
+    by : (before inside : List ℕ) → IsBeforeField sep before → state_behind sep st.InQuoted inside ≡ Some st.InQuoted
+        → state_behind sep st.StartRecord (before ++ (quote ∷ inside)) ≡ Some st.InQuoted
+    by before inside (inl e) k = state_behind-append sep st.StartRecord st.StartRecord before (quote ∷ inside) e ∙ k
+    by before inside (inr e) k = state_behind-append sep st.StartRecord st.StartField before (quote ∷ inside) e ∙ k
 
 -- and in a text that comes to a record none is open at the end
-not_open : (p : Place) (text : List ℕ) (got : List (List ℕ)) (rest : List ℕ) → outcome st.StartRecord [] [] text ≡ Taken got rest → (line : ℕ)
-    → ¬ (IsOpenAt p text line)
-not_open p text got rest h line k =
-    let (all, is) = open-outcome p text line k in
+not_open : (sep : ℕ) (p : Place) (text : List ℕ) (got : List (List ℕ)) (rest : List ℕ) → outcome sep st.StartRecord [] [] text ≡ Taken got rest → (line : ℕ)
+    → ¬ (IsOpenAt sep p text line)
+not_open sep p text got rest h line k =
+    let (all, is) = open-outcome sep p text line k in
     let no : Open all ≡ Taken got rest = sym is ∙ h in cc no
 
 -- an input that went past the blank lines, and then gathered a record, took the next record of the text
-pub takes-record : {R : Type 0} (rem : R → Option (List ℕ)) (a b c : Input R) (text rest : List ℕ) (g g2 : Gathered) (line : ℕ)
+pub takes-record : (sep : ℕ) → {R : Type 0} (rem : R → Option (List ℕ)) (a b c : Input R) (text rest : List ℕ) (g g2 : Gathered) (line : ℕ)
     → Passes rem a b text (blank_front text) rest → 0 < length rest → whole_fields g ≡ [] → front_of_field g ≡ []
-    → line ≡ b.place.line → (k : Completes rem b c rest st.StartField g g2) → TakesRecord a.place text line (whole_fields g2) c.place k.rest
-takes-record rem a b c text rest g g2 line h some w f at k =
-    let got : outcome st.StartField [] [] rest ≡ Taken (whole_fields g2) k.rest = rw (w, f) at k.taken in
-    let whole = begins text rest h.splits some ∙ got in
-    let read = record-of_outcome st.StartRecord [] [] text (whole_fields g2) k.rest whole in
+    → line ≡ b.place.line → (k : Completes sep rem b c rest st.StartField g g2) → TakesRecord sep a.place text line (whole_fields g2) c.place k.rest
+takes-record sep rem a b c text rest g g2 line h some w f at k =
+    let got : outcome sep st.StartField [] [] rest ≡ Taken (whole_fields g2) k.rest = rw (w, f) at k.taken in
+    let whole = begins sep text rest h.splits some ∙ got in
+    let read = record-of_outcome sep st.StartRecord [] [] text (whole_fields g2) k.rest whole in
     let both = passes-trans rem a b c text (blank_front text) rest k.bytes k.rest h k.passes in record {
       bytes = blank_front text ++ k.bytes;
       state = read.0;
@@ -103,13 +106,13 @@ takes-record rem a b c text rest g g2 line h some w f at k =
       reads = read.1;
       begins = at ∙ ap (λ (p : Place). p.line) h.place;
       leaves = both.place;
-      closed = not_open a.place text (whole_fields g2) k.rest whole;
+      closed = not_open sep a.place text (whole_fields g2) k.rest whole;
     }
 
 -- a quote that is open behind the blank lines is open in the next record of the text
-opens-in : (p q : Place) (g : Gathered) (text rest : List ℕ) (e : ReadFault) → text ≡ blank_front text ++ rest → q ≡ place_after p (blank_front text)
-    → (h : OpensIn q g rest e) → IsOpenAt p text (place_after q h.before).line
-opens-in p q g text rest why e at h = record {
+opens-in : (sep : ℕ) (p q : Place) (g : Gathered) (text rest : List ℕ) (e : ReadFault) → text ≡ blank_front text ++ rest → q ≡ place_after p (blank_front text)
+    → (h : OpensIn sep q g rest e) → IsOpenAt sep p text (place_after q h.before).line
+opens-in sep p q g text rest why e at h = record {
   before = blank_front text ++ h.before;
   inside = h.inside;
   splits = e ∙ ap (λ (l : List ℕ). blank_front text ++ l) h.splits ∙ sym (append_assoc (blank_front text) h.before (quote ∷ h.inside));
@@ -119,64 +122,66 @@ opens-in p q g text rest why e at h = record {
       (sym (place_after-append p (blank_front text) h.before));
 }
   where
-    blank : state_behind st.StartRecord (blank_front text) ≡ Some st.StartRecord
-    blank = state_behind-blank (blank_front text) (blank_front-lines text)
+    blank : state_behind sep st.StartRecord (blank_front text) ≡ Some st.StartRecord
+    blank = state_behind-blank sep (blank_front text) (blank_front-lines text)
 
-    by : (before inside : List ℕ) → rest ≡ before ++ (quote ∷ inside) → state_behind st.StartField before ≡ Some st.StartField
-        → IsBeforeField (blank_front text ++ before)
-    by [] inside s k = inl (ap (λ (l : List ℕ). state_behind st.StartRecord l) (append-nil (blank_front text)) ∙ blank)
+    by : (before inside : List ℕ) → rest ≡ before ++ (quote ∷ inside) → state_behind sep st.StartField before ≡ Some st.StartField
+        → IsBeforeField sep (blank_front text ++ before)
+    by [] inside s k = inl (ap (λ (l : List ℕ). state_behind sep st.StartRecord l) (append-nil (blank_front text)) ∙ blank)
     by (c ∷ before) inside s k =
         let first : is_line_byte c ≡ false = blank_front-next text c (before ++ (quote ∷ inside)) (e ∙ ap (λ (l : List ℕ). blank_front text ++ l) s) in
-        inr (state_behind-append st.StartRecord st.StartRecord (blank_front text) (c ∷ before) blank ∙ state_behind-begins c before first ∙ k)
+        inr (state_behind-append sep st.StartRecord st.StartRecord (blank_front text) (c ∷ before) blank ∙ state_behind-begins sep c before first ∙ k)
 
 -- what is read from the first byte of a record
 -- is the fields so far of the same bytes with the blank lines before them
-reads-begun : (g : Gathered) (text rest x more : List ℕ) → whole_fields g ≡ [] → front_of_field g ≡ [] → text ≡ blank_front text ++ rest → rest ≡ x ++ more
-    → 0 < length x → read_from st.StartField g x ≡ fields_so_far (blank_front text ++ x)
-reads-begun g text rest [] more w f e is some = absurd (omega arith)
-reads-begun g text rest (c ∷ x) more w f e is some =
+reads-begun : (sep : ℕ) (g : Gathered) (text rest x more : List ℕ) → whole_fields g ≡ [] → front_of_field g ≡ [] → text ≡ blank_front text ++ rest → rest
+    ≡ x ++ more
+    → 0 < length x → read_from sep st.StartField g x ≡ fields_so_far sep (blank_front text ++ x)
+reads-begun sep g text rest [] more w f e is some = absurd (omega arith)
+reads-begun sep g text rest (c ∷ x) more w f e is some =
     let first : is_line_byte c ≡ false = blank_front-next text c (x ++ more) (e ∙ ap (λ (l : List ℕ). blank_front text ++ l) is) in
-    rw (w, f) (sym (sym (read-of_outcome st.StartRecord [] [] (blank_front text ++ (c ∷ x)))
-    ∙ ap (λ (o : Outcome). fields_read o) (outcome-blank (blank_front text) (c ∷ x) (blank_front-lines text) ∙ outcome-begins c x first)))
+    rw (w, f) (sym (sym (read-of_outcome sep st.StartRecord [] [] (blank_front text ++ (c ∷ x)))
+    ∙ ap (λ (o : Outcome). fields_read o) (outcome-blank sep (blank_front text) (c ∷ x) (blank_front-lines text) ∙ outcome-begins sep c x first)))
 
 -- nothing of it is read before
-none-begun : (text : List ℕ) → fields_so_far (blank_front text ++ []) ≡ []
+none-begun : (sep : ℕ) (text : List ℕ) → fields_so_far sep (blank_front text ++ []) ≡ []
 unfolding outcome
-none-begun text = sym (read-of_outcome st.StartRecord [] [] (blank_front text ++ []))
-    ∙ ap (λ (o : Outcome). fields_read o) (outcome-blank (blank_front text) [] (blank_front-lines text))
+none-begun sep text = sym (read-of_outcome sep st.StartRecord [] [] (blank_front text ++ []))
+    ∙ ap (λ (o : Outcome). fields_read o) (outcome-blank sep (blank_front text) [] (blank_front-lines text))
 
 -- and where what is read from it is within the limits, so are the fields so far
-within-begun : (g : Gathered) (limits : Limits) (text rest x more : List ℕ) → whole_fields g ≡ [] → front_of_field g ≡ [] → text ≡ blank_front text ++ rest
-    → rest ≡ x ++ more → AreWithin limits (read_from st.StartField g x) → AreWithin limits (fields_so_far (blank_front text ++ x))
-within-begun g limits text rest [] more w f e is h = subst (λ (fs : List (List ℕ)). AreWithin limits fs) (sym (none-begun text)) (within-none limits)
-within-begun g limits text rest (c ∷ x) more w f e is h =
-    subst (λ (fs : List (List ℕ)). AreWithin limits fs) (reads-begun g text rest (c ∷ x) more w f e is (omega arith)) h
+within-begun : (sep : ℕ) (g : Gathered) (limits : Limits) (text rest x more : List ℕ) → whole_fields g ≡ [] → front_of_field g ≡ [] → text
+    ≡ blank_front text ++ rest
+    → rest ≡ x ++ more → AreWithin limits (read_from sep st.StartField g x) → AreWithin limits (fields_so_far sep (blank_front text ++ x))
+within-begun sep g limits text rest [] more w f e is h = subst (λ (fs : List (List ℕ)). AreWithin limits fs) (sym (none-begun sep text)) (within-none limits)
+within-begun sep g limits text rest (c ∷ x) more w f e is h =
+    subst (λ (fs : List (List ℕ)). AreWithin limits fs) (reads-begun sep g text rest (c ∷ x) more w f e is (omega arith)) h
 
 -- so the first byte that may pass a limit there is the first in the whole text
-first-begun : (g : Gathered) (limits : Limits) (text rest : List ℕ) (fields : List (List ℕ)) → whole_fields g ≡ [] → front_of_field g ≡ []
-    → text ≡ blank_front text ++ rest → IsFirstPast (read_from st.StartField g) limits rest fields → IsFirstPast fields_so_far limits text fields
-first-begun g limits text rest fields w f e h =
+first-begun : (sep : ℕ) (g : Gathered) (limits : Limits) (text rest : List ℕ) (fields : List (List ℕ)) → whole_fields g ≡ [] → front_of_field g ≡ []
+    → text ≡ blank_front text ++ rest → IsFirstPast (read_from sep st.StartField g) limits rest fields → IsFirstPast (fields_so_far sep) limits text fields
+first-begun sep g limits text rest fields w f e h =
     let one = append_assoc h.before (h.byte ∷ []) h.rest in
     let size = length-append h.before (h.byte ∷ []) in record {
       before = blank_front text ++ h.before;
       byte = h.byte;
       rest = h.rest;
       splits = e ∙ ap (λ (l : List ℕ). blank_front text ++ l) h.splits ∙ sym (append_assoc (blank_front text) h.before (h.byte ∷ h.rest));
-      within = within-begun g limits text rest h.before (h.byte ∷ h.rest) w f e h.splits h.within;
-      behind = h.behind ∙ reads-begun g text rest (h.before ++ (h.byte ∷ [])) h.rest w f e (h.splits ∙ sym one) (omega (arith, size))
-          ∙ sym (ap (λ (l : List ℕ). fields_so_far l) (append_assoc (blank_front text) h.before (h.byte ∷ [])));
+      within = within-begun sep g limits text rest h.before (h.byte ∷ h.rest) w f e h.splits h.within;
+      behind = h.behind ∙ reads-begun sep g text rest (h.before ++ (h.byte ∷ [])) h.rest w f e (h.splits ∙ sym one) (omega (arith, size))
+          ∙ sym (ap (λ (l : List ℕ). fields_so_far sep l) (append_assoc (blank_front text) h.before (h.byte ∷ [])));
     }
 
 -- a limit that is passed in the record
 -- explains the fault of a read of the text
 pub explains-long : {R : Type 0} (rem : R → Option (List ℕ)) (old new : RecordReader R) (q : Place) (g : Gathered) (text rest : List ℕ) (e : ReadFault)
     → text ≡ blank_front text ++ rest → q ≡ place_after (place_of old) (blank_front text) → whole_fields g ≡ [] → front_of_field g ≡ []
-    → g.limits ≡ limits_of old → g.line ≡ q.line → PassesLimit st.StartField g rest e → Explains rem old new text e
+    → g.limits ≡ limits_of old → g.line ≡ q.line → PassesLimit (delimiter_of old) st.StartField g rest e → Explains rem old new text e
 explains-long rem old new q g text rest (fault.LongRecord line limit) s at w f limits line2 h = (
   h.0 ∙ line2 ∙ ap (λ (z : Place). z.line) at,
   record {
     fields = h.1.fields;
-    first = first-begun g (limits_of old) text rest h.1.fields w f s (rw limits at h.1.first);
+    first = first-begun (delimiter_of old) g (limits_of old) text rest h.1.fields w f s (rw limits at h.1.first);
     given = rw limits at h.1.given;
     long = h.1.long;
     each = rw limits at h.1.each;
@@ -187,7 +192,7 @@ explains-long rem old new q g text rest (fault.LongField line number limit) s at
   record {
     earlier = h.1.earlier;
     field = h.1.field;
-    first = first-begun g (limits_of old) text rest (h.1.earlier ++ (h.1.field ∷ [])) w f s (rw limits at h.1.first);
+    first = first-begun (delimiter_of old) g (limits_of old) text rest (h.1.earlier ++ (h.1.field ∷ [])) w f s (rw limits at h.1.first);
     counts = h.1.counts;
     given = rw limits at h.1.given;
     long = h.1.long;
@@ -202,19 +207,28 @@ explains-long rem old new q g text rest fault.TooLong s at w f limits line2 h = 
 -- and so does whatever else is why reading on failed at the start of the record
 pub explains-in_record : {R : Type 0} (rem : R → Option (List ℕ)) (old new : RecordReader R) (q : Place) (g : Gathered) (text rest : List ℕ) (e : ReadFault)
     → text ≡ blank_front text ++ rest → q ≡ place_after (place_of old) (blank_front text) → whole_fields g ≡ [] → front_of_field g ≡ []
-    → g.limits ≡ limits_of old → g.line ≡ q.line → FailsInRecord q g rest e → Explains rem old new text e
+    → g.limits ≡ limits_of old → g.line ≡ q.line → FailsInRecord (delimiter_of old) q g rest e → Explains rem old new text e
 explains-in_record rem old new q g text rest e s at w f limits line (inl (inl h)) =
     explains-fails rem old new text e (fails-later (place_of old) q text (blank_front text) rest e s at h)
 explains-in_record rem old new q g text rest e s at w f limits line (inl (inr h)) = explains-long rem old new q g text rest e s at w f limits line h
 explains-in_record rem old new q g text rest e s at w f limits line (inr h) = rw h.is (
-  opens-in (place_of old) q g text rest e s at h,
-  rw (limits, ← s) at (within-begun g g.limits text rest rest [] w f s (sym (append-nil rest)) h.within),
+  opens-in (delimiter_of old) (place_of old) q g text rest e s at h,
+  rw (limits, ← s) at (within-begun (delimiter_of old) g g.limits text rest rest [] w f s (sym (append-nil rest)) h.within),
 )
 
+-- the same, where the delimiter goes by another name
+pub explains-begun : (sep : ℕ) → {R : Type 0} (rem : R → Option (List ℕ)) (old new : RecordReader R) (q : Place) (g : Gathered) (text rest : List ℕ)
+    (e : ReadFault)
+    → sep ≡ delimiter_of old → text ≡ blank_front text ++ rest → q ≡ place_after (place_of old) (blank_front text) → whole_fields g ≡ []
+    → front_of_field g ≡ [] → g.limits ≡ limits_of old → g.line ≡ q.line → FailsInRecord sep q g rest e → Explains rem old new text e
+explains-begun sep rem old new q g text rest e same s at w f limits line h =
+    explains-in_record rem old new q g text rest e s at w f limits line (subst (λ (d : ℕ). FailsInRecord d q g rest e) same h)
+
 -- the same record, by other names
-pub takes-same : (p p2 : Place) (text : List ℕ) (line : ℕ) (f f2 : List (List ℕ)) (q q2 : Place) (rest : List ℕ) → p ≡ p2 → f ≡ f2 → q ≡ q2
-    → TakesRecord p text line f q rest → TakesRecord p2 text line f2 q2 rest
-takes-same p p2 text line f f2 q q2 rest e1 e2 e3 h = rw (← e1, ← e2, ← e3) h
+pub takes-same : (sep sep2 : ℕ) (p p2 : Place) (text : List ℕ) (line : ℕ) (f f2 : List (List ℕ)) (q q2 : Place) (rest : List ℕ) → sep ≡ sep2 → p ≡ p2 → f
+    ≡ f2 → q ≡ q2
+    → TakesRecord sep p text line f q rest → TakesRecord sep2 p2 text line f2 q2 rest
+takes-same sep sep2 p p2 text line f f2 q q2 rest e0 e1 e2 e3 h = rw (← e0, ← e1, ← e2, ← e3) h
 
 -- an input that is the same stands at the same place
 pub place-of : {R : Type 0} {a b : Input R} → a ≡ b → a.place ≡ b.place

@@ -1,4 +1,5 @@
 pub mod Lines
+pub mod Delimiters
 pub mod Limits
 pub mod Records
 pub mod Reading

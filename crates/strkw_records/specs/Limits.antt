@@ -3,22 +3,22 @@ use Rattle.std.specs.Prelude.{◌≡◌, ◌≤◌, ◌<◌, ◌+◌, ◌-◌, �
 use Rattle.std.specs.Prelude.{None, IfSome}
 use Rattle.std.specs.List.{AllByRecursion}
 use Rattle.csv.specs.Machine.{Read, next_record}
-use Rattle.csv.specs.Reading.{default_config}
 use Rattle.csv.specs.declared.parser.State.TheVariants as st
 use Rattle.strkw_records.specs.declared.limits.Limits.{Limits}
+use Rattle.strkw_records.specs.Delimiters.{table_config}
 
 -- no limit of a record, and none of a field
 abbrev pub no_limits : Limits
 no_limits = record { «record» = None; field = None }
 
--- the bytes of fields, and one for a comma behind each
-unfoldable pub with_commas : List (List ℕ) → ℕ
-with_commas [] = 0
-with_commas (field ∷ fields) = length field + 1 + with_commas fields
+-- the bytes of fields, and one for a delimiter behind each
+unfoldable pub with_delimiters : List (List ℕ) → ℕ
+with_delimiters [] = 0
+with_delimiters (field ∷ fields) = length field + 1 + with_delimiters fields
 
--- the length of a record: the bytes of its fields, and one for each comma between them
+-- the length of a record: the bytes of its fields, and one for each delimiter between them
 abbrev pub record_length : List (List ℕ) → ℕ
-record_length fields = with_commas fields - 1
+record_length fields = with_delimiters fields - 1
 
 -- no field has more bytes than this
 abbrev pub AreShort : ℕ → List (List ℕ) → Type 0
@@ -35,9 +35,10 @@ fields_of_read None = []
 fields_of_read (Some read) = read.0
 
 -- the fields of the next record of a text that may be cut off in it: so the last may be a front of
--- one
-abbrev pub fields_so_far : List ℕ → List (List ℕ)
-fields_so_far text = fields_of_read (next_record default_config st.StartRecord [] [] text)
+-- one; the ℕ: what parts fields
+abbrev pub fields_so_far : ℕ → List ℕ → List (List ℕ)
+fields_so_far delimiter text =
+    fields_of_read (next_record (table_config delimiter) st.StartRecord [] [] text)
 
 -- With one more byte the next record of a text has these fields, where it was within the limits
 -- before. `reads` says which fields it has in a front of the text.

@@ -3,7 +3,6 @@ use Rattle.std.specs.Prelude.{◌≡◌, ◌⊎◌, ℕ, true, if◌then◌else�
 use Rattle.std.specs.Prelude.{⊤}
 use Rattle.std.specs.Io.KnownBytes.{prepend_known}
 use Rattle.csv.specs.Machine.{field_after, fields_after, is_end, step}
-use Rattle.csv.specs.Reading.{default_config}
 use Rattle.csv.specs.Records.{fields_of, partial_of}
 use Rattle.csv.specs.declared.parser.State.{State}
 use Rattle.csv.specs.declared.parser.State.TheVariants as st
@@ -14,13 +13,14 @@ use Rattle.strkw_records.specs.declared.gathered.FieldEnd.TheVariants as end
 use Rattle.strkw_records.specs.declared.gathered.Gathered.{Gathered}
 use Rattle.strkw_records.specs.declared.input.Input.{Input}
 use Rattle.strkw_records.specs.declared.place.Place.{Place}
+use Rattle.strkw_records.specs.Delimiters.{table_config}
 use Rattle.strkw_records.specs.Limits.{AreWithin, IsLongField, IsLongRecord}
 use Rattle.strkw_records.specs.Lines.{is_line_byte, place_after}
 use Rattle.strkw_records.specs.Records.{InQuotes, IsTooLong, quote, state_behind}
 
--- a byte that ends a field outside quotes: a comma or a line end
-abbrev pub EndsPlain : ℕ → Type 0
-EndsPlain c = (c ≡ default_config.delimiter) ⊎ (is_line_byte c ≡ true)
+-- a byte that ends a field outside quotes: that which parts fields, or a line end
+abbrev pub EndsPlain : ℕ → ℕ → Type 0
+EndsPlain delimiter c = (c ≡ delimiter) ⊎ (is_line_byte c ≡ true)
 
 -- what reading a text comes to: a quote that is open at the end, behind fields and in another; no
 -- record; or the fields of one, and the rest of the text
@@ -41,12 +41,13 @@ outcome_at_end st.InEscape fields = Taken fields []
 outcome_at_end st.InComment fields = Taken fields []
 
 -- what a text comes to, from a state, behind fields and the front of another
-unfoldable pub outcome : State → List (List ℕ) → List ℕ → List ℕ → Outcome
-outcome s fields field [] = outcome_at_end s (fields ++ (field ∷ []))
-outcome s fields field (c ∷ rest) =
-    if is_end (step default_config s c).1 then Taken (fields ++ (field ∷ [])) rest
-    else outcome (step default_config s c).0 (fields_after (step default_config s c).1 fields field)
-    (field_after (step default_config s c).1 c field) rest
+unfoldable pub outcome : ℕ → State → List (List ℕ) → List ℕ → List ℕ → Outcome
+outcome delimiter s fields field [] = outcome_at_end s (fields ++ (field ∷ []))
+outcome delimiter s fields field (c ∷ rest) =
+    if is_end (step (table_config delimiter) s c).1 then Taken (fields ++ (field ∷ [])) rest
+    else outcome delimiter (step (table_config delimiter) s c).0
+    (fields_after (step (table_config delimiter) s c).1 fields field)
+    (field_after (step (table_config delimiter) s c).1 c field) rest
 
 -- the fields that were read
 abbrev pub fields_read : Outcome → List (List ℕ)
@@ -73,36 +74,40 @@ abbrev pub front_of_field : Gathered → List ℕ
 front_of_field g = partial_of g.fields ++ g.field.items
 
 -- the fields that a record has, which a text goes on from a state, behind what was gathered
-abbrev pub read_from : State → Gathered → List ℕ → List (List ℕ)
-read_from s g text = fields_read (outcome s (whole_fields g) (front_of_field g) text)
+abbrev pub read_from : ℕ → State → Gathered → List ℕ → List (List ℕ)
+read_from delimiter s g text =
+    fields_read (outcome delimiter s (whole_fields g) (front_of_field g) text)
 
 -- an input, which has this text left, went past bytes that took the machine, and what was gathered,
 -- from the one to the other
-pub record Gathers {R : Type 0} (rem : R → Option (List ℕ)) (old new : Input R) (text : List ℕ)
+pub record Gathers (delimiter : ℕ) {R : Type 0} (rem : R → Option (List ℕ)) (old new : Input R)
+    (text : List ℕ)
     (s : State) (before : Gathered) (s2 : State) (after : Gathered) : Type 0 where
   pub bytes : List ℕ
   pub rest : List ℕ
   pub passes : Passes rem old new text bytes rest
-  pub behind : state_behind s bytes ≡ Some s2
-  pub same : (more : List ℕ) → outcome s (whole_fields before) (front_of_field before)
+  pub behind : state_behind delimiter s bytes ≡ Some s2
+  pub same : (more : List ℕ) → outcome delimiter s (whole_fields before) (front_of_field before)
       (bytes ++ more)
-      ≡ outcome s2 (whole_fields after) (front_of_field after) more
+      ≡ outcome delimiter s2 (whole_fields after) (front_of_field after) more
 
 -- an input, which has this text left, went past the end of a record, whose fields were gathered
-pub record Completes {R : Type 0} (rem : R → Option (List ℕ)) (old new : Input R) (text : List ℕ)
+pub record Completes (delimiter : ℕ) {R : Type 0} (rem : R → Option (List ℕ)) (old new : Input R)
+    (text : List ℕ)
     (s : State) (before after : Gathered) : Type 0 where
   pub bytes : List ℕ
   pub rest : List ℕ
   pub passes : Passes rem old new text bytes rest
-  pub taken : outcome s (whole_fields before) (front_of_field before) text
+  pub taken : outcome delimiter s (whole_fields before) (front_of_field before) text
       ≡ Taken (whole_fields after) rest
 
 -- the same, by what ended a field
-abbrev pub EndsField : {R : Type 0} → (R → Option (List ℕ)) → Input R → Input R → List ℕ → State
+abbrev pub EndsField : ℕ → {R : Type 0} → (R → Option (List ℕ)) → Input R → Input R → List ℕ → State
     → Gathered → Gathered → FieldEnd → Type 0
-EndsField rem old new text s before after end.Comma =
-    Gathers rem old new text s before st.StartField after × (front_of_field after ≡ [])
-EndsField rem old new text s before after end.Record = Completes rem old new text s before after
+EndsField delimiter rem old new text s before after end.Delimiter =
+    Gathers delimiter rem old new text s before st.StartField after × (front_of_field after ≡ [])
+EndsField delimiter rem old new text s before after end.Record =
+    Completes delimiter rem old new text s before after
 
 -- why reading on from a place failed, where no quote was open and no limit was passed
 abbrev pub Fails : Place → List ℕ → ReadFault → Type 0
@@ -115,49 +120,54 @@ Fails place text fault.Memory = ⊤
 Fails place text fault.TooLong = IsTooLong place text
 
 -- a text, from a state and behind what was gathered, passes a limit
-abbrev pub PassesLimit : State → Gathered → List ℕ → ReadFault → Type 0
-PassesLimit s g text (fault.LongRecord line limit) = (line ≡ g.line)
-    × IsLongRecord (read_from s g) g.limits text limit
-PassesLimit s g text (fault.LongField line number limit) = (line ≡ g.line)
-    × IsLongField (read_from s g) g.limits text number limit
-PassesLimit s g text _ = ⊥
+abbrev pub PassesLimit : ℕ → State → Gathered → List ℕ → ReadFault → Type 0
+PassesLimit delimiter s g text (fault.LongRecord line limit) = (line ≡ g.line)
+    × IsLongRecord (read_from delimiter s g) g.limits text limit
+PassesLimit delimiter s g text (fault.LongField line number limit) = (line ≡ g.line)
+    × IsLongField (read_from delimiter s g) g.limits text number limit
+PassesLimit delimiter s g text _ = ⊥
 
 -- why reading on failed where no quote was open
-abbrev pub FailsOutside : Place → State → Gathered → List ℕ → ReadFault → Type 0
-FailsOutside place s g text why = Fails place text why ⊎ PassesLimit s g text why
+abbrev pub FailsOutside : ℕ → Place → State → Gathered → List ℕ → ReadFault → Type 0
+FailsOutside delimiter place s g text why =
+    Fails place text why ⊎ PassesLimit delimiter s g text why
 
 -- behind a quote that opened on a line: it is still open at the end of the text, within the limits
-pub record StaysOpen (opened : ℕ) (g : Gathered) (text : List ℕ) (why : ReadFault) : Type 0 where
+pub record StaysOpen (delimiter opened : ℕ) (g : Gathered) (text : List ℕ) (why : ReadFault) :
+    Type 0 where
   pub is : why ≡ fault.OpenQuote opened
   pub stays : InQuotes text
-  pub within : AreWithin g.limits (read_from st.InQuoted g text)
+  pub within : AreWithin g.limits (read_from delimiter st.InQuoted g text)
 
-abbrev pub FailsInQuotes : Place → ℕ → Gathered → List ℕ → ReadFault → Type 0
-FailsInQuotes place opened g text why = FailsOutside place st.InQuoted g text why
-    ⊎ StaysOpen opened g text why
+abbrev pub FailsInQuotes : ℕ → Place → ℕ → Gathered → List ℕ → ReadFault → Type 0
+FailsInQuotes delimiter place opened g text why =
+    FailsOutside delimiter place st.InQuoted g text why
+    ⊎ StaysOpen delimiter opened g text why
 
 -- the same at the start of a field: a quote there may open, and be still open at the end
-pub record OpensAt (place : Place) (g : Gathered) (text : List ℕ) (why : ReadFault) : Type 0 where
+pub record OpensAt (delimiter : ℕ) (place : Place) (g : Gathered) (text : List ℕ)
+    (why : ReadFault) : Type 0 where
   pub inside : List ℕ
   pub is : why ≡ fault.OpenQuote place.line
   pub splits : text ≡ quote ∷ inside
   pub stays : InQuotes inside
-  pub within : AreWithin g.limits (read_from st.StartField g text)
+  pub within : AreWithin g.limits (read_from delimiter st.StartField g text)
 
-abbrev pub FailsAtField : Place → Gathered → List ℕ → ReadFault → Type 0
-FailsAtField place g text why = FailsOutside place st.StartField g text why
-    ⊎ OpensAt place g text why
+abbrev pub FailsAtField : ℕ → Place → Gathered → List ℕ → ReadFault → Type 0
+FailsAtField delimiter place g text why = FailsOutside delimiter place st.StartField g text why
+    ⊎ OpensAt delimiter place g text why
 
 -- the same at the start of a record: a quote may open at the start of one of its fields
-pub record OpensIn (place : Place) (g : Gathered) (text : List ℕ) (why : ReadFault) : Type 0 where
+pub record OpensIn (delimiter : ℕ) (place : Place) (g : Gathered) (text : List ℕ)
+    (why : ReadFault) : Type 0 where
   pub before : List ℕ
   pub inside : List ℕ
   pub is : why ≡ fault.OpenQuote (place_after place before).line
   pub splits : text ≡ before ++ quote ∷ inside
-  pub behind : state_behind st.StartField before ≡ Some st.StartField
+  pub behind : state_behind delimiter st.StartField before ≡ Some st.StartField
   pub stays : InQuotes inside
-  pub within : AreWithin g.limits (read_from st.StartField g text)
+  pub within : AreWithin g.limits (read_from delimiter st.StartField g text)
 
-abbrev pub FailsInRecord : Place → Gathered → List ℕ → ReadFault → Type 0
-FailsInRecord place g text why = FailsOutside place st.StartField g text why
-    ⊎ OpensIn place g text why
+abbrev pub FailsInRecord : ℕ → Place → Gathered → List ℕ → ReadFault → Type 0
+FailsInRecord delimiter place g text why = FailsOutside delimiter place st.StartField g text why
+    ⊎ OpensIn delimiter place g text why

@@ -32,11 +32,15 @@ place_of reader = reader.input.place
 abbrev pub limits_of : {R : Type 0} → RecordReader R → Limits
 limits_of reader = reader.limits
 
+-- what parts the fields
+abbrev pub delimiter_of : {R : Type 0} → RecordReader R → ℕ
+delimiter_of reader = reader.delimiter.byte
+
 -- a reader, whose unread bytes are this text, took its next record, and stands behind it
 abbrev pub Takes : {R : Type 0} → (R → Option (List ℕ)) → RecordReader R → RecordReader R
     → List ℕ → ℕ → List (List ℕ) → Type 0
 Takes rem old new text line fields = (rest : List ℕ) × (unread_of rem new ≡ Some rest)
-    × TakesRecord (place_of old) text line fields (place_of new) rest
+    × TakesRecord (delimiter_of old) (place_of old) text line fields (place_of new) rest
 
 -- the next record of a text, which stands at a place, begins on this line
 abbrev pub BeginsAt : Place → List ℕ → ℕ → Type 0
@@ -47,14 +51,15 @@ BeginsAt place text line = line ≡ (place_after place (blank_front text)).line
 abbrev pub Explains : {R : Type 0} → (R → Option (List ℕ)) → RecordReader R → RecordReader R
     → List ℕ → ReadFault → Type 0
 Explains rem old new text (fault.Read e) = ⊤
-Explains rem old new text (fault.OpenQuote line) = IsOpenAt (place_of old) text line
-    × AreWithin (limits_of old) (fields_so_far text)
+Explains rem old new text (fault.OpenQuote line) =
+    IsOpenAt (delimiter_of old) (place_of old) text line
+    × AreWithin (limits_of old) (fields_so_far (delimiter_of old) text)
 Explains rem old new text (fault.NotUtf8 line number) = (fields : List (List ℕ))
     × Takes rem old new text line fields × IsFirstNotUtf8 fields number
     × AreWithin (limits_of old) fields
 Explains rem old new text (fault.LongRecord line limit) = BeginsAt (place_of old) text line
-    × IsLongRecord fields_so_far (limits_of old) text limit
+    × IsLongRecord (fields_so_far (delimiter_of old)) (limits_of old) text limit
 Explains rem old new text (fault.LongField line number limit) = BeginsAt (place_of old) text line
-    × IsLongField fields_so_far (limits_of old) text number limit
+    × IsLongField (fields_so_far (delimiter_of old)) (limits_of old) text number limit
 Explains rem old new text fault.Memory = ⊤
 Explains rem old new text fault.TooLong = IsTooLong (place_of old) text

@@ -4,6 +4,7 @@ ghost use Rattle.std.specs.Prelude.{◌≡◌, ◌≢◌, Some, IfSome, slice_ge
 ghost use Rattle.strkw_records.specs.Fronts.{IsFront};
 ghost use Rattle.strkw_records.specs.Records.{quote};
 
+use crate::delimiter::Delimiter;
 use crate::runs::{ends_plain, plain_run, quoted_line_run};
 
 /// Where a field at the front of bytes stands. No line ends in it.
@@ -13,28 +14,28 @@ pub(crate) struct Front {
     pub(crate) from: usize,
     /// Where they end.
     pub(crate) to: usize,
-    /// Where the comma or the line end stands that ends it.
+    /// Where the delimiter or the line end stands that ends it.
     pub(crate) end: usize,
 }
 
 /// The field at the front of bytes, where what ends it is among them, no line ends in it, and it has no pair of quotes.
 #[inline(always)]
-pub(crate) fn whole_front(bytes: &[u8]) -> Option<Front>
-    ensures { IfSome result (IsFront bytes.now) }
+pub(crate) fn whole_front(delimiter: Delimiter, bytes: &[u8]) -> Option<Front>
+    ensures { IfSome result (IsFront delimiter.byte bytes.now) }
 {
     match bytes.first()? {
-        b'"' => quoted_front(bytes),
-        _ => plain_front(bytes),
+        b'"' => quoted_front(delimiter, bytes),
+        _ => plain_front(delimiter, bytes),
     }
 }
 
 // The same, where no quote opens the field.
 #[inline(always)]
-fn plain_front(bytes: &[u8]) -> Option<Front>
+fn plain_front(delimiter: Delimiter, bytes: &[u8]) -> Option<Front>
     requires { slice_get bytes.now 0 ≢ Some quote }
-    ensures { IfSome result (IsFront bytes.now) }
+    ensures { IfSome result (IsFront delimiter.byte bytes.now) }
 {
-    let count = plain_run(bytes);
+    let count = plain_run(delimiter, bytes);
     if count == bytes.len() {
         return None;
     }
@@ -47,14 +48,14 @@ fn plain_front(bytes: &[u8]) -> Option<Front>
 
 // The same, where a quote does.
 #[inline(always)]
-fn quoted_front(bytes: &[u8]) -> Option<Front>
+fn quoted_front(delimiter: Delimiter, bytes: &[u8]) -> Option<Front>
     requires { slice_get bytes.now 0 ≡ Some quote }
-    ensures { IfSome result (IsFront bytes.now) }
+    ensures { IfSome result (IsFront delimiter.byte bytes.now) }
 {
     let inside = &bytes[1..];
     let count = quoted_line_run(inside);
     let rest = &inside[count..];
-    if rest.len() < 2 || rest[0] != b'"' || !ends_plain(rest[1]) {
+    if rest.len() < 2 || rest[0] != b'"' || !ends_plain(delimiter, rest[1]) {
         return None;
     }
     Some(Front {

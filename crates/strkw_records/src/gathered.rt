@@ -2,16 +2,17 @@
 
 ghost use Rattle.std.specs.Prelude.{◌≡◌, ◌≢◌, ◌≤◌, ◌<◌, ◌+◌, ◌-◌, ◌^◌, ◌++◌, ◌∷◌, ℕ, List, [], Some, None, true, length, slice_get, slice_index, take, drop, OnOk, IfOk, IfErr, IfSome};
 ghost use Rattle.csv.specs.Machine.{Runs, ends_at_end, step};
-ghost use Rattle.csv.specs.Reading.{default_config};
 ghost use Rattle.csv.specs.Records.{fields_of, partial_of};
 ghost use Rattle.csv.specs.declared.parser.State.TheVariants as st;
+ghost use Rattle.strkw_records.specs.Delimiters.{table_config};
 ghost use Rattle.strkw_records.specs.Fronts.{TakesWhole};
 ghost use Rattle.strkw_records.specs.Lines.{HasNoLineByte};
-ghost use Rattle.strkw_records.specs.Counts.{Counts, CountsTo, Ends, FailsByRun, FieldFits, HasComma, HasRoom, IsCounted, IsLongBy, IsLongByComma, size_of};
+ghost use Rattle.strkw_records.specs.Counts.{Counts, CountsTo, Ends, FailsByRun, FieldFits, HasDelimiter, HasRoom, IsCounted, IsLongBy, IsLongByDelimiter, size_of};
 ghost use Rattle.strkw_records.specs.Limits.{AreWithin};
 ghost use Rattle.strkw_records.specs.Outcomes.{Completes, EndsField, EndsPlain, Fails, FailsAtField, FailsInQuotes, FailsInRecord, FailsOutside, Gathers, Passes, front_of_field, rest_of, whole_fields};
 ghost use Rattle.strkw_records.specs.Records.{quote};
 
+use crate::delimiter::Delimiter;
 use crate::faults::ReadFault;
 use crate::front::whole_front;
 use crate::input::Input;
@@ -24,8 +25,8 @@ use std::io::Read;
 /// What ends a field.
 #[derive(Clone, Copy, PartialEq, Eq)]
 pub(crate) enum FieldEnd {
-    /// A comma: another field follows.
-    Comma,
+    /// A delimiter: another field follows.
+    Delimiter,
     /// The end of the record.
     Record,
 }
@@ -47,7 +48,7 @@ pub(crate) struct Gathered {
     limits: Limits,
     // The line on which the record begins, from 1.
     line: u64,
-    // How many bytes the limit of the record leaves behind the whole fields, each with a comma.
+    // How many bytes the limit of the record leaves behind the whole fields, each with a delimiter.
     room: usize,
 }
 
@@ -156,16 +157,16 @@ impl Gathered {
         }
     }
 
-    // Refuses a comma behind so many more bytes of the field, where it passes the limit of the record.
-    fn check_comma(&self, count: usize, end: u8) -> Result<(), ReadFault>
+    // Refuses a delimiter behind so many more bytes of the field, where it passes the limit of the record.
+    fn check_delimiter(&self, delimiter: Delimiter, count: usize, end: u8) -> Result<(), ReadFault>
         requires counted { IsCounted self.now }
         requires room { HasRoom self.now count }
-        ensures ok { OnOk result (end ≡ default_config.delimiter → HasComma self.now count) }
-        ensures long { IfErr result (λ fault. (end ≡ default_config.delimiter)
-            × IsLongByComma self.now count fault) }
+        ensures ok { OnOk result (end ≡ delimiter.byte → HasDelimiter self.now count) }
+        ensures long { IfErr result (λ fault. (end ≡ delimiter.byte)
+            × IsLongByDelimiter self.now count fault) }
     {
         match self.limits.record {
-            Some(limit) if end == b',' && self.record_left() == count => {
+            Some(limit) if end == delimiter.byte && self.record_left() == count => {
                 Err(ReadFault::LongRecord {
                     line: self.line,
                     limit,
@@ -202,11 +203,11 @@ impl Gathered {
     fn take_quoted<R: Read>(&mut self, input: &mut Input<R>, line: u64) -> Result<(), ReadFault>
         requires { IsCounted self.old }
         ensures counted { OnOk result (Counts self.old self.new) }
-        ensures ok { (text : List ℕ) → rest_of R.remaining input.old ≡ Some text
-            → OnOk result ((h : Gathers R.remaining input.old input.new text
+        ensures ok { (delimiter : ℕ) (text : List ℕ) → rest_of R.remaining input.old ≡ Some text
+            → OnOk result ((h : Gathers delimiter R.remaining input.old input.new text
             st.InQuoted self.old st.AfterQuote self.new) × (slice_get h.rest 0 ≢ Some quote)) }
-        ensures fails { (text : List ℕ) → rest_of R.remaining input.old ≡ Some text
-            → IfErr result (FailsInQuotes input.old.place line self.old text) }
+        ensures fails { (delimiter : ℕ) (text : List ℕ) → rest_of R.remaining input.old ≡ Some text
+            → IfErr result (FailsInQuotes delimiter input.old.place line self.old text) }
     {
         'pieces: for _ in 0..usize::MAX {
             if input.peek()?.is_none() {
@@ -248,35 +249,36 @@ impl Gathered {
         Ok(())
     }
 
-    // Takes the front of the piece, which ends the field, and the comma or the line end behind it.
+    // Takes the front of the piece, which ends the field, and the delimiter or the line end behind it.
     #[inline(always)]
     fn end_plain<R: Read>(
         &mut self,
+        delimiter: Delimiter,
         input: &mut Input<R>,
         count: usize,
     ) -> Result<FieldEnd, ReadFault>
         requires counted { IsCounted self.old }
         requires room { HasRoom self.old count }
         requires within { count < length input.old.piece }
-        requires run { Runs default_config st.InField (take count input.old.piece) }
+        requires run { Runs (table_config delimiter.byte) st.InField (take count input.old.piece) }
         requires plain { HasNoLineByte (take count input.old.piece) }
-        requires stops { EndsPlain (slice_index input.old.piece count) }
+        requires stops { EndsPlain delimiter.byte (slice_index input.old.piece count) }
         ensures ok { (text : List ℕ) → rest_of R.remaining input.old ≡ Some text
-            → IfOk result (EndsField R.remaining input.old input.new text
+            → IfOk result (EndsField delimiter.byte R.remaining input.old input.new text
             st.InField self.old self.new) }
         ensures front { OnOk result (front_of_field self.new ≡ []) }
         ensures counted { IfOk result (CountsTo self.old self.new) }
         ensures fails { (text : List ℕ) → rest_of R.remaining input.old ≡ Some text
-            → IfErr result (FailsOutside input.old.place st.InField self.old text) }
+            → IfErr result (FailsOutside delimiter.byte input.old.place st.InField self.old text) }
     {
         let unread = input.piece.unread();
         let end = unread[count];
-        self.check_comma(count, end)?;
+        self.check_delimiter(delimiter, count, end)?;
         self.end_field(&unread[..count])?;
         input.take_plain(count);
         input.take_byte()?;
-        Ok(if end == b',' {
-            FieldEnd::Comma
+        Ok(if end == delimiter.byte {
+            FieldEnd::Delimiter
         } else {
             FieldEnd::Record
         })
@@ -284,15 +286,19 @@ impl Gathered {
 
     // Takes the rest of a field outside quotes, and what ends it.
     #[inline(always)]
-    fn take_plain<R: Read>(&mut self, input: &mut Input<R>) -> Result<FieldEnd, ReadFault>
+    fn take_plain<R: Read>(
+        &mut self,
+        delimiter: Delimiter,
+        input: &mut Input<R>,
+    ) -> Result<FieldEnd, ReadFault>
         requires { IsCounted self.old }
         ensures ok { (text : List ℕ) → rest_of R.remaining input.old ≡ Some text
-            → IfOk result (EndsField R.remaining input.old input.new text
+            → IfOk result (EndsField delimiter.byte R.remaining input.old input.new text
             st.InField self.old self.new) }
         ensures front { OnOk result (front_of_field self.new ≡ []) }
         ensures counted { IfOk result (CountsTo self.old self.new) }
         ensures fails { (text : List ℕ) → rest_of R.remaining input.old ≡ Some text
-            → IfErr result (FailsOutside input.old.place st.InField self.old text) }
+            → IfErr result (FailsOutside delimiter.byte input.old.place st.InField self.old text) }
     {
         'pieces: for _ in 0..usize::MAX {
             if input.peek()?.is_none() {
@@ -300,10 +306,10 @@ impl Gathered {
                 return Ok(FieldEnd::Record);
             }
             let unread = input.piece.unread();
-            let count = plain_run(unread);
+            let count = plain_run(delimiter, unread);
             self.check_run(count)?;
             if count < unread.len() {
-                return self.end_plain(input, count);
+                return self.end_plain(delimiter, input, count);
             }
             self.field.extend_from_slice(unread)?;
             input.take_plain(count);
@@ -313,16 +319,20 @@ impl Gathered {
 
     // Takes a field, and what ends it.
     #[inline(always)]
-    fn take_field<R: Read>(&mut self, input: &mut Input<R>) -> Result<FieldEnd, ReadFault>
+    fn take_field<R: Read>(
+        &mut self,
+        delimiter: Delimiter,
+        input: &mut Input<R>,
+    ) -> Result<FieldEnd, ReadFault>
         requires front { front_of_field self.old ≡ [] }
         requires counted { IsCounted self.old }
         ensures ok { (text : List ℕ) → rest_of R.remaining input.old ≡ Some text
-            → IfOk result (EndsField R.remaining input.old input.new text
+            → IfOk result (EndsField delimiter.byte R.remaining input.old input.new text
             st.StartField self.old self.new) }
         ensures front { OnOk result (front_of_field self.new ≡ []) }
         ensures counted { IfOk result (CountsTo self.old self.new) }
         ensures fails { (text : List ℕ) → rest_of R.remaining input.old ≡ Some text
-            → IfErr result (FailsAtField input.old.place self.old text) }
+            → IfErr result (FailsAtField delimiter.byte input.old.place self.old text) }
     {
         let is_quoted = input.is_quote_next()?;
         if is_quoted {
@@ -330,10 +340,10 @@ impl Gathered {
             input.take_byte()?;
             self.take_quoted(input, line)?;
         }
-        self.take_plain(input)
+        self.take_plain(delimiter, input)
     }
 
-    // Whether a whole field of so many bytes, and a comma behind it, are within the limits.
+    // Whether a whole field of so many bytes, and a delimiter behind it, are within the limits.
     #[inline(always)]
     fn has_room(&self, size: usize) -> bool
         ensures { result ≡ true → (size < self.now.room)
@@ -346,21 +356,21 @@ impl Gathered {
         fits && size < self.room
     }
 
-    // Takes the fields that are whole at the front of bytes: those that commas end, or all that a record has left. One
-    // that comes near a limit is left to be taken step by step.
-    fn take_whole(&mut self, bytes: &[u8]) -> Result<Whole, AllocError>
+    // Takes the fields that are whole at the front of bytes: those that delimiters end, or all that a record has left.
+    // One that comes near a limit is left to be taken step by step.
+    fn take_whole(&mut self, delimiter: Delimiter, bytes: &[u8]) -> Result<Whole, AllocError>
         requires front { front_of_field self.old ≡ [] }
         requires counted { IsCounted self.old }
         ensures counted { IfOk result (λ whole. CountsTo self.old self.new whole.end) }
         ensures front { OnOk result (front_of_field self.new ≡ []) }
         ensures plain { IfOk result (λ whole. HasNoLineByte (take whole.count bytes.now)) }
         ensures takes { IfOk result (λ whole.
-            TakesWhole self.old bytes.now self.new whole.count whole.end) }
+            TakesWhole delimiter.byte self.old bytes.now self.new whole.count whole.end) }
     {
         let mut at = 0;
         'fields: for _ in 0..bytes.len() {
             let rest = &bytes[at..];
-            let Some(front) = whole_front(rest) else {
+            let Some(front) = whole_front(delimiter, rest) else {
                 break;
             };
             let field = &rest[front.from..front.to];
@@ -368,7 +378,7 @@ impl Gathered {
                 break;
             }
             self.fields.push_field(field)?;
-            if rest[front.end] != b',' {
+            if rest[front.end] != delimiter.byte {
                 return Ok(Whole {
                     count: at + front.end,
                     end: FieldEnd::Record,
@@ -379,30 +389,34 @@ impl Gathered {
         }
         Ok(Whole {
             count: at,
-            end: FieldEnd::Comma,
+            end: FieldEnd::Delimiter,
         })
     }
 
     /// Takes the fields of a record, whose first byte is next, and what ends it.
-    pub(crate) fn take_record<R: Read>(&mut self, input: &mut Input<R>) -> Result<(), ReadFault>
+    pub(crate) fn take_record<R: Read>(
+        &mut self,
+        delimiter: Delimiter,
+        input: &mut Input<R>,
+    ) -> Result<(), ReadFault>
         requires front { front_of_field self.old ≡ [] }
         requires counted { IsCounted self.old }
         ensures ok { (text : List ℕ) → rest_of R.remaining input.old ≡ Some text
-            → OnOk result (Completes R.remaining input.old input.new text
+            → OnOk result (Completes delimiter.byte R.remaining input.old input.new text
             st.StartField self.old self.new) }
         ensures within { OnOk result (AreWithin self.old.limits (whole_fields self.new)) }
         ensures fails { (text : List ℕ) → rest_of R.remaining input.old ≡ Some text
-            → IfErr result (FailsInRecord input.old.place self.old text) }
+            → IfErr result (FailsInRecord delimiter.byte input.old.place self.old text) }
     {
         'fields: for _ in 0..usize::MAX {
-            let whole = self.take_whole(input.piece.unread())?;
+            let whole = self.take_whole(delimiter, input.piece.unread())?;
             input.take_plain(whole.count);
             match whole.end {
-                FieldEnd::Comma => {}
+                FieldEnd::Delimiter => {}
                 FieldEnd::Record => return input.take_byte(),
             }
-            match self.take_field(input)? {
-                FieldEnd::Comma => {}
+            match self.take_field(delimiter, input)? {
+                FieldEnd::Delimiter => {}
                 FieldEnd::Record => return Ok(()),
             }
         }

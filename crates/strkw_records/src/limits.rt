@@ -6,7 +6,7 @@ ghost use Rattle.strkw_records.specs.Limits.{no_limits};
 /// How many bytes a record may have, and a field of it. Where there is no limit, memory is the bound.
 ///
 /// A field has the bytes that are read: the quotes around it do not count, and a pair of quotes in it counts as one. A
-/// record has the bytes of its fields, and one for each comma between them.
+/// record has the bytes of its fields, and one for each delimiter between them.
 #[derive(Clone, Copy, Debug, PartialEq, Eq)]
 pub struct Limits {
     /// Of a record.

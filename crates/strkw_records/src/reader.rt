@@ -4,6 +4,7 @@ ghost use Rattle.csv.specs.Records.{AllText, fields_of};
 ghost use Rattle.std.specs.Prelude.{IfNone, IfSome};
 ghost use Rattle.strkw_records.specs.Records.{IsFirstNotUtf8};
 
+use crate::delimiter::Delimiter;
 use crate::faults::ReadFault;
 use crate::gathered::Gathered;
 use crate::input::Input;
@@ -14,8 +15,8 @@ use std::alloc::{AllocError, Global};
 use std::io::Read;
 use std::{mem, str};
 
-/// Reads the records of a source, one after the other, as the kit's `csv` does by default: fields are parted by
-/// commas, a field may stand in quotes, and blank lines belong to no record.
+/// Reads the records of a source, one after the other, as the kit's `csv` does with the same delimiter: it parts the
+/// fields, a field may stand in quotes, and blank lines belong to no record.
 ///
 /// A read that fails by `NotUtf8` has taken the record, and reading goes on behind it. After any other fault the
 /// reader stands somewhere in a record: it is of no more use.
@@ -25,6 +26,7 @@ pub struct RecordReader<R> {
     input: Input<R>,
     gathered: Gathered,
     limits: Limits,
+    delimiter: Delimiter,
     // The start of the text is behind, and so is a byte order mark there.
     has_begun: bool,
 }
@@ -32,13 +34,15 @@ pub struct RecordReader<R> {
 impl<R: Read> RecordReader<R> {
     ghost use Rattle.std.specs.Prelude.{◌≡◌, ◌↔◌, ℕ, List, [], true, Some, None, option_map, IfOk, IfErr, OnOk, OnErr};
     ghost use Rattle.csv.specs.Machine.{next_record};
-    ghost use Rattle.csv.specs.Reading.{default_config, strip_bom};
+    ghost use Rattle.csv.specs.Reading.{strip_bom};
     ghost use Rattle.csv.specs.declared.parser.State.TheVariants as st;
+    ghost use Rattle.strkw_records.specs.Delimiters.{comma, table_config};
     ghost use Rattle.strkw_records.specs.Lines.{HasNoLineByte, behind_blank, first_place};
     ghost use Rattle.strkw_records.specs.Limits.{AreWithin, no_limits};
-    ghost use Rattle.strkw_records.specs.Reading.{Explains, Takes, at_hand, limits_of, place_of, unread_of};
+    ghost use Rattle.strkw_records.specs.Reading.{Explains, Takes, at_hand, delimiter_of, limits_of, place_of, unread_of};
 
-    /// A reader of the records of a source, from its start, however long they are. A byte order mark there is dropped.
+    /// A reader of the records of a source, from its start, however long they are: their fields are parted by commas. A
+    /// byte order mark at the start is dropped.
     ///
     /// Errors: out of memory.
     pub fn new(alloc: Global, source: R) -> Result<RecordReader<R>, AllocError>
@@ -48,6 +52,7 @@ impl<R: Read> RecordReader<R> {
             ≡ option_map strip_bom (R.remaining source)) }
         ensures place { IfOk result (λ reader. place_of reader ≡ first_place) }
         ensures limits { IfOk result (λ reader. limits_of reader ≡ no_limits) }
+        ensures delimiter { IfOk result (λ reader. delimiter_of reader ≡ comma) }
     {
         RecordReader::with_limits(alloc, source, Limits::none())
     }
@@ -66,12 +71,34 @@ impl<R: Read> RecordReader<R> {
             ≡ option_map strip_bom (R.remaining source)) }
         ensures place { IfOk result (λ reader. place_of reader ≡ first_place) }
         ensures limits { IfOk result (λ reader. limits_of reader ≡ limits) }
+        ensures delimiter { IfOk result (λ reader. delimiter_of reader ≡ comma) }
+    {
+        RecordReader::with_delimiter(alloc, source, limits, Delimiter::comma())
+    }
+
+    /// The same, with limits and a delimiter, which parts the fields in place of a comma.
+    ///
+    /// Errors: out of memory.
+    pub fn with_delimiter(
+        alloc: Global,
+        source: R,
+        limits: Limits,
+        delimiter: Delimiter,
+    ) -> Result<RecordReader<R>, AllocError>
+    where
+        R: Drop,
+        ensures text { IfOk result (λ reader. unread_of R.remaining reader
+            ≡ option_map strip_bom (R.remaining source)) }
+        ensures place { IfOk result (λ reader. place_of reader ≡ first_place) }
+        ensures limits { IfOk result (λ reader. limits_of reader ≡ limits) }
+        ensures delimiter { IfOk result (λ reader. delimiter_of reader ≡ delimiter.byte) }
     {
         Ok(RecordReader {
             alloc,
             input: Input::new(alloc, source)?,
             gathered: Gathered::new(alloc),
             limits,
+            delimiter,
             has_begun: false,
         })
     }
@@ -83,6 +110,7 @@ impl<R: Read> RecordReader<R> {
             → OnOk result (unread_of R.remaining self.new ≡ Some text) }
         ensures place { place_of self.new ≡ place_of self.old }
         ensures limits { limits_of self.new ≡ limits_of self.old }
+        ensures delimiter { delimiter_of self.new ≡ delimiter_of self.old }
         ensures fails { (text : List ℕ)
             → IfErr result (Explains R.remaining self.old self.new text) }
     {
@@ -100,6 +128,7 @@ impl<R: Read> RecordReader<R> {
         ensures kept { OnErr result (row.new ≡ row.old) }
         ensures input { self.new.input ≡ self.old.input }
         ensures limits { limits_of self.new ≡ limits_of self.old }
+        ensures delimiter { delimiter_of self.new ≡ delimiter_of self.old }
         ensures begun { self.new.has_begun ≡ self.old.has_begun }
     {
         if let Some(number) = first_not_utf8(&self.gathered.fields) {
@@ -125,11 +154,12 @@ impl<R: Read> RecordReader<R> {
             AreWithin (limits_of self.old) (fields_of row.new))) }
         ensures end { (text : List ℕ) → unread_of R.remaining self.old ≡ Some text
             → IfOk result (λ o. o ≡ None
-            → next_record default_config st.StartRecord [] [] text ≡ None) }
+            → next_record (table_config (delimiter_of self.old)) st.StartRecord [] [] text ≡ None) }
         ensures fault { (text : List ℕ) → unread_of R.remaining self.old ≡ Some text
             → IfErr result (Explains R.remaining self.old self.new text) }
         ensures kept { OnErr result (row.new ≡ row.old) }
         ensures limits { limits_of self.new ≡ limits_of self.old }
+        ensures delimiter { delimiter_of self.new ≡ delimiter_of self.old }
     {
         self.begin()?;
         let has_more = self.input.skip_blank_lines()?;
@@ -138,7 +168,7 @@ impl<R: Read> RecordReader<R> {
         }
         let line = self.input.place.line;
         self.gathered.begin(line, self.limits);
-        self.gathered.take_record(&mut self.input)?;
+        self.gathered.take_record(self.delimiter, &mut self.input)?;
         match self.give(row) {
             Ok(()) => Ok(Some(line)),
             Err(field) => Err(ReadFault::NotUtf8 { line, field }),

@@ -4,21 +4,22 @@ ghost use Rattle.std.specs.Prelude.{◌≡◌, ◌↔◌, ◌≤◌, ◌<◌, �
 ghost use Rattle.std.specs.Int.{trailing_zeros, w64};
 ghost use Rattle.std.specs.List.{prefix_len};
 ghost use Rattle.csv.specs.Machine.{Runs};
-ghost use Rattle.csv.specs.Reading.{default_config};
+ghost use Rattle.strkw_records.specs.Delimiters.{table_config};
 ghost use Rattle.csv.specs.declared.parser.State.TheVariants as st;
 ghost use Rattle.strkw_records.specs.Lines.{AreLineBytes, HasNoLineByte, is_line_byte, is_or_line_byte};
 ghost use Rattle.strkw_records.specs.Outcomes.{EndsPlain};
 ghost use Rattle.strkw_records.specs.Records.{quote};
 
+use crate::delimiter::Delimiter;
 use memchr::{memchr, memchr2, memchr3};
 use std::simd::prelude::*;
 
 // So many bytes are looked at together.
 const LANES: usize = 16;
 
-// Whether a byte is the end of a line, or a part of one.
+/// Whether a byte is the end of a line, or a part of one.
 #[inline(always)]
-fn is_line_byte(byte: u8) -> bool
+pub(crate) fn is_line_byte(byte: u8) -> bool
     ensures { result ≡ is_line_byte byte }
 {
     byte == b'\r' || byte == b'\n'
@@ -26,10 +27,10 @@ fn is_line_byte(byte: u8) -> bool
 
 /// Whether a byte ends a field outside quotes.
 #[inline(always)]
-pub(crate) fn ends_plain(byte: u8) -> bool
-    ensures { (result ≡ true) ↔ EndsPlain byte }
+pub(crate) fn ends_plain(delimiter: Delimiter, byte: u8) -> bool
+    ensures { (result ≡ true) ↔ EndsPlain delimiter.byte byte }
 {
-    byte == b',' || is_line_byte(byte)
+    byte == delimiter.byte || is_line_byte(byte)
 }
 
 /// How many carriage returns and line feeds stand at the front.
@@ -107,19 +108,21 @@ fn run_before(byte: u8, bytes: &[u8]) -> usize
 
 /// How many bytes stand before the first that ends a field with no quotes.
 #[inline(always)]
-pub(crate) fn plain_run(bytes: &[u8]) -> usize
+pub(crate) fn plain_run(delimiter: Delimiter, bytes: &[u8]) -> usize
     ensures within { result ≤ length bytes.now }
-    ensures run { Runs default_config st.InField (take result bytes.now) }
+    ensures run { Runs (table_config delimiter.byte) st.InField (take result bytes.now) }
     ensures plain { HasNoLineByte (take result bytes.now) }
-    ensures stops { result < length bytes.now → EndsPlain (slice_index bytes.now result) }
+    ensures stops { result < length bytes.now → EndsPlain delimiter.byte
+        (slice_index bytes.now result) }
 {
-    run_before(b',', bytes)
+    run_before(delimiter.byte, bytes)
 }
 
 /// How many bytes stand before the first quote.
 pub(crate) fn quoted_run(bytes: &[u8]) -> usize
     ensures within { result ≤ length bytes.now }
-    ensures run { Runs default_config st.InQuoted (take result bytes.now) }
+    ensures run { (delimiter : ℕ) → Runs (table_config delimiter) st.InQuoted
+        (take result bytes.now) }
     ensures stops { result < length bytes.now → slice_index bytes.now result ≡ quote }
 {
     memchr(b'"', bytes).unwrap_or(bytes.len())
@@ -128,7 +131,8 @@ pub(crate) fn quoted_run(bytes: &[u8]) -> usize
 /// How many bytes stand before the first quote, and before the first end of a line.
 pub(crate) fn quoted_line_run(bytes: &[u8]) -> usize
     ensures within { result ≤ length bytes.now }
-    ensures run { Runs default_config st.InQuoted (take result bytes.now) }
+    ensures run { (delimiter : ℕ) → Runs (table_config delimiter) st.InQuoted
+        (take result bytes.now) }
     ensures plain { HasNoLineByte (take result bytes.now) }
 {
     run_before(b'"', bytes)

@@ -1,5 +1,5 @@
 -- What is written about a CSV file, and why one is not checked to its end.
-use Rattle.std.specs.Prelude.{◌≡◌, ◌⊎◌, ◌∷◌, ℕ, List, [], Some, true, length, ⊤}
+use Rattle.std.specs.Prelude.{◌≡◌, ◌⊎◌, ◌∷◌, ℕ, List, [], Some, None, true, length, ⊤}
 use Rattle.std.specs.List.{concat}
 use Rattle.serde_json.specs.Data.{Data}
 use Rattle.strkw_report.specs.declared.draft.Draft.{Draft}
@@ -25,7 +25,7 @@ IsChecked settings form plan text wrote checked = (p : Plan) × (names : LinedRe
     × HaveColumns p names.fields
     × AreNamed names.fields p.schemas
     × ((p.checks_each ≡ true) ⊎ AreDistinct names.fields)
-    × AreLinedRecords first_place text (names ∷ records)
+    × AreLinedRecords p.delimiter first_place text (names ∷ records)
     × HaveShape (record_limits p.limits) (length names.fields) (names ∷ records)
     × OfRecords (MessagesOf form (settings p.draft) p.schemas) names.fields records messages
     × wrote (concat messages)
@@ -37,7 +37,7 @@ abbrev pub IsWhyUnchecked : (Draft → Settings) → Form → Data → List ℕ 
     → FileFault → Type 0
 IsWhyUnchecked settings form plan text wrote (fault.Plan refusal) = wrote []
 IsWhyUnchecked settings form plan text wrote (fault.Table why) =
-    IsWhyOfText form settings plan text wrote why
+    IsWhyOfText None form settings plan text wrote why
 IsWhyUnchecked settings form plan text wrote fault.Write = ⊤
 IsWhyUnchecked settings form plan text wrote fault.Memory = ⊤
 IsWhyUnchecked settings form plan text wrote _ = ⊥

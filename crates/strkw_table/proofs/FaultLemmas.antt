@@ -17,12 +17,12 @@ use Rattle.strkw_records.specs.declared.reader.RecordReader.{RecordReader}
 use Rattle.strkw_records.specs.Lines.{first_place}
 use Rattle.strkw_records.specs.declared.limits.Limits.{Limits}
 use Rattle.strkw_records.specs.Limits.{AreWithin}
-use Rattle.strkw_records.specs.Reading.{Explains, limits_of, place_of}
+use Rattle.strkw_records.specs.Reading.{Explains, delimiter_of, limits_of, place_of}
 use Rattle.strkw_records.specs.Records.{LinedRecord, TakesRecord}
 use Rattle.strkw_table.specs.declared.faults.TableFault.{TableFault}
 use Rattle.strkw_table.specs.declared.faults.TableFault.TheVariants as fault
 use Rattle.strkw_table.specs.Faults.{HaveColumns, IsHeader, IsNoPlanFault, IsUnexplained, IsWhy, IsWhyOfNames, IsWhyOfNext, IsWhyOfRows, IsWhyOfText}
-use Rattle.strkw_table.specs.Faults.{IsWhyUnread, record_limits}
+use Rattle.strkw_table.specs.Faults.{IsWhyUnread, delimiter_by, record_limits}
 use Rattle.strkw_table.specs.Fields.{AreDistinct, AreNamed, Form, MessagesOf}
 use Rattle.strkw_table.specs.Gives.{GivesOfPlan, GivesOfReading}
 use Rattle.strkw_table.specs.Rows.{AreFirstRecords, HaveShape, OfRecords}
@@ -52,6 +52,7 @@ by_refusal settings plan (refused.NoPlan kind) why p gives = rw gives p
 by_refusal settings plan (refused.UnknownMember kind name nearest) why p gives = rw gives p
 by_refusal settings plan refused.NoNames why p gives = rw gives p
 by_refusal settings plan refused.NoEach why p gives = rw gives p
+by_refusal settings plan refused.NoDelimiter why p gives = rw gives p
 by_refusal settings plan refused.NoLimits why p gives = rw gives p
 by_refusal settings plan (refused.UnknownLimit kind name nearest) why p gives = rw gives p
 by_refusal settings plan (refused.NoWholeLimit name) why p gives = rw gives p
@@ -85,7 +86,7 @@ no_plan_of_names p names fault.TooLong named = tt
 
 -- what a reader explains of its text is why the next record is not read
 unread : {R : Type 0} (rem : R → Option (List ℕ)) (old new : RecordReader R) (text : List ℕ) (e : ReadFault) → Explains rem old new text e
-    → IsWhyUnread (limits_of old) (place_of old) text e
+    → IsWhyUnread (delimiter_of old) (limits_of old) (place_of old) text e
 unread rem old new text (read.Read e) p = tt
 unread rem old new text (read.OpenQuote line) p = p.0
 unread rem old new text (read.NotUtf8 line number) p =
@@ -100,7 +101,7 @@ unread rem old new text read.TooLong p = tt
 -- and so it is why the next record is not checked
 pub why_of_read : {R : Type 0} (rem : R → Option (List ℕ)) (old new : RecordReader R) (text : List ℕ) (width : ℕ) (e : ReadFault) (why : TableFault)
     → Explains rem old new text e
-    → GivesOfReading e why → IsWhyOfNext (limits_of old) width (place_of old) text why
+    → GivesOfReading e why → IsWhyOfNext (delimiter_of old) (limits_of old) width (place_of old) text why
 why_of_read rem old new text width (read.Read e) why p gives = rw gives tt
 why_of_read rem old new text width (read.OpenQuote line) why p gives = rw gives p.0
 why_of_read rem old new text width (read.LongRecord line most) why p gives = rw gives p
@@ -110,22 +111,23 @@ why_of_read rem old new text width read.Memory why p gives = rw gives tt
 why_of_read rem old new text width read.TooLong why p gives = rw gives tt
 
 -- a fault that needs no reason has one at any record
-pub why_of_next : (limits : Limits) (width : ℕ) (place : Place) (text : List ℕ) (why : TableFault) → IsUnexplained why → IsWhyOfNext limits width place text why
-why_of_next limits width place text (fault.Plan why) p = absurd p
-why_of_next limits width place text (fault.Columns most found) p = absurd p
-why_of_next limits width place text (fault.Missing name) p = absurd p
-why_of_next limits width place text (fault.Twice name first second) p = absurd p
-why_of_next limits width place text fault.NoHeader p = absurd p
-why_of_next limits width place text (fault.Fields line expected found) p = absurd p
-why_of_next limits width place text (fault.Record why) p = absurd p
-why_of_next limits width place text fault.Write p = tt
-why_of_next limits width place text fault.Memory p = tt
-why_of_next limits width place text fault.TooLong p = tt
+pub why_of_next : (delimiter : ℕ) (limits : Limits) (width : ℕ) (place : Place) (text : List ℕ) (why : TableFault) → IsUnexplained why
+    → IsWhyOfNext delimiter limits width place text why
+why_of_next delimiter limits width place text (fault.Plan why) p = absurd p
+why_of_next delimiter limits width place text (fault.Columns most found) p = absurd p
+why_of_next delimiter limits width place text (fault.Missing name) p = absurd p
+why_of_next delimiter limits width place text (fault.Twice name first second) p = absurd p
+why_of_next delimiter limits width place text fault.NoHeader p = absurd p
+why_of_next delimiter limits width place text (fault.Fields line expected found) p = absurd p
+why_of_next delimiter limits width place text (fault.Record why) p = absurd p
+why_of_next delimiter limits width place text fault.Write p = tt
+why_of_next delimiter limits width place text fault.Memory p = tt
+why_of_next delimiter limits width place text fault.TooLong p = tt
 
-module _ {C : Type 0} (says : C → ℕ → List ℕ → List (List ℕ) → Type 0) (limits : Limits) (columns : List C) (place : Place) (text : List ℕ)
+module _ {C : Type 0} (says : C → ℕ → List ℕ → List (List ℕ) → Type 0) (delimiter : ℕ) (limits : Limits) (columns : List C) (place : Place) (text : List ℕ)
     (wrote : List ℕ → Type 0) where
   -- and so it has one among any records
-  pub why_of_rows : (why : TableFault) → IsUnexplained why → IsWhyOfRows says limits columns place text wrote why
+  pub why_of_rows : (why : TableFault) → IsUnexplained why → IsWhyOfRows says delimiter limits columns place text wrote why
   why_of_rows (fault.Plan why) p = absurd p
   why_of_rows (fault.Columns most found) p = absurd p
   why_of_rows (fault.Missing name) p = absurd p
@@ -139,9 +141,9 @@ module _ {C : Type 0} (says : C → ℕ → List ℕ → List (List ℕ) → Typ
 
   -- why the next record is not checked, behind those that are, is why one of the records is not
   pub why_behind : (earlier : List LinedRecord) (messages : List (List ℕ)) (behind : Place) (rest : List ℕ) (why : TableFault)
-      → AreFirstRecords place text earlier behind rest → HaveShape limits (length columns) earlier → OfRecords says columns earlier messages
-      → ((IsUnexplained why → ⊥) → wrote (concat messages)) → IsWhyOfNext limits (length columns) behind rest why
-      → IsWhyOfRows says limits columns place text wrote why
+      → AreFirstRecords delimiter place text earlier behind rest → HaveShape limits (length columns) earlier → OfRecords says columns earlier messages
+      → ((IsUnexplained why → ⊥) → wrote (concat messages)) → IsWhyOfNext delimiter limits (length columns) behind rest why
+      → IsWhyOfRows says delimiter limits columns place text wrote why
   why_behind earlier messages behind rest (fault.Plan why) first width said written p = p
   why_behind earlier messages behind rest (fault.Columns most found) first width said written p = p
   why_behind earlier messages behind rest (fault.Missing name) first width said written p = p
@@ -157,8 +159,8 @@ module _ {C : Type 0} (says : C → ℕ → List ℕ → List (List ℕ) → Typ
 
   -- what was written may be said otherwise
   pub why_written : (other : List ℕ → Type 0) → ((lines : List ℕ) → wrote lines → other lines) → (why : TableFault)
-      → IsWhyOfRows says limits columns place text wrote why
-      → IsWhyOfRows says limits columns place text other why
+      → IsWhyOfRows says delimiter limits columns place text wrote why
+      → IsWhyOfRows says delimiter limits columns place text other why
   why_written other put (fault.Plan why) p = p
   why_written other put (fault.Columns most found) p = p
   why_written other put (fault.Missing name) p = p
@@ -174,17 +176,18 @@ module _ {C : Type 0} (says : C → ℕ → List ℕ → List (List ℕ) → Typ
   why_written other put fault.Memory p = p
   why_written other put fault.TooLong p = p
 
-module _ (form : Form) (settings : Draft → Settings) (plan : Data) (text : List ℕ) (wrote : List ℕ → Type 0) where
+module _ (given : Option ℕ) (form : Form) (settings : Draft → Settings) (plan : Data) (text : List ℕ) (wrote : List ℕ → Type 0) where
   -- out of memory needs no reason
-  pub why_of_memory : (why : TableFault) → why ≡ fault.Memory → IsWhyOfText form settings plan text wrote why
+  pub why_of_memory : (why : TableFault) → why ≡ fault.Memory → IsWhyOfText given form settings plan text wrote why
   why_of_memory why e = rw e tt
 
   -- a fault of the plan comes before anything is written
-  pub why_of_plan : (e : PlanFault) (why : TableFault) → GivesOfPlan e why → wrote [] → IsWhyOfText form settings plan text wrote why
+  pub why_of_plan : (e : PlanFault) (why : TableFault) → GivesOfPlan e why → wrote [] → IsWhyOfText given form settings plan text wrote why
   why_of_plan (refused.NoPlan kind) why gives written = rw gives written
   why_of_plan (refused.UnknownMember kind name nearest) why gives written = rw gives written
   why_of_plan refused.NoNames why gives written = rw gives written
   why_of_plan refused.NoEach why gives written = rw gives written
+  why_of_plan refused.NoDelimiter why gives written = rw gives written
   why_of_plan refused.NoLimits why gives written = rw gives written
   why_of_plan (refused.UnknownLimit kind name nearest) why gives written = rw gives written
   why_of_plan (refused.NoWholeLimit name) why gives written = rw gives written
@@ -196,8 +199,9 @@ module _ (form : Form) (settings : Draft → Settings) (plan : Data) (text : Lis
   why_of_plan refused.Memory why gives written = rw gives tt
 
   -- so does a fault that says why the first record is not read
-  by_first : (p : Plan) (e : ReadFault) (why : TableFault) → plan_of Columns plan ≡ Some p → IsWhyUnread (record_limits p.limits) first_place text e
-      → GivesOfReading e why → wrote [] → IsWhyOfText form settings plan text wrote why
+  by_first : (p : Plan) (e : ReadFault) (why : TableFault) → plan_of Columns plan ≡ Some p → IsWhyUnread (delimiter_by given p)
+      (record_limits p.limits) first_place text e
+      → GivesOfReading e why → wrote [] → IsWhyOfText given form settings plan text wrote why
   by_first p (read.Read e) why is q gives written = rw gives (inl (p, is, written, q))
   by_first p (read.OpenQuote line) why is q gives written = rw gives (inl (p, is, written, q))
   by_first p (read.NotUtf8 line number) why is q gives written = rw gives (inl (p, is, written, q))
@@ -209,16 +213,18 @@ module _ (form : Form) (settings : Draft → Settings) (plan : Data) (text : Lis
   -- and so does a first record that is not read
   pub why_of_first : {R : Type 0} (rem : R → Option (List ℕ)) (old new : RecordReader R) (p : Plan) (e : ReadFault) (why : TableFault)
       → plan_of Columns plan ≡ Some p
-      → place_of old ≡ first_place → limits_of old ≡ record_limits p.limits
-      → Explains rem old new text e → GivesOfReading e why → wrote [] → IsWhyOfText form settings plan text wrote why
-  why_of_first rem old new p e why is at keeps explained gives written =
-      by_first p e why is (subst (λ limits. IsWhyUnread limits first_place text e) keeps
-      (subst (λ place. IsWhyUnread (limits_of old) place text e) at (unread rem old new text e explained))) gives written
+      → place_of old ≡ first_place → delimiter_of old ≡ delimiter_by given p → limits_of old ≡ record_limits p.limits
+      → Explains rem old new text e → GivesOfReading e why → wrote [] → IsWhyOfText given form settings plan text wrote why
+  why_of_first rem old new p e why is at parts keeps explained gives written =
+      by_first p e why is (subst (λ delimiter. IsWhyUnread delimiter (record_limits p.limits) first_place text e) parts
+      (subst (λ limits. IsWhyUnread (delimiter_of old) limits first_place text e) keeps
+      (subst (λ place. IsWhyUnread (delimiter_of old) (limits_of old) place text e) at (unread rem old new text e explained)))) gives written
 
   -- and one whose names are not those of the plan
-  pub why_of_names : (p : Plan) (names : List (List ℕ)) (why : TableFault) → plan_of Columns plan ≡ Some p → IsHeader text names → IsWhyOfNames p names why
+  pub why_of_names : (p : Plan) (names : List (List ℕ)) (why : TableFault) → plan_of Columns plan ≡ Some p → IsHeader (delimiter_by given p) text names
+      → IsWhyOfNames p names why
       → wrote []
-      → IsWhyOfText form settings plan text wrote why
+      → IsWhyOfText given form settings plan text wrote why
   why_of_names p names (fault.Plan why) is header named written = cc named
   why_of_names p names (fault.Columns most found) is header named written = (written, (p, names, is, header, named))
   why_of_names p names (fault.Missing name) is header named written = (written, (p, names, is, header, named))
@@ -234,9 +240,9 @@ module _ (form : Form) (settings : Draft → Settings) (plan : Data) (text : Lis
   pub why_under_header : (p : Plan) (names : LinedRecord) (behind : Place) (rest : List ℕ) (why : TableFault) → plan_of Columns plan ≡ Some p
       → HaveColumns p names.fields → AreNamed names.fields p.schemas
       → (p.checks_each ≡ true) ⊎ AreDistinct names.fields → AreWithin (record_limits p.limits) names.fields
-      → TakesRecord first_place text names.line names.fields behind rest
-      → IsWhyOfRows (MessagesOf form (settings p.draft) p.schemas) (record_limits p.limits) names.fields behind rest wrote why
-      → IsWhyOfText form settings plan text wrote why
+      → TakesRecord (delimiter_by given p) first_place text names.line names.fields behind rest
+      → IsWhyOfRows (MessagesOf form (settings p.draft) p.schemas) (delimiter_by given p) (record_limits p.limits) names.fields behind rest wrote why
+      → IsWhyOfText given form settings plan text wrote why
   why_under_header p names behind rest (fault.Plan why) is few named each within header q = absurd q
   why_under_header p names behind rest (fault.Columns most found) is few named each within header q = absurd q
   why_under_header p names behind rest (fault.Missing name) is few named each within header q = absurd q
@@ -251,13 +257,14 @@ module _ (form : Form) (settings : Draft → Settings) (plan : Data) (text : Lis
   why_under_header p names behind rest fault.TooLong is few named each within header q = tt
 
 -- why one of the records is not checked by columns is why it is not by what they stand for
-module _ {C D : Type 0} (limits : Limits) (says : C → ℕ → List ℕ → List (List ℕ) → Type 0) (tells : D → ℕ → List ℕ → List (List ℕ) → Type 0) (columns : List C)
+module _ {C D : Type 0} (delimiter : ℕ) (limits : Limits) (says : C → ℕ → List ℕ → List (List ℕ) → Type 0) (tells : D → ℕ → List ℕ → List (List ℕ)
+    → Type 0) (columns : List C)
     (names : List D)
     (same : length columns ≡ length names)
     (along : (records : List LinedRecord) (messages : List (List ℕ)) → OfRecords says columns records messages → OfRecords tells names records messages) where
   -- a reason by the columns is one by what they stand for, whatever was written
-  pub why_along : (place : Place) (text : List ℕ) (wrote : List ℕ → Type 0) (why : TableFault) → IsWhyOfRows says limits columns place text wrote why
-      → IsWhyOfRows tells limits names place text wrote why
+  pub why_along : (place : Place) (text : List ℕ) (wrote : List ℕ → Type 0) (why : TableFault) → IsWhyOfRows says delimiter limits columns place text wrote why
+      → IsWhyOfRows tells delimiter limits names place text wrote why
   why_along place text wrote (fault.Plan why) p = p
   why_along place text wrote (fault.Columns most found) p = p
   why_along place text wrote (fault.Missing name) p = p
@@ -273,7 +280,7 @@ module _ {C D : Type 0} (limits : Limits) (says : C → ℕ → List ℕ → Lis
         subst (λ n. HaveShape limits n earlier) same width,
         along earlier messages said,
         written,
-        subst (λ n. IsWhyOfNext limits n behind rest (fault.Fields line expected found)) same is,
+        subst (λ n. IsWhyOfNext delimiter limits n behind rest (fault.Fields line expected found)) same is,
       )
   why_along place text wrote (fault.Record why) p =
       let (earlier, messages, behind, rest, first, width, said, written, is) = p in

@@ -4,10 +4,10 @@ use Rattle.std.specs.Prelude.{suc, Option, Some, None, IfSome}
 use Rattle.std.specs.List.{concat}
 use Rattle.std.proofs.lemmas.List.Folds.{concat-append}
 use Rattle.csv.specs.Machine.{next_record}
-use Rattle.csv.specs.Reading.{default_config}
 use Rattle.csv.specs.Records.{field_at}
 use Rattle.csv.specs.declared.parser.State.TheVariants as st
 use Rattle.strkw_records.specs.declared.place.Place.{Place}
+use Rattle.strkw_records.specs.Delimiters.{table_config}
 use Rattle.strkw_records.specs.Limits.{AreWithin}
 use Rattle.strkw_records.specs.declared.limits.Limits.{Limits}
 use Rattle.strkw_records.specs.Records.{AreLinedRecords, LinedRecord, TakesRecord}
@@ -22,38 +22,40 @@ gathered messages more written old mid put new p q r =
     (append_assoc written put new)
 
 -- at the start no record is taken
-pub first_records-none : (place : Place) (text : List ℕ) → AreFirstRecords place text [] place text
+pub first_records-none : (delimiter : ℕ) (place : Place) (text : List ℕ) → AreFirstRecords delimiter place text [] place text
 unfolding AreFirstRecords
-first_records-none place text = (refl, refl)
+first_records-none delimiter place text = (refl, refl)
 
 -- one record more is taken
-pub first_records-more : (place here behind : Place) (text rest left : List ℕ) (records : List LinedRecord) (r : LinedRecord)
-    → AreFirstRecords place text records here rest
-    → TakesRecord here rest r.line r.fields behind left → AreFirstRecords place text (records ++ r ∷ []) behind left
+pub first_records-more : (delimiter : ℕ) (place here behind : Place) (text rest left : List ℕ) (records : List LinedRecord) (r : LinedRecord)
+    → AreFirstRecords delimiter place text records here rest
+    → TakesRecord delimiter here rest r.line r.fields behind left → AreFirstRecords delimiter place text (records ++ r ∷ []) behind left
 unfolding AreFirstRecords
-first_records-more place here behind text rest left [] r (same, is) takes = (
+first_records-more delimiter place here behind text rest left [] r (same, is) takes = (
   behind,
   left,
-  subst (λ p. TakesRecord p text r.line r.fields behind left) (sym same)
-      (subst (λ t. TakesRecord here t r.line r.fields behind left) (sym is) takes),
+  subst (λ p. TakesRecord delimiter p text r.line r.fields behind left) (sym same)
+      (subst (λ t. TakesRecord delimiter here t r.line r.fields behind left) (sym is) takes),
   (refl, refl),
 )
-first_records-more place here behind text rest left (first ∷ records) r (next, mid, one, others) takes =
-    (next, mid, one, first_records-more next here behind mid rest left records r others takes)
+first_records-more delimiter place here behind text rest left (first ∷ records) r (next, mid, one, others) takes =
+    (next, mid, one, first_records-more delimiter next here behind mid rest left records r others takes)
 
 -- records behind which there is none are all records
-pub all_records : (place behind : Place) (text rest : List ℕ) (records : List LinedRecord) → AreFirstRecords place text records behind rest
-    → next_record default_config st.StartRecord [] [] rest ≡ None → AreLinedRecords place text records
+pub all_records : (delimiter : ℕ) (place behind : Place) (text rest : List ℕ) (records : List LinedRecord)
+    → AreFirstRecords delimiter place text records behind rest
+    → next_record (table_config delimiter) st.StartRecord [] [] rest ≡ None → AreLinedRecords delimiter place text records
 unfolding AreFirstRecords AreLinedRecords
-all_records place behind text rest [] (same, is) none = rw is none
-all_records place behind text rest (r ∷ records) (next, mid, one, others) none = (next, mid, one, all_records next behind mid rest records others none)
+all_records delimiter place behind text rest [] (same, is) none = rw is none
+all_records delimiter place behind text rest (r ∷ records) (next, mid, one, others) none =
+    (next, mid, one, all_records delimiter next behind mid rest records others none)
 
 -- the header, and all records behind it
-pub under_header : (place behind : Place) (text rest : List ℕ) (header : LinedRecord) (records : List LinedRecord)
-    → TakesRecord place text header.line header.fields behind rest
-    → AreLinedRecords behind rest records → AreLinedRecords place text (header ∷ records)
+pub under_header : (delimiter : ℕ) (place behind : Place) (text rest : List ℕ) (header : LinedRecord) (records : List LinedRecord)
+    → TakesRecord delimiter place text header.line header.fields behind rest
+    → AreLinedRecords delimiter behind rest records → AreLinedRecords delimiter place text (header ∷ records)
 unfolding AreLinedRecords
-under_header place behind text rest header records one others = (behind, rest, one, others)
+under_header delimiter place behind text rest header records one others = (behind, rest, one, others)
 
 -- one record more has the shape
 pub have_shape-more : (limits : Limits) (width : ℕ) (records : List LinedRecord) (r : LinedRecord) → HaveShape limits width records → length r.fields ≡ width

@@ -1,10 +1,10 @@
 -- Why a file is not checked to its end.
 use Rattle.std.specs.Prelude.{◌≡◌, ◌≢◌, ◌⊎◌, ◌<◌, ◌≤◌, ℕ, List, [], true, false, length, Some, None}
-use Rattle.std.specs.Prelude.{string_bytes, ⊤}
+use Rattle.std.specs.Prelude.{string_bytes, Option, ⊤}
+use Rattle.std.specs.Option.{unwrap_or}
 use Rattle.std.specs.List.{concat}
 use Rattle.serde_json.specs.Data.{Data, Members}
 use Rattle.csv.specs.Machine.{next_record}
-use Rattle.csv.specs.Reading.{default_config}
 use Rattle.csv.specs.declared.parser.State.TheVariants as st
 use Rattle.strkw_report.specs.declared.draft.Draft.{Draft}
 use Rattle.strkw_keywords.specs.Object.{Settings}
@@ -17,6 +17,7 @@ use Rattle.strkw_records.specs.declared.place.Place.{Place}
 use Rattle.strkw_plan.specs.declared.limits.Limits.{Limits as PlanLimits}
 use Rattle.strkw_records.specs.declared.limits.Limits.{Limits}
 use Rattle.strkw_records.specs.Limits.{AreWithin, IsLongField, IsLongRecord, fields_so_far}
+use Rattle.strkw_records.specs.Delimiters.{table_config}
 use Rattle.strkw_records.specs.Lines.{first_place}
 use Rattle.strkw_records.specs.Reading.{BeginsAt}
 use Rattle.strkw_records.specs.Records.{IsFirstNotUtf8, IsOpenAt, LinedRecord, TakesRecord}
@@ -47,60 +48,63 @@ IsUnexplained fault.Memory = ⊤
 IsUnexplained fault.TooLong = ⊤
 IsUnexplained _ = ⊥
 
--- why the next record of a text, which stands at a place, is not read: a quote that opened on the
--- line is open at the end of the text; a field is not UTF-8; the record, or a field of it, passes a
--- limit. Of the other faults nothing is said.
-abbrev pub IsWhyUnread : Limits → Place → List ℕ → ReadFault → Type 0
-IsWhyUnread limits place text (read.OpenQuote line) = IsOpenAt place text line
-IsWhyUnread limits place text (read.NotUtf8 line number) = (fields : List (List ℕ))
-    × (behind : Place) × (rest : List ℕ) × TakesRecord place text line fields behind rest
+-- Why the next record of a text, which stands at a place, is not read, where this byte parts
+-- fields: a quote that opened on the line is open at the end of the text; a field is not UTF-8; the
+-- record, or a field of it, passes a limit. Of the other faults nothing is said.
+abbrev pub IsWhyUnread : ℕ → Limits → Place → List ℕ → ReadFault → Type 0
+IsWhyUnread delimiter limits place text (read.OpenQuote line) = IsOpenAt delimiter place text line
+IsWhyUnread delimiter limits place text (read.NotUtf8 line number) = (fields : List (List ℕ))
+    × (behind : Place) × (rest : List ℕ)
+    × TakesRecord delimiter place text line fields behind rest
     × IsFirstNotUtf8 fields number
-IsWhyUnread limits place text (read.LongRecord line most) = BeginsAt place text line
-    × IsLongRecord fields_so_far limits text most
-IsWhyUnread limits place text (read.LongField line number most) = BeginsAt place text line
-    × IsLongField fields_so_far limits text number most
-IsWhyUnread limits place text _ = ⊤
+IsWhyUnread delimiter limits place text (read.LongRecord line most) = BeginsAt place text line
+    × IsLongRecord (fields_so_far delimiter) limits text most
+IsWhyUnread delimiter limits place text (read.LongField line number most) =
+    BeginsAt place text line × IsLongField (fields_so_far delimiter) limits text number most
+IsWhyUnread delimiter limits place text _ = ⊤
 
 -- the next record begins on this line, and has so many fields, which are not as many as are
 -- expected
-abbrev pub HasOtherWidth : Place → List ℕ → ℕ → ℕ → ℕ → Type 0
-HasOtherWidth place text line expected found = (fields : List (List ℕ)) × (behind : Place)
-    × (rest : List ℕ) × TakesRecord place text line fields behind rest
+abbrev pub HasOtherWidth : ℕ → Place → List ℕ → ℕ → ℕ → ℕ → Type 0
+HasOtherWidth delimiter place text line expected found = (fields : List (List ℕ))
+    × (behind : Place) × (rest : List ℕ)
+    × TakesRecord delimiter place text line fields behind rest
     × (found ≡ length fields) × (found ≢ expected)
 
 -- why the next record is not checked, where each is to have so many fields and to be within the
 -- limits
-abbrev pub IsWhyOfNext : Limits → ℕ → Place → List ℕ → TableFault → Type 0
-IsWhyOfNext limits width place text (fault.Fields line expected found) =
-    (expected ≡ width) × HasOtherWidth place text line expected found
-IsWhyOfNext limits width place text (fault.Record why) = IsWhyUnread limits place text why
-IsWhyOfNext limits width place text why = IsUnexplained why
+abbrev pub IsWhyOfNext : ℕ → Limits → ℕ → Place → List ℕ → TableFault → Type 0
+IsWhyOfNext delimiter limits width place text (fault.Fields line expected found) =
+    (expected ≡ width) × HasOtherWidth delimiter place text line expected found
+IsWhyOfNext delimiter limits width place text (fault.Record why) =
+    IsWhyUnread delimiter limits place text why
+IsWhyOfNext delimiter limits width place text why = IsUnexplained why
 
 -- ---- by the records
 
 -- The records of a text, which stands at a place, were checked up to one of which this is said:
 -- those before it have as many fields as there are columns and are within the limits, and the
 -- messages about them are what was written.
-abbrev pub StopsAt : {C : Type 0} → Says C → Limits → List C → Place → List ℕ → (List ℕ → Type 0)
-    → (Place → List ℕ → Type 0) → Type 0
-StopsAt says limits columns place text wrote IsSaid = (earlier : List LinedRecord)
+abbrev pub StopsAt : {C : Type 0} → Says C → ℕ → Limits → List C → Place → List ℕ
+    → (List ℕ → Type 0) → (Place → List ℕ → Type 0) → Type 0
+StopsAt says delimiter limits columns place text wrote IsSaid = (earlier : List LinedRecord)
     × (messages : List (List ℕ)) × (behind : Place) × (rest : List ℕ)
-    × AreFirstRecords place text earlier behind rest
+    × AreFirstRecords delimiter place text earlier behind rest
     × HaveShape limits (length columns) earlier
     × OfRecords says columns earlier messages
     × wrote (concat messages)
     × IsSaid behind rest
 
 -- why one of the records is not checked
-abbrev pub IsWhyOfRows : {C : Type 0} → Says C → Limits → List C → Place → List ℕ
+abbrev pub IsWhyOfRows : {C : Type 0} → Says C → ℕ → Limits → List C → Place → List ℕ
     → (List ℕ → Type 0) → TableFault → Type 0
-IsWhyOfRows says limits columns place text wrote (fault.Fields line expected found) =
-    StopsAt says limits columns place text wrote (λ behind rest.
-    IsWhyOfNext limits (length columns) behind rest (fault.Fields line expected found))
-IsWhyOfRows says limits columns place text wrote (fault.Record why) =
-    StopsAt says limits columns place text wrote (λ behind rest.
-    IsWhyUnread limits behind rest why)
-IsWhyOfRows says limits columns place text wrote why = IsUnexplained why
+IsWhyOfRows says delimiter limits columns place text wrote (fault.Fields line expected found) =
+    StopsAt says delimiter limits columns place text wrote (λ behind rest.
+    IsWhyOfNext delimiter limits (length columns) behind rest (fault.Fields line expected found))
+IsWhyOfRows says delimiter limits columns place text wrote (fault.Record why) =
+    StopsAt says delimiter limits columns place text wrote (λ behind rest.
+    IsWhyUnread delimiter limits behind rest why)
+IsWhyOfRows says delimiter limits columns place text wrote why = IsUnexplained why
 
 -- ---- by the file
 
@@ -111,14 +115,18 @@ record_limits limits = record {
   field = limits.longest_field;
 }
 
+-- the byte that parts fields: the caller's, or else the plan's
+abbrev pub delimiter_by : Option ℕ → Plan → ℕ
+delimiter_by given p = unwrap_or given p.delimiter
+
 -- the names in a first record are no more than the plan's limits let them be
 abbrev pub HaveColumns : Plan → List (List ℕ) → Type 0
 HaveColumns p names = length names ≤ p.limits.most_columns
 
--- these are the fields of the first record of a text
-abbrev pub IsHeader : List ℕ → List (List ℕ) → Type 0
-IsHeader text names = (line : ℕ) × (behind : Place) × (rest : List ℕ)
-    × TakesRecord first_place text line names behind rest
+-- these are the fields of the first record of a text, where this byte parts fields
+abbrev pub IsHeader : ℕ → List ℕ → List (List ℕ) → Type 0
+IsHeader delimiter text names = (line : ℕ) × (behind : Place) × (rest : List ℕ)
+    × TakesRecord delimiter first_place text line names behind rest
 
 -- why the names of schemas do not all stand among names: this one does not
 abbrev pub IsWhyUnnamed : Members → List (List ℕ) → TableFault → Type 0
@@ -137,50 +145,58 @@ IsWhyOfNames p names (fault.Twice name first second) = (p.checks_each ≡ false)
     × IsTwice names (string_bytes name) first second
 IsWhyOfNames p names why = why ≡ fault.Memory
 
--- a text was checked by a plan up to a record of which this is said, its first record naming the
--- columns
-abbrev pub IsCheckedTo : Form → (Draft → Settings) → Data → List ℕ → (List ℕ → Type 0)
-    → (Limits → List (List ℕ) → Place → List ℕ → Type 0) → Type 0
-IsCheckedTo form settings plan text wrote IsSaid = (p : Plan) × (names : LinedRecord)
+-- a text was checked by a plan, and a delimiter of the caller if there is one, up to a record of
+-- which this is said, its first record naming the columns
+abbrev pub IsCheckedTo : Option ℕ → Form → (Draft → Settings) → Data → List ℕ → (List ℕ → Type 0)
+    → (ℕ → Limits → List (List ℕ) → Place → List ℕ → Type 0) → Type 0
+IsCheckedTo given form settings plan text wrote IsSaid = (p : Plan) × (names : LinedRecord)
     × (behind : Place) × (rest : List ℕ)
     × (plan_of Columns plan ≡ Some p)
     × HaveColumns p names.fields
     × AreNamed names.fields p.schemas
     × ((p.checks_each ≡ true) ⊎ AreDistinct names.fields)
     × AreWithin (record_limits p.limits) names.fields
-    × TakesRecord first_place text names.line names.fields behind rest
-    × StopsAt (MessagesOf form (settings p.draft) p.schemas) (record_limits p.limits) names.fields
-    behind rest wrote (IsSaid (record_limits p.limits) names.fields)
+    × TakesRecord (delimiter_by given p) first_place text names.line names.fields behind rest
+    × StopsAt (MessagesOf form (settings p.draft) p.schemas) (delimiter_by given p)
+    (record_limits p.limits) names.fields
+    behind rest wrote (IsSaid (delimiter_by given p) (record_limits p.limits) names.fields)
 
 -- the same of the first record, and nothing was written
-abbrev pub IsWhyOfHeader : Data → List ℕ → TableFault → Type 0
-IsWhyOfHeader plan text why = (p : Plan) × (names : List (List ℕ)) × (plan_of Columns plan ≡ Some p)
-    × IsHeader text names × IsWhyOfNames p names why
+abbrev pub IsWhyOfHeader : Option ℕ → Data → List ℕ → TableFault → Type 0
+IsWhyOfHeader given plan text why = (p : Plan) × (names : List (List ℕ))
+    × (plan_of Columns plan ≡ Some p)
+    × IsHeader (delimiter_by given p) text names × IsWhyOfNames p names why
+
+-- there is no first record, and nothing was written
+abbrev pub HasNoHeader : Option ℕ → Data → List ℕ → Type 0
+HasNoHeader given plan text = (p : Plan) × (plan_of Columns plan ≡ Some p)
+    × (next_record (table_config (delimiter_by given p)) st.StartRecord [] [] text ≡ None)
 
 -- why its first record is not read, and nothing was written
-abbrev pub IsWhyOfFirst : Data → List ℕ → (List ℕ → Type 0) → ReadFault → Type 0
-IsWhyOfFirst plan text wrote why = (p : Plan) × (plan_of Columns plan ≡ Some p) × wrote []
-    × IsWhyUnread (record_limits p.limits) first_place text why
+abbrev pub IsWhyOfFirst : Option ℕ → Data → List ℕ → (List ℕ → Type 0) → ReadFault → Type 0
+IsWhyOfFirst given plan text wrote why = (p : Plan) × (plan_of Columns plan ≡ Some p) × wrote []
+    × IsWhyUnread (delimiter_by given p) (record_limits p.limits) first_place text why
 
 -- Why a file with this text is not checked by its plan, and what was written then: nothing but the
--- messages in a form about the records before the one that is to blame. A fault of the plan is told
--- by `IsWhy`; of writing, memory and too many records nothing is said.
-abbrev pub IsWhyOfText : Form → (Draft → Settings) → Data → List ℕ → (List ℕ → Type 0)
+-- messages in a form about the records before the one that is to blame. A delimiter that the caller
+-- gives counts in place of the plan's. A fault of the plan is told by `IsWhy`; of writing, memory
+-- and too many records nothing is said.
+abbrev pub IsWhyOfText : Option ℕ → Form → (Draft → Settings) → Data → List ℕ → (List ℕ → Type 0)
     → TableFault → Type 0
-IsWhyOfText form settings plan text wrote (fault.Plan why) = wrote []
-IsWhyOfText form settings plan text wrote (fault.Missing name) =
-    wrote [] × IsWhyOfHeader plan text (fault.Missing name)
-IsWhyOfText form settings plan text wrote (fault.Columns most found) =
-    wrote [] × IsWhyOfHeader plan text (fault.Columns most found)
-IsWhyOfText form settings plan text wrote (fault.Twice name first second) =
-    wrote [] × IsWhyOfHeader plan text (fault.Twice name first second)
-IsWhyOfText form settings plan text wrote fault.NoHeader =
-    wrote [] × (next_record default_config st.StartRecord [] [] text ≡ None)
-IsWhyOfText form settings plan text wrote (fault.Fields line expected found) =
-    IsCheckedTo form settings plan text wrote (λ limits names behind rest.
-    IsWhyOfNext limits (length names) behind rest (fault.Fields line expected found))
-IsWhyOfText form settings plan text wrote (fault.Record why) =
-    IsWhyOfFirst plan text wrote why
-    ⊎ IsCheckedTo form settings plan text wrote (λ limits names behind rest.
-    IsWhyUnread limits behind rest why)
-IsWhyOfText form settings plan text wrote why = ⊤
+IsWhyOfText given form settings plan text wrote (fault.Plan why) = wrote []
+IsWhyOfText given form settings plan text wrote (fault.Missing name) =
+    wrote [] × IsWhyOfHeader given plan text (fault.Missing name)
+IsWhyOfText given form settings plan text wrote (fault.Columns most found) =
+    wrote [] × IsWhyOfHeader given plan text (fault.Columns most found)
+IsWhyOfText given form settings plan text wrote (fault.Twice name first second) =
+    wrote [] × IsWhyOfHeader given plan text (fault.Twice name first second)
+IsWhyOfText given form settings plan text wrote fault.NoHeader =
+    wrote [] × HasNoHeader given plan text
+IsWhyOfText given form settings plan text wrote (fault.Fields line expected found) =
+    IsCheckedTo given form settings plan text wrote (λ delimiter limits names behind rest.
+    IsWhyOfNext delimiter limits (length names) behind rest (fault.Fields line expected found))
+IsWhyOfText given form settings plan text wrote (fault.Record why) =
+    IsWhyOfFirst given plan text wrote why
+    ⊎ IsCheckedTo given form settings plan text wrote (λ delimiter limits names behind rest.
+    IsWhyUnread delimiter limits behind rest why)
+IsWhyOfText given form settings plan text wrote why = ⊤

@@ -48,9 +48,10 @@ HaveShape limits width [] = ⊤
 HaveShape limits width (r ∷ more) = (length r.fields ≡ width) × AreWithin limits r.fields
     × HaveShape limits width more
 
--- these are the first records of a text, which stands at a place; behind them are another place and
--- the rest
-unfoldable pub AreFirstRecords : Place → List ℕ → List LinedRecord → Place → List ℕ → Type 0
-AreFirstRecords place text [] behind rest = (place ≡ behind) × (text ≡ rest)
-AreFirstRecords place text (r ∷ more) behind rest = (next : Place) × (left : List ℕ)
-    × TakesRecord place text r.line r.fields next left × AreFirstRecords next left more behind rest
+-- these are the first records of a text, which stands at a place, where this byte parts fields;
+-- behind them are another place and the rest
+unfoldable pub AreFirstRecords : ℕ → Place → List ℕ → List LinedRecord → Place → List ℕ → Type 0
+AreFirstRecords delimiter place text [] behind rest = (place ≡ behind) × (text ≡ rest)
+AreFirstRecords delimiter place text (r ∷ more) behind rest = (next : Place) × (left : List ℕ)
+    × TakesRecord delimiter place text r.line r.fields next left
+    × AreFirstRecords delimiter next left more behind rest

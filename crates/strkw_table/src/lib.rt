@@ -12,4 +12,4 @@ mod table;
 pub use faults::TableFault;
 pub use form::{FieldForm, FieldLines};
 pub use rows::{Checked, Watch};
-pub use table::{check_table, check_table_as};
+pub use table::{check_table, check_table_as, check_table_with};

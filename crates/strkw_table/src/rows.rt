@@ -4,12 +4,12 @@ ghost use Rattle.std.specs.Prelude.{◌≡◌, ◌++◌, ℕ, List, [], Some, No
 ghost use Rattle.std.specs.List.{concat};
 ghost use Rattle.std.specs.Io.KnownBytes.{Appends};
 ghost use Rattle.csv.specs.Machine.{next_record};
-ghost use Rattle.csv.specs.Reading.{default_config};
 ghost use Rattle.csv.specs.Records.{fields_of, field_at};
 ghost use Rattle.csv.specs.declared.parser.State.TheVariants as st;
 ghost use Rattle.strkw_keywords.specs.Handed.{lists_of};
+ghost use Rattle.strkw_records.specs.Delimiters.{table_config};
 ghost use Rattle.strkw_records.specs.Limits.{AreWithin};
-ghost use Rattle.strkw_records.specs.Reading.{Takes, limits_of, place_of, unread_of};
+ghost use Rattle.strkw_records.specs.Reading.{Takes, delimiter_of, limits_of, place_of, unread_of};
 ghost use Rattle.strkw_records.specs.Records.{AreLinedRecords, LinedRecord};
 ghost use Rattle.strkw_table.specs.Columns.{AreUsable, ColumnMessages};
 ghost use Rattle.strkw_table.specs.Faults.{IsNoPlanFault, IsUnexplained, IsWhyOfNext, IsWhyOfRows};
@@ -119,12 +119,13 @@ fn check_next<E: RegexEngine, R: Read, F: FieldForm>(
         AreUsable E.outcome lists columns.now }
     ensures why { IfErr result IsNoPlanFault }
     ensures fault { (text : List ℕ) → unread_of R.remaining reader.old ≡ Some text
-        → IfErr result (IsWhyOfNext (limits_of reader.old) (length columns.now)
-        (place_of reader.old) text) }
+        → IfErr result (IsWhyOfNext (delimiter_of reader.old) (limits_of reader.old)
+        (length columns.now) (place_of reader.old) text) }
     ensures limits { limits_of reader.new ≡ limits_of reader.old }
+    ensures delimiter { delimiter_of reader.new ≡ delimiter_of reader.old }
     ensures end { (text : List ℕ) → unread_of R.remaining reader.old ≡ Some text
         → IfOk result (λ o. o ≡ None
-        → next_record default_config st.StartRecord [] [] text ≡ None) }
+        → next_record (table_config (delimiter_of reader.old)) st.StartRecord [] [] text ≡ None) }
     ensures kept { IfOk result (λ o. o ≡ None → string_bytes out.new ≡ string_bytes out.old) }
     ensures unsaid { IfErr result (λ why. (IsUnexplained why → ⊥)
         → string_bytes out.new ≡ string_bytes out.old) }
@@ -199,12 +200,12 @@ pub(crate) fn check_rows<E: RegexEngine, R: Read, W: Write, P: Watch, F: FieldFo
     ensures fault { let lists = lists_of admits accepted encoded decoding checks.now in
         (text : List ℕ) → unread_of R.remaining reader.old ≡ Some text
         → IfErr result (IsWhyOfRows (ColumnMessages (F.said form.now) E.outcome lists)
-        (limits_of reader.old) columns.now (place_of reader.old) text
+        (delimiter_of reader.old) (limits_of reader.old) columns.now (place_of reader.old) text
         (Appends (W.contents writer.old) (W.contents writer.new))) }
     ensures messages { let lists = lists_of admits accepted encoded decoding checks.now in
         (text : List ℕ) → unread_of R.remaining reader.old ≡ Some text
         → IfOk result (λ c. (records : List LinedRecord) × (messages : List (List ℕ))
-        × AreLinedRecords (place_of reader.old) text records
+        × AreLinedRecords (delimiter_of reader.old) (place_of reader.old) text records
         × HaveShape (limits_of reader.old) (length columns.now) records
         × OfRecords (ColumnMessages (F.said form.now) E.outcome lists) columns.now records messages
         × Appends (W.contents writer.old) (W.contents writer.new) (concat messages)
@@ -238,7 +239,7 @@ fn gather_rows<E: RegexEngine, R: Read, W: Write, P: Watch, F: FieldForm>(
     ensures fault { let lists = lists_of admits accepted encoded decoding checks.now in
         (text : List ℕ) → unread_of R.remaining reader.old ≡ Some text
         → IfErr result (IsWhyOfRows (ColumnMessages (F.said form.now) E.outcome lists)
-        (limits_of reader.old) columns.now (place_of reader.old) text (λ lines.
+        (delimiter_of reader.old) (limits_of reader.old) columns.now (place_of reader.old) text (λ lines.
         (written : List ℕ)
         × Appends (W.contents writer.old) (W.contents writer.new) written
         × (lines ≡ written ++ string_bytes out.new))) }
@@ -246,7 +247,7 @@ fn gather_rows<E: RegexEngine, R: Read, W: Write, P: Watch, F: FieldForm>(
         (text : List ℕ) → unread_of R.remaining reader.old ≡ Some text
         → IfOk result (λ c. (records : List LinedRecord) × (messages : List (List ℕ))
         × (written : List ℕ)
-        × AreLinedRecords (place_of reader.old) text records
+        × AreLinedRecords (delimiter_of reader.old) (place_of reader.old) text records
         × HaveShape (limits_of reader.old) (length columns.now) records
         × OfRecords (ColumnMessages (F.said form.now) E.outcome lists) columns.now records messages
         × Appends (W.contents writer.old) (W.contents writer.new) written

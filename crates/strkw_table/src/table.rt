@@ -1,6 +1,6 @@
 //! A whole file.
 
-ghost use Rattle.std.specs.Prelude.{◌≡◌, ◌∷◌, ◌⊎◌, ℕ, List, Some, None, true, length, IfOk, IfErr, OnOk};
+ghost use Rattle.std.specs.Prelude.{◌≡◌, ◌∷◌, ◌⊎◌, ℕ, List, Some, None, true, length, option_map, IfOk, IfErr, OnOk};
 ghost use Rattle.std.specs.List.{concat};
 ghost use Rattle.std.specs.Io.KnownBytes.{Appends};
 ghost use Rattle.serde_json.specs.View.{members_view, view};
@@ -13,7 +13,7 @@ ghost use Rattle.strkw_plan.specs.Rules.{rules_settings};
 ghost use Rattle.strkw_plan.specs.Plan as written;
 ghost use Rattle.strkw_plan.specs.Plan.{plan_of, plan_problem};
 ghost use Rattle.strkw_plan.specs.declared.kind.PlanKind.TheVariants.{Columns};
-ghost use Rattle.strkw_table.specs.Faults.{HaveColumns, IsWhy, IsWhyOfNames, IsWhyOfText, record_limits};
+ghost use Rattle.strkw_table.specs.Faults.{HaveColumns, IsWhy, IsWhyOfNames, IsWhyOfText, delimiter_by, record_limits};
 ghost use Rattle.strkw_table.specs.Fields.{AreDistinct, AreNamed, MessagesOf, field_message};
 ghost use Rattle.strkw_table.specs.Rows.{HaveShape, OfRecords};
 
@@ -29,7 +29,7 @@ use std::io::{Read, Write};
 use strkw_object::laws::lists_of_compile_are_in_use;
 use strkw_pattern::EngineBuilder;
 use strkw_plan::{Limits as PlanLimits, Plan, PlanKind, Rules, plan_in};
-use strkw_records::{Limits, RecordReader};
+use strkw_records::{Delimiter, Limits, RecordReader};
 
 /// Checks the fields of a CSV file, whose first record names its columns, by a plan:
 /// `{"draft": .., "columns": {NAME: SCHEMA, ..}}`.
@@ -41,7 +41,7 @@ use strkw_records::{Limits, RecordReader};
 /// under the caller's rules. A column that the plan does not name is not checked.
 ///
 /// The plan's limits bound the columns, and the bytes of a record and of a field; where they do not bound these,
-/// memory does.
+/// memory does. The plan's delimiter parts the fields: a comma, where it does not say it.
 ///
 /// Errors: as `TableFault` says. After `Plan`, `Columns`, `Missing`, `Twice` and `NoHeader` nothing was written; after
 /// `Fields` and `Record` there are the lines of the records before.
@@ -63,7 +63,7 @@ pub fn check_table<B: EngineBuilder, R: Read + Drop, W: Write, P: Watch>(
         × HaveColumns p names.fields
         × AreNamed names.fields p.schemas
         × ((p.checks_each ≡ true) ⊎ AreDistinct names.fields)
-        × AreLinedRecords first_place (strip_bom text) (names ∷ records)
+        × AreLinedRecords p.delimiter first_place (strip_bom text) (names ∷ records)
         × HaveShape (record_limits p.limits) (length names.fields) (names ∷ records)
         × OfRecords (MessagesOf field_message (settings p.draft) p.schemas) names.fields records
         messages
@@ -75,7 +75,7 @@ pub fn check_table<B: EngineBuilder, R: Read + Drop, W: Write, P: Watch>(
     ensures fault { let settings =
         rules_settings B.takes B.outcome admits accepted encoded decoding rules.now in
         (text : List ℕ) → R.remaining file ≡ Some text
-        → IfErr result (IsWhyOfText field_message settings (view plan.now) (strip_bom text)
+        → IfErr result (IsWhyOfText None field_message settings (view plan.now) (strip_bom text)
         (Appends (W.contents writer.old) (W.contents writer.new))) }
 {
     check_table_as(alloc, rules, plan, file, writer, watch, &FieldLines)
@@ -103,7 +103,7 @@ pub fn check_table_as<B: EngineBuilder, R: Read + Drop, W: Write, P: Watch, F: F
         × HaveColumns p names.fields
         × AreNamed names.fields p.schemas
         × ((p.checks_each ≡ true) ⊎ AreDistinct names.fields)
-        × AreLinedRecords first_place (strip_bom text) (names ∷ records)
+        × AreLinedRecords p.delimiter first_place (strip_bom text) (names ∷ records)
         × HaveShape (record_limits p.limits) (length names.fields) (names ∷ records)
         × OfRecords (MessagesOf (F.said form.now) (settings p.draft) p.schemas) names.fields
         records messages
@@ -115,14 +115,58 @@ pub fn check_table_as<B: EngineBuilder, R: Read + Drop, W: Write, P: Watch, F: F
     ensures fault { let settings =
         rules_settings B.takes B.outcome admits accepted encoded decoding rules.now in
         (text : List ℕ) → R.remaining file ≡ Some text
-        → IfErr result (IsWhyOfText (F.said form.now) settings (view plan.now) (strip_bom text)
+        → IfErr result (IsWhyOfText None (F.said form.now) settings (view plan.now) (strip_bom text)
         (Appends (W.contents writer.old) (W.contents writer.new))) }
+{
+    check_table_with(alloc, rules, plan, None, file, writer, watch, form)
+}
+
+/// The same, with a delimiter of the caller, if there is one: it parts the fields in place of the plan's.
+///
+/// Errors: as `check_table`.
+pub fn check_table_with<B: EngineBuilder, R: Read + Drop, W: Write, P: Watch, F: FieldForm>(
+    alloc: Global,
+    rules: &Rules<'_, B>,
+    plan: &Value,
+    delimiter: Option<Delimiter>,
+    file: R,
+    writer: &mut W,
+    watch: &mut P,
+    form: &F,
+) -> Result<Checked, TableFault>
+    ensures plan { OnOk result (plan_problem Columns (view plan.now) ≡ None) }
+    ensures messages { let given = option_map (λ d. d.byte) delimiter in
+        let settings =
+        rules_settings B.takes B.outcome admits accepted encoded decoding rules.now in
+        (text : List ℕ) → R.remaining file ≡ Some text
+        → IfOk result (λ c. (p : written.Plan) × (names : LinedRecord)
+        × (records : List LinedRecord) × (messages : List (List ℕ))
+        × (plan_of Columns (view plan.now) ≡ Some p)
+        × HaveColumns p names.fields
+        × AreNamed names.fields p.schemas
+        × ((p.checks_each ≡ true) ⊎ AreDistinct names.fields)
+        × AreLinedRecords (delimiter_by given p) first_place (strip_bom text) (names ∷ records)
+        × HaveShape (record_limits p.limits) (length names.fields) (names ∷ records)
+        × OfRecords (MessagesOf (F.said form.now) (settings p.draft) p.schemas) names.fields
+        records messages
+        × Appends (W.contents writer.old) (W.contents writer.new) (concat messages)
+        × (c.records ≡ length records) × (c.errors ≡ length messages)) }
+    ensures why { let settings =
+        rules_settings B.takes B.outcome admits accepted encoded decoding rules.now in
+        IfErr result (IsWhy settings (view plan.now)) }
+    ensures fault { let given = option_map (λ d. d.byte) delimiter in
+        let settings =
+        rules_settings B.takes B.outcome admits accepted encoded decoding rules.now in
+        (text : List ℕ) → R.remaining file ≡ Some text
+        → IfErr result (IsWhyOfText given (F.said form.now) settings (view plan.now)
+        (strip_bom text) (Appends (W.contents writer.old) (W.contents writer.new))) }
 {
     lists_of_compile_are_in_use::<B::Engine>();
     let plan = plan_in(alloc, PlanKind::Columns, plan)?;
     let objects = compile_objects(alloc, rules, &plan)?;
     let limits = record_limits(plan.limits);
-    let mut reader = RecordReader::with_limits(alloc, file, limits)?;
+    let delimiter = delimiter_by(delimiter, &plan);
+    let mut reader = RecordReader::with_delimiter(alloc, file, limits, delimiter)?;
     let mut names = StringRecord::new(alloc);
     if reader.read(&mut names)?.is_none() {
         return Err(TableFault::NoHeader);
@@ -139,6 +183,14 @@ pub fn check_table_as<B: EngineBuilder, R: Read + Drop, W: Write, P: Watch, F: F
         writer,
         watch,
     )
+}
+
+// The delimiter of the caller, or else of the plan.
+fn delimiter_by(given: Option<Delimiter>, plan: &Plan<'_>) -> Delimiter
+    ensures { let byte = option_map (λ d. d.byte) given in
+        result.byte ≡ delimiter_by byte (plan_view plan.now) }
+{
+    given.unwrap_or(plan.delimiter)
 }
 
 // How long a record may be by a plan.

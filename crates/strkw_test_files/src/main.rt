@@ -1,6 +1,6 @@
-//! Reads rows, one a line of JSON: a `plan`, and what is checked by it, the text of a CSV file (`file`) or a JSON
-//! document (`document`). Prints each row, and under it the messages and how the check ended: what it counted, or why
-//! it could not be done. A line that begins with `#` is copied.
+//! Reads rows, one a line of JSON: a `plan`, and what is checked by it, the text of a CSV file (`file`), which may have a
+//! `delimiter` of the caller, or a JSON document (`document`). Prints each row, and under it the messages and how the
+//! check ended: what it counted, or why it could not be done. A line that begins with `#` is copied.
 #![tactic(auto)]
 
 #[cfg(test)]
@@ -24,7 +24,8 @@ use std::io;
 use strkw_document::check_document;
 use strkw_pattern::NoPatterns;
 use strkw_plan::Rules;
-use strkw_table::{Checked, Watch, check_table};
+use strkw_records::Delimiter;
+use strkw_table::{Checked, FieldLines, Watch, check_table_with};
 
 #[derive(Drop)]
 struct Unwatched;
@@ -64,21 +65,37 @@ fn check_row(alloc: Global, row: &Value, messages: &mut Vec<u8>) -> Result<Strin
         return String::from_str(alloc, "no plan");
     };
     match (row.get("file").and_then(Value::as_str), row.get("document")) {
-        (Some(file), None) => of_file(alloc, plan, file, messages),
+        (Some(file), None) => of_file(alloc, plan, delimiter_in(row), file, messages),
         (None, Some(document)) => of_document(alloc, plan, document, messages),
         _ => String::from_str(alloc, "no file, or no document"),
     }
 }
 
+// The delimiter that a caller of this row hands in, if it does.
+fn delimiter_in(row: &Value) -> Option<Delimiter> {
+    let text = row.get("delimiter")?.as_str()?;
+    Delimiter::new(*text.as_bytes().first()?)
+}
+
 fn of_file(
     alloc: Global,
     plan: &Value,
+    delimiter: Option<Delimiter>,
     file: &str,
     messages: &mut Vec<u8>,
 ) -> Result<String, AllocError> {
     let (mut watch, bytes) = (Unwatched, file.as_bytes());
     let rules = Rules::new(&NoPatterns);
-    match check_table(alloc, &rules, plan, bytes, messages, &mut watch) {
+    match check_table_with(
+        alloc,
+        &rules,
+        plan,
+        delimiter,
+        bytes,
+        messages,
+        &mut watch,
+        &FieldLines,
+    ) {
         Ok(Checked { records, errors }) => format!(in alloc; "{records} records, {errors} errors"),
         Err(fault) => format!(in alloc; "{fault}"),
     }

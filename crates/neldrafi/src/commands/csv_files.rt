@@ -12,7 +12,7 @@ use crate::options::{
 };
 use crate::outcome::Outcome;
 use crate::output::{FaultyWrite, Output};
-use crate::plans::read_plan_of;
+use crate::plans::read_plan_by;
 use crate::progress::Progress;
 use crate::report::{FileReport, Page};
 use crate::summary::Summary;
@@ -20,7 +20,6 @@ use crate::telling::Subject;
 use clap::{Arg, ArgAction, ArgMatches, Command};
 use serde_json::Value;
 use std::alloc::{AllocError, Global};
-use strkw_plan::PlanKind;
 use strkw_shells::{FileFault, check_csv};
 use strkw_table::{Checked, FieldForm, FieldLines, TableFault};
 
@@ -29,6 +28,9 @@ pub(crate) const NAME: &str = "csv";
 
 // The argument for the file of the plan.
 const PLAN: &str = "PLAN";
+
+// The option for what parts the columns.
+const DELIMITER: &str = "delimiter";
 
 // The option by which it tells how far it is.
 const PROGRESS: &str = "progress";
@@ -51,6 +53,7 @@ first twenty of each kind.
 Examples:
   neldrafi csv plan.json people.csv
   neldrafi csv --max-errors 10 plan.json 2023.csv 2024.csv
+  neldrafi csv --delimiter ';' plan.json people.csv
   neldrafi csv --output json plan.json people.csv
   neldrafi csv --summary plan.json people.csv
   neldrafi csv --report errors.html plan.json people.csv
@@ -58,6 +61,10 @@ Examples:
 
 /// What the subcommand takes.
 pub(crate) fn command<'a>(alloc: Global) -> Result<Command<'a>, AllocError> {
+    let delimiter = Arg::new(alloc, DELIMITER)
+        .long(DELIMITER)
+        .value_name("CHARACTER")
+        .help("What parts the columns, in place of what the plan says; `\\t` is a tab");
     let progress = Arg::new(alloc, PROGRESS)
         .long(PROGRESS)
         .action(ArgAction::SetTrue)
@@ -79,6 +86,7 @@ pub(crate) fn command<'a>(alloc: Global) -> Result<Command<'a>, AllocError> {
         .arg(required(alloc, PLAN, "The file of the plan"))?
         .arg(files(alloc))?
         .arg(color(alloc))?
+        .arg(delimiter)?
         .arg(max_errors(alloc))?
         .arg(output_form(alloc))?
         .arg(progress)?
@@ -195,6 +203,11 @@ impl FileCheck for TableCheck<'_> {
     }
 }
 
+// The delimiter that a word says: itself, but for `\t`, which is a tab.
+fn delimiter_said(word: &str) -> &str {
+    if word == "\\t" { "\t" } else { word }
+}
+
 // The page, if one is to be written.
 fn page_of(alloc: Global, path: Option<&str>) -> Option<Page> {
     match path {
@@ -225,7 +238,8 @@ pub(crate) fn run(rt: &HostRuntime, matches: &ArgMatches<'_>) -> Result<Outcome,
     let path = matches.get_str(PLAN).unwrap_or("");
     let (page, files) = (matches.get_str(REPORT), matches.get_strs(FILE));
     require_other_path(rt.alloc(), page, path, files)?;
-    let plan = read_plan_of(rt, PlanKind::Columns, path)?;
+    let delimiter = matches.get_str(DELIMITER).map(delimiter_said);
+    let plan = read_plan_by(rt, path, delimiter)?;
     let mut check = TableCheck {
         plan: &plan,
         form: OutputForm::of(matches),

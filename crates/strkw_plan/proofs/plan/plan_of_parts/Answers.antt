@@ -10,8 +10,9 @@ returns-in-None-clause-good c =
     let schemas : c.args.schemas ≡ Some c.in_ok-schemas.schemas = search rules in
     let ignored : c.args.ignored ≡ Some c.in_ok-ignored.ignored = search rules in
     let each : c.args.checks_each ≡ Some c.in_ok-checks_each.checks_each = search rules in
+    let delimiter : c.args.delimiter ≡ Some c.in_ok-delimiter.delimiter = search rules in
     let entries = c.in_ok-schemas.schemas.now.entries in
     let values = items_view c.in_ok-ignored.ignored.now in
     let some : is_empty (members_view entries) ≡ false = has_members entries (λ none. absurd (search rules)) in
     let good : schemas_problem c.in_ok-draft.draft values (members_view entries) ≡ None = search rules in
-    rw (draft, schemas, ignored, each, some) good
+    rw (draft, schemas, ignored, each, delimiter, some) good

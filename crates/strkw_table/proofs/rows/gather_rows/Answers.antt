@@ -1,12 +1,15 @@
-use Rattle.std.proofs.Common.{rules, ◌≡◌, Err, ◌++◌, ◌+◌, ◌∷◌, ◌∙◌, ℕ, List, [], refl, sym, ap, subst, length, length-append, string_bytes}
+use Rattle.std.proofs.Common.{rules, ◌≡◌, Err, None, ◌++◌, ◌+◌, ◌∷◌, ◌∙◌, ℕ, List, [], refl, sym, ap, subst, length, length-append, string_bytes}
 use Rattle.std.specs.Io.KnownBytes.{Appends}
 use Rattle.std.proofs.KnownBytes.{Appends-nil, Appends-trans}
+use Rattle.csv.specs.Machine.{next_record}
 use Rattle.csv.specs.Records.{fields_of}
+use Rattle.csv.specs.declared.parser.State.TheVariants as st
 use Rattle.strkw_keywords.specs.Handed.{lists_of}
 use Rattle.strkw_table.specs.Columns.{ColumnMessages}
+use Rattle.strkw_records.specs.Delimiters.{table_config}
 use Rattle.strkw_records.specs.Limits.{AreWithin}
-use Rattle.strkw_records.specs.Reading.{limits_of, place_of}
-use Rattle.strkw_records.specs.Records.{LinedRecord}
+use Rattle.strkw_records.specs.Reading.{delimiter_of, limits_of, place_of}
+use Rattle.strkw_records.specs.Records.{LinedRecord, TakesRecord}
 use Rattle.strkw_table.specs.Faults.{IsWhyOfNext}
 use Rattle.strkw_table.proofs.FaultLemmas.{why_behind}
 use Rattle.strkw_table.proofs.RowLemmas.{all_records, first_records-more, first_records-none, gathered, have_shape-more, have_shape-none, of_records-more}
@@ -19,13 +22,14 @@ loop-turn-init g c =
     (λ b. (goal.ContentCodec-dyn g b).encoded b.1) (λ b. (goal.ContentCodec-dyn g b).decoding b.1) c.args.checks.now in (
       refl,
       refl,
+      refl,
       λ text source. (
         [],
         [],
         [],
         text,
         source,
-        first_records-none (place_of c.args.reader.now) text,
+        first_records-none (delimiter_of c.args.reader.now) (place_of c.args.reader.now) text,
         have_shape-none _ _,
         of_records-none (ColumnMessages (g.F.FieldForm.said c.args.form.now) g.E.RegexEngine.outcome lists) c.args.columns.now,
         Appends-nil _,
@@ -39,11 +43,12 @@ pub loop-turn-preserved : goal.loop-turn-preserved
 loop-turn-preserved g c =
     let lists = lists_of (λ b. (goal.Format-dyn g b).admits b.1) (λ b. (goal.MediaTypeCheck-dyn g b).accepted b.1)
     (λ b. (goal.ContentCodec-dyn g b).encoded b.1) (λ b. (goal.ContentCodec-dyn g b).decoding b.1) c.args.checks.now in
-    let (counted, limited, all) = c.loop-turn.invariant in
+    let (counted, limited, parted, all) = c.loop-turn.invariant in
     let sum : c.in_ok-checked.field-0 ≡ c.loop-turn.checked.errors + c.in-Some.more = search rules in
     let (put, appended, split) = c.in_ok-write_gathered.ensures.written in (
       ap (λ n. n + 1) counted,
       c.in_ok-more.ensures.limits ∙ limited,
+      c.in_ok-more.ensures.delimiter ∙ parted,
       λ text source.
           let (records, messages, written, left, at_left, first, width, all_said, appends, joined, row_count, count) = all text source in
           let fields = fields_of c.check_next.new.row in
@@ -55,10 +60,13 @@ loop-turn-preserved g c =
             written ++ put,
             rest,
             at_rest,
-            first_records-more (place_of c.args.reader.now) (place_of c.loop-turn.reader)
-                (place_of c.check_next.new.reader) text left rest records r first takes_record,
+            first_records-more (delimiter_of c.args.reader.now) (place_of c.args.reader.now) (place_of c.loop-turn.reader)
+                (place_of c.check_next.new.reader) text left rest records r first
+                (subst (λ delimiter. TakesRecord delimiter (place_of c.loop-turn.reader) left line fields
+                (place_of c.check_next.new.reader) rest) parted takes_record),
             have_shape-more _ _ records r width wide (subst (λ limits. AreWithin limits fields) limited within),
-            of_records-more (ColumnMessages (g.F.FieldForm.said c.args.form.now) g.E.RegexEngine.outcome lists) c.args.columns.now records r messages more all_said said,
+            of_records-more (ColumnMessages (g.F.FieldForm.said c.args.form.now) g.E.RegexEngine.outcome lists) c.args.columns.now records r messages more
+                all_said said,
             Appends-trans _ _ _ written put appends appended,
             gathered messages more written (string_bytes c.loop-turn.out) (string_bytes c.check_next.new.out) put
                 (string_bytes c.write_gathered.new.out) joined more_out split,
@@ -69,14 +77,15 @@ loop-turn-preserved g c =
 
 pub returns-in_default-clause-messages : goal.returns-in_default-clause-messages
 returns-in_default-clause-messages g c text source =
-    let (counted, limited, all) = c.loop-turn.invariant in
+    let (counted, limited, parted, all) = c.loop-turn.invariant in
     let (records, messages, written, left, at_left, first, width, all_said, appends, joined, row_count, count) = all text source in
     let none = c.in_ok-more.ensures.end left at_left (search rules) in
     let kept : string_bytes c.check_next.new.out ≡ string_bytes c.loop-turn.out = c.in_ok-more.ensures.kept (search rules) in (
       records,
       messages,
       written,
-      all_records (place_of c.args.reader.now) (place_of c.loop-turn.reader) text left records first none,
+      all_records (delimiter_of c.args.reader.now) (place_of c.args.reader.now) (place_of c.loop-turn.reader) text left records first
+          (subst (λ delimiter. next_record (table_config delimiter) st.StartRecord [] [] left ≡ None) parted none),
       width,
       all_said,
       appends,
@@ -92,12 +101,14 @@ returns-in_err-more-clause-fault g c text source =
     let says = ColumnMessages (g.F.FieldForm.said c.args.form.now) g.E.RegexEngine.outcome lists in
     let why = c.in_err-more.field-0.0 in
     let told : c.from_residual.result ≡ Err why = search rules in
-    let (counted, limited, all) = c.loop-turn.invariant in
+    let (counted, limited, parted, all) = c.loop-turn.invariant in
     let (records, messages, written, left, at_left, first, width, all_said, appends, joined, row_count, count) = all text source in
     let wrote : List ℕ → Type 0 = λ lines. (put : List ℕ)
     × Appends (g.W.Write.contents c.args.writer.now) (g.W.Write.contents c.loop-turn.writer) put × (lines ≡ put ++ string_bytes c.check_next.new.out) in
-    rw told (why_behind says (limits_of c.args.reader.now) c.args.columns.now (place_of c.args.reader.now) text wrote records messages
+    rw told (why_behind says (delimiter_of c.args.reader.now) (limits_of c.args.reader.now) c.args.columns.now
+    (place_of c.args.reader.now) text wrote records messages
     (place_of c.loop-turn.reader) left why first width all_said
     (λ explained. (written, appends, joined ∙ ap (λ l. written ++ l) (sym (c.in_err-more.ensures.unsaid explained))))
-    (subst (λ limits. IsWhyOfNext limits (length c.args.columns.now) (place_of c.loop-turn.reader) left why) limited
-    (c.in_err-more.ensures.fault left at_left)))
+    (subst (λ delimiter. IsWhyOfNext delimiter (limits_of c.args.reader.now) (length c.args.columns.now) (place_of c.loop-turn.reader) left why) parted
+    (subst (λ limits. IsWhyOfNext (delimiter_of c.loop-turn.reader) limits (length c.args.columns.now) (place_of c.loop-turn.reader) left why) limited
+    (c.in_err-more.ensures.fault left at_left))))

@@ -33,7 +33,7 @@ returns-in_err-take_quoted-clause-fails g c text e =
     let next = rw head at (c.in_ok-take_byte.ensures.passes text kept.0) in
     let at = next.place ∙ ap (λ (z : Place). place_after z (quote ∷ [])) c.is_quote_next.ensures.place in
     let line = ap (λ (z : Place). z.line) c.is_quote_next.ensures.place in
-    rw (is, same) (at_field-quoted _ _ text _ _ c.args.self.now _ next.splits at line (c.in_err-take_quoted.ensures.fails _ next.left))
+    rw (is, same) (at_field-quoted c.args.delimiter.byte _ _ text _ _ c.args.self.now _ next.splits at line (c.in_err-take_quoted.ensures.fails c.args.delimiter.byte _ next.left))
 
 pub returns-clause-ok : goal.returns-clause-ok
 returns-clause-ok g c text e =
@@ -42,19 +42,22 @@ returns-clause-ok g c text e =
       | then-is_quoted+in_ok-take_byte+in_ok-take_quoted w ↦
           let head = head-index c.is_quote_next.new.self.piece quote (is_byte-true _ quote (sym w.if-is_quoted.true ∙ c.in_ok-is_quoted.ensures.front)) in
           let next = rw head at (w.in_ok-take_byte.ensures.passes text kept.0) in
-          let quoted = w.in_ok-take_quoted.ensures.ok _ next.left in
-          let h = gathers-quotes g.R.Read.remaining c.args.input.now c.is_quote_next.new.self w.take_byte.new.self w.take_quoted.new.input text _
+          let quoted = w.in_ok-take_quoted.ensures.ok c.args.delimiter.byte _ next.left in
+          let h = gathers-quotes c.args.delimiter.byte g.R.Read.remaining c.args.input.now c.is_quote_next.new.self w.take_byte.new.self
+          w.take_quoted.new.input text _
           c.args.self.now w.take_quoted.new.self
           kept.0 c.is_quote_next.ensures.place next quoted.0
           in
           let plain = rw (w.self-is, w.input-is) at c.take_plain.ensures.ok in
-          field-quoted g.R.Read.remaining c.args.input.now w.take_quoted.new.input c.take_plain.new.input text c.args.self.now w.take_quoted.new.self
+          field-quoted c.args.delimiter.byte g.R.Read.remaining c.args.input.now w.take_quoted.new.input c.take_plain.new.input text c.args.self.now
+          w.take_quoted.new.self
           c.take_plain.new.self
           c.take_plain.result h quoted.1 (plain h.rest h.passes.left)
       | else-is_quoted w ↦
           let plain = rw (w.self-is, w.input-is) at c.take_plain.ensures.ok in
           let other = is_byte-false _ quote (sym w.if-is_quoted.false ∙ kept.1) in
-          field-plain g.R.Read.remaining c.args.input.now c.is_quote_next.new.self c.take_plain.new.input text c.args.self.now c.take_plain.new.self
+          field-plain c.args.delimiter.byte g.R.Read.remaining c.args.input.now c.is_quote_next.new.self c.take_plain.new.input text c.args.self.now
+          c.take_plain.new.self
           c.take_plain.result
           kept.0 c.is_quote_next.ensures.place other (plain text kept.0)
     ]
@@ -76,19 +79,23 @@ returns-clause-fails g c text e =
       | then-is_quoted+in_ok-take_byte+in_ok-take_quoted w ↦
           let head = head-index c.is_quote_next.new.self.piece quote (is_byte-true _ quote (sym w.if-is_quoted.true ∙ c.in_ok-is_quoted.ensures.front)) in
           let next = rw head at (w.in_ok-take_byte.ensures.passes text kept.0) in
-          let quoted = w.in_ok-take_quoted.ensures.ok _ next.left in
-          let h = gathers-quotes g.R.Read.remaining c.args.input.now c.is_quote_next.new.self w.take_byte.new.self w.take_quoted.new.input text _
+          let quoted = w.in_ok-take_quoted.ensures.ok c.args.delimiter.byte _ next.left in
+          let h = gathers-quotes c.args.delimiter.byte g.R.Read.remaining c.args.input.now c.is_quote_next.new.self w.take_byte.new.self
+          w.take_quoted.new.input text _
           c.args.self.now w.take_quoted.new.self
           kept.0 c.is_quote_next.ensures.place next quoted.0
           in
           let plain = rw (w.self-is, w.input-is) at c.take_plain.ensures.fails in
-          IfErr-weaker c.take_plain.result _ _ (λ x k. inl (outside-gathers g.R.Read.remaining c.args.input.now w.take_quoted.new.input text st.StartField
+          IfErr-weaker c.take_plain.result _ _ (λ x k. inl (outside-gathers c.args.delimiter.byte g.R.Read.remaining c.args.input.now
+          w.take_quoted.new.input text st.StartField
           st.AfterQuote c.args.self.now w.take_quoted.new.self h x w.in_ok-take_quoted.ensures.counted
-          (outside-goes_on w.take_quoted.new.input.place st.AfterQuote w.take_quoted.new.self h.rest x closed quoted.1 k))) (plain h.rest h.passes.left)
+          (outside-goes_on c.args.delimiter.byte w.take_quoted.new.input.place st.AfterQuote w.take_quoted.new.self h.rest x closed quoted.1 k)))
+          (plain h.rest h.passes.left)
       | else-is_quoted w ↦
           let plain = rw (w.self-is, w.input-is) at c.take_plain.ensures.fails in
           let other = is_byte-false _ quote (sym w.if-is_quoted.false ∙ kept.1) in
-          IfErr-weaker c.take_plain.result _ _ (λ x k. inl (outside-later _ c.is_quote_next.new.self.place st.StartField st.StartField c.args.self.now
+          IfErr-weaker c.take_plain.result _ _ (λ x k. inl (outside-later c.args.delimiter.byte _ c.is_quote_next.new.self.place st.StartField
+          st.StartField c.args.self.now
           c.args.self.now text [] text x refl (c.is_quote_next.ensures.place ∙ sym (place_after-nil c.args.input.now.place)) (λ more. refl) refl refl
-          (outside-goes_on c.is_quote_next.new.self.place st.StartField c.args.self.now text x opened other k))) (plain text kept.0)
+          (outside-goes_on c.args.delimiter.byte c.is_quote_next.new.self.place st.StartField c.args.self.now text x opened other k))) (plain text kept.0)
     ]

@@ -13,7 +13,7 @@ use Rattle.strkw_records.proofs.gathered.Gathered.take_plain.Goals as goal
 pub pieces-init : goal.pieces-init
 pieces-init g c = (
   counts-none c.args.self.now c.requires,
-  λ text e. gathers-none g.R.Read.remaining c.args.input.now c.args.input.now text st.InField c.args.self.now e refl,
+  λ text e. gathers-none c.args.delimiter.byte g.R.Read.remaining c.args.input.now c.args.input.now text st.InField c.args.self.now e refl,
 )
 
 pub returns-in_err-peek-clause-fails : goal.returns-in_err-peek-clause-fails
@@ -26,18 +26,22 @@ pub returns-then-is_none-clause-ok : goal.returns-then-is_none-clause-ok
 returns-then-is_none-clause-ok g c text e =
     let h = c.pieces.invariant.1 text e in
     let kept = c.in_ok-peek.ensures.kept h.rest h.passes.left in
-    let here = gathers-moved g.R.Read.remaining c.args.input.now c.pieces.input c.peek.new.self text st.InField st.InField c.args.self.now c.pieces.self h
+    let here = gathers-moved c.args.delimiter.byte g.R.Read.remaining c.args.input.now c.pieces.input c.peek.new.self text st.InField st.InField
+    c.args.self.now c.pieces.self h
     kept.0 c.peek.ensures.place in
-    completes-end g.R.Read.remaining c.args.input.now c.peek.new.self text st.InField c.args.self.now c.pieces.self c.end_field.new.self here
+    completes-end c.args.delimiter.byte g.R.Read.remaining c.args.input.now c.peek.new.self text st.InField c.args.self.now c.pieces.self
+    c.end_field.new.self here
     (no_head h.rest _ kept.1 c.if-is_none.ensures) c.in_ok-end_field.ensures.fields
 
 pub returns-then-count-unread-clause-ok : goal.returns-then-count-unread-clause-ok
 returns-then-count-unread-clause-ok g c text e =
     let h = c.pieces.invariant.1 text e in
     let kept = c.in_ok-peek.ensures.kept h.rest h.passes.left in
-    let here = gathers-moved g.R.Read.remaining c.args.input.now c.pieces.input c.peek.new.self text st.InField st.InField c.args.self.now c.pieces.self h
+    let here = gathers-moved c.args.delimiter.byte g.R.Read.remaining c.args.input.now c.pieces.input c.peek.new.self text st.InField st.InField
+    c.args.self.now c.pieces.self h
     kept.0 c.peek.ensures.place in
-    IfOk-weaker c.end_plain.result _ _ (ends-later g.R.Read.remaining c.args.input.now c.peek.new.self c.end_plain.new.input text st.InField st.InField
+    IfOk-weaker c.end_plain.result _ _ (ends-later c.args.delimiter.byte g.R.Read.remaining c.args.input.now c.peek.new.self c.end_plain.new.input text
+    st.InField st.InField
     c.args.self.now c.pieces.self c.end_plain.new.self here)
     (c.end_plain.ensures.ok h.rest kept.0)
 
@@ -57,15 +61,18 @@ returns-in_err-check_run-clause-fails g c text e =
     let (x, is, same) = err_from_is_err_and c.from_residual-in_err-check_run.result c.from_residual-in_err-check_run.ensures.1 in
     let h = c.pieces.invariant.1 text e in
     let kept = c.in_ok-peek.ensures.kept h.rest h.passes.left in
-    let here = gathers-moved g.R.Read.remaining c.args.input.now c.pieces.input c.peek.new.self text st.InField st.InField c.args.self.now c.pieces.self h
+    let here = gathers-moved c.args.delimiter.byte g.R.Read.remaining c.args.input.now c.pieces.input c.peek.new.self text st.InField st.InField
+    c.args.self.now c.pieces.self h
     kept.0 c.peek.ensures.place in
     let run = rw c.unread-unread.ensures at c.plain_run-count.ensures.run in
     let within = rw c.unread-unread.ensures at c.plain_run-count.ensures.within in
     let parts = piece-front c.peek.new.self.piece (g.R.Read.remaining c.peek.new.self.source) h.rest c.plain_run-count.result kept.0 within in
     let size = take-length c.plain_run-count.result c.peek.new.self.piece within in
-    rw (is, same) (outside-gathers g.R.Read.remaining c.args.input.now c.peek.new.self text st.InField st.InField c.args.self.now c.pieces.self here _
+    rw (is, same) (outside-gathers c.args.delimiter.byte g.R.Read.remaining c.args.input.now c.peek.new.self text st.InField st.InField c.args.self.now
+    c.pieces.self here _
     c.pieces.invariant.0
-    (long-joins c.peek.new.self.place st.InField c.pieces.self h.rest _ _ _ parts.0 (joins-plain c.pieces.self _ run) c.pieces.invariant.0.counted
+    (long-joins c.args.delimiter.byte c.peek.new.self.place st.InField c.pieces.self h.rest _ _ _ parts.0
+    (joins-plain c.args.delimiter.byte c.pieces.self _ run) c.pieces.invariant.0.counted
     (rw size at c.in_err-check_run.ensures.long)))
 
 pub end_plain-requires-clause-counted : goal.end_plain-requires-clause-counted
@@ -80,9 +87,11 @@ pub returns-then-count-unread-clause-fails : goal.returns-then-count-unread-clau
 returns-then-count-unread-clause-fails g c text e =
     let h = c.pieces.invariant.1 text e in
     let kept = c.in_ok-peek.ensures.kept h.rest h.passes.left in
-    let here = gathers-moved g.R.Read.remaining c.args.input.now c.pieces.input c.peek.new.self text st.InField st.InField c.args.self.now c.pieces.self h
+    let here = gathers-moved c.args.delimiter.byte g.R.Read.remaining c.args.input.now c.pieces.input c.peek.new.self text st.InField st.InField
+    c.args.self.now c.pieces.self h
     kept.0 c.peek.ensures.place in
-    IfErr-weaker c.end_plain.result _ _ (λ x k. outside-gathers g.R.Read.remaining c.args.input.now c.peek.new.self text st.InField st.InField
+    IfErr-weaker c.end_plain.result _ _ (λ x k. outside-gathers c.args.delimiter.byte g.R.Read.remaining c.args.input.now c.peek.new.self text st.InField
+    st.InField
     c.args.self.now c.pieces.self here x c.pieces.invariant.0 k) (c.end_plain.ensures.fails h.rest kept.0)
 
 pub pieces-preserved : goal.pieces-preserved
@@ -113,13 +122,15 @@ pieces-preserved g c =
       λ text e.
           let h = c.pieces.invariant.1 text e in
           let kept = c.in_ok-peek.ensures.kept h.rest h.passes.left in
-          let here = gathers-moved g.R.Read.remaining c.args.input.now c.pieces.input c.peek.new.self text st.InField st.InField c.args.self.now c.pieces.self h
+          let here = gathers-moved c.args.delimiter.byte g.R.Read.remaining c.args.input.now c.pieces.input c.peek.new.self text st.InField st.InField
+          c.args.self.now c.pieces.self h
           kept.0 c.peek.ensures.place in
           let run = rw c.unread-unread.ensures at c.plain_run-count.ensures.run in
-          gathers-trans g.R.Read.remaining c.args.input.now c.peek.new.self c.take_plain.new.self text st.InField st.InField st.InField c.args.self.now
+          gathers-trans c.args.delimiter.byte g.R.Read.remaining c.args.input.now c.peek.new.self c.take_plain.new.self text st.InField st.InField
+          st.InField c.args.self.now
           c.pieces.self
           _ here
-          (gathers-run g.R.Read.remaining c.peek.new.self c.take_plain.new.self h.rest _ _ st.InField c.pieces.self _
+          (gathers-run c.args.delimiter.byte g.R.Read.remaining c.peek.new.self c.take_plain.new.self h.rest _ _ st.InField c.pieces.self _
           (c.take_plain.ensures.passes h.rest kept.0) run
           refl front),
     )

@@ -7,4 +7,4 @@ use Rattle.strkw_records.proofs.gathered.Gathered.take_plain.Given as goal
 abbrev pub invariant-pieces : goal.invariant-pieces
 invariant-pieces g l = Counts l.fn.self l.self
     × ((text : List ℕ) → rest_of g.R.Read.remaining l.fn.input ≡ Some text
-    → Gathers g.R.Read.remaining l.fn.input l.input text st.InField l.fn.self st.InField l.self)
+    → Gathers l.fn.delimiter.byte g.R.Read.remaining l.fn.input l.input text st.InField l.fn.self st.InField l.self)

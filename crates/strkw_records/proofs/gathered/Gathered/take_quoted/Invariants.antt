@@ -7,5 +7,5 @@ use Rattle.strkw_records.proofs.gathered.Gathered.take_quoted.Given as goal
 
 abbrev pub invariant-pieces : goal.invariant-pieces
 invariant-pieces g l = Counts l.fn.self l.self
-    × ((text : List ℕ) → rest_of g.R.Read.remaining l.fn.input ≡ Some text
-    → (h : Gathers g.R.Read.remaining l.fn.input l.input text st.InQuoted l.fn.self st.InQuoted l.self) × InQuotes h.bytes)
+    × ((delimiter : ℕ) (text : List ℕ) → rest_of g.R.Read.remaining l.fn.input ≡ Some text
+    → (h : Gathers delimiter g.R.Read.remaining l.fn.input l.input text st.InQuoted l.fn.self st.InQuoted l.self) × InQuotes h.bytes)

@@ -8,4 +8,4 @@ abbrev pub invariant-fields : goal.invariant-fields
 invariant-fields g l = (front_of_field l.self ≡ [])
     × Counts l.fn.self l.self
     × ((text : List ℕ) → rest_of g.R.Read.remaining l.fn.input ≡ Some text
-    → Gathers g.R.Read.remaining l.fn.input l.input text st.StartField l.fn.self st.StartField l.self)
+    → Gathers l.fn.delimiter.byte g.R.Read.remaining l.fn.input l.input text st.StartField l.fn.self st.StartField l.self)

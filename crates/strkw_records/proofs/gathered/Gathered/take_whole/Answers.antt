@@ -13,22 +13,24 @@ fields-init c = record {
   counts = counts-none c.args.self.now c.requires.counted;
   front = c.requires.front;
   plain = tt;
-  takes = takes_fields-none c.args.self.now;
+  takes = takes_fields-none c.args.delimiter.byte c.args.self.now;
 }
 
-pub returns-then-rest-front-ne44-clause-plain : goal.returns-then-rest-front-ne44-clause-plain
-returns-then-rest-front-ne44-clause-plain c =
-    no_line-front c.args.bytes.now _ c.fields.at c.in-Some.front (slice-end c.args.bytes.now c.fields.at) c.fields.invariant.within c.fields.invariant.plain
+pub returns-then-rest-front-clause-plain : goal.returns-then-rest-front-clause-plain
+returns-then-rest-front-clause-plain c =
+    no_line-front c.args.delimiter.byte c.args.bytes.now _ c.fields.at c.in-Some.front
+    (slice-end c.args.bytes.now c.fields.at) c.fields.invariant.within c.fields.invariant.plain
     c.in-Some.ensures
 
-pub returns-then-rest-front-ne44-clause-takes : goal.returns-then-rest-front-ne44-clause-takes
-returns-then-rest-front-ne44-clause-takes c =
-    takes_last-front c.args.self.now c.fields.self _ c.args.bytes.now _ c.fields.at c.in-Some.front (slice-end c.args.bytes.now c.fields.at)
+pub returns-then-rest-front-clause-takes : goal.returns-then-rest-front-clause-takes
+returns-then-rest-front-clause-takes c =
+    takes_last-front c.args.delimiter.byte c.args.delimiter.lawful c.args.self.now c.fields.self _ c.args.bytes.now _ c.fields.at c.in-Some.front
+    (slice-end c.args.bytes.now c.fields.at)
     c.fields.invariant.within
-    c.fields.invariant.takes c.in-Some.ensures c.if-rest-front-ne44.true c.fields.invariant.front c.in_ok-push_field.ensures.fields
+    c.fields.invariant.takes c.in-Some.ensures c.if-rest-front.true c.fields.invariant.front c.in_ok-push_field.ensures.fields
 
-pub returns-then-rest-front-ne44-clause-counted : goal.returns-then-rest-front-ne44-clause-counted
-returns-then-rest-front-ne44-clause-counted c =
+pub returns-then-rest-front-clause-counted : goal.returns-then-rest-front-clause-counted
+returns-then-rest-front-clause-counted c =
     let counts = c.fields.invariant.counts in
     let fits = c.has_room.ensures c.if-not-has_room.false in
     let all = pushed c.fields.self _ _ c.fields.invariant.front c.in_ok-push_field.ensures.fields in
@@ -48,11 +50,11 @@ fields-preserved c =
     let v = c.fields.invariant in
     let e = slice-end c.args.bytes.now c.fields.at in
     let k = c.in-Some.ensures in
-    let comma = c.if-rest-front-ne44.false in
+    let comma = c.if-rest-front.false in
     let fits = c.has_room.ensures c.if-not-has_room.false in
     let front = no_front _ _ c.fields.self.field.items v.front c.in_ok-push_field.ensures.partial in
     record {
-      within = within-comma c.args.bytes.now _ c.fields.at c.in-Some.front e v.within k;
+      within = within-comma c.args.delimiter.byte c.args.bytes.now _ c.fields.at c.in-Some.front e v.within k;
       counts = counts-later _ _ _ v.counts (record {
         limits = refl;
         line = refl;
@@ -60,7 +62,8 @@ fields-preserved c =
             front;
       });
       front = front;
-      plain = no_line-comma c.args.bytes.now _ c.fields.at c.in-Some.front e v.within v.plain k comma;
-      takes = takes_fields-front c.args.self.now c.fields.self _ c.args.bytes.now _ c.fields.at c.in-Some.front e v.within v.takes k comma v.front
+      plain = no_line-comma c.args.delimiter.byte c.args.delimiter.lawful c.args.bytes.now _ c.fields.at c.in-Some.front e v.within v.plain k comma;
+      takes = takes_fields-front c.args.delimiter.byte c.args.self.now c.fields.self _ c.args.bytes.now _ c.fields.at c.in-Some.front e v.within v.takes k
+          comma v.front
           c.in_ok-push_field.ensures.fields;
     }

@@ -11,5 +11,5 @@ invariant-fields l = record {
   counts : Counts l.fn.self l.self;
   front : front_of_field l.self ≡ [];
   plain : HasNoLineByte (take l.at l.bytes);
-  takes : TakesFields l.fn.self (take l.at l.bytes) l.self;
+  takes : TakesFields l.fn.delimiter.byte l.fn.self (take l.at l.bytes) l.self;
 }

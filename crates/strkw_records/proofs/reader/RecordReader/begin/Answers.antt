@@ -11,6 +11,7 @@ returns-in_err-skip_mark-clause-fails g c text =
       input = c.skip_mark.new.self;
       gathered = c.args.self.now.gathered;
       limits = c.args.self.now.limits;
+      delimiter = c.args.self.now.delimiter;
       has_begun = c.args.self.now.has_begun;
     }) text _
     (c.in_err-skip_mark.ensures.fails text))

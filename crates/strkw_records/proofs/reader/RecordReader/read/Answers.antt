@@ -3,7 +3,7 @@ use Rattle.std.proofs.lemmas.Result.{err_from_is_err_and}
 use Rattle.strkw_records.specs.declared.place.Place.{Place}
 use Rattle.strkw_records.specs.Lines.{blank_front, place_after}
 use Rattle.strkw_records.specs.Outcomes.{rest_of, whole_fields}
-use Rattle.strkw_records.proofs.ReaderLemmas.{explains-in_record, no_record, place-of, takes-record, takes-same, unread-begun}
+use Rattle.strkw_records.proofs.ReaderLemmas.{explains-begun, no_record, place-of, takes-record, takes-same, unread-begun}
 use Rattle.strkw_records.proofs.reader.RecordReader.read.Goals as goal
 
 pub returns-in_err-begin-clause-fault : goal.returns-in_err-begin-clause-fault
@@ -15,7 +15,7 @@ pub returns-then-not-has_more-clause-end : goal.returns-then-not-has_more-clause
 returns-then-not-has_more-clause-end g c text e _ =
     let start = sym (unread-begun g.R.Read.remaining c.begin.new.self c.in_ok-begin.ensures.begun) ∙ c.in_ok-begin.ensures.text text e in
     let (rest, passed, more) = c.in_ok-has_more.ensures.passes text start in
-    no_record text rest passed.splits (λ some. let no : false ≡ true = sym c.if-not-has_more.true ∙ more.1 some in cc no)
+    no_record c.args.self.now.delimiter.byte text rest passed.splits (λ some. let no : false ≡ true = sym c.if-not-has_more.true ∙ more.1 some in cc no)
 
 pub returns-in_err-take_record-clause-fault : goal.returns-in_err-take_record-clause-fault
 returns-in_err-take_record-clause-fault g c text e =
@@ -23,14 +23,15 @@ returns-in_err-take_record-clause-fault g c text e =
     let start = sym (unread-begun g.R.Read.remaining c.begin.new.self c.in_ok-begin.ensures.begun) ∙ c.in_ok-begin.ensures.text text e in
     let (rest, passed, more) = c.in_ok-has_more.ensures.passes text start in
     let at = passed.place ∙ ap (λ (z : Place). place_after z (blank_front text)) c.begin.ensures.place in
-    rw (is, same) (explains-in_record g.R.Read.remaining c.args.self.now (record {
+    rw (is, same) (explains-begun c.begin.new.self.delimiter.byte g.R.Read.remaining c.args.self.now (record {
       alloc = c.begin.new.self.alloc;
       input = c.take_record.new.input;
       gathered = c.take_record.new.self;
       limits = c.begin.new.self.limits;
+      delimiter = c.begin.new.self.delimiter;
       has_begun = c.begin.new.self.has_begun;
     })
-    c.skip_blank_lines.new.self.place c.begin-2.new.self text rest _ passed.splits at c.begin-2.ensures.fields c.begin-2.ensures.front
+    c.skip_blank_lines.new.self.place c.begin-2.new.self text rest _ c.begin.ensures.delimiter passed.splits at c.begin-2.ensures.fields c.begin-2.ensures.front
     (c.begin-2.ensures.limits ∙ c.begin.ensures.limits) c.begin-2.ensures.line (c.in_err-take_record.ensures.fails rest passed.left))
 
 pub returns-in-Ok-clause-record : goal.returns-in-Ok-clause-record
@@ -38,7 +39,8 @@ returns-in-Ok-clause-record g c text e =
     let start = sym (unread-begun g.R.Read.remaining c.begin.new.self c.in_ok-begin.ensures.begun) ∙ c.in_ok-begin.ensures.text text e in
     let (rest, passed, more) = c.in_ok-has_more.ensures.passes text start in
     let k = c.in_ok-take_record.ensures.ok rest passed.left in
-    let taken = takes-record g.R.Read.remaining c.begin.new.self.input c.skip_blank_lines.new.self c.take_record.new.input text rest c.begin-2.new.self
+    let taken = takes-record c.begin.new.self.delimiter.byte g.R.Read.remaining c.begin.new.self.input c.skip_blank_lines.new.self c.take_record.new.input
+    text rest c.begin-2.new.self
     c.take_record.new.self
     c.skip_blank_lines.new.self.place.line passed (more.0 c.if-not-has_more.false) c.begin-2.ensures.fields c.begin-2.ensures.front refl k
     in
@@ -46,7 +48,7 @@ returns-in-Ok-clause-record g c text e =
     let unread = unread-begun g.R.Read.remaining c.give.new.self begun ∙ ap (rest_of g.R.Read.remaining) c.give.ensures.input ∙ k.passes.left in (
       k.rest,
       unread,
-      takes-same _ _ text _ _ _ _ _ _ c.begin.ensures.place (sym c.in-Ok.ensures.ok) (sym (place-of c.give.ensures.input)) taken,
+      takes-same _ _ _ _ text _ _ _ _ _ _ c.begin.ensures.delimiter c.begin.ensures.place (sym c.in-Ok.ensures.ok) (sym (place-of c.give.ensures.input)) taken,
     )
 
 pub returns-in-Err-clause-fault : goal.returns-in-Err-clause-fault
@@ -54,7 +56,8 @@ returns-in-Err-clause-fault g c text e =
     let start = sym (unread-begun g.R.Read.remaining c.begin.new.self c.in_ok-begin.ensures.begun) ∙ c.in_ok-begin.ensures.text text e in
     let (rest, passed, more) = c.in_ok-has_more.ensures.passes text start in
     let k = c.in_ok-take_record.ensures.ok rest passed.left in
-    let taken = takes-record g.R.Read.remaining c.begin.new.self.input c.skip_blank_lines.new.self c.take_record.new.input text rest c.begin-2.new.self
+    let taken = takes-record c.begin.new.self.delimiter.byte g.R.Read.remaining c.begin.new.self.input c.skip_blank_lines.new.self c.take_record.new.input
+    text rest c.begin-2.new.self
     c.take_record.new.self
     c.skip_blank_lines.new.self.place.line passed (more.0 c.if-not-has_more.false) c.begin-2.ensures.fields c.begin-2.ensures.front refl k
     in
@@ -64,7 +67,7 @@ returns-in-Err-clause-fault g c text e =
       (
         k.rest,
         unread,
-        takes-same _ _ text _ _ _ _ _ _ c.begin.ensures.place refl (sym (place-of c.give.ensures.input)) taken,
+        takes-same _ _ _ _ text _ _ _ _ _ _ c.begin.ensures.delimiter c.begin.ensures.place refl (sym (place-of c.give.ensures.input)) taken,
       ),
       c.in-Err.ensures.bad,
       rw (c.begin-2.ensures.limits, c.begin.ensures.limits) at c.in_ok-take_record.ensures.within,
