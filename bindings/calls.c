@@ -147,6 +147,7 @@ static void call_answer(void) {
 }
 
 static const char *MAIL = "{\"format\":\"email\"}", *IDN_HOST = "{\"format\":\"idn-hostname\"}";
+static const char *IDN_MAIL = "{\"format\":\"idn-email\"}";
 
 /* strkw_check on five texts: a date, one that is none, one that is no UTF-8, and two empty ones. */
 static bool checks(uint32_t draft, uint32_t options, const char *schema, uint8_t status, const char *verdicts) {
@@ -179,6 +180,10 @@ static void call_check(void) {
     row("check", "wrong", "texts that are too short", checks(4, 0, "{\"minLength\":11}", STRKW_DONE, "\0\0\2\0\0"));
     row("check", "refused", "draft 5", checks(5, 0, date, STRKW_NO_DRAFT, NULL));
     row("check", "wrong", "mail addresses", checks(4, companions, MAIL, STRKW_DONE, "\0\0\2\0\0"));
+    row("check", "wrong", "internationalised mail addresses",
+        checks(7, companions, IDN_MAIL, STRKW_DONE, "\0\0\2\0\0"));
+    row("check", "refused", "internationalised mail addresses in draft 6",
+        checks(6, companions, IDN_MAIL, STRKW_REFUSED, NULL));
     row("check", "refused", "host names in draft 6", checks(6, companions, IDN_HOST, STRKW_REFUSED, NULL));
     row("check", "refused", "mail addresses with no option", checks(4, 0, MAIL, STRKW_REFUSED, NULL));
     row("check", "refused", "option 8", checks(7, 8, date, STRKW_NO_OPTION, NULL));
@@ -209,8 +214,9 @@ static bool tells(uint32_t draft, uint32_t options, const char *schema, size_t r
 }
 
 static void call_refusal(void) {
-    static const char *pattern = "{\"pattern\":\"(?=a)\"}";
-    static const char *why = "/pattern: the pattern \"(?=a)\" is not taken: it has a look-ahead";
+    static const char *pattern = "{\"pattern\":\"(?=ab)\"}";
+    static const char *why = "/pattern: the pattern \"(?=ab)\" is not taken: "
+                             "it has a look-ahead of more than one character";
     const size_t count = strlen(why);
     const uint8_t *object = text_of("{}");
     uint8_t *out = room_of(1);
@@ -244,10 +250,11 @@ static const char *NOTED = "note /format: \"date\"\n";
 static const char *WRONG = "error /format: \"2023-02-29\" is not a \"date\"\nnote /format: \"date\"\n";
 
 static const char *NO_MAIL = "error /format: \"ada\" is not a \"email\"\nnote /format: \"email\"\n";
-static const char *HOST = "note /format: \"idn-hostname\"\n";
+static const char *HOST = "note /format: \"idn-hostname\"\n", *NOTED_MAIL = "note /format: \"idn-email\"\n";
 
 static void call_errors(void) {
     const size_t noted = strlen(NOTED), wrong = strlen(WRONG), no_mail = strlen(NO_MAIL), host = strlen(HOST);
+    const size_t mail = strlen(NOTED_MAIL);
     const uint32_t companions = STRKW_COMPANION_FORMATS;
     const uint8_t *object = text_of("{}");
     uint8_t *out = room_of(1);
@@ -257,6 +264,8 @@ static void call_errors(void) {
     row("errors", "wrong", "no date", writes(7, 0, DATE, "2023-02-29", wrong, STRKW_DONE, wrong, WRONG));
     row("errors", "wrong", "no mail address",
         writes(7, companions, MAIL, "ada", no_mail, STRKW_DONE, no_mail, NO_MAIL));
+    row("errors", "right", "an internationalised mail address",
+        writes(7, companions, IDN_MAIL, "j\303\274rgen@b\303\274cher.example", mail, STRKW_DONE, mail, NOTED_MAIL));
     row("errors", "right", "a host name",
         writes(7, companions, IDN_HOST, "b\303\274cher.example", host, STRKW_DONE, host, HOST));
     row("errors", "refused", "too little room",

@@ -1,6 +1,6 @@
 /* The string checks of Neldrafi, from C. Link libstrkw.a or libstrkw.so, which ./build makes.
 
-   email, idn-email, idn-hostname and regex are formats that no schema object knows, but email and idn-hostname by
+   email, idn-email, idn-hostname and regex are formats that no schema object knows, but the first three by
    STRKW_COMPANION_FORMATS. strkw_is_email, strkw_is_idn_email and strkw_is_idn_hostname are calls by themselves.
 
    A text is bytes and their count: no zero byte ends it, and it may hold zero bytes. Bytes that are not UTF-8 have no
@@ -80,12 +80,12 @@ uint8_t strkw_answer(const uint8_t *requests, size_t count, uint8_t *out, size_t
 /* Options of the functions below. By 0 the formats are checked in every draft, and an unknown one is refused. */
 #define STRKW_FORMATS_AS_DRAFT ((uint32_t)1)       /* drafts 4, 6 and 7 check formats, 2019-09 and 2020-12 do not */
 #define STRKW_IGNORE_UNKNOWN_FORMATS ((uint32_t)2) /* an unknown format lets every text pass */
-#define STRKW_COMPANION_FORMATS ((uint32_t)4)      /* email is known, and from draft 7 on idn-hostname (RFC 5890) */
+#define STRKW_COMPANION_FORMATS ((uint32_t)4)      /* email is known, from draft 7 on idn-email and idn-hostname too */
 
 /* Checks many texts by one schema object, which is compiled once: JSON, of a draft.
-   A pattern is one of ECMA-262 in Unicode mode, of a part of its syntax: no look-ahead and no back reference,
-   2,000 characters, groups 250 deep, counts of 1,000 and 2,600 steps at most. To compile it takes up to some
-   12 milliseconds; a search then takes a bounded number of steps for each character of a text.
+   A pattern is one of ECMA-262 in Unicode mode, of a part of its syntax: no look-ahead of more than one character and
+   no back reference, 2,000 characters, groups 250 deep, counts of 1,000 and 2,600 steps at most. To compile it takes up
+   to some 12 milliseconds; a search then takes a bounded number of steps for each character of a text.
    The texts stand one after the other: text i begins at texts[ends[i - 1]], the first at texts[0], and ends before
    texts[ends[i]].
    verdicts has as much room as there are ends, and overlaps nothing else.
@@ -98,7 +98,7 @@ uint8_t strkw_check(uint32_t draft, uint32_t options, const uint8_t *schema, siz
 /* Tells why strkw_check refuses a schema object. schema, out and written do not overlap.
    STRKW_REFUSED: the text is at the head of out, and its count of bytes is in *written. It is UTF-8: the JSON pointer
    of the keyword, a colon, a space and the reason, as
-       /pattern: the pattern "(?=a)" is not taken: it has a look-ahead
+       /pattern: the pattern "(?=ab)" is not taken: it has a look-ahead of more than one character
    The name of an unknown format stands in it as it is, with a zero byte or a line feed if it has one.
    STRKW_DONE: the schema object is not refused; *written is 0.
    STRKW_NO_ROOM: it is refused, and out is as it was; *written is the room that is needed.

@@ -115,7 +115,7 @@ static uint8_t check_dates(uint32_t draft, uint32_t options, const char *schema,
 /* Four texts: a date, one that is none, bytes that are not UTF-8, and no byte at all. */
 static void check_many(void) {
     static const char *date = "{\"format\":\"date\"}";
-    static const char *mail = "{\"format\":\"email\"}";
+    static const char *mail = "{\"format\":\"email\"}", *idn_mail = "{\"format\":\"idn-email\"}";
     static const size_t ends[] = {10, 20, 21, 21};
     static const size_t falling[] = {10, 9, 21, 21};
     static const size_t past[] = {10, 20, 21, 22};
@@ -139,6 +139,9 @@ static void check_many(void) {
     expect(memcmp(verdicts, "\1\1\2\1", 4) == 0, "an unknown format lets every text pass");
     expect(check_dates(7, STRKW_COMPANION_FORMATS, mail, ends, verdicts) == STRKW_DONE, "email is known");
     expect(memcmp(verdicts, "\0\0\2\0", 4) == 0, "no date is a mail address");
+    expect(check_dates(6, STRKW_COMPANION_FORMATS, idn_mail, ends, verdicts) == STRKW_REFUSED, "6 knows no idn-email");
+    expect(check_dates(7, STRKW_COMPANION_FORMATS, idn_mail, ends, verdicts) == STRKW_DONE, "idn-email is known");
+    expect(memcmp(verdicts, "\0\0\2\0", 4) == 0, "no date is an internationalised one");
 }
 
 static uint8_t tell(uint32_t draft, uint32_t options, const char *schema, uint8_t *out, size_t room, size_t *written) {
@@ -160,7 +163,8 @@ static void check_refusal(uint32_t options, const char *schema, const char *want
 static void check_refusals(void) {
     uint8_t out[] = {'?'};
     size_t written = 7;
-    check_refusal(0, "{\"pattern\":\"(?=a)\"}", "/pattern: the pattern \"(?=a)\" is not taken: it has a look-ahead");
+    check_refusal(0, "{\"pattern\":\"(?=ab)\"}",
+                  "/pattern: the pattern \"(?=ab)\" is not taken: it has a look-ahead of more than one character");
     check_refusal(0, "{\"minLength\":-1}", "/minLength: the limit is not a non-negative whole number of 64 bits");
     check_refusal(1, "{\"format\":5}", "/format: 5 is not of type \"string\"");
     check_refusal(1, "{\"format\":\"uuid\"}",

@@ -168,6 +168,9 @@ fn main() {
     assert_eq!(strkw::refusal(7, strkw::IGNORE_UNKNOWN_FORMATS, mail), Ok(None));
     assert_eq!(strkw::check(7, strkw::IGNORE_UNKNOWN_FORMATS, mail, &texts), Ok(vec![1, 1, 2, 1]));
     assert_eq!(strkw::check(7, strkw::COMPANION_FORMATS, mail, &texts), Ok(vec![0, 0, 2, 0]));
+    let mail_of_all = br#"{"format":"idn-email"}"#;
+    assert_eq!(strkw::check(6, strkw::COMPANION_FORMATS, mail_of_all, &texts), Err(5));
+    assert_eq!(strkw::check(7, strkw::COMPANION_FORMATS, mail_of_all, &texts), Ok(vec![0, 0, 2, 0]));
     assert_eq!(strkw::refusal(7, 8, mail), Err(6));
     println!("caller.rs: {rows} rows");
 }

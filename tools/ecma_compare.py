@@ -142,10 +142,28 @@ class Maker:
         if kind < 0.16:
             return self.random.choice(["^", "$", "^", "$", "\\b", "\\B"])
         if kind < self.looks and depth > 0:
-            start = self.random.choice(["(?=", "(?!"] if self.random.random() < 0.05 else ["(?<=", "(?<!"])
-            return start + self.disjunction(self.random.choice([0, 0, 0, 1, 2]) if depth > 2 else 0) + ")"
+            return self.look_ahead(depth) if self.random.random() < 0.4 else self.look_behind(depth)
         quantifier = self.random.choice(QUANTIFIERS) if self.random.random() < 0.4 else ""
         return self.atom(depth) + quantifier
+
+    def look_behind(self, depth):
+        start = self.random.choice(["(?<=", "(?<!"])
+        return start + self.disjunction(self.random.choice([0, 0, 0, 1, 2]) if depth > 2 else 0) + ")"
+
+    def look_ahead(self, depth):
+        """One in ten looks for more than one character, and may not be taken."""
+        start = self.random.choice(["(?=", "(?!"])
+        if self.random.random() < 0.1:
+            return start + self.disjunction(0) + ")"
+        return start + "|".join(self.glance(depth - 1) for _ in range(self.random.choice([1, 1, 1, 2, 3]))) + ")"
+
+    def glance(self, depth):
+        kind = self.random.random()
+        if kind < 0.2:
+            return self.random.choice(["^", "$", "$", "\\b", "\\B", ""])
+        if kind < 0.3 and depth > 0:
+            return self.look_ahead(depth)
+        return self.atom(0) + ("?" if kind > 0.9 else "")
 
     def disjunction(self, depth):
         """One to three alternatives."""

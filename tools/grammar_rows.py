@@ -1794,9 +1794,104 @@ def look_syntax_rows():
     yield texts(PATTERNS, LIKE_LOOKS, LIKE_LOOKS.get)
 
 
+# What a lookahead may look for, over a, b and c, which is a pattern of Python too; and what only a longer look tells.
+GLANCES = ["", "a", "b", "[ab]", "[^a]", "[^]", "[]", "a|b", "a|$", "|b", "$", "^", "^|b", "\\b", "\\B", "\\w", ".",
+           "(?:a)", "(?:a|$)?", "a?", "(?=a)", "(?!a)", "(?!a|$)", "(?:|(?!b))"]
+FAR = ["ab", "a*", "a+", "a{2}", ".*b", "^a", "a$", "(?:a|ab)", "(?:ab)?", "(?<=a)", "(?<!a)", "(?=ab)", "(?!a*)",
+       "a|ba", "(?<=a)b", "(?=(?<=a))", "a{0,2}", "\\ba"]
+
+
+def stands_ahead(body, text, place):
+    """Whether the body matches the text from a place on."""
+    body = body.replace("[^]", "(?s:.)").replace("[]", "(?!)").replace("\\B", "(?!\\b)")
+    return re.compile(body).match(text, place) is not None
+
+
+# Patterns with lookaheads, and in which texts of a and b each is found.
+LOOKS_AHEAD = [
+    ("^(?:a(?!a)|b)*$", lambda text: "aa" not in text),
+    ("^(?:(?!a)[ab])*$", lambda text: "a" not in text),
+    ("^(?:(?=a)[ab]|b)*$", lambda text: True),
+    ("^(?:a(?=b|$)|b)*$", lambda text: "aa" not in text),
+    ("^(?:[ab](?!$))*b$", lambda text: text.endswith("b")),
+    ("a(?=b)b", lambda text: "ab" in text),
+    ("a(?=b)a", never),
+    ("a(?!b)", lambda text: re.search("aa|a$", text)),
+    ("a(?!b)(?!$)", lambda text: "aa" in text),
+    ("(?!$)", lambda text: text != ""),
+    ("(?![^])", lambda text: True),
+    ("^(?![^])", lambda text: text == ""),
+    ("(?<=a)(?=b)", lambda text: "ab" in text),
+    ("(?<=a(?=b))b", lambda text: "ab" in text),
+    ("(?<!a(?!$))$", lambda text: True),
+    ("(?<=a(?=a))(?=a)", lambda text: "aa" in text),
+    ("(?:a(?=b)b)+$", lambda text: text.endswith("ab")),
+    ("(?:a(?!b)){2}", lambda text: re.search("aaa|aa$", text)),
+    ("^(?:(?=a)|b)*a", lambda text: "a" in text),
+    ("^(?:(?!b)a*(?!a)b)+$", lambda text: re.fullmatch("(?:a+b)+", text)),
+    ("^(?=a|$)(?!b)[ab]{0,2}$", lambda text: text[:1] != "b" and len(text) < 3),
+    ("(?=(?!a)).", lambda text: "b" in text),
+    ("(?!(?!a)).", lambda text: "a" in text),
+    ("(?=a)(?=b)", never),
+    ("(?=a|)(?!b|$)", lambda text: "a" in text),
+]
+
+
+def ahead_rows():
+    """The rows of lookaheads."""
+    yield ("lookaheads of one character, `(?= )` and `(?! )`, with each body, before each text of a and b; within "
+           "groups, loops and lookbehinds")
+    rows = []
+    for body, word in itertools.product(GLANCES, words("ab", range(3))):
+        stands = stands_ahead(body, "c" + word, 1)
+        rows += [[f"c(?={body})", "c" + word, stands], [f"c(?!{body})", "c" + word, not stands]]
+    yield searches(rows)
+    rows = []
+    for body, word in itertools.product(GLANCES, words("ab", range(4))):
+        stands = stands_ahead(body, word, 0)
+        rows += [[f"^(?={body})[ab]*$", word, stands], [f"^(?!{body})[ab]*$", word, not stands]]
+    yield searches(rows)
+    for pattern, found in LOOKS_AHEAD:
+        yield searches([[pattern, text, bool(found(text))] for text in words("ab", range(5))])
+    far = list(itertools.product(["\u00e9", "\u0800", "\uffff", "\U0001f600"], repeat=2))
+    rows = [[f"a(?={one})", f"a{other}", one == other] for one, other in far]
+    yield searches(rows + [[f"a(?!{one})", f"a{other}", one != other] for one, other in far])
+    rows = [["a(?=\\n)", f"a{end}", end == "\n"] for end in LINE_ENDS]
+    rows += [["a(?=.)", f"a{end}", False] for end in LINE_ENDS]
+    yield searches(rows + [["a(?=$)", f"a{end}", False] for end in LINE_ENDS])
+    texts_of_letters = ("", "Ab", "aB", "\u00c9a", "\u00e9A", "A")
+    yield searches([["^(?=\\p{Lu})\\p{L}+$", text, text[:1] in ("A", "\u00c9")] for text in texts_of_letters])
+    yield from ahead_syntax_rows()
+
+
+# Patterns that begin as a lookahead does, and whether they are taken.
+LIKE_LOOKS_AHEAD = {
+    "(?=": 0, "(?!": 0, "(?=a": 0, "(?!a": 0, "(?=*)": 0, "(?=a|*)": 0, "(?=a)(": 0, "(?==)": 1, "(?!!)": 1, "(?=!)": 1,
+    "(?!=)": 1, "(? =a)": 0, "(?>a)": 0, "(?=\\1)": 0, "(?=[)": 0, "(?=[)])": 1, "(?=\\))": 1, "(?=a)b)": 0,
+    "((?=a)": 0, "(?=(?<n>a))(?<n>b)": 0, "(?=(?<n>a))(?<m>b)": 1, "(?=^)": 1, "(?=$)": 1, "(?=a{0})": 1,
+    "(?=(?:){3})": 1, "(?=(?:ab){0,0})": 1, "(?:(?=ab)){0}": 1, "(?:(?=ab)){0,0}": 1, "(?:(?=ab)){1}": 0,
+    "(?:(?=ab)){0,1}": 0, "(?=)": 1, "(?!)": 1}
+
+
+def ahead_syntax_rows():
+    """Where a lookahead may stand, and what looks too far."""
+    yield "no quantifier follows a lookahead, and what looks further is not taken"
+    expected = {}
+    bodies = ["a", "", "a|b", "(?<n>a)", "(?=a)", "[^]", "$", "\\p{L}"]
+    for sign, body in itertools.product("=!", bodies):
+        for form, is_right in {**AROUND_LOOKS, "(?<={})": True}.items():
+            pattern = form.format(f"(?{sign}{body})", f"(?{sign}{body})")
+            expected[pattern] = is_right is not False and pattern.count("<n>") < 2
+    yield texts(PATTERNS, expected, expected.get)
+    yield texts(PATTERNS, LIKE_LOOKS_AHEAD, LIKE_LOOKS_AHEAD.get)
+    forms = ("(?{}{})", "a|(?{}{})b", "(?:(?{}{}))*", "(?<=(?{}{}))", "(?=(?{}{}))")
+    far = [form.format(sign, body) for body, sign, form in itertools.product(FAR, "=!", forms)]
+    yield refusals("it has a look-ahead of more than one character", far)
+
+
 # Atoms, and how many steps each takes: one for a class, and one more for each eight ranges and for each property; one
-# for an assertion, two around a loop and around what a lookbehind looks for, three around alternatives, and one between
-# more of them.
+# for an assertion, two around a loop and around what a lookaround looks for, three around alternatives, and one between
+# more of them, but in a lookahead three around each two.
 STEPS = {
     "a": 1, ".": 1, "\\d": 1, "\\D": 1, "\\w": 1, "\\W": 1, "\\s": 2, "\\S": 2, "[\\s]": 2, "[\\S]": 2, "[\\W]": 1,
     "\\p{L}": 2, "\\P{sc=Latn}": 2, "[abcdefg]": 1, "[abcdefgh]": 2, "[a-bd-eg-hj-km-np-qs-t]": 1,
@@ -1804,7 +1899,9 @@ STEPS = {
     "[^]": 1, "[]": 1, "(?:ab)": 2, "(?:abc)": 3, "(?:a|b)": 5, "(?:a|b|c)": 7, "(?:a*)": 1, "(?:a?)": 1, "(?:a+)": 1,
     "(?:(?:ab)*)": 4, "(?:(?:ab)+)": 4, "(?:(?:ab)?)": 5, "(?:^)": 1, "(?:\\b)": 1, "(?:^a$)": 3, "(?:(?:a|b)*)": 7,
     "(?:a{7})": 7, "(?:a{0,7})": 7, "(?:(?:ab){0,2})": 10, "(?:a|)": 4, "(?:|a)": 4, "(?:(?:a|b)?)": 8, "(?:(?<=a))": 3,
-    "(?:(?<!ab)c)": 5, "(?:(?<=a|b))": 7, "(?:(?<!))": 2, "(?:(?<=a{7}))": 9, "(?:(?<=(?<!a)))": 5}
+    "(?:(?<!ab)c)": 5, "(?:(?<=a|b))": 7, "(?:(?<!))": 2, "(?:(?<=a{7}))": 9, "(?:(?<=(?<!a)))": 5, "(?:(?=a))": 3,
+    "(?:(?!a)c)": 4, "(?:(?=a|b))": 7, "(?:(?!))": 2, "(?:(?=\\p{L}))": 4, "(?:(?=a?))": 6, "(?:(?=(?!a)))": 5,
+    "(?:(?=a|b|c))": 11, "(?:(?=$))": 3}
 MOST_STEPS, MOST_TIMES = 2000, 1000
 
 
@@ -1829,11 +1926,11 @@ def limits_of_patterns():
         found_in = letter if len(letter) == 1 and letter != "." else "7"
         yield [[letter, times]], [[found_in, times]], True
         yield [[letter, times], ["b", 1]], [], None
-    for opening in ("(", "(?:", "(?<="):
+    for opening in ("(", "(?:", "(?<=", "(?="):
         for deep, found in ((249, True), (250, True), (251, None)):
             pattern = [[opening, deep], ["a", 1], [")", deep]]
             yield pattern, [["a", 1]], found
-            yield pattern + [["b", 1]], [["ab", 1]], found
+            yield pattern + [["b", 1]], [["ab", 1]], found and opening != "(?="
     for steps in (599, 600, 601):
         found = True if steps <= 600 else None
         yield [["a{1000}", 2], [f"a{{{steps}}}", 1]], [["a", 2000 + steps]], found
@@ -1848,10 +1945,8 @@ def refusal_rows():
     yield "why patterns are not taken"
     forms = ("\\{}", "a\\{}b", "(a)\\{}", "(?:\\{})", "a|\\{}")
     yield refusals("it has a back reference", in_forms(forms, "123456789k"))
-    forms = ("(?{}a)", "a(?{}", "(?:(?{}))", "(?<n>(?{}a))", "a|(?{}b)", "(?<=(?{}a))", "(?<!a)(?{}b)")
-    yield refusals("it has a look-ahead", in_forms(forms, "=!"))
-    forms = ("(?<{}a)", "a(?<{})", "(?:(?<{}))", "(?<n>(?<{}a))", "a|(?<{}b)")
-    yield refusals("taken", in_forms(forms, "=!"))
+    forms = ("(?{}a)", "a(?{})", "(?:(?{}))", "(?<n>(?{}a))", "a|(?{}b)", "(?<=(?{}a))", "(?<!a)(?{}b)")
+    yield refusals("taken", in_forms(forms, ("=", "!", "<=", "<!")))
     above = ("1001}", "1001,}", "1001,1002}", "0,1001}", "1000,1001}", "2000}", "10000}", "01001}")
     yield refusals("it has a count above 1000", [f"a{{{count}" for count in above])
     most = {atom: MOST_STEPS // steps for atom, steps in STEPS.items()}
@@ -1893,6 +1988,7 @@ def ecma_rows():
     yield from class_rows()
     yield from member_rows()
     yield from look_rows()
+    yield from ahead_rows()
     yield from limit_rows()
     yield from property_rows()
 

@@ -9,7 +9,7 @@ _neldrafi_options() {
     json) echo --color --max-errors --output --quiet --help ;;
     check) echo --color --draft --ignore --ignore-unknown-formats --json --max-errors --output --quiet --help ;;
     explain) echo --draft --ignore --output --help ;;
-    plan) echo --draft --output --records --help ;;
+    plan) echo --delimiter --draft --output --records --help ;;
     *) echo --help --version ;;
     esac
 }

@@ -15,7 +15,8 @@ Texts by a schema object:
 ['"Ada" does not match "^[a-z]+$"']
 
 `email`, `idn-email`, `idn-hostname` and `regex` are formats that a schema object does not know. By the argument
-companion_formats=True it knows `email`, and from draft 7 on `idn-hostname`. `checks` of a Schema registers others.
+companion_formats=True it knows `email`, and from draft 7 on `idn-email` and `idn-hostname`. `checks` of a Schema
+registers others.
 
 The library is the file that the environment variable STRKW_LIBRARY names, or else libstrkw.so: in the folder of this
 package, in `bindings/out`, or where the loader of the system finds it.

@@ -45,6 +45,9 @@ const NO_COLOR: &str = "NO_COLOR";
 // The option for the draft.
 const DRAFT: &str = "draft";
 
+// The option for what parts columns.
+const DELIMITER: &str = "delimiter";
+
 /// The option for keywords that are let pass.
 pub(crate) const IGNORE: &str = "ignore";
 
@@ -177,6 +180,22 @@ pub(crate) fn draft<'a>(alloc: Global) -> Arg<'a> {
 /// The draft that the option `--draft` names.
 pub(crate) fn draft_of(matches: &ArgMatches<'_>) -> Draft {
     draft_named(matches.get_str(DRAFT))
+}
+
+/// The option `--delimiter`, with this help.
+pub(crate) fn delimiter<'a>(alloc: Global, help: &'a str) -> Arg<'a> {
+    Arg::new(alloc, DELIMITER)
+        .long(DELIMITER)
+        .value_name("CHARACTER")
+        .help(help)
+}
+
+/// What the option `--delimiter` says: its word, but for `\t`, which is a tab.
+pub(crate) fn delimiter_said<'a>(matches: &ArgMatches<'a>) -> Option<&'a str> {
+    match matches.get_str(DELIMITER) {
+        Some("\\t") => Some("\t"),
+        word => word,
+    }
 }
 
 /// The option `--ignore`.

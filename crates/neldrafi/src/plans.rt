@@ -38,8 +38,12 @@ fn read_value(rt: &HostRuntime, path: &str) -> Result<Value, Fault> {
     }
 }
 
-// Puts a delimiter into a plan, in place of its own. A value that is no object stays as it is.
-fn set_delimiter(alloc: Global, plan: &mut Value, delimiter: &str) -> Result<(), AllocError> {
+/// Puts a delimiter into a plan, in place of its own. A value that is no object stays as it is.
+pub(crate) fn set_delimiter(
+    alloc: Global,
+    plan: &mut Value,
+    delimiter: &str,
+) -> Result<(), AllocError> {
     if let Some(members) = plan.as_object_mut() {
         let name = String::from_str(alloc, DELIMITER)?;
         let value = Value::String(String::from_str(alloc, delimiter)?);

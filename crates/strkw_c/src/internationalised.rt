@@ -12,7 +12,7 @@ use strkw_label::is_valid_idn_hostname;
 use strkw_mail::is_valid_idn_email;
 
 /// Whether the bytes are an internationalised mail address: `Mailbox` of RFC 5321, section 4.1.2, as RFC 6531, section
-/// 3.3, extends it. No schema object knows it as a format.
+/// 3.3, extends it. A schema object knows it as a format by bit 4 of its options alone.
 #[unsafe(no_mangle)]
 pub extern "C" fn strkw_nonnull_is_idn_email(alloc: Global, text: &[u8]) -> u8
     ensures { Tells (IsUtf8 text.now × IsIdnMailbox (chars text.now)) result }
@@ -23,8 +23,8 @@ pub extern "C" fn strkw_nonnull_is_idn_email(alloc: Global, text: &[u8]) -> u8
     }
 }
 
-/// Whether the bytes are an internationalised host name (RFC 5890, section 2.3.2.3). No schema object knows it as a
-/// format.
+/// Whether the bytes are an internationalised host name (RFC 5890, section 2.3.2.3). A schema object knows it as a
+/// format by bit 4 of its options alone.
 #[unsafe(no_mangle)]
 pub extern "C" fn strkw_nonnull_is_idn_hostname(alloc: Global, text: &[u8]) -> u8
     ensures { Tells (IsUtf8 text.now × IsIdnHostName (chars text.now)) result }

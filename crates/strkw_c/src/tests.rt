@@ -16,8 +16,8 @@ const REFUSED: [(&str, &str); 4] = [
         "/maxLength: the limit is not a non-negative whole number of 64 bits",
     ),
     (
-        "{\"pattern\":\"(?=a)\"}",
-        "/pattern: the pattern \"(?=a)\" is not taken: it has a look-ahead",
+        "{\"pattern\":\"(?=ab)\"}",
+        "/pattern: the pattern \"(?=ab)\" is not taken: it has a look-ahead of more than one character",
     ),
     (
         "{\"contentEncoding\":[5]}",
@@ -80,6 +80,7 @@ fn verdicts_under_refusal(rt: HostRuntime) -> Result<(), Fail> {
         (0, "{\"pattern\":\"^2023\"}", [0, 1, 2]),
         (0, "{\"pattern\":\"^\\\\d{3}4\"}", [1, 0, 2]),
         (4, "{\"format\":\"email\"}", [0, 0, 2]),
+        (4, "{\"format\":\"idn-email\"}", [0, 0, 2]),
         (4, "{\"format\":\"idn-hostname\"}", [1, 1, 2]),
     ] {
         if !are_judged_so(rt.alloc(), options, schema, want)? {

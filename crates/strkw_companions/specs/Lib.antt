@@ -3,4 +3,5 @@ pub mod FormDecisions
 pub mod MailboxDecision
 pub mod LabelDecision
 pub mod IdnHostNameDecision
+pub mod IdnMailboxDecision
 pub mod Companions

@@ -1,6 +1,6 @@
 -- Each text is a mail address, or it is not: the decision follows the grammar, rule by rule.
 use Rattle.std.proofs.Common.{◌≡◌, ◌≤◌, ◌<◌, ◌+◌, ℕ, zero, suc, List, [], ◌∷◌, codes, length, map}
-use Rattle.std.proofs.Common.{arith, ◌⊎◌}
+use Rattle.std.proofs.Common.{arith, ◌⊎◌, Bool}
 use Rattle.std.specs.Char.{to_ascii_lowercase, is_ascii_alphanumeric, is_ascii_digit}
 use Rattle.std.specs.Char.{is_ascii_hexdigit}
 use Rattle.std.specs.Str.{byte}
@@ -16,16 +16,16 @@ use Rattle.strkw_mail.specs.AddressLiteral.{Groups, GroupsColon, Ipv6Full, Ipv6C
 use Rattle.strkw_mail.specs.AddressLiteral.{Ipv6v4Comp, Ipv6Addr, Ipv6Tag, Ipv6AddressLiteral}
 use Rattle.strkw_mail.specs.AddressLiteral.{StandardizedTag, GeneralAddressLiteral, Bracketed}
 use Rattle.strkw_mail.specs.AddressLiteral.{AddressLiteral}
-use Rattle.strkw_mail.specs.Mailbox.{Atom, DotString, QuotedPairSmtp, QcontentSmtp, QuotedString}
-use Rattle.strkw_mail.specs.Mailbox.{LocalPart, IsLocalPart, SubDomain, IsSubDomain, Domain}
-use Rattle.strkw_mail.specs.Mailbox.{IsDomain, IsMailbox}
+use Rattle.strkw_mail.specs.Mailbox.{AtomOf, DotStringOf, QuotedPairSmtp, QcontentOf}
+use Rattle.strkw_mail.specs.Mailbox.{QuotedStringOf, LocalPartOf, IsLocalPart, SubDomain}
+use Rattle.strkw_mail.specs.Mailbox.{IsSubDomain, Domain, IsDomain, IsMailbox}
 use Rattle.strkw_companions.specs.Decisions.{Decision, by_other, both, neither, same_text, at_most}
 use Rattle.strkw_companions.specs.Decisions.{some_below}
 use Rattle.strkw_companions.specs.FormDecisions as form
 use Rattle.strkw_companions.specs.FormDecisions.{Decided, then, alternative, repeat, exactly}
 
 -- A, and then a literal, and then B
-between : (A B : Form) (cs : List ℕ) → Decided A → Decided B → Decided (A ⨾ Literal cs ⨾ B)
+pub between : (A B : Form) (cs : List ℕ) → Decided A → Decided B → Decided (A ⨾ Literal cs ⨾ B)
 between A B cs a b = then A (Literal cs ⨾ B) a (then (Literal cs) B (form.literal cs) b)
 
 -- ---- address literals
@@ -129,35 +129,39 @@ bracketed = alternative Ipv4AddressLiteral (Ipv6AddressLiteral ∣ GeneralAddres
     (between StandardizedTag (Repeat1 (OneOf is_dcontent)) (codes ":") tag
     (form.repeat1 (OneOf is_dcontent) (form.one_of is_dcontent))))
 
-address : Decided AddressLiteral
+pub address : Decided AddressLiteral
 address = then (Literal (codes "[")) (Bracketed ⨾ Literal (codes "]")) (form.literal (codes "["))
     (then Bracketed (Literal (codes "]")) bracketed (form.literal (codes "]")))
 
 -- ---- the two parts
 
-atom : Decided Atom
-atom = form.repeat1 (OneOf is_atext) (form.one_of is_atext)
+atom : (atext : ℕ → Bool) → Decided (AtomOf atext)
+atom atext = form.repeat1 (OneOf atext) (form.one_of atext)
 
-content : Decided QcontentSmtp
-content = alternative (OneOf is_qtext_smtp) QuotedPairSmtp (form.one_of is_qtext_smtp)
+content : (qtext : ℕ → Bool) → Decided (QcontentOf qtext)
+content qtext = alternative (OneOf qtext) QuotedPairSmtp (form.one_of qtext)
     (then (Literal (codes "\\")) (OneOf is_escaped) (form.literal (codes "\\"))
     (form.one_of is_escaped))
 
-quoted : Decided QuotedString
-quoted = then (Literal (codes "\"")) (Repeat QcontentSmtp ⨾ Literal (codes "\""))
+quoted : (qtext : ℕ → Bool) → Decided (QuotedStringOf qtext)
+quoted qtext = then (Literal (codes "\"")) (Repeat (QcontentOf qtext) ⨾ Literal (codes "\""))
     (form.literal (codes "\""))
-    (then (Repeat QcontentSmtp) (Literal (codes "\"")) (repeat QcontentSmtp content)
-    (form.literal (codes "\"")))
+    (then (Repeat (QcontentOf qtext)) (Literal (codes "\""))
+    (repeat (QcontentOf qtext) (content qtext)) (form.literal (codes "\"")))
+
+-- with these characters for atext and for qtextSMTP
+pub local_part_of : (atext qtext : ℕ → Bool) → Decided (LocalPartOf atext qtext)
+local_part_of atext qtext = alternative (DotStringOf atext) (QuotedStringOf qtext)
+    (form.separated (byte ".") (AtomOf atext) (atom atext)) (quoted qtext)
 
 local_part : Decided IsLocalPart
 local_part text = by_other (
   (λ h. record { rule = h.0; size = h.1 }),
   (λ p. (p.rule, p.size)),
 ) (
-    both (alternative DotString QuotedString (form.separated (byte ".") Atom atom) quoted text)
-    (at_most (length text) 64))
+    both (local_part_of is_atext is_qtext_smtp text) (at_most (length text) 64))
 
-sub_domain : Decided IsSubDomain
+pub sub_domain : Decided IsSubDomain
 sub_domain text = by_other (
   (λ h. record { rule = h.0; size = h.1 }),
   (λ p. (p.rule, p.size)),

@@ -7,7 +7,7 @@ ghost use Rattle.strkw_companions.specs.Companions.{first_draft, name_of};
 use std::alloc::{AllocError, Global};
 use strkw_keywords::Format;
 use strkw_label::is_valid_idn_hostname;
-use strkw_mail::is_valid_email;
+use strkw_mail::{is_valid_email, is_valid_idn_email};
 use strkw_report::Draft;
 
 /// A format of another standard, which no table of the drafts checks here. A caller registers it under its name.
@@ -15,6 +15,8 @@ use strkw_report::Draft;
 pub enum Companion {
     /// `email`: a mail address, `Mailbox` of RFC 5321, section 4.1.2.
     Email,
+    /// `idn-email`: an internationalised mail address, RFC 6531, section 3.3.
+    IdnEmail,
     /// `idn-hostname`: an internationalised host name, RFC 5890, section 2.3.2.3.
     IdnHostname,
 }
@@ -26,6 +28,7 @@ impl Companion {
     {
         match self {
             Companion::Email => "email",
+            Companion::IdnEmail => "idn-email",
             Companion::IdnHostname => "idn-hostname",
         }
     }
@@ -36,6 +39,7 @@ impl Companion {
     {
         match self {
             Companion::Email => Draft::Draft4,
+            Companion::IdnEmail => Draft::Draft7,
             Companion::IdnHostname => Draft::Draft7,
         }
     }
@@ -47,6 +51,7 @@ impl Format for Companion {
     fn is_valid(&self, alloc: Global, value: &str) -> Result<bool, AllocError> {
         match self {
             Companion::Email => Ok(is_valid_email(value)),
+            Companion::IdnEmail => is_valid_idn_email(alloc, value),
             Companion::IdnHostname => is_valid_idn_hostname(alloc, value),
         }
     }
@@ -59,7 +64,11 @@ pub fn companions_of(draft: Draft) -> &'static [Companion]
     match draft {
         Draft::Draft4 | Draft::Draft6 => &[Companion::Email],
         Draft::Draft7 | Draft::Draft201909 | Draft::Draft202012 => {
-            &[Companion::Email, Companion::IdnHostname]
+            &[
+                Companion::Email,
+                Companion::IdnEmail,
+                Companion::IdnHostname,
+            ]
         }
     }
 }

@@ -1,4 +1,5 @@
-//! Texts of each companion, with each growth refused: RFC 5321 section 4.1.2, and RFC 5891 section 4.2.
+//! Texts of each companion, with each growth refused: RFC 5321 section 4.1.2, RFC 6531 section 3.3, and RFC 5891
+//! section 4.2.
 
 use crate::{Companion, companions_of};
 use std::alloc::{AllocError, Global};
@@ -6,10 +7,13 @@ use std::test::Fail;
 use strkw_keywords::Format;
 use strkw_report::Draft;
 
-const ROWS: [(Companion, &str, bool); 6] = [
+const ROWS: [(Companion, &str, bool); 9] = [
     (Companion::Email, "joe.bloggs@example.com", true),
     (Companion::Email, "joe..bloggs@example.com", false),
     (Companion::Email, "bücher@example.com", false),
+    (Companion::IdnEmail, "bücher@bücher.example", true),
+    (Companion::IdnEmail, "bücher@-bücher.example", false),
+    (Companion::IdnEmail, "joe..bloggs@example.com", false),
     (Companion::IdnHostname, "bücher.example", true),
     (Companion::IdnHostname, "-bücher.example", false),
     (Companion::IdnHostname, "www.example.com", true),
@@ -39,8 +43,8 @@ fn drafts_have_their_companions(_rt: HostRuntime) -> Result<(), Fail> {
     for (draft, count) in [
         (Draft::Draft4, 1),
         (Draft::Draft6, 1),
-        (Draft::Draft7, 2),
-        (Draft::Draft202012, 2),
+        (Draft::Draft7, 3),
+        (Draft::Draft202012, 3),
     ] {
         if companions_of(draft).len() != count {
             return Err(Fail::new("a draft has other companions"));

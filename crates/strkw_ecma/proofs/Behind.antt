@@ -1,10 +1,13 @@
 -- The marks within lookbehinds: at each place they are those of all ways that have begun before it, so that each
 -- lookbehind says there what is so.
-use Rattle.std.proofs.Common.{◌≡◌, ◌⊎◌, ◌↔◌, ℕ, ◌+◌, ◌≤◌, ◌<◌, Bool, true, false, List, slice_get, refl, sym, ap, subst, inl, inr, true≢false, arith}
-use Rattle.strkw_ecma.specs.Tree.{Pattern, empty, class, look, cat, alt, star, plus, lookbehind}
+use Rattle.std.proofs.Common.{◌≡◌, ◌⊎◌, ◌↔◌, ℕ, ◌+◌, ◌≤◌, ◌<◌, Bool, true, false, List, slice_get, refl, sym, ap, subst, inl, inr, ⊎_elim, true≢false, arith}
+use Rattle.strkw_ecma.specs.Tree.{Pattern, empty, class, look, cat, alt, star, plus, lookbehind, lookahead}
 use Rattle.strkw_ecma.specs.Meaning.{before, Matches}
 use Rattle.strkw_ecma.specs.machine.Marks.{Rest, Crosses, Kept, is_clean}
-use Rattle.strkw_ecma.proofs.Steps.{same_meaning, and_left, and_right, forwards, rest_forwards, left, stepped, Says, Goes, Went, goes_on, goes_back}
+use Rattle.strkw_ecma.specs.Program.{is_empty}
+use Rattle.strkw_ecma.specs.Glances.{is_glance, are_told}
+use Rattle.strkw_ecma.proofs.Steps.{same_meaning, and_left, and_right, or_case, or_left, or_right, forwards, rest_forwards, unless_differs, left, stepped}
+use Rattle.strkw_ecma.proofs.Steps.{seen_from, reads_some, Says, Goes, Went, goes_on, goes_back}
 
 module _ (text : List ℕ) (i : ℕ) where
   -- what is not behind a place stands before it, or there
@@ -60,6 +63,53 @@ module _ (text : List ℕ) (i : ℕ) where
           (goes_from c.0 j (omega (arith, c.2)) (subst (λ (A : Type 0). A) (same_step c.0 j) c.3) (before_or_there c.0 (omega (arith, c.1))))),
     )
 
+  -- the empty pattern is the one that is nothing
+  nothing_is : (p : Pattern) → is_empty p ≡ true → p ≡ empty
+  nothing_is empty h = refl
+  nothing_is (class m n rs) h = absurd (true≢false (sym h))
+  nothing_is (look l) h = absurd (true≢false (sym h))
+  nothing_is (cat p q) h = absurd (true≢false (sym h))
+  nothing_is (alt p q) h = absurd (true≢false (sym h))
+  nothing_is (star p) h = absurd (true≢false (sym h))
+  nothing_is (plus p) h = absurd (true≢false (sym h))
+  nothing_is (lookbehind n p) h = absurd (true≢false (sym h))
+  nothing_is (lookahead n p) h = absurd (true≢false (sym h))
+
+  -- a glance says whether the pattern matches from here on
+  pub glanced : (p : Pattern) → is_glance p ≡ true → (seen_from text i p ≡ true) ↔ ((k : ℕ) × Matches text p i k)
+  glanced empty g = (λ h. (i, refl), λ found. refl)
+  glanced (class m n rs) g = (
+    λ h. let found = reads_some text i n rs (slice_get text i) h in (i + 1, (found.0, found.1, found.2, refl)),
+    λ found. rw (found.1.1) found.1.2,
+  )
+  glanced (look l) g = (λ h. (i, (h, refl)), λ found. found.1.0)
+  glanced (cat p q) g = with_nothing p (nothing_is p (and_left (is_empty p) _ g)) (glanced q (and_right (is_empty p) _ g))
+    where
+      -- behind nothing, it is that of what follows
+      with_nothing : (p : Pattern) → p ≡ empty → (seen_from text i q ≡ true) ↔ ((k : ℕ) × Matches text q i k)
+          → (seen_from text i (cat p q) ≡ true) ↔ ((k : ℕ) × Matches text (cat p q) i k)
+      with_nothing p e same =
+          rw e (
+            λ h. let found = same.0 h in (found.0, (i, refl, found.1)),
+            λ found. same.1 (found.0, subst (λ (z : ℕ). Matches text q z found.0) (sym found.1.1) found.1.2),
+          )
+  glanced (alt p q) g = (
+    λ h.
+        ⊎_elim (λ one. let found = (glanced p (and_left _ _ g)).0 one in (found.0, inl found.1))
+        (λ other. let found = (glanced q (and_right (is_glance p) _ g)).0 other in (found.0, inr found.1))
+        (or_case (seen_from text i p) (seen_from text i q) h),
+    λ found.
+        ⊎_elim (λ m. or_left _ _ ((glanced p (and_left _ _ g)).1 (found.0, m)))
+        (λ m. or_right (seen_from text i p) _ ((glanced q (and_right (is_glance p) _ g)).1 (found.0, m))) found.1,
+  )
+  glanced (star p) g = absurd (true≢false (sym g))
+  glanced (plus p) g = absurd (true≢false (sym g))
+  glanced (lookbehind n p) g = absurd (true≢false (sym g))
+  glanced (lookahead n p) g = (
+    λ h. (i, ((unless_differs n _ _ (glanced p g)).0 h, refl)),
+    λ found. (unless_differs n _ _ (glanced p g)).1 found.1.0,
+  )
+
   -- where the marks within lookbehinds are kept, each says what is so
   pub says_of : (p : Pattern) → Kept text p i → Says text i p
   says_of empty k = tt
@@ -70,6 +120,7 @@ module _ (text : List ℕ) (i : ℕ) where
   says_of (star p) k = says_of p k
   says_of (plus p) k = says_of p k
   says_of (lookbehind n p) k = (says_of p k.0, seen p (says_of p k.0) k.1)
+  says_of (lookahead n p) k = glanced p k
 
   -- and a step keeps them
   pub kept_next : (p : Pattern) (x : Bool) → Kept text p i → Kept text (stepped text i p x) (i + 1)
@@ -81,6 +132,7 @@ module _ (text : List ℕ) (i : ℕ) where
   kept_next (star p) x k = kept_next p _ k
   kept_next (plus p) x k = kept_next p _ k
   kept_next (lookbehind n p) x k = (kept_next p true k.0, next_marks p (says_of p k.0) k.1)
+  kept_next (lookahead n p) x k = k
 
 -- a pattern without marks has no match under way
 pub none_under_way : (text : List ℕ) (p : Pattern) (k j : ℕ) → is_clean p ≡ true → Rest text p k j → ⊥
@@ -95,15 +147,19 @@ none_under_way text (alt p q) k j h (inr r) = none_under_way text q k j (and_rig
 none_under_way text (star p) k j h r = none_under_way text p k r.0 h r.1
 none_under_way text (plus p) k j h r = none_under_way text p k r.0 h r.1
 none_under_way text (lookbehind n p) k j h r = r
+none_under_way text (lookahead n p) k j h r = r
 
--- so at the first place, before which no way has begun, its marks are kept
-pub kept_first : (text : List ℕ) (p : Pattern) → is_clean p ≡ true → Kept text p 0
-kept_first text empty h = tt
-kept_first text (class m n rs) h = tt
-kept_first text (look l) h = tt
-kept_first text (cat p q) h = (kept_first text p (and_left _ _ h), kept_first text q (and_right _ _ h))
-kept_first text (alt p q) h = (kept_first text p (and_left _ _ h), kept_first text q (and_right _ _ h))
-kept_first text (star p) h = kept_first text p h
-kept_first text (plus p) h = kept_first text p h
-kept_first text (lookbehind n p) h =
-    (kept_first text p h, λ j. (λ r. absurd (none_under_way text p 0 j h r), λ c. absurd (omega (arith, c.1))))
+-- so at the first place, before which no way has begun, its marks are kept, where its lookaheads are told
+pub kept_first : (text : List ℕ) (p : Pattern) → is_clean p ≡ true → are_told p ≡ true → Kept text p 0
+kept_first text empty h w = tt
+kept_first text (class m n rs) h w = tt
+kept_first text (look l) h w = tt
+kept_first text (cat p q) h w =
+    (kept_first text p (and_left _ _ h) (and_left _ _ w), kept_first text q (and_right (is_clean p) _ h) (and_right (are_told p) _ w))
+kept_first text (alt p q) h w =
+    (kept_first text p (and_left _ _ h) (and_left _ _ w), kept_first text q (and_right (is_clean p) _ h) (and_right (are_told p) _ w))
+kept_first text (star p) h w = kept_first text p h w
+kept_first text (plus p) h w = kept_first text p h w
+kept_first text (lookbehind n p) h w =
+    (kept_first text p h w, λ j. (λ r. absurd (none_under_way text p 0 j h r), λ c. absurd (omega (arith, c.1))))
+kept_first text (lookahead n p) h w = w

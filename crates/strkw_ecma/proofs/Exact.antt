@@ -7,10 +7,12 @@ use Rattle.strkw_pattern.specs.Matcher.{outcome_of}
 use Rattle.strkw_pattern.specs.declared.engine.Outcome.{Outcome}
 use Rattle.strkw_pattern.specs.declared.engine.Outcome.TheVariants.{Match, NoMatch}
 use Rattle.strkw_ecma.specs.Names.{are_distinct}
-use Rattle.strkw_ecma.specs.Syntax.{Disjunction, names, only, either, Alternative, nothing, more, Term, at_start, at_end, at_boundary, at_no_boundary, looks_behind, once}
+use Rattle.strkw_ecma.specs.Syntax.{Disjunction, names, only, either, Alternative, nothing, more, Term, at_start, at_end, at_boundary, at_no_boundary}
+use Rattle.strkw_ecma.specs.Syntax.{looks_behind, looks_ahead, once}
 use Rattle.strkw_ecma.specs.Syntax.{quantified, Atom, plain, escaped, control_escape, set_escape, coded, property_escape, dot, bracketed, group, max_length}
-use Rattle.strkw_ecma.specs.machine.Reading.{read, read_short, read_pattern, tree_if, small_tree}
+use Rattle.strkw_ecma.specs.machine.Reading.{read, read_short, read_pattern, tree_if, small_tree, told_tree}
 use Rattle.strkw_ecma.specs.Lookahead.{is_apart}
+use Rattle.strkw_ecma.specs.Glances.{are_told}
 use Rattle.strkw_ecma.specs.Size.{steps, max_steps}
 use Rattle.strkw_ecma.specs.Meaning.{Found}
 use Rattle.strkw_ecma.specs.Tree.{Pattern, empty, alt}
@@ -55,6 +57,7 @@ mutual
   clean_term at_start = refl
   clean_term at_end = refl
   clean_term (looks_behind n d) = clean d
+  clean_term (looks_ahead n d) = refl
   clean_term (once a) = clean_atom a
   clean_term at_boundary = refl
   clean_term at_no_boundary = refl
@@ -72,11 +75,18 @@ mutual
   clean_atom (bracketed n r e) = refl
   clean_atom (group g d) = clean d
 
--- a tree that is not left out for its size is that of a pattern, if it is one when small
+-- a tree whose lookaheads are told is that of a pattern, if it is one when told
+told_of : (source : List ℕ) (d : Disjunction) (b : Bool) → are_told (pattern d) ≡ b
+    → (are_told (pattern d) ≡ true → IsPattern source d) → IsTrue (is_some (tree_if b d)) → (d : Disjunction) × IsPattern source d
+told_of source d false e p h = absurd (true≢false (sym h))
+told_of source d true e p h = (d, p e)
+
+-- and one that is not left out for its size either, if it is one when small too
 small_of : (source : List ℕ) (d : Disjunction) (b : Bool) → nat_le (steps (pattern d)) max_steps ≡ b
-    → (steps (pattern d) ≤ max_steps → IsPattern source d) → IsTrue (is_some (tree_if b d)) → (d : Disjunction) × IsPattern source d
+    → (steps (pattern d) ≤ max_steps → are_told (pattern d) ≡ true → IsPattern source d)
+    → IsTrue (is_some (told_tree (tree_if b d))) → (d : Disjunction) × IsPattern source d
 small_of source d false e p h = absurd (true≢false (sym h))
-small_of source d true e p h = (d, p (leb-true (steps (pattern d)) max_steps e))
+small_of source d true e p h = told_of source d (are_told (pattern d)) refl (p (leb-true (steps (pattern d)) max_steps e)) h
 
 -- a tree is read only where no name is there twice
 distinct_of : (d : Disjunction) (b : Bool) → are_distinct (names d) ≡ b → is_some (tree_if b d) ≡ true → are_distinct (names d) ≡ true
@@ -86,29 +96,31 @@ distinct_of d true e h = e
 -- where the reader comes to a tree that is not left out, the text is a pattern
 derived_of : (source : List ℕ) (a b : Bool) (o : Option Disjunction) → is_apart source ≡ a → leb (length source) max_length ≡ b
     → read source ≡ o → IsSpelled o source → IsFormed o
-    → IsTrue (is_some (if a then small_tree (if b then o else None) else None)) → (d : Disjunction) × IsPattern source d
+    → IsTrue (is_some (if a then told_tree (small_tree (if b then o else None)) else None)) → (d : Disjunction) × IsPattern source d
 derived_of source false b o a e r s f h = absurd (true≢false (sym h))
 derived_of source true false o a e r s f h = absurd (true≢false (sym h))
 derived_of source true true None a e r s f h = absurd (true≢false (sym h))
 derived_of source true true (Some d) a e r s f h =
     small_of source d (nat_le (steps (pattern d)) max_steps) refl
-    (λ m. record {
+    (λ m t. record {
       formed = f;
       spelled = s;
       short = leb-true (length source) max_length e;
       apart = a;
       distinct = distinct_of d (are_distinct (names d)) refl (ap is_some (sym (complete d f) ∙ ap read s ∙ r));
       small = m;
+      told = t;
     }) h
 
 -- a pattern is read as its tree
 read_is : (source : List ℕ) (d : Disjunction) → IsPattern source d → read_pattern source ≡ Some d
 read_is source d p =
-    ap (λ (b : Bool). if b then small_tree (read_short source) else None) p.apart
-    ∙ ap (λ (b : Bool). small_tree (if b then read source else None)) (le-leb (length source) max_length p.short)
-    ∙ ap (λ (z : List ℕ). small_tree (read z)) (sym p.spelled) ∙ ap small_tree (complete d p.formed)
-    ∙ ap (λ (b : Bool). small_tree (tree_if b d)) p.distinct
-    ∙ ap (λ (b : Bool). tree_if b d) (le-leb (steps (pattern d)) max_steps p.small)
+    ap (λ (b : Bool). if b then told_tree (small_tree (read_short source)) else None) p.apart
+    ∙ ap (λ (b : Bool). told_tree (small_tree (if b then read source else None))) (le-leb (length source) max_length p.short)
+    ∙ ap (λ (z : List ℕ). told_tree (small_tree (read z))) (sym p.spelled) ∙ ap (λ o. told_tree (small_tree o)) (complete d p.formed)
+    ∙ ap (λ (b : Bool). told_tree (small_tree (tree_if b d))) p.distinct
+    ∙ ap (λ (b : Bool). told_tree (tree_if b d)) (le-leb (steps (pattern d)) max_steps p.small)
+    ∙ ap (λ (b : Bool). tree_if b d) p.told
 
 -- the tree that there is, or else the first one
 tree_or : Disjunction → Option Disjunction → Disjunction
@@ -154,7 +166,7 @@ exact source = record {
   decided = decided_of (read_pattern source);
   meant = λ d p text.
       subst (λ (o : Option Disjunction). (outcome_of_read o text ≡ Match) ↔ Found (pattern d) text) (sym (read_is source d p))
-      (both (match_of _) (search_is_exact (pattern d) text (clean d)));
+      (both (match_of _) (search_is_exact (pattern d) text (clean d) p.told));
 }
 
 -- the pattern that there is, or else the first one
@@ -163,7 +175,7 @@ pattern_or q None = q
 pattern_or q (Some p) = p
 
 -- patterns that are the same as options are the same
-same_pattern : (p q : Pattern) → Some p ≡ Some q → p ≡ q
+pub same_pattern : (p q : Pattern) → Some p ≡ Some q → p ≡ q
 unfolding pattern_or
 same_pattern p q h = ap (pattern_or p) h
 
@@ -188,10 +200,20 @@ pub none_of : (o : Option Disjunction) → None ≡ option_map pattern o → is_
 none_of None e = refl
 none_of (Some d) e = absurd (true≢false (ap is_some (sym e)))
 
--- and that it is not too large
+-- the tree that it was read as is that of a pattern
+taken_of : (p : Pattern) (source : List ℕ) → Some p ≡ option_map pattern (read_pattern source) → (d : Disjunction) × IsPattern source d
+taken_of p source e =
+    derived_of source (is_apart source) _ (read source) refl refl refl (sound source) (read_formed source) (some_of p (read_pattern source) e)
+
+-- and stands for it
+taken_is : (p : Pattern) (source : List ℕ) (e : Some p ≡ option_map pattern (read_pattern source)) → p ≡ pattern (taken_of p source e).0
+taken_is p source e =
+    let taken = taken_of p source e in same_pattern p _ (e ∙ ap (option_map pattern) (read_is source taken.0 taken.1))
+
+-- so it is not too large
 pub small_read : (p : Pattern) (source : List ℕ) → Some p ≡ option_map pattern (read_pattern source) → steps p ≤ max_steps
-small_read p source e =
-    let taken = derived_of source (is_apart source) _ (read source) refl refl refl (sound source) (read_formed source)
-    (some_of p (read_pattern source) e) in
-    let same : p ≡ pattern taken.0 = same_pattern p _ (e ∙ ap (option_map pattern) (read_is source taken.0 taken.1)) in
-    rw same taken.1.small
+small_read p source e = rw (taken_is p source e) (taken_of p source e).1.small
+
+-- and what its lookaheads look for is told
+pub told_read : (p : Pattern) (source : List ℕ) → Some p ≡ option_map pattern (read_pattern source) → are_told p ≡ true
+told_read p source e = ap are_told (taken_is p source e) ∙ (taken_of p source e).1.told

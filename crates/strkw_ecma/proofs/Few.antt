@@ -10,22 +10,23 @@ use Rattle.strkw_ecma.specs.declared.code.Class.{Class}
 use Rattle.strkw_ecma.specs.declared.code.Turn.{Turn as CodeTurn}
 use Rattle.strkw_ecma.specs.declared.code.Turn.TheVariants as turn
 use Rattle.strkw_ecma.specs.declared.code.Instruction.{Instruction as CodeInstruction}
-use Rattle.strkw_ecma.specs.declared.code.Instruction.TheVariants.{Read, Turn}
-use Rattle.strkw_ecma.specs.Tree.{Look, Pattern, empty, class, look, cat, alt, star, plus, lookbehind}
+use Rattle.strkw_ecma.specs.declared.code.Instruction.TheVariants.{Read, Peek, Turn}
+use Rattle.strkw_ecma.specs.Tree.{Look, Pattern, empty, class, look, cat, alt, star, plus, lookbehind, lookahead}
 use Rattle.strkw_ecma.specs.machine.Marks.{classes}
-use Rattle.strkw_ecma.specs.machine.Columns.{TellsSets, has_boundary, Tells}
+use Rattle.strkw_ecma.specs.machine.Columns.{TellsSets, sees_boundary, has_boundary, TellsGlance, Tells}
 use Rattle.strkw_ecma.specs.Sets.{word_characters}
-use Rattle.strkw_ecma.specs.Program.{Instruction, read, assert, fork, other, join, star_begin, star_end, plus_begin, plus_end, look_begin, look_end}
-use Rattle.strkw_ecma.specs.Program.{program, alternatives, has_loop, read_count, asks_word, asks_boundary}
+use Rattle.strkw_ecma.specs.Program.{Instruction, read, assert, peek, fork, other, join, star_begin, star_end, plus_begin, plus_end, look_begin, look_end}
+use Rattle.strkw_ecma.specs.Program.{glance, program, alternatives, has_loop, read_count, asks_word, asks_boundary}
 use Rattle.strkw_ecma.specs.Size.{instruction_steps, steps_of, steps}
 use Rattle.strkw_ecma.specs.machine.Walk.{asked, below}
-use Rattle.strkw_ecma.specs.machine.Shape.{turned, reading, instructions, are_within}
+use Rattle.strkw_ecma.specs.machine.Shape.{turned, reading, peeking, instructions, are_within}
 use Rattle.strkw_ecma.proofs.Steps.{and_left, and_right, or_left, or_right}
 use Rattle.strkw_ecma.proofs.Programs.{by_class, by_option}
 
 -- each instruction takes a step at least
 one_at_least : (i : Instruction) → 1 ≤ instruction_steps i
 one_at_least (read again optional n rs) = omega arith
+one_at_least (peek n rs) = omega arith
 one_at_least _ = omega arith
 
 -- instructions are no more than the steps that they take
@@ -51,6 +52,7 @@ record GoesOver (R : Pattern → List Instruction → Type 0) : Type 0 where
   of_class_plus : (m n : Bool) (rs : List CharSet) → R (plus (class m n rs)) (read true false n rs ∷ [])
   of_plus : (p : Pattern) (xs : List Instruction) → R p xs → R (plus p) (plus_begin ∷ (xs ++ (plus_end ∷ [])))
   of_behind : (n : Bool) (p : Pattern) (xs : List Instruction) → R p xs → R (lookbehind n p) (look_begin n ∷ (xs ++ (look_end n ∷ [])))
+  of_ahead : (n : Bool) (p : Pattern) → R (lookahead n p) (look_begin n ∷ (glance p ++ (look_end n ∷ [])))
 
 -- It holds then of each pattern and its program.
 module _ (R : Pattern → List Instruction → Type 0) (parts : GoesOver R) where
@@ -82,6 +84,7 @@ module _ (R : Pattern → List Instruction → Type 0) (parts : GoesOver R) wher
   both_by_parts (star p) = (star_by_parts p (both_by_parts p).0, star_by_parts p (both_by_parts p).0)
   both_by_parts (plus p) = (plus_by_parts p (both_by_parts p).0, plus_by_parts p (both_by_parts p).0)
   both_by_parts (lookbehind n p) = let body = parts.of_behind n p (program p) (both_by_parts p).0 in (body, body)
+  both_by_parts (lookahead n p) = (parts.of_ahead n p, parts.of_ahead n p)
 
 -- the numbers of classes that two lists of instructions read add up
 more_reads : (xs ys : List Instruction) → read_count (xs ++ ys) ≡ read_count xs + read_count ys
@@ -89,7 +92,26 @@ more_reads [] ys = omega arith
 more_reads (read again optional n rs ∷ xs) ys = omega (arith, more_reads xs ys)
 more_reads (_ ∷ xs) ys = more_reads xs ys
 
--- the program of a pattern reads as many classes as stand in the pattern
+-- what a lookahead looks for reads none
+glance_reads : (p : Pattern) → read_count (glance p) ≡ 0
+glance_reads empty = refl
+glance_reads (class m n rs) = refl
+glance_reads (look l) = refl
+glance_reads (cat p q) = glance_reads q
+glance_reads (alt p q) =
+    omega (
+      arith,
+      more_reads (glance p) (other ∷ (glance q ++ (join ∷ []))),
+      more_reads (glance q) (join ∷ []),
+      glance_reads p,
+      glance_reads q,
+    )
+glance_reads (star p) = refl
+glance_reads (plus p) = refl
+glance_reads (lookbehind n p) = refl
+glance_reads (lookahead n p) = omega (arith, more_reads (glance p) (look_end n ∷ []), glance_reads p)
+
+-- the program of a pattern reads as many classes as stand in the pattern, outside lookaheads
 pub reads_are_classes : (p : Pattern) → read_count (program p) ≡ classes p
 reads_are_classes p =
     (both_by_parts
@@ -107,6 +129,7 @@ reads_are_classes p =
       of_class_plus = λ m n rs. refl;
       of_plus = λ q xs e. omega (arith, more_reads xs (plus_end ∷ []), e);
       of_behind = λ n q xs e. omega (arith, more_reads xs (look_end n ∷ []), e);
+      of_ahead = λ n q. omega (arith, more_reads (glance q) (look_end n ∷ []), glance_reads q);
     })
     p).0
 
@@ -134,6 +157,19 @@ both_ask xs ys x y e f = more_asked xs ys ∙ rw (e, f) refl
 first_asks : (xs ys : List Instruction) (x : Bool) → asks_boundary xs ≡ x → asks_boundary ys ≡ false → asks_boundary (xs ++ ys) ≡ x
 first_asks xs ys x e f = both_ask xs ys x false e f ∙ or_nothing x
 
+-- the same of what a lookahead looks for
+glance_asks : (p : Pattern) → asks_boundary (glance p) ≡ sees_boundary p
+glance_asks empty = refl
+glance_asks (class m n rs) = refl
+glance_asks (look l) = or_nothing (asks_word l)
+glance_asks (cat p q) = glance_asks q
+glance_asks (alt p q) =
+    both_ask (glance p) (other ∷ (glance q ++ (join ∷ []))) _ _ (glance_asks p) (first_asks (glance q) (join ∷ []) _ (glance_asks q) refl)
+glance_asks (star p) = refl
+glance_asks (plus p) = refl
+glance_asks (lookbehind n p) = refl
+glance_asks (lookahead n p) = first_asks (glance p) (look_end n ∷ []) _ (glance_asks p) refl
+
 -- `\b` or `\B` stands in the program of a pattern exactly where it stands in the pattern
 pub boundary_is_asked : (p : Pattern) → asks_boundary (program p) ≡ has_boundary p
 boundary_is_asked p =
@@ -152,6 +188,7 @@ boundary_is_asked p =
       of_class_plus = λ m n rs. refl;
       of_plus = λ q xs e. first_asks xs (plus_end ∷ []) _ e refl;
       of_behind = λ n q xs e. first_asks xs (look_end n ∷ []) _ e refl;
+      of_ahead = λ n q. first_asks (glance q) (look_end n ∷ []) _ (glance_asks q) refl;
     })
     p).0
 
@@ -167,6 +204,7 @@ no_loops b a (_ ∷ is) ms h = no_loops b a is ms h
 abbrev pub IsTold : List (Vec CharSet Global) → Instruction → Type 0
 IsTold known (read again optional n rs) = TellsSets known rs
 IsTold known (assert l) = Unit {0}
+IsTold known (peek n rs) = TellsSets known rs
 IsTold known fork = Unit {0}
 IsTold known other = Unit {0}
 IsTold known join = Unit {0}
@@ -197,6 +235,22 @@ module _ (known : List (Vec CharSet Global)) where
   told_parts p q xs ys e f x y word =
       (e x (λ h. word (or_left _ _ h)), f y (λ h. word (or_right (has_boundary p) _ h)))
 
+  -- a glance is told by its instructions, if word characters are told where it asks about them
+  glance_told : (p : Pattern) → AllTold known (glance p) → (sees_boundary p ≡ true → TellsSets known word_characters) → TellsGlance known p
+  glance_told empty told word = tt
+  glance_told (class m n rs) told word = told.0
+  glance_told (look l) told word = word
+  glance_told (cat p q) told word = glance_told q told word
+  glance_told (alt p q) told word =
+      let parts = all_parts (IsTold known) (glance p) (other ∷ (glance q ++ (join ∷ []))) told.1 in (
+        glance_told p parts.0 (λ h. word (or_left _ _ h)),
+        glance_told q (all_parts (IsTold known) (glance q) (join ∷ []) parts.1.1).0 (λ h. word (or_right (sees_boundary p) _ h)),
+      )
+  glance_told (star p) told word = tt
+  glance_told (plus p) told word = tt
+  glance_told (lookbehind n p) told word = tt
+  glance_told (lookahead n p) told word = glance_told p (all_parts (IsTold known) (glance p) (look_end n ∷ []) told.1).0 word
+
   -- this goes over from the parts of a pattern to the whole
   all_told_by_parts : GoesOver AreTold
   all_told_by_parts = record {
@@ -216,6 +270,7 @@ module _ (known : List (Vec CharSet Global)) where
     of_class_plus = λ m n rs told word. told.0;
     of_plus = λ p xs e told. e (all_parts (IsTold known) xs (plus_end ∷ []) told.1).0;
     of_behind = λ n p xs e told. e (all_parts (IsTold known) xs (look_end n ∷ []) told.1).0;
+    of_ahead = λ n p told. glance_told p (all_parts (IsTold known) (glance p) (look_end n ∷ []) told.1).0;
   }
 
   -- a pattern is told where the instructions of its program are, and word characters where it asks
@@ -229,6 +284,13 @@ module _ (known : List (Vec CharSet Global)) where
   class_told again optional (c ∷ cs) zero h all = all.0
   class_told again optional (c ∷ cs) (suc k) h all = class_told again optional cs k (omega (arith, h)) all.1
 
+  -- and one that peeks at one
+  class_peeked : (cs : List Class) (k : ℕ) → k < length cs → AllByRecursion (λ c. TellsSets known c.sets.items) cs
+      → IsTold known (peeking (slice_get cs k))
+  class_peeked [] k h all = absurd (omega (arith, h))
+  class_peeked (c ∷ cs) zero h all = all.0
+  class_peeked (c ∷ cs) (suc k) h all = class_peeked cs k (omega (arith, h)) all.1
+
   -- an instruction that reads no class is told
   turn_told : (t : CodeTurn) → IsTold known (turned t)
   turn_told turn.Start = tt
@@ -240,6 +302,10 @@ module _ (known : List (Vec CharSet Global)) where
   instructions_told cs [] h all = tt
   instructions_told cs (Read k again optional ∷ is) h all = (
     class_told again optional cs k (ltb-true k (length cs) (and_left (nat_lt k (length cs)) _ h)) all,
+    instructions_told cs is (and_right (nat_lt k (length cs)) _ h) all,
+  )
+  instructions_told cs (Peek k ∷ is) h all = (
+    class_peeked cs k (ltb-true k (length cs) (and_left (nat_lt k (length cs)) _ h)) all,
     instructions_told cs is (and_right (nat_lt k (length cs)) _ h) all,
   )
   instructions_told cs (Turn t ∷ is) h all = (turn_told t, instructions_told cs is h all)

@@ -12,11 +12,11 @@ use Rattle.strkw_ecma.specs.Classes.{ClassToken, closing_bracket, class_escaper,
 use Rattle.strkw_ecma.specs.Classes.{hyphen, class_escaped, class_control, class_set, backspace, class_coded, class_property, Ranges, no_ranges, item, range}
 use Rattle.strkw_ecma.specs.Classes.{IsClassAtom, is_hyphen, is_caret, MayFollow, AreRanges}
 use Rattle.strkw_ecma.specs.Names.{NameChar, verbatim, by_code, name_char_value, name_value, is_name_part, IsNameChar, AreNameParts, IsName, may_follow}
-use Rattle.strkw_ecma.specs.Names.{Extension, uncaptured, name_opening, no_extension, extension, NameToken, name_end, name_backslash, name_equals}
-use Rattle.strkw_ecma.specs.Names.{name_negation, name_character, name_token, are_distinct}
+use Rattle.strkw_ecma.specs.Names.{Extension, uncaptured, name_opening, look_equals, look_negation, no_extension, extension, NameToken, name_end}
+use Rattle.strkw_ecma.specs.Names.{name_backslash, name_equals, name_negation, name_character, name_token, are_distinct}
 use Rattle.strkw_ecma.specs.Syntax.{Disjunction, Alternative, Token, bar, asterisk, plus, question, caret, dollar, opening as opening_token, closing, point}
 use Rattle.strkw_ecma.specs.Syntax.{backslash, bracket, brace, character, other, token, Quantifier, zero_or_more, one_or_more, exactly, at_least, from_to}
-use Rattle.strkw_ecma.specs.Syntax.{capturing, plain_group, named, Enclosing, of_group, of_lookbehind, max_nesting}
+use Rattle.strkw_ecma.specs.Syntax.{capturing, plain_group, named, Enclosing, of_group, of_lookbehind, of_lookahead, max_nesting}
 use Rattle.strkw_ecma.specs.Properties.{property_of}
 use Rattle.strkw_ecma.specs.machine.PropertyReading.{PropertyRead, no_property_read, property_goes, property_ends, property_next}
 use Rattle.strkw_ecma.proofs.PropertyReadings.{IsPart, IsRead, property_formed}
@@ -135,6 +135,7 @@ enclosed_formed : (outer : Outer) (l : Level) (g : Enclosing) (d : Disjunction) 
     → length outer.groups < max_nesting → IsWellFormed (suc (length outer.groups)) d → IsState (enclosed outer l g d)
 enclosed_formed outer l (of_group g) d f w k deep h = (f, w, ((k, deep), h), tt)
 enclosed_formed outer l (of_lookbehind n) d f w k deep h = (f, (w.0, (w.1, (deep, h))), tt, tt)
+enclosed_formed outer l (of_lookahead n) d f w k deep h = (f, (w.0, (w.1, (deep, h))), tt, tt)
 
 -- so it is where something is open
 close_formed : (os : List Open) (ns : List (List ℕ)) (d : Disjunction) → AreLevels os → IsWellFormed (length os) d → Makes (closed_in os ns d)
@@ -239,6 +240,8 @@ extension_formed : (outer : Outer) (l : Level) (x : Last) (k : Extension) → Ar
     → IsLast (length outer.groups) x → Makes (on_extension outer l x k)
 extension_formed outer l x uncaptured f g h = open_formed outer l x (of_group plain_group) _ refl tt f g h
 extension_formed outer l x name_opening f g h = (f, g, h, tt)
+extension_formed outer l x look_equals f g h = open_formed outer l x (of_lookahead false) _ refl tt f g h
+extension_formed outer l x look_negation f g h = open_formed outer l x (of_lookahead true) _ refl tt f g h
 extension_formed outer l x no_extension f g h = tt
 
 -- counts

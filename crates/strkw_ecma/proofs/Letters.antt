@@ -7,8 +7,8 @@ use Rattle.strkw_ecma.specs.Escapes.{Escape, itself, control, set, boundary, no_
 use Rattle.strkw_ecma.specs.Escapes.{escape}
 use Rattle.strkw_ecma.specs.Classes.{ClassToken, closing_bracket, class_escaper, dash, class_char, class_token, class_escape}
 use Rattle.strkw_ecma.specs.Numbers.{CountToken, digit, comma, closing_brace, no_count, is_digit, count_token}
-use Rattle.strkw_ecma.specs.Names.{Extension, uncaptured, name_opening, no_extension, extension, NameToken, name_end, name_backslash, name_equals}
-use Rattle.strkw_ecma.specs.Names.{name_negation, name_character, name_token}
+use Rattle.strkw_ecma.specs.Names.{Extension, uncaptured, name_opening, look_equals, look_negation, no_extension, extension, NameToken, name_end}
+use Rattle.strkw_ecma.specs.Names.{name_backslash, name_equals, name_negation, name_character, name_token}
 use Rattle.strkw_ecma.specs.Syntax.{Token, bar, asterisk, plus, question, caret, dollar, opening, closing, point, backslash, bracket, brace, character, other}
 use Rattle.strkw_ecma.specs.Syntax.{token}
 
@@ -117,13 +117,16 @@ char_of_count_token c =
 abbrev pub char_of_extension : Extension → ℕ → ℕ
 char_of_extension uncaptured c = byte ":"
 char_of_extension name_opening c = byte "<"
+char_of_extension look_equals c = byte "="
+char_of_extension look_negation c = byte "!"
 char_of_extension no_extension c = c
 
 -- the character of what a character is there is that character
 pub char_of_extension_token : (c : ℕ) → char_of_extension (extension c) c ≡ c
 char_of_extension_token c =
     let P = λ (t : Extension). char_of_extension t c ≡ c in
-    by_test (c == byte ":") P _ _ (same_char c _) (by_test (c == byte "<") P _ _ (same_char c _) refl)
+    by_test (c == byte ":") P _ _ (same_char c _) (by_test (c == byte "<") P _ _ (same_char c _)
+    (by_test (c == byte "=") P _ _ (same_char c _) (by_test (c == byte "!") P _ _ (same_char c _) refl)))
 
 -- the character of what stands in a name, where it has one
 abbrev pub char_of_name : NameToken → ℕ → ℕ

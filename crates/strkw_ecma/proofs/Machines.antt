@@ -5,16 +5,16 @@ use Rattle.std.proofs.Common.{arith}
 use Rattle.std.proofs.lemmas.Bool.{ltb-true}
 use Rattle.strkw_ecma.specs.declared.tree.CharSet.{CharSet}
 use Rattle.strkw_ecma.specs.machine.Marks.{reads, classes}
-use Rattle.strkw_ecma.specs.Program.{Instruction, read, read_count}
+use Rattle.strkw_ecma.specs.Program.{Instruction, read, peek, read_count}
 use Rattle.strkw_ecma.specs.Size.{max_steps}
 use Rattle.strkw_ecma.specs.machine.Walk.{top, Asked, back_over, asked, marks_behind, Following, Walked, over, left_by, followed}
-use Rattle.strkw_ecma.specs.machine.Shape.{turned, reading, instructed, instructions, are_within}
+use Rattle.strkw_ecma.specs.machine.Shape.{turned, reading, peeking, instructed, instructions, are_within}
 use Rattle.strkw_ecma.specs.machine.Machine.{pattern_of, program_of, class_reads}
 use Rattle.strkw_ecma.specs.declared.code.Class.{Class}
 use Rattle.strkw_ecma.specs.declared.code.Turn.{Turn as CodeTurn}
 use Rattle.strkw_ecma.specs.declared.code.Turn.TheVariants as turn
 use Rattle.strkw_ecma.specs.declared.code.Instruction.{Instruction as CodeInstruction}
-use Rattle.strkw_ecma.specs.declared.code.Instruction.TheVariants.{Read, Turn}
+use Rattle.strkw_ecma.specs.declared.code.Instruction.TheVariants.{Read, Peek, Turn}
 use Rattle.strkw_ecma.specs.declared.program.Program.{Program}
 use Rattle.strkw_ecma.proofs.Few.{reads_are_classes}
 use Rattle.strkw_ecma.proofs.Programs.{with_marks}
@@ -47,13 +47,27 @@ within_at n is k class again optional d h here within =
     (ap (λ (i : CodeInstruction). are_within n (i ∷ drop (suc k) is)) (sym here) ∙ ap (are_within n) (sym (drop-cons is k d h))
     ∙ within_rest n k is within))
 
+-- and so is one that is peeked at
+pub peeked_within : (n : ℕ) (is : List CodeInstruction) (k class : ℕ) (d : CodeInstruction) → k < length is
+    → get_or is k d ≡ Peek class → are_within n is ≡ true → class < n
+peeked_within n is k class d h here within =
+    ltb-true class n
+    (and_left (nat_lt class n) _
+    (ap (λ (i : CodeInstruction). are_within n (i ∷ drop (suc k) is)) (sym here) ∙ ap (are_within n) (sym (drop-cons is k d h))
+    ∙ within_rest n k is within))
+
 -- classes and others
 -- an instruction that reads a class is one more that reads
 pub one_read : (o : Option Class) (again optional : Bool) (is : List Instruction) → read_count (reading again optional o ∷ is) ≡ read_count is + 1
 one_read None again optional is = refl
 one_read (Some c) again optional is = refl
 
--- and any other changes nothing of how many do
+-- one that peeks at a class changes nothing of how many do
+pub none_peeked : (o : Option Class) (is : List Instruction) → read_count (peeking o ∷ is) ≡ read_count is
+none_peeked None is = refl
+none_peeked (Some c) is = refl
+
+-- and any other neither
 pub none_read : (t : CodeTurn) (is : List Instruction) → read_count (turned t ∷ is) ≡ read_count is
 none_read turn.Start is = refl
 none_read _ is = refl
@@ -101,6 +115,11 @@ module _ (p : Program) (k : ℕ) (within : k < length p.code.instructions.items)
   pub from_class : (class : ℕ) (again optional : Bool) → get_or p.code.instructions.items k (Read 0 false false) ≡ Read class again optional
       → drop k (program_of p) ≡ reading again optional (slice_get p.code.classes.items class) ∷ drop (suc k) (program_of p)
   from_class class again optional here = from_instruction (Read class again optional) here
+
+  -- and where it peeks at one
+  pub from_peek : (class : ℕ) → get_or p.code.instructions.items k (Read 0 false false) ≡ Peek class
+      → drop k (program_of p) ≡ peeking (slice_get p.code.classes.items class) ∷ drop (suc k) (program_of p)
+  from_peek class here = from_instruction (Peek class) here
 
   -- and where it reads none
   pub from_turn : (t : CodeTurn) → get_or p.code.instructions.items k (Read 0 false false) ≡ Turn t
@@ -153,6 +172,16 @@ module _ (b a : Option ℕ) where
   asked_reading (Some c) again optional m is ms s t e h =
       h c.negated c.sets.items ∙ ap (back_over b a (read again optional c.negated c.sets.items) m) e
 
+  -- backwards over a class that is peeked at
+  pub asked_peeking : (o : Option Class) (reads_it : Bool) (is : List Instruction) (ms : List Bool) (s t : Asked)
+      → s ≡ asked b a is ms → reads_it ≡ class_reads a o
+      → ((n : Bool) (rs : List CharSet) (m : Bool) → reads_it ≡ reads a n rs → t ≡ back_over b a (peek n rs) m s)
+      → t ≡ asked b a (peeking o ∷ is) ms
+  asked_peeking None reads_it is ms s t e r h =
+      h false [] (top ms) (r ∙ sym (none_reads a)) ∙ ap (back_over b a (peek false []) (top ms)) e
+  asked_peeking (Some c) reads_it is ms s t e r h =
+      h c.negated c.sets.items (top ms) r ∙ ap (back_over b a (peek c.negated c.sets.items) (top ms)) e
+
   -- any other instruction leaves the marks
   marks_stay : (t : CodeTurn) (ms : List Bool) → marks_behind b a (turned t) ms ≡ ms
   marks_stay turn.Start ms = refl
@@ -187,6 +216,16 @@ module _ (b a : Option ℕ) where
       followed_read again optional false m reads_it behind [] is ms s t (h false []) (e ∙ sym (none_reads a)) f
   followed_reading (Some c) again optional m reads_it behind is ms s t h e f =
       followed_read again optional c.negated m reads_it behind c.sets.items is ms s t (h c.negated c.sets.items) e f
+
+  -- forwards over a class that is peeked at
+  pub followed_peeking : (o : Option Class) (reads_it : Bool) (is : List Instruction) (ms : List Bool) (s : Following)
+      → reads_it ≡ class_reads a o
+      → followed b a (peeking o ∷ is) s ms
+      ≡ followed b a is (record { enters = s.enters && reads_it; around = s.around; again = s.again }) ms
+  followed_peeking None reads_it is ms s r =
+      ap (λ (y : Bool). followed b a is (record { enters = s.enters && y; around = s.around; again = s.again }) ms) (none_reads a ∙ sym r)
+  followed_peeking (Some c) reads_it is ms s r =
+      ap (λ (y : Bool). followed b a is (record { enters = s.enters && y; around = s.around; again = s.again }) ms) (sym r)
 
   -- forwards over any other instruction
   pub followed_turned : (t : CodeTurn) (is : List Instruction) (ms : List Bool) (s u : Following)

@@ -6,7 +6,7 @@ use Rattle.std.proofs.Math.Bool.{beq}
 use Rattle.std.specs.List.{list_any}
 use Rattle.std.proofs.lemmas.List.{append_assoc, get_or_past, get_or-replicate, length-replicate}
 use Rattle.strkw_ecma.specs.declared.tree.CharSet.{CharSet}
-use Rattle.strkw_ecma.specs.Tree.{Pattern, empty, class, look, cat, alt, star, plus, lookbehind}
+use Rattle.strkw_ecma.specs.Tree.{Pattern, empty, class, look, cat, alt, star, plus, lookbehind, lookahead}
 use Rattle.strkw_ecma.specs.machine.Marks.{leaves, step, classes, marked, marks_of, is_clean}
 use Rattle.strkw_ecma.specs.Program.{Instruction, fork, other, join, star_begin, star_end, plus_begin, plus_end, look_begin, look_end, if_class, if_option}
 use Rattle.strkw_ecma.specs.Program.{program, alternatives}
@@ -33,6 +33,7 @@ unmarked ms (alt p q) h none =
 unmarked ms (star p) h none = ap star (unmarked ms p h none)
 unmarked ms (plus p) h none = ap plus (unmarked ms p h none)
 unmarked ms (lookbehind n p) h none = ap (lookbehind n) (unmarked ms p h none)
+unmarked ms (lookahead n p) h none = refl
 
 -- Other marks change neither which classes there are, nor the program.
 pub same_classes : (ms : List Bool) (p : Pattern) → classes (marked ms p) ≡ classes p
@@ -44,6 +45,7 @@ same_classes ms (alt p q) = omega (arith, same_classes ms p, same_classes (drop 
 same_classes ms (star p) = same_classes ms p
 same_classes ms (plus p) = same_classes ms p
 same_classes ms (lookbehind n p) = same_classes ms p
+same_classes ms (lookahead n p) = refl
 
 -- what is chosen by whether a pattern is a class is the same with other marks
 same_if_class : {A : Type 0} (ms : List Bool) (p : Pattern) (f : Bool → List CharSet → A) (x : A) → if_class (marked ms p) f x ≡ if_class p f x
@@ -55,6 +57,7 @@ same_if_class ms (alt p q) f x = refl
 same_if_class ms (star p) f x = refl
 same_if_class ms (plus p) f x = refl
 same_if_class ms (lookbehind n p) f x = refl
+same_if_class ms (lookahead n p) f x = refl
 
 -- and what is chosen by whether two alternatives are nothing and a class
 same_if_option : {A : Type 0} (ms ns : List Bool) (p q : Pattern) (f : Bool → List CharSet → A) (x : A)
@@ -67,6 +70,7 @@ same_if_option ms ns (alt p r) q f x = refl
 same_if_option ms ns (star p) q f x = refl
 same_if_option ms ns (plus p) q f x = refl
 same_if_option ms ns (lookbehind n p) q f x = refl
+same_if_option ms ns (lookahead n p) q f x = refl
 
 -- with these marks a pattern has the same program, by itself and among alternatives
 IsSame : List Bool → Pattern → Type 0
@@ -113,6 +117,7 @@ both_are_same ms (star p) = let e = loop_is_same ms p star_begin star_end _ (bot
 both_are_same ms (plus p) = let e = loop_is_same ms p plus_begin plus_end _ (both_are_same ms p).0 in (e, e)
 both_are_same ms (lookbehind n p) =
     let e = ap (λ (is : List Instruction). look_begin n ∷ (is ++ (look_end n ∷ []))) (both_are_same ms p).0 in (e, e)
+both_are_same ms (lookahead n p) = (refl, refl)
 
 -- marks change nothing of the program of a pattern
 pub same_program : (ms : List Bool) (p : Pattern) → program (marked ms p) ≡ program p
@@ -135,6 +140,7 @@ marked_again ms ns (alt p q) =
 marked_again ms ns (star p) = ap star (marked_again ms ns p)
 marked_again ms ns (plus p) = ap plus (marked_again ms ns p)
 marked_again ms ns (lookbehind n p) = ap (lookbehind n) (marked_again ms ns p)
+marked_again ms ns (lookahead n p) = refl
 
 -- a pattern has as many marks as classes
 pub marks_count : (p : Pattern) → length (marks_of p) ≡ classes p
@@ -146,6 +152,7 @@ marks_count (alt p q) = length-append (marks_of p) (marks_of q) ∙ omega (arith
 marks_count (star p) = marks_count p
 marks_count (plus p) = marks_count p
 marks_count (lookbehind n p) = marks_count p
+marks_count (lookahead n p) = refl
 
 -- a pattern with its own marks is itself
 pub own_marks : (p : Pattern) (ms : List Bool) → marked (marks_of p ++ ms) p ≡ p
@@ -161,6 +168,7 @@ own_marks (alt p q) ms =
 own_marks (star p) ms = ap star (own_marks p ms)
 own_marks (plus p) ms = ap plus (own_marks p ms)
 own_marks (lookbehind n p) ms = ap (lookbehind n) (own_marks p ms)
+own_marks (lookahead n p) ms = refl
 
 -- as many marks as there are classes become its own, and the others stay
 -- where a list begins with a first list, and goes on with a second, it begins with both
@@ -185,6 +193,7 @@ marks_taken ms (alt p q) h =
 marks_taken ms (star p) h = marks_taken ms p h
 marks_taken ms (plus p) h = marks_taken ms p h
 marks_taken ms (lookbehind n p) h = marks_taken ms p h
+marks_taken ms (lookahead n p) h = refl
 
 module _ (b a : Option ℕ) where
   -- after a step a pattern has as many classes as before
@@ -197,6 +206,7 @@ module _ (b a : Option ℕ) where
   step_classes (star p) x = step_classes p (x || leaves b a p false)
   step_classes (plus p) x = step_classes p (x || leaves b a p false)
   step_classes (lookbehind n p) x = step_classes p true
+  step_classes (lookahead n p) x = refl
 
   -- a step is of the same pattern, with other marks
   step_marked : (ms : List Bool) (p : Pattern) (x : Bool) → marked ms (step b a p x) ≡ marked ms p
@@ -214,6 +224,7 @@ module _ (b a : Option ℕ) where
   step_marked ms (star p) x = ap star (step_marked ms p (x || leaves b a p false))
   step_marked ms (plus p) x = ap plus (step_marked ms p (x || leaves b a p false))
   step_marked ms (lookbehind n p) x = ap (lookbehind n) (step_marked ms p true)
+  step_marked ms (lookahead n p) x = refl
 
   -- so it has the same program
   pub step_program : (p : Pattern) (x : Bool) → program (step b a p x) ≡ program p

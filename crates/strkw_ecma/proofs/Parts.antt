@@ -16,18 +16,20 @@ use Rattle.strkw_ecma.specs.declared.properties.Property.{Property}
 use Rattle.strkw_ecma.specs.declared.tree.CharSet.{CharSet}
 use Rattle.strkw_ecma.specs.declared.tree.CharSet.TheVariants.{Property as PropertySet}
 use Rattle.strkw_ecma.specs.Names.{NameChar, verbatim, by_code, name_char_value, name_value, may_follow, Extension, uncaptured, name_opening, no_extension}
-use Rattle.strkw_ecma.specs.Names.{extension, NameToken, name_end, name_backslash, name_equals, name_negation, name_character, name_token, are_distinct}
+use Rattle.strkw_ecma.specs.Names.{look_equals, look_negation, extension, NameToken, name_end, name_backslash, name_equals, name_negation}
+use Rattle.strkw_ecma.specs.Names.{name_character, name_token, are_distinct}
 use Rattle.strkw_ecma.specs.Classes.{ClassToken, closing_bracket, class_escaper, dash, class_char, class_token, class_escape, ClassAtom, class_plain}
 use Rattle.strkw_ecma.specs.Classes.{hyphen, class_escaped, class_control, class_set, backspace, class_coded, class_property, Ranges, no_ranges, item, set_item}
 use Rattle.strkw_ecma.specs.Classes.{property_set, range, range_list, sets_of}
 use Rattle.strkw_ecma.specs.Syntax.{Disjunction, Alternative, Term, at_start, at_end, at_boundary, at_no_boundary, Quantifier, exactly, at_least, from_to}
 use Rattle.strkw_ecma.specs.Syntax.{zero_or_more, one_or_more, capturing, plain_group, named, Enclosing, of_group, of_lookbehind, with_own_name, Atom, plain, escaped}
 use Rattle.strkw_ecma.specs.Syntax.{control_escape, set_escape, coded, property_escape, dot, Token, bar, asterisk, plus, question, caret, dollar, opening as opening_token}
-use Rattle.strkw_ecma.specs.Syntax.{closing, point, backslash, bracket, brace, character, other, token, max_nesting, max_length}
+use Rattle.strkw_ecma.specs.Syntax.{closing, point, backslash, bracket, brace, character, other, token, of_lookahead, max_nesting, max_length}
 use Rattle.strkw_ecma.specs.Patterns.{pattern, alternative_pattern, term_pattern, atom_pattern, times, copies, quantified_pattern}
 use Rattle.strkw_ecma.specs.Numbers.{number, number_of, max_count, CountToken, digit, comma, closing_brace, no_count, count_token}
 use Rattle.strkw_ecma.specs.Size.{steps, max_term_steps, max_steps}
 use Rattle.strkw_ecma.specs.Lookahead.{is_apart}
+use Rattle.strkw_ecma.specs.Glances.{are_told}
 use Rattle.strkw_ecma.proofs.Digits.{number_push}
 use Rattle.strkw_ecma.proofs.CodeImages.{coding_image, coded_image, next_coding_image}
 use Rattle.strkw_ecma.specs.machine.Reading as reading
@@ -37,13 +39,13 @@ use Rattle.strkw_ecma.specs.machine.Reading.{with_mode, opened_within, on_group,
 use Rattle.strkw_ecma.specs.machine.Reading.{on_class_coding, on_property, on_class_property, within, next_in, is_between, with_atom, with_term}
 use Rattle.strkw_ecma.specs.machine.Reading.{with_quantifier, questioned, opened, enclosed, closed_in, with_name_char, name_read, look_read, on_naming, on_name_escape}
 use Rattle.strkw_ecma.specs.machine.Reading.{on_name_coding, closed, on_token, on_escape, next, read_from, initial, read, read_short, read_pattern, tree_if}
-use Rattle.strkw_ecma.specs.machine.Reading.{small_tree}
+use Rattle.strkw_ecma.specs.machine.Reading.{small_tree, told_tree}
 use Rattle.strkw_ecma.specs.machine.Parts.{Side, Parts, after_count, after_low, after_high, after_high_brace, after_counting, small, value, ended, joined}
 use Rattle.strkw_ecma.specs.machine.Parts.{level_ended, level_so_far, new_level, after_atom, after_term, after_bar, after_opening, after_enclosed, closing_in, after_name_char}
 use Rattle.strkw_ecma.specs.machine.Parts.{after_name, after_look, after_naming, after_name_escape, after_name_coding, closes, after_closing, after_quantifier}
 use Rattle.strkw_ecma.specs.machine.Parts.{after_question, after_escape, after_token, after_group, after_extension, after_class_token, after_class_escape}
 use Rattle.strkw_ecma.specs.machine.Parts.{after_coding, after_class_coding, after_property, after_class_property, after_bracket, after_in, after_char}
-use Rattle.strkw_ecma.specs.machine.Parts.{at_close, pattern_from, no_parts, pattern_if, small_pattern}
+use Rattle.strkw_ecma.specs.machine.Parts.{at_close, pattern_from, no_parts, pattern_if, small_pattern, told_pattern}
 
 -- a level with the patterns of its trees
 abbrev side : Level → Side
@@ -53,6 +55,7 @@ side l = record { earlier = option_map pattern l.earlier; current = alternative_
 abbrev pub enclosing_image : Enclosing → parts.Enclosing
 enclosing_image (of_group g) = parts.of_group
 enclosing_image (of_lookbehind n) = parts.of_behind n
+enclosing_image (of_lookahead n) = parts.of_ahead n
 
 -- what is open, and the level around it with the patterns of its trees
 abbrev pub around : Open → parts.Open
@@ -247,6 +250,7 @@ enclosed_image : (outer : Outer) (l : Level) (g : Enclosing) (d : Disjunction)
     → image (enclosed outer l g d) ≡ after_enclosed (outer_image outer) (side l) (enclosing_image g) (pattern d)
 enclosed_image outer l (of_group g) d = refl
 enclosed_image outer l (of_lookbehind n) d = refl
+enclosed_image outer l (of_lookahead n) d = refl
 
 -- and so where something is open
 closed_image : (os : List Open) (ns : List (List ℕ)) (d : Disjunction)
@@ -308,6 +312,8 @@ extension_image : (outer : Outer) (l : Level) (x : reading.Last) (k : Extension)
     → option_map image (on_extension outer l x k) ≡ after_extension (image (state outer l x)) k
 extension_image outer l x uncaptured = within_opened outer l x (of_group plain_group)
 extension_image outer l x name_opening = refl
+extension_image outer l x look_equals = within_opened outer l x (of_lookahead false)
+extension_image outer l x look_negation = within_opened outer l x (of_lookahead true)
 extension_image outer l x no_extension = refl
 
 -- a test may be asked before the image is taken or behind it
@@ -660,13 +666,18 @@ small_image : (o : Option Disjunction) → option_map pattern (small_tree o) ≡
 small_image None = refl
 small_image (Some d) = tree_image (nat_le (steps (pattern d)) max_steps) d
 
--- where no digit stands behind `\0`, the pattern of the text is what is read, unless that is too large
-pub read_whole : (text : List ℕ) (o p : Option Pattern) → true ≡ is_apart text → o ≡ option_map pattern (read_short text) → p ≡ small_pattern o
-    → p ≡ option_map pattern (read_pattern text)
-read_whole text o p a e f =
-    f ∙ ap small_pattern e ∙ sym (small_image (read_short text))
-    ∙ ap (λ (b : Bool). option_map pattern (if b then small_tree (read_short text) else None)) a
+-- and exactly where each lookahead in its pattern is told
+told_image : (o : Option Disjunction) → option_map pattern (told_tree o) ≡ told_pattern (option_map pattern o)
+told_image None = refl
+told_image (Some d) = tree_image (are_told (pattern d)) d
+
+-- where no digit stands behind `\0`, the pattern of the text is what is read, unless that is too large, or not told
+pub read_whole : (text : List ℕ) (o p q : Option Pattern) → true ≡ is_apart text → o ≡ option_map pattern (read_short text)
+    → p ≡ small_pattern o → q ≡ told_pattern p → q ≡ option_map pattern (read_pattern text)
+read_whole text o p q a e f g =
+    g ∙ ap told_pattern (f ∙ ap small_pattern e ∙ sym (small_image (read_short text))) ∙ sym (told_image (small_tree (read_short text)))
+    ∙ ap (λ (b : Bool). option_map pattern (if b then told_tree (small_tree (read_short text)) else None)) a
 
 -- a text with a digit behind some `\0` has no pattern
 pub not_apart : (text : List ℕ) → false ≡ is_apart text → None ≡ option_map pattern (read_pattern text)
-not_apart text a = ap (λ (b : Bool). option_map pattern (if b then small_tree (read_short text) else None)) a
+not_apart text a = ap (λ (b : Bool). option_map pattern (if b then told_tree (small_tree (read_short text)) else None)) a

@@ -3,11 +3,11 @@ use Rattle.std.proofs.Common.{◌≡◌, ℕ, Bool, true, false, ◌&&◌, ◌||
 use Rattle.std.proofs.lemmas.Bool.Decides.{nat_tests}
 use Rattle.std.proofs.lemmas.List.{append_assoc, append-nil}
 use Rattle.strkw_ecma.specs.declared.tree.CharSet.{CharSet}
-use Rattle.strkw_ecma.specs.Tree.{Look, Pattern, empty, class, look, cat, alt, star, plus, lookbehind, differ}
+use Rattle.strkw_ecma.specs.Tree.{Look, Pattern, empty, class, look, cat, alt, star, plus, lookbehind, lookahead, differ}
 use Rattle.strkw_ecma.specs.Meaning.{holds}
-use Rattle.strkw_ecma.specs.machine.Marks.{reads, leaves, step, marks_of}
+use Rattle.strkw_ecma.specs.machine.Marks.{reads, sees, leaves, step, marks_of}
 use Rattle.strkw_ecma.specs.Program.{Instruction, read, fork, other, join, star_begin, star_end, plus_begin, plus_end, look_begin, look_end}
-use Rattle.strkw_ecma.specs.Program.{if_class, if_option, program, alternatives}
+use Rattle.strkw_ecma.specs.Program.{if_class, if_option, glance, program, alternatives}
 use Rattle.strkw_ecma.proofs.Steps.{plus_leaves}
 use Rattle.strkw_ecma.specs.machine.Walk.{Asked, Walked, top, below, back_over, asked, followed, walked}
 
@@ -22,6 +22,7 @@ by_class P (alt p q) f x g h = h
 by_class P (star p) f x g h = h
 by_class P (plus p) f x g h = h
 by_class P (lookbehind n p) f x g h = h
+by_class P (lookahead n p) f x g h = h
 
 -- the same of what is chosen by whether the first of two is nothing and the second a class
 pub by_option : {A : Type 0} (P : A → Type 0) (p q : Pattern) (f : Bool → List CharSet → A) (x : A)
@@ -34,6 +35,7 @@ by_option P (alt p r) q f x g h = h
 by_option P (star p) q f x g h = h
 by_option P (plus p) q f x g h = h
 by_option P (lookbehind n p) q f x g h = h
+by_option P (lookahead n p) q f x g h = h
 
 module _ (b a : Option ℕ) where
   -- whether a way through the pattern reads nothing
@@ -46,6 +48,7 @@ module _ (b a : Option ℕ) where
   passes (star p) = true
   passes (plus p) = passes p
   passes (lookbehind n p) = differ n (leaves b a p true)
+  passes (lookahead n p) = differ n (sees b a p)
 
   -- what leaves the body of each loop that is not entered, in the order in which they begin
   abbrev pub agains : Pattern → List Bool
@@ -57,6 +60,7 @@ module _ (b a : Option ℕ) where
   agains (star p) = if_class p (λ n rs. []) (leaves b a p false ∷ agains p)
   agains (plus p) = if_class p (λ n rs. []) (leaves b a p false ∷ agains p)
   agains (lookbehind n p) = agains p
+  agains (lookahead n p) = []
 
 -- the same of two that are chosen by one pattern
 pub both_by_class : {A B : Type 0} (P : A → B → Type 0) (p : Pattern) (f : Bool → List CharSet → A) (x : A) (g : Bool → List CharSet → B) (y : B)
@@ -69,6 +73,7 @@ both_by_class P (alt p q) f x g y h k = k
 both_by_class P (star p) f x g y h k = k
 both_by_class P (plus p) f x g y h k = k
 both_by_class P (lookbehind n p) f x g y h k = k
+both_by_class P (lookahead n p) f x g y h k = k
 
 -- what is known before an instruction is the same where its four parts are
 same_asked : (s t : Asked) → s.ends ≡ t.ends → s.goes_on ≡ t.goes_on → s.around ≡ t.around → s.again ≡ t.again → s ≡ t
@@ -111,6 +116,7 @@ module _ (b a : Option ℕ) where
       regroup : (l p x : Bool) → (l || ((x || l) && p)) ≡ ((l || ((false || l) && p)) || (x && p))
       regroup l p x = grind (arith, nat_tests)
   leaves_split (lookbehind n p) x = refl
+  leaves_split (lookahead n p) x = refl
 
   -- what is known before a pattern by what is known behind it
   abbrev pub before : Pattern → Asked → Asked
@@ -331,6 +337,77 @@ module _ (b a : Option ℕ) where
       goes_on : (g e : Bool) → g ≡ (g || (e && false))
       goes_on g e = grind (arith, nat_tests)
 
+  -- what is known before a lookahead, where what it looks for lets pass where it is seen
+  ahead_asked_by : (n : Bool) (p : Pattern) (is : List Instruction) (ms : List Bool)
+      → asked b a (glance p ++ (look_end n ∷ is)) ms
+      ≡ record {
+        ends = true && sees b a p;
+        goes_on = false;
+        around = (asked b a is ms).goes_on ∷ (asked b a is ms).ends ∷ (asked b a is ms).around;
+        again = (asked b a is ms).again;
+      }
+      → asked b a ((look_begin n ∷ (glance p ++ (look_end n ∷ []))) ++ is) ms
+      ≡ record {
+        ends = (asked b a is ms).ends && differ n (sees b a p);
+        goes_on = (asked b a is ms).goes_on;
+        around = (asked b a is ms).around;
+        again = (asked b a is ms).again;
+      }
+  ahead_asked_by n p is ms known =
+      ap (λ (js : List Instruction). asked b a (look_begin n ∷ js) ms) (append_assoc (glance p) (look_end n ∷ []) is)
+      ∙ ap (back_over b a (look_begin n) (top ms)) known
+
+  -- what is known before what a lookahead looks for, by what is known behind it
+  abbrev before_glance : Pattern → Asked → Asked
+  before_glance p s =
+      record {
+        ends = s.ends && sees b a p;
+        goes_on = s.goes_on;
+        around = s.around;
+        again = s.again;
+      }
+
+  -- backwards, nothing lets pass
+  nothing_glanced : (is : List Instruction) (ms : List Bool) → asked b a is ms ≡ before_glance empty (asked b a is ms)
+  nothing_glanced is ms = same_asked _ _ (ends (asked b a is ms).ends) refl refl refl
+    where
+      -- beside a truth value, one that holds changes nothing
+      ends : (e : Bool) → e ≡ (e && true)
+      ends e = grind (arith, nat_tests)
+
+  -- and a glance lets pass where it is seen
+  glance_asked : (p : Pattern) (is : List Instruction) (ms : List Bool) → asked b a (glance p ++ is) ms ≡ before_glance p (asked b a is ms)
+  glance_asked empty is ms = nothing_glanced is ms
+  glance_asked (class m n rs) is ms = refl
+  glance_asked (look l) is ms = refl
+  glance_asked (cat p q) is ms = glance_asked q is ms
+  glance_asked (alt p q) is ms =
+      let s = asked b a is ms in
+      ap (λ (js : List Instruction). asked b a (fork ∷ js) ms) (append_assoc (glance p) (other ∷ (glance q ++ (join ∷ []))) is)
+      ∙ ap (λ (js : List Instruction). asked b a (fork ∷ (glance p ++ (other ∷ js))) ms) (append_assoc (glance q) (join ∷ []) is)
+      ∙ ap (back_over b a fork (top ms)) (glance_asked p (other ∷ (glance q ++ (join ∷ is))) ms)
+      ∙ ap (λ (t : Asked). back_over b a fork (top ms) (before_glance p (back_over b a other (top ms) t))) (glance_asked q (join ∷ is) ms)
+      ∙ same_asked _ _ (ends s.ends (sees b a p) (sees b a q)) refl refl refl
+    where
+      -- what is asked of each of two alternatives may be asked once of both
+      ends : (e p q : Bool) → ((false || (e && q)) || (e && p)) ≡ (e && (p || q))
+      ends e p q = grind (arith, nat_tests)
+  glance_asked (star p) is ms = nothing_glanced is ms
+  glance_asked (plus p) is ms = nothing_glanced is ms
+  glance_asked (lookbehind n p) is ms = nothing_glanced is ms
+  glance_asked (lookahead n p) is ms =
+      ahead_asked_by n p is ms (glance_asked p (look_end n ∷ is) ms)
+
+  -- so it is before a lookahead
+  ahead_asked : (n : Bool) (p : Pattern) → IsAsked (lookahead n p)
+  ahead_asked n p is ms =
+      let s = asked b a is ms in
+      ahead_asked_by n p is ms (glance_asked p (look_end n ∷ is) ms) ∙ same_asked _ _ refl (goes_on s.goes_on s.ends) refl refl
+    where
+      -- an alternative that cannot hold changes nothing
+      goes_on : (g e : Bool) → g ≡ (g || (e && false))
+      goes_on g e = grind (arith, nat_tests)
+
   -- a pattern whose program is the same among alternatives is asked so there too, if it is alone
   alone_beside : (p : Pattern) → alternatives p ≡ program p → IsAsked p → IsAsked p × IsAskedBeside p
   alone_beside p same known = (
@@ -350,6 +427,7 @@ module _ (b a : Option ℕ) where
   asked_both (star p) = alone_beside (star p) refl (star_asked p (asked_both p).0)
   asked_both (plus p) = alone_beside (plus p) refl (plus_asked p (asked_both p).0)
   asked_both (lookbehind n p) = alone_beside (lookbehind n p) refl (behind_asked n p (asked_both p).0)
+  asked_both (lookahead n p) = alone_beside (lookahead n p) refl (ahead_asked n p)
 
   -- what leaves each loop of a program
   pub asked_again : (p : Pattern) (ms : List Bool) → (asked b a (program p) (marks_of p ++ ms)).again ≡ agains b a p
@@ -490,6 +568,43 @@ module _ (b a : Option ℕ) where
   behind_followed n p body is x around again ms =
       rw (append_assoc (program p) (look_end n ∷ []) is) (body (look_end n ∷ is) true (x ∷ around) again ms)
 
+  -- forwards, nothing lets pass
+  nothing_followed : (is : List Instruction) (x : Bool) (around again ms : List Bool)
+      → follow is x around again ms ≡ follow is (x && true) around again ms
+  nothing_followed is x around again ms = ap (λ (y : Bool). follow is y around again ms) (passed x)
+    where
+      -- beside a truth value, one that holds changes nothing
+      passed : (e : Bool) → e ≡ (e && true)
+      passed e = grind (arith, nat_tests)
+
+  -- and a glance lets pass where it is seen
+  glance_followed : (p : Pattern) (is : List Instruction) (x : Bool) (around again ms : List Bool)
+      → follow (glance p ++ is) x around again ms ≡ follow is (x && sees b a p) around again ms
+  glance_followed empty is x around again ms = nothing_followed is x around again ms
+  glance_followed (class m n rs) is x around again ms = refl
+  glance_followed (look l) is x around again ms = refl
+  glance_followed (cat p q) is x around again ms = glance_followed q is x around again ms
+  glance_followed (alt p q) is x around again ms =
+      ap (λ (js : List Instruction). follow (fork ∷ js) x around again ms) (append_assoc (glance p) (other ∷ (glance q ++ (join ∷ []))) is)
+      ∙ ap (λ (js : List Instruction). follow (fork ∷ (glance p ++ (other ∷ js))) x around again ms) (append_assoc (glance q) (join ∷ []) is)
+      ∙ glance_followed p (other ∷ (glance q ++ (join ∷ is))) x (false ∷ x ∷ around) again ms
+      ∙ glance_followed q (join ∷ is) x ((false || (x && sees b a p)) ∷ x ∷ around) again ms
+      ∙ ap (λ (y : Bool). follow is y around again ms) (passed x (sees b a p) (sees b a q))
+    where
+      -- what is asked of each of two alternatives may be asked once of both
+      passed : (x p q : Bool) → ((false || (x && p)) || (x && q)) ≡ (x && (p || q))
+      passed x p q = grind (arith, nat_tests)
+  glance_followed (star p) is x around again ms = nothing_followed is x around again ms
+  glance_followed (plus p) is x around again ms = nothing_followed is x around again ms
+  glance_followed (lookbehind n p) is x around again ms = nothing_followed is x around again ms
+  glance_followed (lookahead n p) is x around again ms =
+      ap (λ (js : List Instruction). follow (look_begin n ∷ js) x around again ms) (append_assoc (glance p) (look_end n ∷ []) is)
+      ∙ glance_followed p (look_end n ∷ is) true (x ∷ around) again ms
+
+  -- so a lookahead is followed
+  ahead_followed : (n : Bool) (p : Pattern) → IsFollowed (lookahead n p)
+  ahead_followed n p is x around again ms = glance_followed (lookahead n p) is x around again ms
+
   -- a pattern whose program is the same among alternatives is followed so there too, if it is alone
   alone_followed : (p : Pattern) → alternatives p ≡ program p → IsFollowed p → IsFollowed p × IsFollowedBeside p
   alone_followed p same known = (
@@ -515,6 +630,7 @@ module _ (b a : Option ℕ) where
   followed_both (star p) = alone_followed (star p) refl (star_followed p (followed_both p).0)
   followed_both (plus p) = alone_followed (plus p) refl (plus_followed p (followed_both p).0)
   followed_both (lookbehind n p) = alone_followed (lookbehind n p) refl (behind_followed n p (followed_both p).0)
+  followed_both (lookahead n p) = alone_followed (lookahead n p) refl (ahead_followed n p)
 
   -- a walk over the program is a step of the pattern
   pub walked_is : (p : Pattern) (ms : List Bool) → walked b a (program p) (marks_of p ++ ms)

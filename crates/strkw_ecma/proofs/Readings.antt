@@ -18,7 +18,7 @@ use Rattle.strkw_ecma.specs.Names.{name_equals, name_negation, name_character, n
 use Rattle.strkw_ecma.specs.Syntax.{Disjunction, only, either, Alternative, nothing, more, Term, at_start, at_end, at_boundary, at_no_boundary, looks_behind, once}
 use Rattle.strkw_ecma.specs.Syntax.{quantified, Quantifier, zero_or_more, one_or_more, zero_or_one, exactly, at_least, from_to, greedy, lazy, Atom, plain}
 use Rattle.strkw_ecma.specs.Syntax.{escaped, control_escape, set_escape, coded, property_escape, dot, bracketed, group, Group, capturing, plain_group, named}
-use Rattle.strkw_ecma.specs.Syntax.{Enclosing, of_group, of_lookbehind, lookbehind_spelling, with_own_name}
+use Rattle.strkw_ecma.specs.Syntax.{Enclosing, of_group, of_lookbehind, of_lookahead, looks_ahead, lookbehind_spelling, lookahead_spelling, with_own_name}
 use Rattle.strkw_ecma.specs.Syntax.{with_name, with_names, with_alternative_names, with_term_names, with_atom_names, names, Token, character, token}
 use Rattle.strkw_ecma.specs.Syntax.{quantifier_spelling, group_spelling, greed_spelling, spelling, alternative_spelling, term_spelling, atom_spelling}
 use Rattle.strkw_ecma.specs.Syntax.{max_nesting}
@@ -231,6 +231,8 @@ mutual
   begins_term at_no_boundary n h cs = refl
   begins_term (looks_behind false d) n h cs = refl
   begins_term (looks_behind true d) n h cs = refl
+  begins_term (looks_ahead false d) n h cs = refl
+  begins_term (looks_ahead true d) n h cs = refl
   begins_term (once p) n h cs = begins_atom p n h cs
   begins_term (quantified p q g) n h cs =
       subst IsNoQuestion (sym (regroup (atom_spelling p) (quantifier_spelling q) (greed_spelling g) cs)) (begins_atom p n h.0 _)
@@ -400,6 +402,16 @@ looks outer e a x true cs h =
     ap (λ (b : Bool). option_and_then (λ t. read_from t cs) (opened outer (record { earlier = e; current = a }) x (of_lookbehind true) b))
     (lt-ltb (length outer.groups) max_nesting h)
 
+-- and that of a lookahead
+looks_on : (outer : Outer) (e : Option Disjunction) (a : Alternative) (x : Last) (n : Bool) (cs : List ℕ) → length outer.groups < max_nesting
+    → read_from (state outer e a x) (lookahead_spelling n ++ cs) ≡ read_from (inside outer e a x (of_lookahead n)) cs
+looks_on outer e a x false cs h =
+    ap (λ (b : Bool). option_and_then (λ t. read_from t cs) (opened outer (record { earlier = e; current = a }) x (of_lookahead false) b))
+    (lt-ltb (length outer.groups) max_nesting h)
+looks_on outer e a x true cs h =
+    ap (λ (b : Bool). option_and_then (λ t. read_from t cs) (opened outer (record { earlier = e; current = a }) x (of_lookahead true) b))
+    (lt-ltb (length outer.groups) max_nesting h)
+
 -- what is open, and the names so far
 abbrev around : List Open → List (List ℕ) → Outer
 around os ns = record { groups = os; names = ns }
@@ -457,6 +469,17 @@ mutual
         ap (read_from (state (around os ns) e a x)) (regroup (lookbehind_spelling n) (spelling d) (byte ")" ∷ []) cs)
             ∙ looks (around os ns) e a x n (spelling d ++ byte ")" ∷ cs) h.0
             ∙ inner.4 ∙ ap (λ z. read_from (state behind e (more (ended a x) (looks_behind n z)) none) cs) inner.3,
+      )
+  reads_term (looks_ahead n d) os ns h e a x cs =
+      let o : Open = record { enclosing = of_lookahead n; earlier = e; current = ended a x } in
+      let inner = reads_disjunction d (o ∷ os) ns h.1 (byte ")" ∷ cs) in
+      let behind = around os (with_names ns d) in (
+        more (ended a x) (looks_ahead n d),
+        none,
+        refl,
+        ap (read_from (state (around os ns) e a x)) (regroup (lookahead_spelling n) (spelling d) (byte ")" ∷ []) cs)
+            ∙ looks_on (around os ns) e a x n (spelling d ++ byte ")" ∷ cs) h.0
+            ∙ inner.4 ∙ ap (λ z. read_from (state behind e (more (ended a x) (looks_ahead n z)) none) cs) inner.3,
       )
   reads_term (once p) os ns h e a x cs = (ended a x, atom p, refl, reads_atom p os ns h e a x cs)
   reads_term (quantified p q greedy) os ns h e a x cs = (

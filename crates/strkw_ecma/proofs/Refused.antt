@@ -5,21 +5,23 @@ use Rattle.std.specs.Prelude.{is_some}
 use Rattle.std.proofs.lemmas.List.{length-map}
 use Rattle.std.proofs.lemmas.Bool.{le-leb, leb-false, ltb-false}
 use Rattle.std.specs.Str.{byte}
-use Rattle.strkw_ecma.specs.Syntax.{Disjunction, spelling, capturing, plain_group, named, Enclosing, of_group, of_lookbehind, enclosing_spelling, atom_spelling, Quantifier}
-use Rattle.strkw_ecma.specs.Syntax.{exactly, at_least, from_to, quantifier_spelling, max_nesting, max_length}
+use Rattle.strkw_ecma.specs.Syntax.{Disjunction, spelling, capturing, plain_group, named, Enclosing, of_group, of_lookbehind, of_lookahead}
+use Rattle.strkw_ecma.specs.Syntax.{enclosing_spelling, atom_spelling, Quantifier, exactly, at_least, from_to, quantifier_spelling, max_nesting, max_length}
 use Rattle.strkw_ecma.specs.WellFormed.{IsWellFormed, IsEnclosing}
 use Rattle.strkw_ecma.specs.Patterns.{pattern}
+use Rattle.strkw_ecma.specs.Tree.{Pattern}
 use Rattle.strkw_ecma.specs.Size.{steps, max_steps}
 use Rattle.strkw_ecma.specs.Numbers.{number, number_of, CountToken, digit, comma, closing_brace, no_count, count_token}
-use Rattle.strkw_ecma.specs.Names.{NameChar, name_value, Extension, uncaptured, name_opening, no_extension, extension, NameToken, name_end, name_backslash}
-use Rattle.strkw_ecma.specs.Names.{name_equals, name_negation, name_character, name_token}
+use Rattle.strkw_ecma.specs.Names.{NameChar, name_value, Extension, uncaptured, name_opening, look_equals, look_negation, no_extension, extension}
+use Rattle.strkw_ecma.specs.Names.{NameToken, name_end, name_backslash, name_equals, name_negation, name_character, name_token}
 use Rattle.strkw_ecma.specs.machine.PropertyReading.{PropertyPart, brace_awaited, in_braces}
 use Rattle.strkw_ecma.specs.machine.Reading.{Open, Outer, Level, State, Last, none, atom, counted, Class, Count, low, high, Mode, between, escaping, opening}
 use Rattle.strkw_ecma.specs.machine.Reading.{extending, class_opened, counting, coding, in_class, class_escaping, class_coding, in_property, in_class_property}
 use Rattle.strkw_ecma.specs.machine.Reading.{naming, name_escaping, name_coding, initial, level_ended, joined, ended, with_mode, opened_within, opened}
 use Rattle.strkw_ecma.specs.machine.Reading.{with_count, with_quantifier, when, with_digit, longer, range_read, on_low, on_high, on_count, on_extension}
-use Rattle.strkw_ecma.specs.machine.Reading.{on_naming, name_read, next_in, read, read_short, read_pattern, small_tree, tree_if}
+use Rattle.strkw_ecma.specs.machine.Reading.{on_naming, name_read, next_in, read, read_short, read_pattern, small_tree, told_tree, tree_if}
 use Rattle.strkw_ecma.specs.Lookahead.{is_apart}
+use Rattle.strkw_ecma.specs.Glances.{are_told}
 use Rattle.strkw_ecma.specs.machine.Outcomes.{takes_pattern}
 use Rattle.strkw_ecma.specs.Refusals.{IsBeginning, Has, HasTermWithin, is_unknown, IsReason}
 use Rattle.strkw_ecma.specs.machine.RefusalParts.{told_if, one_deeper, extension_refusal, name_refusal, term_refusal, range_refusal, count_refusal}
@@ -40,6 +42,7 @@ use Rattle.strkw_ecma.proofs.Formed.{IsLevel, IsLast, AreLevels, IsCount, IsName
 use Rattle.strkw_ecma.proofs.Formed.{read_formed}
 use Rattle.strkw_ecma.proofs.Parts.{image, last_image, around, next_image}
 use Rattle.strkw_ecma.proofs.Walks.{at_place}
+use Rattle.strkw_ecma.proofs.Exact.{same_pattern}
 
 -- well-formed open groups and lookbehinds, and a well-formed tree within them, are spelled as what a pattern may begin with
 beginning : (os : List Open) (d : Disjunction) → AreLevels os → IsWellFormed (length os) d → IsBeginning (length os) (outer_spelling os ++ spelling d)
@@ -120,7 +123,7 @@ module _ (outer : Outer) (l : Level) (x : Last) (f : AreLevels outer.groups) (g 
   term_behind : (m : List ℕ) → (before outer l x ++ m) ++ c ∷ rest ≡ text → HasTermWithin (length outer.groups) (m ++ c ∷ []) text
   term_behind m e = (before outer l x, rest, begins, one_behind (before outer l x) m c rest text e)
 
-  -- a group or a lookbehind that opens within as many as may be open makes `TooDeep` a reason
+  -- a group or a lookaround that opens within as many as may be open makes `TooDeep` a reason
   too_deep : (k : Enclosing) → IsEnclosing k → HasTermWithin (length outer.groups) (enclosing_spelling k) text
       → nat_lt (length outer.groups) max_nesting ≡ false → IsReason text TooDeep
   too_deep k w t e = (length outer.groups, k, ltb-false _ _ e, w, t)
@@ -142,21 +145,26 @@ module _ (outer : Outer) (l : Level) (x : Last) (f : AreLevels outer.groups) (g 
       by_depth false is =
           too_deep (of_group capturing) tt (before outer l x, c ∷ rest, begins, regroup (before outer l x) (byte "(" ∷ []) (c ∷ rest) text e) is
 
+  -- what is not opened where a term may stand is too deep
+  look_too_deep : (k : Enclosing) → IsEnclosing k → opened_within outer l x k ≡ None
+      → HasTermWithin (length outer.groups) (enclosing_spelling k) text → IsReason text TooDeep
+  look_too_deep k w refused t = too_deep k w t (not_opened k _ refused)
+
   -- what is told of a character that is refused behind `(?` is so
   extension_told : (k : Extension) → char_of_extension k c ≡ c → on_extension outer l x k ≡ None
-      → (before outer l x ++ byte "(" ∷ byte "?" ∷ []) ++ c ∷ rest ≡ text → IsReason text (extension_refusal c k)
+      → (before outer l x ++ byte "(" ∷ byte "?" ∷ []) ++ c ∷ rest ≡ text → IsReason text (extension_refusal k)
   extension_told uncaptured is refused e =
       too_deep (of_group plain_group) tt
       (subst (λ z. HasTermWithin (length outer.groups) (byte "(" ∷ byte "?" ∷ z ∷ []) text) (sym is) (term_behind (byte "(" ∷ byte "?" ∷ []) e))
       (not_opened (of_group plain_group) _ refused)
   extension_told name_opening is refused e = tt
-  extension_told no_extension is refused e =
-      told_so text LookAhead _ (λ look. (c, look, (length outer.groups, term_behind (byte "(" ∷ byte "?" ∷ []) e)))
-
-  -- a lookbehind that is refused where no name stands before its sign is too deep
-  look_too_deep : (b : Bool) → opened_within outer l x (of_lookbehind b) ≡ None
-      → HasTermWithin (length outer.groups) (enclosing_spelling (of_lookbehind b)) text → IsReason text TooDeep
-  look_too_deep b refused t = too_deep (of_lookbehind b) tt t (not_opened (of_lookbehind b) _ refused)
+  extension_told look_equals is refused e =
+      look_too_deep (of_lookahead false) tt refused
+      (subst (λ z. HasTermWithin (length outer.groups) (byte "(" ∷ byte "?" ∷ z ∷ []) text) (sym is) (term_behind (byte "(" ∷ byte "?" ∷ []) e))
+  extension_told look_negation is refused e =
+      look_too_deep (of_lookahead true) tt refused
+      (subst (λ z. HasTermWithin (length outer.groups) (byte "(" ∷ byte "?" ∷ z ∷ []) text) (sym is) (term_behind (byte "(" ∷ byte "?" ∷ []) e))
+  extension_told no_extension is refused e = tt
 
   -- what is told of a character that is refused behind `(?<` and a part of a name is so
   name_told : (n : List NameChar) (k : NameToken) → char_of_name k c ≡ c → IsNamePart n → on_naming outer l x n c k ≡ None
@@ -164,10 +172,10 @@ module _ (outer : Outer) (l : Level) (x : Last) (f : AreLevels outer.groups) (g 
   name_told [] name_end is w refused e = tt
   name_told [] name_backslash is w refused e = tt
   name_told [] name_equals is w refused e =
-      look_too_deep false refused
+      look_too_deep (of_lookbehind false) tt refused
       (subst (λ z. HasTermWithin (length outer.groups) (name_text [] ++ z ∷ []) text) (sym is) (term_behind (name_text []) e))
   name_told [] name_negation is w refused e =
-      look_too_deep true refused
+      look_too_deep (of_lookbehind true) tt refused
       (subst (λ z. HasTermWithin (length outer.groups) (name_text [] ++ z ∷ []) text) (sym is) (term_behind (name_text []) e))
   name_told [] name_character is w refused e = tt
   name_told (y ∷ n) name_end is w refused e =
@@ -348,22 +356,40 @@ module _ (text : List ℕ) (k next c : ℕ) (within : k < length text) (is : c �
       (next_formed s.outer s.level s.last stands.2.0 stands.2.1 stands.2.2 s.mode c stands.2.3)
       (next_read s.outer s.level s.last s.mode c)
 
--- where all is read that may be, and the pattern is not taken, it is too large
--- where a tree is left out, the test does not hold
-no_tree : (b : Bool) (d : Disjunction) → is_some (tree_if b d) ≡ false → b ≡ false
-no_tree false d e = refl
-no_tree true d e = absurd (true≢false e)
+-- where all is read that may be, and the pattern is not taken, it is too large, or has a lookahead that is not told
+-- where it is told, it is left out for its size
+left_out : (b : Bool) (d : Disjunction) → are_told (pattern d) ≡ true → is_some (told_tree (tree_if b d)) ≡ false → b ≡ false
+left_out false d told refused = refl
+left_out true d told refused = absurd (true≢false (sym (ap (λ (b : Bool). is_some (tree_if b d)) told) ∙ refused))
 
--- a well-formed tree of a text that is left out for its size makes `TooLarge` a reason
-large_of : (text : List ℕ) (o : Option Disjunction) → IsSpelled o text → IsFormed o → is_some (option_map pattern o) ≡ true
-    → is_some (small_tree o) ≡ false → IsReason text TooLarge
-large_of text None w f some refused = absurd (true≢false (sym some))
-large_of text (Some d) w f some refused = (d, f, w, leb-false _ _ (no_tree (nat_le (steps (pattern d)) max_steps) d refused))
+-- a well-formed tree of a text whose lookaheads are told, and that is left out, makes `TooLarge` a reason
+large_of : (text : List ℕ) (o : Option Disjunction) (p : Pattern) → IsSpelled o text → IsFormed o → Some p ≡ option_map pattern o → are_told p ≡ true
+    → is_some (told_tree (small_tree o)) ≡ false → IsReason text TooLarge
+large_of text None p w f some told refused = absurd (not_some p some)
+large_of text (Some d) p w f some told refused =
+    let all_told : are_told (pattern d) ≡ true = ap are_told (sym (same_pattern p (pattern d) some)) ∙ told in
+    (d, f, w, leb-false _ _ (left_out (nat_le (steps (pattern d)) max_steps) d all_told refused))
 
--- a text that is short, apart and read as a tree, and is not taken, is too large
-pub too_large : (text : List ℕ) → length text ≤ max_length → is_some (option_map pattern (read_short text)) ≡ true → is_apart text ≡ true
-    → takes_pattern text ≡ false → IsReason text TooLarge
-too_large text short some apart refused =
-    let all : read_short text ≡ read text = ap (λ (b : Bool). if b then read text else None) (le-leb (length text) max_length short) in
-    large_of text (read text) (sound text) (read_formed text) (ap (λ o. is_some (option_map pattern o)) (sym all) ∙ some)
-    (ap (λ o. is_some (small_tree o)) (sym all) ∙ ap (λ (b : Bool). is_some (if b then small_tree (read_short text) else None)) (sym apart) ∙ refused)
+-- one whose lookaheads are not told makes `LookAhead` one
+ahead_of : (text : List ℕ) (o : Option Disjunction) (p : Pattern) → IsSpelled o text → IsFormed o → Some p ≡ option_map pattern o → are_told p ≡ false
+    → IsReason text LookAhead
+ahead_of text None p w f some told = absurd (not_some p some)
+ahead_of text (Some d) p w f some told = (d, f, w, ap are_told (sym (same_pattern p (pattern d) some)) ∙ told)
+
+-- a text that is short is read as it is
+all_read : (text : List ℕ) → length text ≤ max_length → read_short text ≡ read text
+all_read text short = ap (λ (b : Bool). if b then read text else None) (le-leb (length text) max_length short)
+
+-- a text that is short, apart and read as a tree, and is not taken, is too large where its lookaheads are told
+pub too_large : (text : List ℕ) (p : Pattern) → length text ≤ max_length → Some p ≡ option_map pattern (read_short text) → is_apart text ≡ true
+    → are_told p ≡ true → takes_pattern text ≡ false → IsReason text TooLarge
+too_large text p short some apart told refused =
+    large_of text (read text) p (sound text) (read_formed text) (some ∙ ap (option_map pattern) (all_read text short)) told
+    (ap (λ o. is_some (told_tree (small_tree o))) (sym (all_read text short))
+    ∙ ap (λ (b : Bool). is_some (if b then told_tree (small_tree (read_short text)) else None)) (sym apart) ∙ refused)
+
+-- and else has one that is not told
+pub looks_ahead_far : (text : List ℕ) (p : Pattern) → length text ≤ max_length → Some p ≡ option_map pattern (read_short text) → are_told p ≡ false
+    → IsReason text LookAhead
+looks_ahead_far text p short some told =
+    ahead_of text (read text) p (sound text) (read_formed text) (some ∙ ap (option_map pattern) (all_read text short)) told

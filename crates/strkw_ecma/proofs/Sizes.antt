@@ -2,9 +2,9 @@
 use Rattle.std.proofs.Common.{◌≡◌, ℕ, zero, suc, ◌+◌, ◌*◌, ◌≤◌, nat_le, Bool, true, false, ◌&&◌, List, [], ◌∷◌, ◌++◌, refl, sym, ap, ◌∙◌, true≢false, arith}
 use Rattle.std.proofs.lemmas.Bool.{leb-true, leb-false}
 use Rattle.std.proofs.lemmas.Bool.Decides.{nat_tests}
-use Rattle.strkw_ecma.specs.Tree.{Pattern, empty, cat, alt, star, plus, lookbehind}
+use Rattle.strkw_ecma.specs.Tree.{Pattern, empty, cat, alt, star, plus, lookbehind, lookahead}
 use Rattle.strkw_ecma.specs.Patterns.{repeated}
-use Rattle.strkw_ecma.specs.Program.{Instruction, other, join, star_end, plus_end, look_end, is_class, is_empty, program, alternatives}
+use Rattle.strkw_ecma.specs.Program.{Instruction, other, join, star_end, plus_end, look_end, is_class, is_empty, glance, program, alternatives}
 use Rattle.strkw_ecma.specs.Size.{steps_of, steps, max_steps, max_term_steps}
 use Rattle.strkw_ecma.specs.machine.Sizes.{capped}
 use Rattle.strkw_ecma.proofs.Programs.{by_class, by_option}
@@ -123,3 +123,15 @@ both_steps p q x y e f = omega (arith, sum_capped (steps p) (steps q) 0 x y e f,
 pub copies_steps : (n : ℕ) (p : Pattern) (x : ℕ) → x ≡ capped (steps p) → capped (n * x) ≡ capped (steps (repeated n p))
 copies_steps n p x e =
     ap (λ (y : ℕ). capped (n * y)) e ∙ product_capped n (steps p) ∙ ap capped (sym (repeated_steps n p))
+
+-- a lookahead takes two steps more than a glance of what it looks for
+pub ahead_steps : (n : Bool) (p : Pattern) → steps (lookahead n p) ≡ steps_of (glance p) + 2
+ahead_steps n p = omega (arith, more_steps (glance p) (look_end n ∷ []))
+
+-- and a glance of two alternatives three more than both
+pub glance_alt_steps : (p q : Pattern) → steps_of (glance (alt p q)) ≡ steps_of (glance p) + steps_of (glance q) + 3
+glance_alt_steps p q = omega (arith, more_steps (glance p) (other ∷ (glance q ++ (join ∷ []))), more_steps (glance q) (join ∷ []))
+
+-- a glance of what may be missing takes three more than one of it
+pub glance_option_steps : (p : Pattern) → steps_of (glance (alt empty p)) ≡ steps_of (glance p) + 3
+glance_option_steps p = omega (arith, glance_alt_steps empty p)

@@ -8,15 +8,15 @@ use Rattle.strkw_ecma.specs.Escapes.{escape}
 use Rattle.strkw_ecma.specs.Codes.{null_code}
 use Rattle.strkw_ecma.specs.machine.CodeReading.{Coding, Coded, fails, goes, makes, coding_next}
 use Rattle.strkw_ecma.specs.Names.{NameChar, verbatim, by_code, name_char_spelling, name_spelling, name_char_value, name_value, may_follow, Extension}
-use Rattle.strkw_ecma.specs.Names.{uncaptured, name_opening, no_extension, extension, NameToken, name_end, name_backslash, name_equals, name_negation}
-use Rattle.strkw_ecma.specs.Names.{name_character, name_token, are_distinct}
+use Rattle.strkw_ecma.specs.Names.{uncaptured, name_opening, look_equals, look_negation, no_extension, extension, NameToken, name_end, name_backslash}
+use Rattle.strkw_ecma.specs.Names.{name_equals, name_negation, name_character, name_token, are_distinct}
 use Rattle.strkw_ecma.specs.Classes.{class_token, class_escape, no_ranges}
 use Rattle.strkw_ecma.specs.Syntax.{Disjunction, Term, at_start, at_end, at_boundary, at_no_boundary, quantified, Quantifier, zero_or_more, one_or_more}
 use Rattle.strkw_ecma.specs.Syntax.{zero_or_one, exactly, at_least, from_to, lazy, capturing, plain_group, named, Enclosing, of_group, of_lookbehind}
-use Rattle.strkw_ecma.specs.Syntax.{looks_behind, plain, escaped, control_escape}
+use Rattle.strkw_ecma.specs.Syntax.{of_lookahead, looks_behind, looks_ahead, plain, escaped, control_escape}
 use Rattle.strkw_ecma.specs.Syntax.{set_escape, coded, property_escape, dot, group, Token, bar, asterisk, plus, question, caret, dollar}
 use Rattle.strkw_ecma.specs.Syntax.{opening as opening_token, closing, point, backslash, bracket, brace, character, other, token, quantifier_spelling}
-use Rattle.strkw_ecma.specs.Syntax.{group_spelling, lookbehind_spelling, enclosing_spelling, spelling, term_spelling, atom_spelling}
+use Rattle.strkw_ecma.specs.Syntax.{group_spelling, lookbehind_spelling, lookahead_spelling, enclosing_spelling, spelling, term_spelling, atom_spelling}
 use Rattle.strkw_ecma.specs.machine.Reading.{Open, Outer, Level, Last, none, atom, counted, fresh, Mode, between, escaping, opening, extending, class_opened}
 use Rattle.strkw_ecma.specs.machine.Reading.{Count, low, high, counting, with_count, longer, on_low, on_high, on_count, range_read, in_class, class_escaping}
 use Rattle.strkw_ecma.specs.machine.Reading.{coding, class_coding, in_property, in_class_property, naming, name_escaping, name_coding, with_name_char}
@@ -29,7 +29,7 @@ use Rattle.strkw_ecma.specs.Size.{steps, max_term_steps}
 use Rattle.strkw_ecma.specs.Patterns.{atom_pattern, times, copies}
 use Rattle.strkw_ecma.proofs.Letters.{char_of_count, char_of_count_token, same_char, char_of_extension, char_of_extension_token, char_of_name}
 use Rattle.strkw_ecma.proofs.Letters.{char_of_name_token, char_of, char_of_token, char_of_letter, char_of_escape, char_of_class_token, char_of_class_escape}
-use Rattle.strkw_ecma.proofs.ClassSpelled.{level_spelling, last_spelling, outer_spelling, name_text, spelled, HasRead, when_read, joined_spelling}
+use Rattle.strkw_ecma.proofs.ClassSpelled.{level_spelling, outer_spelling, name_text, spelled, HasRead, when_read, joined_spelling}
 use Rattle.strkw_ecma.proofs.ClassSpelled.{more_spelling, before, whole, atom_read, class_token_read, class_escape_read, class_coding_read, class_property_read}
 use Rattle.strkw_ecma.proofs.CodeReadings.{coding_spelling, IsCodedAs, coding_as}
 use Rattle.strkw_ecma.specs.machine.PropertyReading.{PropertyPart, PropertyRead, no_property_read, property_goes, property_ends, property_next}
@@ -111,6 +111,11 @@ module _ (os : List Open) (ns : List (List ℕ)) (o : Open) (l : Level) (x : Las
   enclosed_read (of_lookbehind n) is =
       enclosed_text (outer_spelling os ++ level_spelling o.earlier o.current) (lookbehind_spelling n) (spelling (level_ended l x)) _ _ _
       (term_read outside level_around none (looks_behind n (level_ended l x))) (append-nil _)
+      (ap (λ k. ((outer_spelling os ++ level_spelling o.earlier o.current) ++ enclosing_spelling k) ++ spelling (level_ended l x)) (sym is)
+      ∙ level_whole inside l x)
+  enclosed_read (of_lookahead n) is =
+      enclosed_text (outer_spelling os ++ level_spelling o.earlier o.current) (lookahead_spelling n) (spelling (level_ended l x)) _ _ _
+      (term_read outside level_around none (looks_ahead n (level_ended l x))) (append-nil _)
       (ap (λ k. ((outer_spelling os ++ level_spelling o.earlier o.current) ++ enclosing_spelling k) ++ spelling (level_ended l x)) (sym is)
       ∙ level_whole inside l x)
 
@@ -220,6 +225,14 @@ extension_read outer l x c uncaptured e =
     (open_read outer l x (of_group plain_group) _)
 extension_read outer l x c name_opening e =
     ap (λ z. before outer l x ++ byte "(" ∷ byte "?" ∷ z ∷ []) e ∙ sym (append_assoc (before outer l x) (byte "(" ∷ byte "?" ∷ []) (c ∷ []))
+extension_read outer l x c look_equals e =
+    subst (HasRead (opened_within outer l x (of_lookahead false)))
+    (ap (λ z. before outer l x ++ byte "(" ∷ byte "?" ∷ z ∷ []) e ∙ sym (append_assoc (before outer l x) (byte "(" ∷ byte "?" ∷ []) (c ∷ [])))
+    (open_read outer l x (of_lookahead false) _)
+extension_read outer l x c look_negation e =
+    subst (HasRead (opened_within outer l x (of_lookahead true)))
+    (ap (λ z. before outer l x ++ byte "(" ∷ byte "?" ∷ z ∷ []) e ∙ sym (append_assoc (before outer l x) (byte "(" ∷ byte "?" ∷ []) (c ∷ [])))
+    (open_read outer l x (of_lookahead true) _)
 extension_read outer l x c no_extension e = tt
 
 -- and behind the one that follows `[`

@@ -2,9 +2,9 @@
 use Rattle.std.proofs.Common.{◌≡◌, ◌↔◌, ◌⊎◌, ℕ, ◌+◌, ◌≤◌, Bool, true, false, ◌&&◌, ◌||◌, List, Option, Some, None, slice_get, refl, sym, ap, subst, ◌∙◌, inl}
 use Rattle.std.proofs.Common.{inr, ⊎_elim, true≢false, arith}
 use Rattle.strkw_ecma.specs.declared.tree.CharSet.{CharSet}
-use Rattle.strkw_ecma.specs.Tree.{Pattern, empty, class, look, cat, alt, star, plus, lookbehind, differ, is_member}
+use Rattle.strkw_ecma.specs.Tree.{Pattern, empty, class, look, cat, alt, star, plus, lookbehind, lookahead, differ, is_member}
 use Rattle.strkw_ecma.specs.Meaning.{Rounds, no_round, a_round, before, Unless, Matches}
-use Rattle.strkw_ecma.specs.machine.Marks.{reads, leaves, step, Rest}
+use Rattle.strkw_ecma.specs.machine.Marks.{reads, sees, leaves, step, Rest}
 
 -- marks mean nothing for what a pattern matches
 pub same_meaning : (text : List ℕ) (b a : Option ℕ) (p : Pattern) (x : Bool) → Matches text (step b a p x) ≡ Matches text p
@@ -23,6 +23,7 @@ same_meaning text b a (plus p) x =
     ap (λ (R : ℕ → ℕ → Type 0). λ (i j : ℕ). (l : ℕ) × R i l × Rounds R j l) (same_meaning text b a p (x || leaves b a p false))
 same_meaning text b a (lookbehind n p) x =
     ap (λ (R : ℕ → ℕ → Type 0). λ (i j : ℕ). Unless n ((k : ℕ) × R k i) × (i ≡ j)) (same_meaning text b a p true)
+same_meaning text b a (lookahead n p) x = refl
 
 -- no match ends before it begins
 module _ (text : List ℕ) where
@@ -42,6 +43,7 @@ module _ (text : List ℕ) where
   forwards (star p) i j s = rounds_forwards (Matches text p) (forwards p) j i s
   forwards (plus p) i j (l, m, s) = omega (arith, forwards p i l m, rounds_forwards (Matches text p) (forwards p) j l s)
   forwards (lookbehind n p) i j m = omega (arith, m.1)
+  forwards (lookahead n p) i j m = omega (arith, m.1)
 
   -- nor does a way that goes on from a mark
   pub rest_forwards : (p : Pattern) (i j : ℕ) → Rest text p i j → i ≤ j
@@ -55,9 +57,10 @@ module _ (text : List ℕ) where
   rest_forwards (star p) i j (l, r, s) = omega (arith, rest_forwards p i l r, rounds_forwards (Matches text p) (forwards p) j l s)
   rest_forwards (plus p) i j (l, r, s) = omega (arith, rest_forwards p i l r, rounds_forwards (Matches text p) (forwards p) j l s)
   rest_forwards (lookbehind n p) i j r = absurd r
+  rest_forwards (lookahead n p) i j r = absurd r
 
 -- an answer that is negated or not says whether what it says is so, or is not
-unless_differs : (n b : Bool) (A : Type 0) → (b ≡ true) ↔ A → (differ n b ≡ true) ↔ Unless n A
+pub unless_differs : (n b : Bool) (A : Type 0) → (b ≡ true) ↔ A → (differ n b ≡ true) ↔ Unless n A
 unless_differs false b A e = e
 unless_differs true true A e = (λ h. absurd (true≢false (sym h)), λ f. absurd (f (e.0 refl)))
 unless_differs true false A e = (λ h a. true≢false (sym (e.1 a)), λ f. refl)
@@ -114,6 +117,7 @@ module _ (b a : Option ℕ) where
       more_leaves p (x || leaves b a p false) (y || leaves b a p false)
       (λ e. ⊎_elim (λ one. or_left _ _ (f one)) (λ other. or_right y _ other) (or_case x (leaves b a p false) e)) h
   more_leaves (lookbehind n p) x y f h = and_true _ _ (f (and_left x _ h)) (and_right x _ h)
+  more_leaves (lookahead n p) x y f h = and_true _ _ (f (and_left x _ h)) (and_right x _ h)
 
   -- a pattern is left after what left it enters again only where it was left before
   once_more : (p : Pattern) (z : Bool) → leaves b a p false ≡ z → leaves b a p z ≡ true → leaves b a p false ≡ true
@@ -138,7 +142,11 @@ module _ (text : List ℕ) (i : ℕ) where
   abbrev pub stepped : Pattern → Bool → Pattern
   stepped = step (before text i) (slice_get text i)
 
-  -- each lookbehind in the pattern says here what is so
+  -- whether a pattern that the next character tells matches from here on
+  abbrev pub seen_from : Pattern → Bool
+  seen_from = sees (before text i) (slice_get text i)
+
+  -- each lookbehind and lookahead in the pattern says here what is so
   abbrev pub Says : Pattern → Type 0
   Says empty = Unit {0}
   Says (class m n rs) = Unit {0}
@@ -148,6 +156,7 @@ module _ (text : List ℕ) (i : ℕ) where
   Says (star p) = Says p
   Says (plus p) = Says p
   Says (lookbehind n p) = Says p × ((left p true ≡ true) ↔ ((k : ℕ) × Matches text p k i))
+  Says (lookahead n p) = (seen_from p ≡ true) ↔ ((k : ℕ) × Matches text p i k)
 
   -- the ways through the pattern that end at j: from a mark, or from here where x holds
   abbrev pub Goes : Pattern → Bool → ℕ → Type 0
@@ -179,7 +188,7 @@ module _ (text : List ℕ) (i : ℕ) where
   class_went n rs x c j xt at member e = (and_true _ _ xt (rw at member), sym e)
 
   -- a class reads only where there is a character and the class has it
-  reads_some : (n : Bool) (rs : List CharSet) (o : Option ℕ) → reads o n rs ≡ true → (c : ℕ) × (o ≡ Some c) × (is_member n rs c ≡ true)
+  pub reads_some : (n : Bool) (rs : List CharSet) (o : Option ℕ) → reads o n rs ≡ true → (c : ℕ) × (o ≡ Some c) × (is_member n rs c ≡ true)
   reads_some n rs None h = absurd (true≢false (sym h))
   reads_some n rs (Some c) h = (c, refl, h)
 
@@ -281,6 +290,8 @@ module _ (text : List ℕ) (i : ℕ) where
       (goes_on p u (x || left p false) l (inr (or_left x _ xt, m))) s)
   goes_on (lookbehind n p) u x j (inl r) = absurd r
   goes_on (lookbehind n p) u x j (inr (xt, (h, e))) = inl (and_true _ _ xt ((unless_differs n _ _ u.1).1 h), e)
+  goes_on (lookahead n p) u x j (inl r) = absurd r
+  goes_on (lookahead n p) u x j (inr (xt, (h, e))) = inl (and_true _ _ xt ((unless_differs n _ _ u).1 h), e)
 
   -- what enters a loop's body came from without or from a mark within
   from_body : (p : Pattern) (x : Bool) → (Went p false i → Goes p false i) → (x || left p false) ≡ true
@@ -359,6 +370,8 @@ module _ (text : List ℕ) (i : ℕ) where
       plus_back p x j l (goes_back p u false i) (goes_back p u (x || left p false) l (inr r)) (rounds_from_stepped p (x || left p false) l j s)
   goes_back (lookbehind n p) u x j (inl (h, e)) = inr (and_left x _ h, ((unless_differs n _ _ u.1).0 (and_right x _ h), e))
   goes_back (lookbehind n p) u x j (inr r) = absurd r
+  goes_back (lookahead n p) u x j (inl (h, e)) = inr (and_left x _ h, ((unless_differs n _ _ u).0 (and_right x _ h), e))
+  goes_back (lookahead n p) u x j (inr r) = absurd r
 
   -- at the end of the text no mark is left
   pub none_after_end : slice_get text i ≡ None → (p : Pattern) (x : Bool) (k j : ℕ) → Rest text (stepped p x) k j → ⊥
@@ -376,3 +389,4 @@ module _ (text : List ℕ) (i : ℕ) where
   none_after_end e (star p) x k j r = none_after_end e p (x || left p false) k r.0 r.1
   none_after_end e (plus p) x k j r = none_after_end e p (x || left p false) k r.0 r.1
   none_after_end e (lookbehind n p) x k j r = r
+  none_after_end e (lookahead n p) x k j r = r

@@ -38,7 +38,8 @@ module _ (classes : List (Vec CharSet Global)) (keys samples entries : List ℕ)
   ends : (row : ℕ) (q : Pattern) (b : Option ℕ) → At row q b → (entry_at entries row end_column == found) ≡ leaves b None q true
   ends row q b at =
       (row_of row q b at).ends
-      ∙ same_leaves at.state.last b None None at.edge refl (marks_in p at.state) true (marked_word _ p _ _ at.word) (same_word_none _)
+      ∙ same_leaves classes at.state.last b None None at.edge refl (λ n rs told. refl) (marks_in p at.state) true (marked_word _ p _ _ at.word)
+      (same_word_none _) (marked_tells classes at.state.marks.items p table.told)
       ∙ ap (λ (r : Pattern). leaves b None r true) at.marks
 
   module _ (row : ℕ) (q : Pattern) (b : Option ℕ) (c k : ℕ) (has : column_of classes keys c ≡ Some k) (at : At row q b) where

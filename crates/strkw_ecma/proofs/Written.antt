@@ -1,17 +1,17 @@
 -- Instructions of the code as those of the definitions.
-use Rattle.std.proofs.Common.{◌≡◌, ℕ, zero, suc, ◌+◌, ◌-◌, ◌<◌, nat_lt, Bool, true, List, [], ◌∷◌, ◌++◌, length, length-append, drop, Option, Some, slice_get}
-use Rattle.std.proofs.Common.{refl, sym, ap, ◌∙◌, arith}
+use Rattle.std.proofs.Common.{◌≡◌, ℕ, zero, suc, ◌+◌, ◌-◌, ◌<◌, nat_lt, Bool, true, ◌&&◌, List, [], ◌∷◌, ◌++◌, length, length-append, drop, Option}
+use Rattle.std.proofs.Common.{Some, slice_get, refl, sym, ap, ◌∙◌, arith}
 use Rattle.std.proofs.Math.Seq.{drop-append_seam}
 use Rattle.std.proofs.lemmas.Bool.{lt-ltb, ltb-true}
 use Rattle.std.proofs.lemmas.List.{append_assoc, append-nil}
 use Rattle.strkw_ecma.specs.Program.{Instruction, copied}
-use Rattle.strkw_ecma.specs.machine.Shape.{turned, reading, instructed, instructions, are_within}
+use Rattle.strkw_ecma.specs.machine.Shape.{turned, reading, peeking, instructed, instructions, are_within}
 use Rattle.strkw_ecma.specs.machine.Machine.{written, IsWithin, Writes}
 use Rattle.strkw_ecma.specs.declared.code.Code.{Code}
 use Rattle.strkw_ecma.specs.declared.code.Turn.{Turn as CodeTurn}
 use Rattle.strkw_ecma.specs.declared.code.Class.{Class}
 use Rattle.strkw_ecma.specs.declared.code.Instruction.{Instruction as CodeInstruction}
-use Rattle.strkw_ecma.specs.declared.code.Instruction.TheVariants.{Read, Turn}
+use Rattle.strkw_ecma.specs.declared.code.Instruction.TheVariants.{Read, Peek, Turn}
 use Rattle.strkw_ecma.proofs.Steps.{and_true, and_left, and_right}
 
 -- two lists of the code's instructions, one behind the other, stand for those of both
@@ -29,12 +29,15 @@ pub within_more : (n : ℕ) (xs ys : List CodeInstruction) → are_within n xs �
 within_more n [] ys h g = g
 within_more n (Read k again optional ∷ xs) ys h g =
     and_true _ _ (and_left (nat_lt k n) _ h) (within_more n xs ys (and_right (nat_lt k n) _ h) g)
+within_more n (Peek k ∷ xs) ys h g = and_true _ _ (and_left (nat_lt k n) _ h) (within_more n xs ys (and_right (nat_lt k n) _ h) g)
 within_more n (Turn t ∷ xs) ys h g = within_more n xs ys h g
 
 -- instructions that read only from so many classes read only from those and one more
 pub within_one_more : (n : ℕ) (xs : List CodeInstruction) → are_within n xs ≡ true → are_within (suc n) xs ≡ true
 within_one_more n [] h = refl
 within_one_more n (Read k again optional ∷ xs) h =
+    and_true _ _ (lt-ltb k (suc n) (omega (arith, ltb-true k n (and_left (nat_lt k n) _ h)))) (within_one_more n xs (and_right (nat_lt k n) _ h))
+within_one_more n (Peek k ∷ xs) h =
     and_true _ _ (lt-ltb k (suc n) (omega (arith, ltb-true k n (and_left (nat_lt k n) _ h)))) (within_one_more n xs (and_right (nat_lt k n) _ h))
 within_one_more n (Turn t ∷ xs) h = within_one_more n xs h
 
@@ -57,7 +60,19 @@ same_instructions cs ds (Read k again optional ∷ xs) h =
     ap (λ (o : Option Class). reading again optional o ∷ instructions (cs ++ ds) xs)
     (same_class cs ds k (ltb-true k (length cs) (and_left (nat_lt k (length cs)) _ h)))
     ∙ ap (λ (is : List Instruction). reading again optional (slice_get cs k) ∷ is) (same_instructions cs ds xs (and_right (nat_lt k (length cs)) _ h))
+same_instructions cs ds (Peek k ∷ xs) h =
+    ap (λ (o : Option Class). peeking o ∷ instructions (cs ++ ds) xs) (same_class cs ds k (ltb-true k (length cs) (and_left (nat_lt k (length cs)) _ h)))
+    ∙ ap (λ (is : List Instruction). peeking (slice_get cs k) ∷ is) (same_instructions cs ds xs (and_right (nat_lt k (length cs)) _ h))
 same_instructions cs ds (Turn t ∷ xs) h = ap (λ (is : List Instruction). turned t ∷ is) (same_instructions cs ds xs h)
+
+-- where nothing is written, that is what is written
+pub nothing_written : (c : Code) → Writes c c []
+nothing_written c = record {
+  within = λ h. h;
+  written_is = λ h. sym (append-nil (written c));
+  classes = omega arith;
+  grows = omega arith;
+}
 
 -- what is written in two turns is that of the first, and behind it that of the second
 pub both_written : (old mid new : Code) (is js : List Instruction) → Writes old mid is → Writes mid new js → Writes old new (is ++ js)
@@ -113,28 +128,46 @@ turn_written old new t same items =
       grows = omega (arith, longer);
     }
 
--- the same of one that reads a class, which is put behind the other classes
-pub read_written : (old new : Code) (c : Class) (again optional : Bool) → new.classes.items ≡ old.classes.items ++ c ∷ []
-    → new.instructions.items ≡ old.instructions.items ++ Read (length old.classes.items) again optional ∷ []
-    → Writes old new (reading again optional (Some c) ∷ [])
-read_written old new c again optional added items =
+-- the same of one that asks about a class by its number, which is put behind the other classes
+class_written : (old new : Code) (c : Class) (i : CodeInstruction) (told : Option Class → Instruction) → new.classes.items ≡ old.classes.items ++ c ∷ []
+    → new.instructions.items ≡ old.instructions.items ++ i ∷ []
+    → are_within (suc (length old.classes.items)) (i ∷ []) ≡ true
+    → ((cs : List Class) → instructed cs i ≡ told (slice_get cs (length old.classes.items)))
+    → Writes old new (told (Some c) ∷ [])
+class_written old new c i told added items last told_is =
     let longer : length new.instructions.items ≡ length old.instructions.items + 1 =
-    ap length items ∙ length-append old.instructions.items (Read (length old.classes.items) again optional ∷ []) in
+    ap length items ∙ length-append old.instructions.items (i ∷ []) in
     let more : length new.classes.items ≡ suc (length old.classes.items) =
     ap length added ∙ length-append old.classes.items (c ∷ []) ∙ omega arith in
-    let last : are_within (suc (length old.classes.items)) (Read (length old.classes.items) again optional ∷ []) ≡ true =
-    and_true _ _ (lt-ltb (length old.classes.items) (suc (length old.classes.items)) (omega arith)) refl in
     record {
       within = λ h. rw (more, items) (within_more _ old.instructions.items _ (within_one_more _ old.instructions.items h) last);
       written_is = λ h.
           rw (added, items)
-          (more_instructions (old.classes.items ++ c ∷ []) old.instructions.items (Read (length old.classes.items) again optional ∷ [])
-          ∙ ap (λ (is : List Instruction). is ++ (reading again optional (slice_get (old.classes.items ++ c ∷ []) (length old.classes.items)) ∷ []))
+          (more_instructions (old.classes.items ++ c ∷ []) old.instructions.items (i ∷ [])
+          ∙ ap (λ (j : Instruction). instructions (old.classes.items ++ c ∷ []) old.instructions.items ++ (j ∷ [])) (told_is (old.classes.items ++ c ∷ []))
+          ∙ ap (λ (is : List Instruction). is ++ (told (slice_get (old.classes.items ++ c ∷ []) (length old.classes.items)) ∷ []))
           (same_instructions old.classes.items (c ∷ []) old.instructions.items h)
-          ∙ ap (λ (o : Option Class). written old ++ (reading again optional o ∷ [])) (last_class old.classes.items c));
+          ∙ ap (λ (o : Option Class). written old ++ (told o ∷ [])) (last_class old.classes.items c));
       classes = omega (arith, more, longer);
       grows = omega (arith, longer);
     }
+
+-- a class that is new is one of those that are there with it
+new_class : (n : ℕ) → (nat_lt n (suc n) && true) ≡ true
+new_class n = and_true _ _ (lt-ltb n (suc n) (omega arith)) refl
+
+-- so it is with one that reads the class
+pub read_written : (old new : Code) (c : Class) (again optional : Bool) → new.classes.items ≡ old.classes.items ++ c ∷ []
+    → new.instructions.items ≡ old.instructions.items ++ Read (length old.classes.items) again optional ∷ []
+    → Writes old new (reading again optional (Some c) ∷ [])
+read_written old new c again optional added items =
+    class_written old new c _ (reading again optional) added items (new_class (length old.classes.items)) (λ cs. refl)
+
+-- and with one that peeks at it
+pub peek_written : (old new : Code) (c : Class) → new.classes.items ≡ old.classes.items ++ c ∷ []
+    → new.instructions.items ≡ old.instructions.items ++ Peek (length old.classes.items) ∷ []
+    → Writes old new (peeking (Some c) ∷ [])
+peek_written old new c added items = class_written old new c _ peeking added items (new_class (length old.classes.items)) (λ cs. refl)
 
 -- copies stand one behind another, and it is one which is last
 pub one_more_copy : {A : Type 0} (n : ℕ) (xs : List A) → copied n xs ++ xs ≡ copied (suc n) xs
@@ -158,6 +191,7 @@ pub within_rest : (n k : ℕ) (xs : List CodeInstruction) → are_within n xs �
 within_rest n zero xs h = h
 within_rest n (suc k) [] h = h
 within_rest n (suc k) (Read j again optional ∷ xs) h = within_rest n k xs (and_right (nat_lt j n) _ h)
+within_rest n (suc k) (Peek j ∷ xs) h = within_rest n k xs (and_right (nat_lt j n) _ h)
 within_rest n (suc k) (Turn t ∷ xs) h = within_rest n k xs h
 
 -- and so do copies of it

@@ -4,11 +4,13 @@ use Rattle.strkw_pattern.specs.declared.engine.Outcome.TheVariants.{Match, NoMat
 use Rattle.strkw_ecma.specs.Names.{are_distinct}
 use Rattle.strkw_ecma.specs.Syntax.{Disjunction, spelling, names, max_length}
 use Rattle.strkw_ecma.specs.WellFormed.{IsWellFormed}
-use Rattle.strkw_ecma.specs.Tree.{Pattern, class, in_sets}
+use Rattle.strkw_ecma.specs.Tree.{Pattern, class, cat, alt, lookbehind, lookahead, in_sets}
+use Rattle.strkw_ecma.specs.Sets.{word_characters}
 use Rattle.strkw_ecma.specs.declared.tree.CharSet.{CharSet}
 use Rattle.strkw_ecma.specs.Codes.{max_code_point}
 use Rattle.strkw_ecma.specs.Lookahead.{is_apart}
 use Rattle.strkw_ecma.specs.Size.{steps, max_steps}
+use Rattle.strkw_ecma.specs.Glances.{are_told}
 use Rattle.strkw_ecma.specs.Meaning.{Found}
 use Rattle.strkw_ecma.specs.Patterns.{pattern}
 use Rattle.strkw_ecma.specs.machine.Outcomes.{takes_pattern, pattern_outcome}
@@ -17,9 +19,24 @@ use Rattle.strkw_ecma.specs.machine.Outcomes.{takes_pattern, pattern_outcome}
 abbrev pub AreComplements : List CharSet → List CharSet → Type 0
 AreComplements rs ss = (c : ℕ) → c ≤ max_code_point → in_sets ss c ≡ not (in_sets rs c)
 
--- `[^]`
+-- `[^]` and `\w`
 abbrev pub any_character : Pattern
 any_character = class false true []
+
+abbrev pub word_character : Pattern
+word_character = class false false word_characters
+
+-- `(?<=\w)(?!\w)|(?<!\w)(?=\w)`: of the characters beside a place one alone is a word's
+abbrev pub word_edge : Pattern
+word_edge = alt
+    (cat (lookbehind false word_character) (lookahead true word_character))
+    (cat (lookbehind true word_character) (lookahead false word_character))
+
+-- `(?<=\w)(?=\w)|(?<!\w)(?!\w)`: both are, or none is
+abbrev pub no_word_edge : Pattern
+no_word_edge = alt
+    (cat (lookbehind false word_character) (lookahead false word_character))
+    (cat (lookbehind true word_character) (lookahead true word_character))
 
 -- the text is a pattern, and this is its tree
 pub record IsPattern (source : List ℕ) (d : Disjunction) : Type 0 where
@@ -31,6 +48,8 @@ pub record IsPattern (source : List ℕ) (d : Disjunction) : Type 0 where
   -- no two groups have the same name
   pub distinct : are_distinct (names d) ≡ true
   pub small : steps (pattern d) ≤ max_steps
+  -- what each lookahead looks for is told by the next character
+  pub told : are_told (pattern d) ≡ true
 
 -- what is taken is a pattern, each pattern is taken, it has one tree, and it comes to a match
 -- exactly where that is found, and to none elsewhere

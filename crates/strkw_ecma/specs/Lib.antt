@@ -6,6 +6,7 @@ pub mod Sets
 pub mod Meaning
 pub mod Numbers
 pub mod Program
+pub mod Glances
 pub mod Size
 pub mod Escapes
 pub mod Lookahead

@@ -6,8 +6,8 @@
 use Rattle.std.specs.Prelude.{◌≡◌, ℕ, ◌+◌, ◌-◌, ◌≤◌, ◌==◌, Bool, true, false, not, ◌⊎◌, List}
 use Rattle.std.specs.Prelude.{length, Option, Some, None, if◌then◌else◌, slice_get}
 use Rattle.strkw_ecma.specs.Tree.{Look, start, end, boundary, no_boundary, Pattern, empty, class}
-use Rattle.strkw_ecma.specs.Tree.{look, cat, alt, star, plus, lookbehind, in_sets, differ}
-use Rattle.strkw_ecma.specs.Tree.{is_member}
+use Rattle.strkw_ecma.specs.Tree.{look, cat, alt, star, plus, lookbehind, lookahead, in_sets}
+use Rattle.strkw_ecma.specs.Tree.{differ, is_member}
 use Rattle.strkw_ecma.specs.Sets.{word_characters}
 
 -- so many rounds of R as it takes, none among them, lead from the last number to j
@@ -50,6 +50,7 @@ Matches text (alt p q) i j = Matches text p i j ⊎ Matches text q i j
 Matches text (star p) i j = Rounds (Matches text p) j i
 Matches text (plus p) i j = (l : ℕ) × Matches text p i l × Rounds (Matches text p) j l
 Matches text (lookbehind n p) i j = Unless n ((k : ℕ) × Matches text p k i) × (i ≡ j)
+Matches text (lookahead n p) i j = Unless n ((k : ℕ) × Matches text p i k) × (i ≡ j)
 
 -- the pattern is found somewhere in the text. Beyond its end no place is one: there both assertions
 -- would hold

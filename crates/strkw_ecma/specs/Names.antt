@@ -10,6 +10,8 @@ use Rattle.strkw_ecma.specs.Codes.{point_code, code_spelling, code_value, IsCode
 pub use Rattle.strkw_ecma.specs.declared.tokens.Extension.{Extension}
 pub use Rattle.strkw_ecma.specs.declared.tokens.Extension.TheVariants.{Uncaptured as uncaptured}
 pub use Rattle.strkw_ecma.specs.declared.tokens.Extension.TheVariants.{NameOpening as name_opening}
+pub use Rattle.strkw_ecma.specs.declared.tokens.Extension.TheVariants.{Equals as look_equals}
+pub use Rattle.strkw_ecma.specs.declared.tokens.Extension.TheVariants.{Exclamation as look_negation}
 pub use Rattle.strkw_ecma.specs.declared.tokens.Extension.TheVariants.{Unknown as no_extension}
 pub use Rattle.strkw_ecma.specs.declared.tokens.NameToken.{NameToken}
 pub use Rattle.strkw_ecma.specs.declared.tokens.NameToken.TheVariants.{End as name_end}
@@ -86,6 +88,7 @@ are_distinct (n ∷ ns) = not (list_any (λ m. same_name m n) ns) && are_distinc
 -- what a character is behind `(?`
 abbrev pub extension : ℕ → Extension
 extension c = if c == byte ":" then uncaptured else if c == byte "<" then name_opening
+    else if c == byte "=" then look_equals else if c == byte "!" then look_negation
     else no_extension
 
 -- and behind `(?<`, in a name or before it

@@ -3,7 +3,7 @@
 use Rattle.std.specs.Prelude.{ℕ, zero, suc, ◌+◌, ◌-◌, true, false, [], ◌∷◌}
 use Rattle.strkw_ecma.specs.Numbers.{number}
 use Rattle.strkw_ecma.specs.Tree.{Pattern, empty, class, look, cat, alt, star, plus, start, end}
-use Rattle.strkw_ecma.specs.Tree.{boundary, no_boundary, lookbehind}
+use Rattle.strkw_ecma.specs.Tree.{boundary, no_boundary, lookbehind, lookahead}
 use Rattle.strkw_ecma.specs.Sets.{line_ends, set_of, is_negative, control_char}
 use Rattle.strkw_ecma.specs.Codes.{code_value}
 use Rattle.strkw_ecma.specs.Properties.{property_of}
@@ -14,7 +14,7 @@ use Rattle.strkw_ecma.specs.Syntax.{at_start, at_end, at_boundary, at_no_boundar
 use Rattle.strkw_ecma.specs.Syntax.{Quantifier, zero_or_more, one_or_more, zero_or_one, exactly}
 use Rattle.strkw_ecma.specs.Syntax.{at_least, from_to, Atom, plain, escaped, control_escape}
 use Rattle.strkw_ecma.specs.Syntax.{set_escape, coded, property_escape, dot, bracketed, group}
-use Rattle.strkw_ecma.specs.Syntax.{looks_behind}
+use Rattle.strkw_ecma.specs.Syntax.{looks_behind, looks_ahead}
 
 abbrev pub one_char : ℕ → Pattern
 one_char c = class false false (Range c c ∷ [])
@@ -72,6 +72,7 @@ abbrev mutual
   term_pattern at_boundary = look boundary
   term_pattern at_no_boundary = look no_boundary
   term_pattern (looks_behind n d) = lookbehind n (pattern d)
+  term_pattern (looks_ahead n d) = lookahead n (pattern d)
   term_pattern (quantified a q g) = quantified_pattern (times q) (atom_pattern a)
 
   pub atom_pattern : Atom → Pattern

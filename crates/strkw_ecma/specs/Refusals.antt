@@ -8,6 +8,7 @@ use Rattle.strkw_ecma.specs.Properties.{Expression, alone, valued, property_of, 
 use Rattle.strkw_ecma.specs.Properties.{property_spelling}
 use Rattle.strkw_ecma.specs.Size.{steps, max_term_steps, max_steps}
 use Rattle.strkw_ecma.specs.Patterns.{pattern, atom_pattern, times, copies}
+use Rattle.strkw_ecma.specs.Glances.{are_told}
 use Rattle.strkw_ecma.specs.Syntax.{Disjunction, spelling, Enclosing, enclosing_spelling, Atom}
 use Rattle.strkw_ecma.specs.Syntax.{atom_spelling, Quantifier, quantifier_spelling, max_nesting}
 use Rattle.strkw_ecma.specs.Syntax.{max_length}
@@ -20,7 +21,7 @@ use Rattle.strkw_ecma.specs.declared.refusals.PatternRefusal.TheVariants.{CountT
 use Rattle.strkw_ecma.specs.declared.refusals.PatternRefusal.TheVariants.{TermTooLarge, TooLarge}
 use Rattle.strkw_ecma.specs.declared.refusals.PatternRefusal.TheVariants.{NotTaken}
 
--- what a pattern may begin with, up to where a term may stand: n groups and lookbehinds are open,
+-- what a pattern may begin with, up to where a term may stand: n groups and lookarounds are open,
 -- one in another, with alternatives before each and behind the last
 abbrev pub IsBeginning : ℕ → List ℕ → Type 0
 IsBeginning zero text = (d : Disjunction) × IsWellFormed 0 d × (spelling d ≡ text)
@@ -33,17 +34,13 @@ IsBeginning (suc n) text =
 abbrev pub Has : List ℕ → List ℕ → Type 0
 Has part text = (before : List ℕ) × (after : List ℕ) × (before ++ (part ++ after) ≡ text)
 
--- and where a term may, within n groups and lookbehinds
+-- and where a term may, within n groups and lookarounds
 abbrev pub HasTermWithin : ℕ → List ℕ → List ℕ → Type 0
 HasTermWithin n part text =
     (before : List ℕ) × (after : List ℕ) × IsBeginning n before × (before ++ (part ++ after) ≡ text)
 
 abbrev pub HasTerm : List ℕ → List ℕ → Type 0
 HasTerm part text = (n : ℕ) × HasTermWithin n part text
-
--- behind `(?`: a lookahead begins (Assertion of ECMA-262 2024, section 22.2.1)
-abbrev pub is_look : ℕ → Bool
-is_look = is_one_of (codes "=!")
 
 -- behind a backslash: a DecimalEscape begins, or the reference to a name (AtomEscape)
 abbrev pub is_reference : ℕ → Bool
@@ -73,13 +70,15 @@ IsTooLong text = max_length < length text
 
 -- what a refusal says of the text of a pattern that is not taken
 abbrev pub IsReason : List ℕ → PatternRefusal → Type 0
-IsReason text LookAhead = (c : ℕ) × (is_look c ≡ true) × HasTerm (byte "(" ∷ byte "?" ∷ c ∷ []) text
+-- the whole is well formed, and a lookahead in it looks for more than the next character tells
+IsReason text LookAhead =
+    (d : Disjunction) × IsWellFormed 0 d × (spelling d ≡ text) × (are_told (pattern d) ≡ false)
 IsReason text BackReference = (c : ℕ) × (is_reference c ≡ true) × HasTerm (byte "\\" ∷ c ∷ []) text
 IsReason text Property =
     (b : Bool) × (e : Expression) × (has_property_chars e ≡ true) × (is_unknown e ≡ true)
     × Has (byte "\\" ∷ property_spelling b e) text
 IsReason text TooLong = IsTooLong text
--- a group or a lookbehind opens within as many as may lie in one another
+-- a group or a lookaround opens within as many as may lie in one another
 IsReason text TooDeep =
     (n : ℕ) × (g : Enclosing)
     × (max_nesting ≤ n) × IsEnclosing g × HasTermWithin n (enclosing_spelling g) text

@@ -5,7 +5,7 @@ use Rattle.std.specs.Prelude.{ℕ, ◌+◌, ◌/◌, List, [], ◌∷◌}
 use Rattle.strkw_ecma.specs.declared.tree.CharSet.{CharSet}
 use Rattle.strkw_ecma.specs.declared.tree.CharSet.TheVariants.{Range, Property}
 use Rattle.strkw_ecma.specs.Tree.{Pattern}
-use Rattle.strkw_ecma.specs.Program.{Instruction, read, assert, fork, other, join, star_begin}
+use Rattle.strkw_ecma.specs.Program.{Instruction, read, assert, peek, fork, other, join, star_begin}
 use Rattle.strkw_ecma.specs.Program.{star_end, plus_begin, plus_end, look_begin, look_end, program}
 
 -- of a counted term, its copies each with the steps of what is repeated
@@ -31,6 +31,7 @@ class_steps rs = sets_cost rs / 8 + 1
 abbrev pub instruction_steps : Instruction → ℕ
 instruction_steps (read again optional n rs) = class_steps rs
 instruction_steps (assert l) = 1
+instruction_steps (peek n rs) = class_steps rs
 instruction_steps fork = 1
 instruction_steps other = 1
 instruction_steps join = 1

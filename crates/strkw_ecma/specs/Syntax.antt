@@ -1,7 +1,7 @@
 -- The syntax, after `Pattern` of ECMA-262 2024, section 22.2.1, in Unicode mode: the part of it
--- with alternatives, terms one after another, `^`, `$`, `\b`, `\B`, lookbehinds, quantifiers,
--- groups, classes, the dot, characters, and escapes of one letter, by a number, or of a property. A
--- pattern is a tree of its rules, and a text is a pattern where some tree is spelled so.
+-- with alternatives, terms one after another, `^`, `$`, `\b`, `\B`, lookbehinds, lookaheads,
+-- quantifiers, groups, classes, the dot, characters, and escapes of one letter, by a number, or of
+-- a property. A pattern is a tree of its rules, and a text is one where some tree is spelled so.
 use Rattle.std.specs.Prelude.{ℕ, Bool, true, false, List, [], ◌∷◌, ◌++◌, codes, if◌then◌else◌}
 use Rattle.std.specs.Prelude.{◌==◌}
 use Rattle.std.specs.Str.{byte}
@@ -54,10 +54,12 @@ pub data Group : Type 0 where
   capturing plain_group : Group
   named : List NameChar → Group
 
--- what stands around a disjunction: a group, or a lookbehind, which is negated or not
+-- what stands around a disjunction: a group, or a lookaround, which is negated or not: a lookbehind
+-- or a lookahead
 pub data Enclosing : Type 0 where
   of_group : Group → Enclosing
   of_lookbehind : Bool → Enclosing
+  of_lookahead : Bool → Enclosing
 
 mutual
   -- Disjunction: the first alternative, or more of them before the last
@@ -78,6 +80,8 @@ mutual
     at_no_boundary : Term
     -- `(?<= )`, or `(?<! )` where the first holds: no quantifier may follow it
     looks_behind : Bool → Disjunction → Term
+    -- the same of `(?= )` and `(?! )`
+    looks_ahead : Bool → Disjunction → Term
     once : Atom → Term
     quantified : Atom → Quantifier → Greed → Term
 
@@ -116,10 +120,15 @@ abbrev pub lookbehind_spelling : Bool → List ℕ
 lookbehind_spelling false = byte "(" ∷ byte "?" ∷ byte "<" ∷ byte "=" ∷ []
 lookbehind_spelling true = byte "(" ∷ byte "?" ∷ byte "<" ∷ byte "!" ∷ []
 
+abbrev pub lookahead_spelling : Bool → List ℕ
+lookahead_spelling false = byte "(" ∷ byte "?" ∷ byte "=" ∷ []
+lookahead_spelling true = byte "(" ∷ byte "?" ∷ byte "!" ∷ []
+
 -- the beginning of what stands around a disjunction
 abbrev pub enclosing_spelling : Enclosing → List ℕ
 enclosing_spelling (of_group g) = group_spelling g
 enclosing_spelling (of_lookbehind n) = lookbehind_spelling n
+enclosing_spelling (of_lookahead n) = lookahead_spelling n
 
 abbrev mutual
   -- as it is written
@@ -138,6 +147,7 @@ abbrev mutual
   term_spelling at_boundary = byte "\\" ∷ byte "b" ∷ []
   term_spelling at_no_boundary = byte "\\" ∷ byte "B" ∷ []
   term_spelling (looks_behind n d) = (lookbehind_spelling n ++ spelling d) ++ byte ")" ∷ []
+  term_spelling (looks_ahead n d) = (lookahead_spelling n ++ spelling d) ++ byte ")" ∷ []
   term_spelling (quantified a q g) = (atom_spelling a ++ quantifier_spelling q) ++ greed_spelling g
 
   pub atom_spelling : Atom → List ℕ
@@ -161,6 +171,7 @@ with_name ns (named n) = ns ++ name_value n ∷ []
 abbrev pub with_own_name : List (List ℕ) → Enclosing → List (List ℕ)
 with_own_name ns (of_group g) = with_name ns g
 with_own_name ns (of_lookbehind n) = ns
+with_own_name ns (of_lookahead n) = ns
 
 abbrev mutual
   -- the names, and behind them those of the groups of the tree
@@ -179,6 +190,7 @@ abbrev mutual
   with_term_names ns at_boundary = ns
   with_term_names ns at_no_boundary = ns
   with_term_names ns (looks_behind n d) = with_names ns d
+  with_term_names ns (looks_ahead n d) = with_names ns d
   with_term_names ns (quantified a q g) = with_atom_names ns a
 
   pub with_atom_names : List (List ℕ) → Atom → List (List ℕ)
@@ -196,7 +208,7 @@ abbrev mutual
 abbrev pub names : Disjunction → List (List ℕ)
 names = with_names []
 
--- groups and lookbehinds lie in one another at most so deep, and a pattern has at most so many
+-- groups and lookarounds lie in one another at most so deep, and a pattern has at most so many
 -- characters
 abbrev pub max_nesting : ℕ
 max_nesting = 250

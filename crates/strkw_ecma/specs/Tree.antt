@@ -19,8 +19,9 @@ pub data Pattern : Type 0 where
   star : Pattern → Pattern
   -- once or more
   plus : Pattern → Pattern
-  -- reads nothing: the pattern matches up to here, or where the first holds, it does not
-  lookbehind : Bool → Pattern → Pattern
+  -- these read nothing: the pattern matches up to here, or from here on; or where the first holds,
+  -- it does not
+  lookbehind lookahead : Bool → Pattern → Pattern
 
 abbrev pub differ : Bool → Bool → Bool
 differ true b = not b

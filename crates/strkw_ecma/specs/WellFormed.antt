@@ -13,7 +13,8 @@ use Rattle.strkw_ecma.specs.Syntax.{Disjunction, only, either, Alternative, noth
 use Rattle.strkw_ecma.specs.Syntax.{at_start, at_end, at_boundary, at_no_boundary, once, quantified}
 use Rattle.strkw_ecma.specs.Syntax.{Quantifier, zero_or_more, one_or_more, zero_or_one, exactly}
 use Rattle.strkw_ecma.specs.Syntax.{at_least, from_to, Group, capturing, plain_group, named}
-use Rattle.strkw_ecma.specs.Syntax.{Enclosing, of_group, of_lookbehind, looks_behind, Atom}
+use Rattle.strkw_ecma.specs.Syntax.{Enclosing, of_group, of_lookbehind, of_lookahead}
+use Rattle.strkw_ecma.specs.Syntax.{looks_behind, looks_ahead, Atom}
 use Rattle.strkw_ecma.specs.Syntax.{plain, escaped, control_escape, set_escape, coded}
 use Rattle.strkw_ecma.specs.Syntax.{property_escape, dot, bracketed, group, token, character}
 use Rattle.strkw_ecma.specs.Syntax.{max_nesting}
@@ -37,9 +38,10 @@ IsGroup (named n) = IsName n
 abbrev pub IsEnclosing : Enclosing → Type 0
 IsEnclosing (of_group g) = IsGroup g
 IsEnclosing (of_lookbehind n) = Unit {0}
+IsEnclosing (of_lookahead n) = Unit {0}
 
 abbrev mutual
-  -- each character stands where it may, n groups and lookbehinds being open around it
+  -- each character stands where it may, n groups and lookarounds being open around it
   pub IsWellFormed : ℕ → Disjunction → Type 0
   IsWellFormed n (only a) = IsAlternative n a
   IsWellFormed n (either d a) = IsWellFormed n d × IsAlternative n a
@@ -55,6 +57,7 @@ abbrev mutual
   IsTerm n at_boundary = Unit {0}
   IsTerm n at_no_boundary = Unit {0}
   IsTerm n (looks_behind b d) = (n < max_nesting) × IsWellFormed (suc n) d
+  IsTerm n (looks_ahead b d) = (n < max_nesting) × IsWellFormed (suc n) d
   IsTerm n (quantified a q g) = IsAtom n a × IsQuantifier q (steps (atom_pattern a))
 
   pub IsAtom : ℕ → Atom → Type 0

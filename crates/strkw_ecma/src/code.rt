@@ -1,7 +1,7 @@
 //! Instructions one behind another, as they are written for a pattern.
 
 ghost use Rattle.std.specs.Prelude.{◌≡◌, ◌≤◌, ◌+◌, ◌-◌, ◌++◌, [], ◌∷◌, length, take, drop, IfOk};
-ghost use Rattle.strkw_ecma.specs.Program.{read, copied, read_count as spec_read_count, has_loop, asks_boundary};
+ghost use Rattle.strkw_ecma.specs.Program.{read, peek as spec_peek, copied, read_count as spec_read_count, has_loop, asks_boundary};
 ghost use Rattle.strkw_ecma.specs.machine.Shape.{turned};
 
 use crate::tree::CharSet;
@@ -31,7 +31,7 @@ pub(crate) enum Turn {
     /// Before and behind what stands once or more.
     PlusBegin,
     PlusEnd,
-    /// Before and behind the pattern of a lookbehind, which is negated or not.
+    /// Before and behind the pattern of a lookbehind or a lookahead, which is negated or not.
     LookBegin(bool),
     LookEnd(bool),
 }
@@ -45,6 +45,8 @@ pub(crate) enum Instruction {
         again: bool,
         optional: bool,
     },
+    /// Whether the class of this number has the next character, which is not read.
+    Peek(usize),
     Turn(Turn),
 }
 
@@ -97,6 +99,24 @@ impl Code {
             again,
             optional,
         })?;
+        Ok(())
+    }
+
+    /// Asks whether a class has the next character. The class is added to the classes.
+    pub(crate) fn peek(
+        &mut self,
+        alloc: Global,
+        negated: bool,
+        sets: &[CharSet],
+    ) -> Result<(), AllocError>
+        ensures { IfOk result (λ _. Writes self.old self.new (spec_peek negated sets.now ∷ [])) }
+    {
+        let class = self.classes.len();
+        self.classes.push(Class {
+            negated,
+            sets: Vec::from_slice(alloc, sets)?,
+        })?;
+        self.instructions.push(Instruction::Peek(class))?;
         Ok(())
     }
 

@@ -4,6 +4,7 @@ ghost use Rattle.std.specs.Prelude.{◌≡◌, true, Some, IsOk};
 ghost use Rattle.std.specs.Str.{chars};
 ghost use Rattle.strkw_ecma.specs.machine.Searches.{IsSearchedBy};
 ghost use Rattle.strkw_ecma.specs.declared.table.Table.{Table};
+ghost use Rattle.strkw_ecma.specs.Glances.{are_told};
 ghost use Rattle.strkw_ecma.specs.machine.Marks.{is_clean};
 ghost use Rattle.strkw_ecma.specs.machine.Machine.{pattern_of};
 ghost use Rattle.strkw_ecma.specs.machine.Outcomes.{takes_pattern, pattern_outcome};
@@ -22,6 +23,7 @@ pub struct EcmaMatcher {
     program: Program,
     table: Option<Table>,
     ghost clean: { is_clean (pattern_of program) ≡ true },
+    ghost told: { are_told (pattern_of program) ≡ true },
     ghost exact: { (t : Table) → table ≡ Some t → IsSearchedBy t (pattern_of program) },
 }
 
@@ -59,7 +61,8 @@ impl RegexEngine for EcmaMatcher {
 
 /// Builds engines of patterns of ECMA-262 2024 in Unicode mode (`Pattern`, section 22.2.1), of this part of its syntax:
 /// - alternatives with `|`, and groups with `( )`, `(?: )` and `(?<name> )`, whose names are read and told nowhere;
-/// - the assertions `^`, `$`, `\b`, `\B`, and look-behinds with `(?<= )` and `(?<! )`, which no quantifier follows;
+/// - the assertions `^`, `$`, `\b`, `\B`, look-behinds with `(?<= )` and `(?<! )`, and look-aheads with `(?= )` and
+///   `(?! )` for one character of a class, an assertion, nothing, or alternatives of these; no quantifier follows them;
 /// - behind an atom `*`, `+`, `?`, `{n}`, `{n,}` or `{n,m}`, and a `?` behind that, which changes no answer;
 /// - `.`; a character that is none of `^ $ \ . * + ? ( ) [ ] { } |`; `\` before one of those or `/`; `\f \n \r \t \v`;
 ///   `\d \D \s \S \w \W`;
@@ -69,11 +72,11 @@ impl RegexEngine for EcmaMatcher {
 ///   Script, behind `Script=` or `sc=`, each named as in Unicode's tables of aliases, letter case and `_` included;
 /// - classes with `[ ]` and `[^ ]`, of characters, ranges and those escapes, with `\-`, and `\b` for the backspace.
 ///
-/// Any other text is not taken, nor is a pattern with groups and look-behinds more than 250 deep, with more than 2,000
+/// Any other text is not taken, nor is a pattern with groups and look-arounds more than 250 deep, with more than 2,000
 /// characters, with a count above 1,000, with a counted term of more than 2,000 steps (its copies, each with the steps
 /// of what is repeated), or one of more than 2,600 steps as a whole. A step is an instruction of the pattern's program:
 /// one for each class, which may be repeated without end or be missing, and for each other assertion, two around a loop
-/// or the pattern of a look-behind, three around alternatives, and one between more of them; and of a class one more
+/// or the pattern of a look-around, three around alternatives, and one between more of them; and of a class one more
 /// for each eight ranges and for each property. They are counted before there is a program.
 ///
 /// A match is a search for the pattern in the text (section 22.2.7.2), with no flag but `u`: characters are Unicode

@@ -2,7 +2,8 @@
 
 ghost use Rattle.std.specs.Prelude.{ℕ, ◌*◌, ◌≤◌, ◌↔◌, true, List, length};
 ghost use Rattle.strkw_ecma.specs.Laws.{AreComplements, any_character, IsExact, IsPattern};
-ghost use Rattle.strkw_ecma.specs.Tree.{start, look, lookbehind};
+ghost use Rattle.strkw_ecma.specs.Laws.{word_edge, no_word_edge};
+ghost use Rattle.strkw_ecma.specs.Tree.{start, end, boundary, no_boundary, look, lookbehind, lookahead};
 ghost use Rattle.strkw_ecma.specs.Meaning.{Matches};
 ghost use Rattle.strkw_ecma.specs.Syntax.{Disjunction};
 ghost use Rattle.strkw_ecma.specs.Size.{max_steps};
@@ -36,4 +37,18 @@ pub fn searches_are_bounded()
 pub fn start_is_a_lookbehind()
     ensures { (text : List ℕ) (i j : ℕ) → i ≤ length text
         → Matches text (look start) i j ↔ Matches text (lookbehind true any_character) i j }
+{}
+
+/// `$` holds exactly where `(?![^])` does: at a place behind which no character stands.
+pub fn end_is_a_lookahead()
+    ensures { (text : List ℕ) (i j : ℕ)
+        → Matches text (look end) i j ↔ Matches text (lookahead true any_character) i j }
+{}
+
+/// `\b` holds exactly where `(?<=\w)(?!\w)|(?<!\w)(?=\w)` does, and `\B` where `(?<=\w)(?=\w)|(?<!\w)(?!\w)` does.
+pub fn boundaries_are_lookarounds()
+    ensures boundary { (text : List ℕ) (i j : ℕ)
+        → Matches text (look boundary) i j ↔ Matches text word_edge i j }
+    ensures no_boundary { (text : List ℕ) (i j : ℕ)
+        → Matches text (look no_boundary) i j ↔ Matches text no_word_edge i j }
 {}

@@ -10,6 +10,7 @@ mod columns;
 mod counts;
 mod engine;
 mod finding;
+mod glances;
 pub mod laws;
 mod lookahead;
 mod making;

@@ -1,7 +1,7 @@
 //! Patterns as they are read: a term that is repeated stands once, beside its quantifier. A program has its copies.
 
 ghost use Rattle.std.specs.Prelude.{◌≡◌, false, IfOk, MatchOption};
-ghost use Rattle.strkw_ecma.specs.Tree.{class as spec_class, cat, alt, lookbehind};
+ghost use Rattle.strkw_ecma.specs.Tree.{class as spec_class, cat, alt, lookbehind, lookahead};
 ghost use Rattle.strkw_ecma.specs.Patterns.{quantified_pattern};
 ghost use Rattle.strkw_ecma.specs.Program.{is_class, is_empty};
 ghost use Rattle.strkw_ecma.specs.machine.Shape.{outlined, quantifier_of};
@@ -33,6 +33,8 @@ pub(crate) enum Outline {
     Repeated(Quantifier, Box<Outline>),
     /// A lookbehind, which is negated where the first holds.
     Behind(bool, Box<Outline>),
+    /// The same of a lookahead.
+    Ahead(bool, Box<Outline>),
 }
 
 impl Outline {
@@ -61,6 +63,12 @@ impl Outline {
         Ok(Outline::Behind(negated, Box::new(alloc, self)?))
     }
 
+    pub(crate) fn ahead(self, alloc: Global, negated: bool) -> Result<Outline, AllocError>
+        ensures { IfOk result (λ t. outlined t ≡ lookahead negated (outlined self)) }
+    {
+        Ok(Outline::Ahead(negated, Box::new(alloc, self)?))
+    }
+
     /// Its class, where it is one character of a class.
     pub(crate) fn class(&self) -> Option<(bool, &[CharSet])>
         ensures { MatchOption result (is_class (outlined self.now) ≡ false)
@@ -76,7 +84,8 @@ impl Outline {
             | Outline::Then(..)
             | Outline::Or(..)
             | Outline::Repeated(..)
-            | Outline::Behind(..) => None,
+            | Outline::Behind(..)
+            | Outline::Ahead(..) => None,
         }
     }
 
@@ -98,7 +107,8 @@ impl Outline {
             | Outline::NoBoundary
             | Outline::Then(..)
             | Outline::Or(..)
-            | Outline::Behind(..) => false,
+            | Outline::Behind(..)
+            | Outline::Ahead(..) => false,
         }
     }
 }

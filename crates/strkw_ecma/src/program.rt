@@ -95,8 +95,17 @@ impl Program {
     }
 
     // Backwards over the instructions, for what is known of the loops.
-    fn ask(&self, walk: &mut Walk, marks: &[bool], last: Option<char>, next: Option<char>)
-        requires { spec_classes (pattern_of self.now) ≤ length marks.now }
+    fn ask(
+        &self,
+        walk: &mut Walk,
+        reads: &[bool],
+        marks: &[bool],
+        last: Option<char>,
+        next: Option<char>,
+    )
+        requires fits { spec_classes (pattern_of self.now) ≤ length marks.now }
+        requires reads { AreReads next self.now.code.classes.items reads.now }
+        requires enough { length self.now.code.classes.items ≤ length reads.now }
         ensures { answers_of walk.new.again
             ≡ (asked last next (program_of self.now) marks.now).again }
     {
@@ -111,6 +120,7 @@ impl Program {
                     at -= 1;
                     ahead = ahead.back_over_class(optional, marks[at]);
                 }
+                Instruction::Peek(class) => ahead = ahead.back_over_peek(reads[class]),
                 Instruction::Turn(turn) => ahead = walk.back_over(turn, ahead, last, next),
             }
         }
@@ -150,6 +160,7 @@ impl Program {
                     enters = (optional & enters) | mark;
                     at += 1;
                 }
+                Instruction::Peek(class) => enters &= reads[class],
                 Instruction::Turn(turn) => enters = walk.over(turn, enters, last, next),
             }
         }
@@ -173,7 +184,7 @@ impl Program {
     {
         room.look(&self.code.classes, next);
         if self.has_loops {
-            self.ask(&mut room.walk, marks, last, next);
+            self.ask(&mut room.walk, &room.reads, marks, last, next);
         } else {
             room.walk.again.clear();
         }

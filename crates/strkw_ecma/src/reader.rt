@@ -9,7 +9,7 @@ ghost use Rattle.strkw_ecma.specs.Syntax.{token as spec_token};
 ghost use Rattle.strkw_ecma.specs.Names.{extension as spec_extension};
 ghost use Rattle.strkw_ecma.specs.Escapes.{escape as spec_escape};
 ghost use Rattle.strkw_ecma.specs.machine.Reading.{read_pattern, read_short as spec_read_short};
-ghost use Rattle.strkw_ecma.specs.machine.Parts.{parts_of, last_of, mode_of, ended, joined, level_ended, side_of, after_atom, after_term, after_bar, opened_within, after_enclosed, outer_of, after_closing, after_quantifier, after_question, after_escape, after_token, after_group, after_extension, after_in, after_char, with_mode, at_close, no_parts, is_between};
+ghost use Rattle.strkw_ecma.specs.machine.Parts.{parts_of, last_of, none, mode_of, ended, joined, level_ended, side_of, after_atom, after_term, after_bar, opened_within, after_enclosed, outer_of, after_closing, after_quantifier, after_question, after_escape, after_token, after_group, after_extension, after_in, after_char, with_mode, at_close, no_parts, is_between};
 
 mod classing;
 mod coding;
@@ -21,6 +21,7 @@ mod refusing;
 use crate::classes::ClassReader;
 use crate::codes::{Coding, Wanted, Width};
 use crate::counts::Count;
+use crate::glances::if_told;
 use crate::lookahead::is_apart;
 use crate::names::are_distinct;
 use crate::outline::{Outline, Quantifier};
@@ -32,7 +33,7 @@ use crate::tokens::{Escape, Extension, Token};
 pub(crate) use refusing::refusal_of;
 use std::alloc::{AllocError, Global};
 
-// How many groups and lookbehinds may lie in one another, and how many characters a pattern may have.
+// How many groups and lookarounds may lie in one another, and how many characters a pattern may have.
 pub(crate) const MAX_NESTING: usize = 250;
 
 pub(crate) const MAX_LENGTH: u64 = 2000;
@@ -53,11 +54,12 @@ struct Level {
     current: Outline,
 }
 
-// What a parenthesis has opened: a group, or a lookbehind, which is negated or not.
+// What a parenthesis has opened: a group, or a lookbehind or a lookahead, which is negated or not.
 #[derive(Clone, Copy)]
 enum Enclosing {
     Group,
     Behind(bool),
+    Ahead(bool),
 }
 
 // What is open, and the level around it.
@@ -67,7 +69,7 @@ struct Open {
     level: Level,
 }
 
-// The groups and lookbehinds that are open, the innermost last, and the names of all groups that there were.
+// The groups and lookarounds that are open, the innermost last, and the names of all groups that there were.
 #[derive(Drop)]
 struct Outer {
     groups: Vec<Open>,
@@ -315,33 +317,23 @@ impl Reader {
         }))
     }
 
-    // Behind the end of a group, or of a lookbehind, whose body this is. This reader stands before it.
+    // Behind the end of a group, or of a lookaround, whose body this is. This reader stands before it.
     fn enclose(
         self,
         alloc: Global,
         enclosing: Enclosing,
         body: Outline,
     ) -> Result<Reader, AllocError>
+        requires { last_of self.last ≡ none }
         ensures { IfOk result (λ r. parts_of r
             ≡ after_enclosed (outer_of self.outer) (side_of self.level) enclosing
             (outlined body)) }
     {
-        let Reader { outer, level, .. } = self;
-        let (level, last) = match enclosing {
-            Enclosing::Group => (level, Last::Atom(body)),
-            Enclosing::Behind(negated) => {
-                let Level { earlier, current } = level;
-                let look = body.behind(alloc, negated)?;
-                let current = current.then(alloc, look)?;
-                (Level { earlier, current }, Last::None)
-            }
-        };
-        Ok(Reader {
-            outer,
-            level,
-            last,
-            mode: Mode::Between,
-        })
+        match enclosing {
+            Enclosing::Group => self.with_atom(alloc, body),
+            Enclosing::Behind(negated) => self.with_term(alloc, body.behind(alloc, negated)?),
+            Enclosing::Ahead(negated) => self.with_term(alloc, body.ahead(alloc, negated)?),
+        }
     }
 
     fn close(self, alloc: Global) -> Result<Option<Reader>, AllocError>
@@ -465,6 +457,8 @@ impl Reader {
         match Extension::of(c) {
             Extension::Uncaptured => self.open(alloc, Enclosing::Group),
             Extension::NameOpening => Ok(Some(self.with_mode(Mode::Naming(Vec::new(alloc))))),
+            Extension::Equals => self.open(alloc, Enclosing::Ahead(false)),
+            Extension::Exclamation => self.open(alloc, Enclosing::Ahead(true)),
             Extension::Unknown => Ok(None),
         }
     }
@@ -530,7 +524,7 @@ impl Reader {
 }
 
 // The outline of a pattern, and `None` where the text is none. No term is copied, so it is known here what is too
-// large.
+// large, and which lookaheads look for too much.
 #[tactic(auto, using(crate::proofs::Parts::read_whole, crate::proofs::Parts::not_apart))]
 pub(crate) fn outline_of(alloc: Global, source: &str) -> Result<Option<Outline>, AllocError>
     ensures { IfOk result (λ t. option_map outlined t
@@ -539,7 +533,7 @@ pub(crate) fn outline_of(alloc: Global, source: &str) -> Result<Option<Outline>,
     if !is_apart(source) {
         return Ok(None);
     }
-    Ok(if_small(read_short(alloc, source)?))
+    Ok(if_told(if_small(read_short(alloc, source)?)))
 }
 
 // The program of a pattern.

@@ -16,7 +16,7 @@ use std::fmt;
 /// Why a pattern is not taken. Each tells of what stands in it; `NotTaken` tells nothing more.
 #[derive(Clone, Copy, Debug, PartialEq, Eq)]
 pub enum PatternRefusal {
-    /// `(?=` or `(?!` stands where a term may.
+    /// A look-ahead looks for more than one character of a class, an assertion, nothing, or alternatives of these.
     LookAhead,
     /// `\` and one of `1` to `9`, or `\k`, stands where a term may.
     BackReference,
@@ -24,7 +24,7 @@ pub enum PatternRefusal {
     Property,
     /// There are more than 2,000 characters.
     TooLong,
-    /// A group or a look-behind opens within 250 others.
+    /// A group, a look-behind or a look-ahead opens within 250 others.
     TooDeep,
     /// A count is above 1,000.
     CountTooGreat,
@@ -36,11 +36,13 @@ pub enum PatternRefusal {
     NotTaken,
 }
 
-/// In words that fit behind "the pattern is not taken: ", as `it has a look-ahead`.
+/// In words that fit behind "the pattern is not taken: ", as `it has a back reference`.
 impl fmt::Display for PatternRefusal {
     fn fmt<W: fmt::Write>(&self, f: &mut fmt::Formatter<W>) -> fmt::Result {
         match self {
-            PatternRefusal::LookAhead => f.write_str("it has a look-ahead"),
+            PatternRefusal::LookAhead => {
+                f.write_str("it has a look-ahead of more than one character")
+            }
             PatternRefusal::BackReference => f.write_str("it has a back reference"),
             PatternRefusal::Property => f.write_str("it has a property that is not known here"),
             PatternRefusal::TooLong => write!(f, "it has more than {MAX_LENGTH} characters"),
@@ -73,8 +75,9 @@ fn is_short(pattern: &str) -> bool
 }
 
 /// Why `EcmaPatterns` does not take a pattern, and `None` exactly where it takes it. Where more than one reason could
-/// be told, it is the length, and else what stands first in the pattern. `IsReason` of `specs/Refusals.antt` says
-/// what each reason means over the text. The only error is out of memory. A pattern that is not taken is read twice.
+/// be told, it is the length, else what stands first in the pattern, else a look-ahead, and last the size. `IsReason`
+/// of `specs/Refusals.antt` says what each reason means over the text. The only error is out of memory. A pattern that
+/// is not taken is read twice.
 pub fn why_refused(alloc: Global, pattern: &str) -> Result<Option<PatternRefusal>, AllocError>
     ensures taken { IfOk result (λ why. is_none why ≡ takes_pattern (chars pattern.now)) }
     ensures too_long { IfOk result (λ why.

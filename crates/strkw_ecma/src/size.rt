@@ -3,7 +3,7 @@
 ghost use Rattle.std.specs.Prelude.{◌≡◌, ◌+◌, ◌*◌, nat_le, option_map};
 ghost use Rattle.strkw_ecma.specs.Tree.{empty, alt, star, plus};
 ghost use Rattle.strkw_ecma.specs.Patterns.{quantified_pattern, copies};
-ghost use Rattle.strkw_ecma.specs.Program.{alternatives};
+ghost use Rattle.strkw_ecma.specs.Program.{glance, alternatives};
 ghost use Rattle.strkw_ecma.specs.machine.Shape.{outlined, quantifier_of};
 ghost use Rattle.strkw_ecma.specs.Size.{steps, steps_of, max_term_steps, set_cost, class_steps as spec_class_steps};
 ghost use Rattle.strkw_ecma.specs.machine.Parts.{small_pattern};
@@ -29,7 +29,7 @@ const STEPS_OF_A_LOOP: u32 = 2;
 
 const STEPS_BETWEEN: u32 = 1;
 
-// What stands around what a lookbehind looks for.
+// What stands around what a lookbehind or a lookahead looks for.
 const STEPS_OF_A_LOOK: u32 = 2;
 
 // A number of steps, up to one more than the most.
@@ -114,6 +114,28 @@ impl Outline {
             }
             Outline::Repeated(quantifier, body) => body.repeated_steps(*quantifier, body.steps()),
             Outline::Behind(_, body) => together(0, body.steps(), STEPS_OF_A_LOOK),
+            Outline::Ahead(_, body) => together(0, body.glance_steps(), STEPS_OF_A_LOOK),
+        }
+    }
+
+    // Of what a lookahead looks for.
+    #[cycle(glance_steps)]
+    fn glance_steps(&self) -> u32
+        ensures { result ≡ capped (steps_of (glance (outlined self.now))) }
+    {
+        match self {
+            Outline::Class { sets, .. } => class_steps(sets),
+            Outline::Start | Outline::End | Outline::Boundary | Outline::NoBoundary => 1,
+            Outline::Then(_, second) => second.glance_steps(),
+            Outline::Or(one, other) => {
+                together(one.glance_steps(), other.glance_steps(), STEPS_OF_A_CHOICE)
+            }
+            Outline::Repeated(quantifier, body) => match quantifier {
+                Quantifier::ZeroOrOne => together(0, body.glance_steps(), STEPS_OF_A_CHOICE),
+                _ => 0,
+            },
+            Outline::Ahead(_, body) => together(0, body.glance_steps(), STEPS_OF_A_LOOK),
+            Outline::Empty | Outline::Behind(..) => 0,
         }
     }
 
@@ -135,7 +157,8 @@ impl Outline {
             | Outline::Boundary
             | Outline::NoBoundary
             | Outline::Then(..)
-            | Outline::Behind(..) => self.steps(),
+            | Outline::Behind(..)
+            | Outline::Ahead(..) => self.steps(),
         }
     }
 

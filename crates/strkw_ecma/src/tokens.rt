@@ -139,6 +139,8 @@ impl ClassToken {
 pub(crate) enum Extension {
     Uncaptured,
     NameOpening,
+    Equals,
+    Exclamation,
     Unknown,
 }
 
@@ -149,6 +151,8 @@ impl Extension {
         match c {
             ':' => Extension::Uncaptured,
             '<' => Extension::NameOpening,
+            '=' => Extension::Equals,
+            '!' => Extension::Exclamation,
             _ => Extension::Unknown,
         }
     }

@@ -1,7 +1,8 @@
 //! What a walk over a program knows between two instructions.
 
 ghost use Rattle.std.specs.Prelude.{◌≡◌, ◌≤◌, ◌+◌, [], true, false, ℕ, Bool, List, Option, ◌&&◌, ◌||◌};
-ghost use Rattle.strkw_ecma.specs.Program.{read as spec_read};
+ghost use Rattle.strkw_ecma.specs.Program.{read as spec_read, peek as spec_peek};
+ghost use Rattle.strkw_ecma.specs.machine.Marks.{reads as spec_reads};
 ghost use Rattle.strkw_ecma.specs.machine.Shape.{turned};
 ghost use Rattle.strkw_ecma.specs.machine.Machine.{asked_of, following_of, answers_of};
 ghost use Rattle.strkw_ecma.specs.machine.Walk.{back_over as spec_back_over, over as spec_over};
@@ -43,6 +44,19 @@ impl Ahead {
         Ahead {
             ends: self.ends & optional,
             goes_on: self.goes_on | (self.ends & mark),
+        }
+    }
+
+    /// Back over a class that the next character is asked for, and not read.
+    pub(crate) fn back_over_peek(self, reads: bool) -> Ahead
+        ensures { (last next : Option ℕ) (negated : Bool) (sets : List CharSet) (mark : Bool)
+            (walk : Walk) → reads ≡ spec_reads next negated sets
+            → asked_of result walk
+            ≡ spec_back_over last next (spec_peek negated sets) mark (asked_of self walk) }
+    {
+        Ahead {
+            ends: self.ends & reads,
+            goes_on: self.goes_on,
         }
     }
 }

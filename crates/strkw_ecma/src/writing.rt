@@ -3,7 +3,7 @@
 ghost use Rattle.std.specs.Prelude.{◌≡◌, ◌≤◌, ◌+◌, ◌++◌, length, IfOk};
 ghost use Rattle.strkw_ecma.specs.Tree.{empty, alt, star, plus};
 ghost use Rattle.strkw_ecma.specs.Patterns.{quantified_pattern, repeated};
-ghost use Rattle.strkw_ecma.specs.Program.{program, alternatives};
+ghost use Rattle.strkw_ecma.specs.Program.{glance, program, alternatives};
 ghost use Rattle.strkw_ecma.specs.machine.Shape.{outlined, quantifier_of};
 ghost use Rattle.strkw_ecma.specs.machine.Machine.{Writes};
 
@@ -45,6 +45,48 @@ impl Outline {
                 body.write(alloc, code)?;
                 code.turn(Turn::LookEnd(*negated))
             }
+            Outline::Ahead(negated, body) => {
+                code.turn(Turn::LookBegin(*negated))?;
+                body.write_glance(alloc, code)?;
+                code.turn(Turn::LookEnd(*negated))
+            }
+        }
+    }
+
+    // What a lookahead looks for.
+    #[cycle(write_glance)]
+    fn write_glance(&self, alloc: Global, code: &mut Code) -> Result<(), AllocError>
+        ensures { IfOk result (λ _. Writes code.old code.new (glance (outlined self.now))) }
+    {
+        match self {
+            Outline::Class { negated, sets } => code.peek(alloc, *negated, sets),
+            Outline::Start => code.turn(Turn::Start),
+            Outline::End => code.turn(Turn::End),
+            Outline::Boundary => code.turn(Turn::Boundary),
+            Outline::NoBoundary => code.turn(Turn::NoBoundary),
+            Outline::Then(_, second) => second.write_glance(alloc, code),
+            Outline::Or(one, other) => {
+                code.turn(Turn::Fork)?;
+                one.write_glance(alloc, code)?;
+                code.turn(Turn::Other)?;
+                other.write_glance(alloc, code)?;
+                code.turn(Turn::Join)
+            }
+            Outline::Repeated(quantifier, body) => match quantifier {
+                Quantifier::ZeroOrOne => {
+                    code.turn(Turn::Fork)?;
+                    code.turn(Turn::Other)?;
+                    body.write_glance(alloc, code)?;
+                    code.turn(Turn::Join)
+                }
+                _ => Ok(()),
+            },
+            Outline::Ahead(negated, body) => {
+                code.turn(Turn::LookBegin(*negated))?;
+                body.write_glance(alloc, code)?;
+                code.turn(Turn::LookEnd(*negated))
+            }
+            Outline::Empty | Outline::Behind(..) => Ok(()),
         }
     }
 
@@ -77,7 +119,8 @@ impl Outline {
             | Outline::Boundary
             | Outline::NoBoundary
             | Outline::Then(..)
-            | Outline::Behind(..) => self.write(alloc, code),
+            | Outline::Behind(..)
+            | Outline::Ahead(..) => self.write(alloc, code),
         }
     }
 

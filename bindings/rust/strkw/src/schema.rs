@@ -37,8 +37,11 @@ impl Schema {
     ///
     /// ```
     /// use strkw::{Draft, Options, Schema};
-    /// let refused = Schema::compile(Draft::Draft7, Options::default(), r#"{"pattern": "(?=a)"}"#).unwrap_err();
-    /// let told = r#"the schema object is refused at /pattern: the pattern "(?=a)" is not taken: it has a look-ahead"#;
+    /// let refused = Schema::compile(Draft::Draft7, Options::default(), r#"{"pattern": "a{1001}"}"#).unwrap_err();
+    /// let told = concat!(
+    ///     r#"the schema object is refused at /pattern: the pattern "a{1001}" is not taken: "#,
+    ///     "it has a count above 1000",
+    /// );
     /// assert_eq!(refused.to_string(), told);
     /// ```
     pub fn compile(draft: Draft, options: Options, object: &str) -> Result<Schema, CompileError> {

@@ -86,6 +86,9 @@ fn options_say_how_formats_are_checked() {
     let companions = Options { companion_formats: true, ..Options::default() };
     let mail = Schema::compile(Draft::Draft4, companions, r#"{"format": "email"}"#).unwrap();
     assert!(mail.is_valid("joe@example.com").unwrap() && !mail.is_valid("joe").unwrap());
+    let mail = Schema::compile(Draft::Draft7, companions, r#"{"format": "idn-email"}"#).unwrap();
+    assert!(mail.is_valid("j\u{fc}rgen@b\u{fc}cher.example").unwrap());
+    assert!(!mail.is_valid("j\u{fc}rgen@B\u{fc}cher.example").unwrap());
 }
 
 #[test]

@@ -7,8 +7,8 @@ use crate::files::{FileCheck, check_files};
 use crate::inputs::{InputFile, STANDARD_INPUT};
 use crate::lines::JsonLines;
 use crate::options::{
-    FILE, MAX_ERRORS, OutputForm, Wanted, color, files, max_errors, output as output_form, quiet,
-    required,
+    FILE, MAX_ERRORS, OutputForm, Wanted, color, delimiter, delimiter_said, files, max_errors,
+    output as output_form, quiet, required,
 };
 use crate::outcome::Outcome;
 use crate::output::{FaultyWrite, Output};
@@ -28,9 +28,6 @@ pub(crate) const NAME: &str = "csv";
 
 // The argument for the file of the plan.
 const PLAN: &str = "PLAN";
-
-// The option for what parts the columns.
-const DELIMITER: &str = "delimiter";
 
 // The option by which it tells how far it is.
 const PROGRESS: &str = "progress";
@@ -59,12 +56,12 @@ Examples:
   neldrafi csv --report errors.html plan.json people.csv
   neldrafi csv --quiet plan.json < people.csv";
 
+// What is said of the option for what parts the columns.
+const DELIMITER_HELP: &str =
+    "What parts the columns, in place of what the plan says; `\\t` is a tab";
+
 /// What the subcommand takes.
 pub(crate) fn command<'a>(alloc: Global) -> Result<Command<'a>, AllocError> {
-    let delimiter = Arg::new(alloc, DELIMITER)
-        .long(DELIMITER)
-        .value_name("CHARACTER")
-        .help("What parts the columns, in place of what the plan says; `\\t` is a tab");
     let progress = Arg::new(alloc, PROGRESS)
         .long(PROGRESS)
         .action(ArgAction::SetTrue)
@@ -86,7 +83,7 @@ pub(crate) fn command<'a>(alloc: Global) -> Result<Command<'a>, AllocError> {
         .arg(required(alloc, PLAN, "The file of the plan"))?
         .arg(files(alloc))?
         .arg(color(alloc))?
-        .arg(delimiter)?
+        .arg(delimiter(alloc, DELIMITER_HELP))?
         .arg(max_errors(alloc))?
         .arg(output_form(alloc))?
         .arg(progress)?
@@ -203,11 +200,6 @@ impl FileCheck for TableCheck<'_> {
     }
 }
 
-// The delimiter that a word says: itself, but for `\t`, which is a tab.
-fn delimiter_said(word: &str) -> &str {
-    if word == "\\t" { "\t" } else { word }
-}
-
 // The page, if one is to be written.
 fn page_of(alloc: Global, path: Option<&str>) -> Option<Page> {
     match path {
@@ -238,8 +230,7 @@ pub(crate) fn run(rt: &HostRuntime, matches: &ArgMatches<'_>) -> Result<Outcome,
     let path = matches.get_str(PLAN).unwrap_or("");
     let (page, files) = (matches.get_str(REPORT), matches.get_strs(FILE));
     require_other_path(rt.alloc(), page, path, files)?;
-    let delimiter = matches.get_str(DELIMITER).map(delimiter_said);
-    let plan = read_plan_by(rt, path, delimiter)?;
+    let plan = read_plan_by(rt, path, delimiter_said(matches))?;
     let mut check = TableCheck {
         plan: &plan,
         form: OutputForm::of(matches),

@@ -4,17 +4,22 @@ use crate::drafts::draft_number;
 use crate::faults::Fault;
 use crate::inputs::{InputFile, STANDARD_INPUT};
 use crate::known_formats::KnownFormat;
-use crate::options::{OutputForm, draft, draft_of, output as output_form};
+use crate::options::{
+    OutputForm, delimiter, delimiter_said, draft, draft_of, output as output_form,
+};
 use crate::outcome::Outcome;
 use crate::output::write_text;
+use crate::plans::set_delimiter;
 use clap::builder::ValueParser;
 use clap::{Arg, ArgMatches, Command};
 use csv::StringRecord;
 use serde_json::{Map, Value, json};
 use std::alloc::{AllocError, Global};
 use std::collections::BTreeMap;
-use strkw_records::RecordReader;
+use strkw_plan::PlanFault;
+use strkw_records::{Delimiter, Limits, RecordReader};
 use strkw_report::Draft;
+use strkw_shells::FileFault;
 use strkw_table::TableFault;
 
 /// The name of the subcommand.
@@ -32,14 +37,19 @@ const SAMPLE: u64 = 10_000;
 // What its help ends with.
 const AFTER_HELP: &str = "\
 The plan has for each column the first of these formats that all its values are of:
-date-time, date, time, duration, uuid, ipv4, ipv6, email, uri, iri; and the lengths of its
-values.
+date-time, date, time, duration, uuid, ipv4, ipv6, email, idn-email, uri, iri; and the
+lengths of its values.
 Where a column has empty values it has no format, and its description says which one the
 others are of. A plan from a sample is a start: edit it.
 
 Examples:
   neldrafi plan people.csv > plan.json
+  neldrafi plan --delimiter ';' people.csv
   neldrafi plan --draft 7 --records 1000 people.csv";
+
+// What is said of the option for what parts the columns.
+const DELIMITER_HELP: &str =
+    "What parts the columns, in place of commas; `\\t` is a tab. The plan says it";
 
 // The formats that are proposed, the narrowest first. Of the others nearly each word is one.
 const PROPOSED: &[&str] = &[
@@ -51,6 +61,7 @@ const PROPOSED: &[&str] = &[
     "ipv4",
     "ipv6",
     "email",
+    "idn-email",
     "uri",
     "iri",
 ];
@@ -70,6 +81,7 @@ pub(crate) fn command<'a>(alloc: Global) -> Result<Command<'a>, AllocError> {
         .about("Proposes a plan for a CSV file from a sample of its records")
         .after_help(AFTER_HELP)
         .arg(file)?
+        .arg(delimiter(alloc, DELIMITER_HELP))?
         .arg(draft(alloc))?
         .arg(output_form(alloc))?
         .arg(records)
@@ -229,9 +241,35 @@ fn next_record(
     }
 }
 
-// A sample of so many records of a file.
-fn take_sample(alloc: Global, draft: Draft, file: InputFile, most: u64) -> Result<Sample, Fault> {
-    let mut reader = RecordReader::new(alloc, file)?;
+// A reader of the records of a file: a comma parts the fields, where nothing else is said.
+fn reader_of(
+    alloc: Global,
+    file: InputFile,
+    said: Option<&str>,
+) -> Result<RecordReader<InputFile>, Fault> {
+    let Some(delimiter) = delimiter_named(said.unwrap_or(",")) else {
+        let fault = FileFault::of_plan(alloc, PlanFault::NoDelimiter);
+        return Err(Fault::from(fault));
+    };
+    let limits = Limits::none();
+    Ok(RecordReader::with_delimiter(alloc, file, limits, delimiter)?)
+}
+
+// The delimiter that a text is, or none.
+fn delimiter_named(text: &str) -> Option<Delimiter> {
+    match text.as_bytes() {
+        [byte] => Delimiter::new(*byte),
+        _ => None,
+    }
+}
+
+// A sample of so many records that a reader reads.
+fn take_sample(
+    alloc: Global,
+    draft: Draft,
+    mut reader: RecordReader<InputFile>,
+    most: u64,
+) -> Result<Sample, Fault> {
     let mut names = StringRecord::new(alloc);
     if next_record(&mut reader, &mut names)?.is_none() {
         return Err(Fault::from(TableFault::NoHeader));
@@ -261,7 +299,12 @@ pub(crate) fn run(rt: &HostRuntime, matches: &ArgMatches<'_>) -> Result<Outcome,
     let draft = draft_of(matches);
     let file = InputFile::open(rt, matches.get_str(FILE).unwrap_or(STANDARD_INPUT))?;
     let most = matches.get_one::<u64>(RECORDS).unwrap_or(SAMPLE);
-    let plan = take_sample(alloc, draft, file, most)?.plan(alloc, draft)?;
+    let said = delimiter_said(matches);
+    let reader = reader_of(alloc, file, said)?;
+    let mut plan = take_sample(alloc, draft, reader, most)?.plan(alloc, draft)?;
+    if let Some(delimiter) = said {
+        set_delimiter(alloc, &mut plan, delimiter)?;
+    }
     let mut text = text_of(alloc, OutputForm::of(matches), &plan)?;
     text.push_str("\n")?;
     write_text(rt, &text)?;

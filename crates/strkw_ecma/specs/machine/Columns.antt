@@ -5,7 +5,7 @@ use Rattle.std.specs.Prelude.{◌∷◌, length, get_or, Vec, Option, Some, None
 use Rattle.std.specs.Prelude.{if◌then◌else◌}
 use Rattle.std.specs.declared.alloc.Global.{Global}
 use Rattle.strkw_ecma.specs.Tree.{Pattern, empty, class, look, cat, alt, star, plus, lookbehind}
-use Rattle.strkw_ecma.specs.Tree.{in_sets}
+use Rattle.strkw_ecma.specs.Tree.{lookahead, in_sets}
 use Rattle.strkw_ecma.specs.Program.{asks_word}
 use Rattle.strkw_ecma.specs.Sets.{word_characters}
 use Rattle.strkw_ecma.specs.declared.tree.CharSet.{CharSet}
@@ -34,6 +34,18 @@ abbrev pub TellsSets : List (Vec CharSet Global) → List CharSet → Type 0
 TellsSets classes rs = (c d : ℕ) → answers 0 classes c ≡ answers 0 classes d
     → in_sets rs c ≡ in_sets rs d
 
+-- `\b` or `\B` stands in a glance
+abbrev pub sees_boundary : Pattern → Bool
+sees_boundary empty = false
+sees_boundary (class m n rs) = false
+sees_boundary (look l) = asks_word l
+sees_boundary (cat p q) = sees_boundary q
+sees_boundary (alt p q) = sees_boundary p || sees_boundary q
+sees_boundary (star p) = false
+sees_boundary (plus p) = false
+sees_boundary (lookbehind n p) = false
+sees_boundary (lookahead n p) = sees_boundary p
+
 -- `\b` or `\B` stands in the pattern
 abbrev pub has_boundary : Pattern → Bool
 has_boundary empty = false
@@ -44,6 +56,19 @@ has_boundary (alt p q) = has_boundary p || has_boundary q
 has_boundary (star p) = has_boundary p
 has_boundary (plus p) = has_boundary p
 has_boundary (lookbehind n p) = has_boundary p
+has_boundary (lookahead n p) = sees_boundary p
+
+-- the answers tell all that a glance asks about a character
+abbrev pub TellsGlance : List (Vec CharSet Global) → Pattern → Type 0
+TellsGlance classes empty = Unit {0}
+TellsGlance classes (class m n rs) = TellsSets classes rs
+TellsGlance classes (look l) = asks_word l ≡ true → TellsSets classes word_characters
+TellsGlance classes (cat p q) = TellsGlance classes q
+TellsGlance classes (alt p q) = TellsGlance classes p × TellsGlance classes q
+TellsGlance classes (star p) = Unit {0}
+TellsGlance classes (plus p) = Unit {0}
+TellsGlance classes (lookbehind n p) = Unit {0}
+TellsGlance classes (lookahead n p) = TellsGlance classes p
 
 -- the answers tell all that a pattern asks about a character
 abbrev pub Tells : List (Vec CharSet Global) → Pattern → Type 0
@@ -55,3 +80,4 @@ Tells classes (alt p q) = Tells classes p × Tells classes q
 Tells classes (star p) = Tells classes p
 Tells classes (plus p) = Tells classes p
 Tells classes (lookbehind n p) = Tells classes p
+Tells classes (lookahead n p) = TellsGlance classes p

@@ -3,7 +3,8 @@
 use Rattle.std.specs.Prelude.{◌≡◌, ◌↔◌, ℕ, ◌+◌, ◌<◌, ◌≤◌, get_or, drop, Bool, true, false, ◌&&◌}
 use Rattle.std.specs.Prelude.{◌||◌, not, ◌⊎◌, List, [], ◌∷◌, ◌++◌, length, Option, Some, None}
 use Rattle.strkw_ecma.specs.Tree.{Pattern, empty, class, look, cat, alt, star, plus, lookbehind}
-use Rattle.strkw_ecma.specs.Tree.{differ, is_member}
+use Rattle.strkw_ecma.specs.Tree.{lookahead, differ, is_member}
+use Rattle.strkw_ecma.specs.Glances.{is_glance}
 use Rattle.strkw_ecma.specs.Meaning.{Rounds, holds, Matches}
 use Rattle.strkw_ecma.specs.declared.tree.CharSet.{CharSet}
 
@@ -13,6 +14,18 @@ reads None n rs = false
 reads (Some c) n rs = is_member n rs c
 
 module _ (b a : Option ℕ) where
+  -- whether a glance (`is_glance`) matches from between b and a on
+  abbrev pub sees : Pattern → Bool
+  sees empty = true
+  sees (class m n rs) = reads a n rs
+  sees (look l) = holds l b a
+  sees (cat p q) = sees q
+  sees (alt p q) = sees p || sees q
+  sees (star p) = true
+  sees (plus p) = true
+  sees (lookbehind n p) = true
+  sees (lookahead n p) = differ n (sees p)
+
   -- Between the characters b and a: does a way through the pattern end here that went on from a
   -- mark or, where `enters` holds, began here?
   abbrev pub leaves : Pattern → Bool → Bool
@@ -25,6 +38,7 @@ module _ (b a : Option ℕ) where
   leaves (plus p) enters = leaves p (enters || leaves p false)
   -- entered at each place
   leaves (lookbehind n p) enters = enters && differ n (leaves p true)
+  leaves (lookahead n p) enters = enters && differ n (sees p)
 
   -- the marks after the character a is read
   abbrev pub step : Pattern → Bool → Pattern
@@ -36,6 +50,7 @@ module _ (b a : Option ℕ) where
   step (star p) enters = star (step p (enters || leaves p false))
   step (plus p) enters = plus (step p (enters || leaves p false))
   step (lookbehind n p) enters = lookbehind n (step p true)
+  step (lookahead n p) enters = lookahead n p
 
 -- at place i a way through the pattern goes on from some mark, and ends at j
 abbrev pub Rest : List ℕ → Pattern → ℕ → ℕ → Type 0
@@ -47,12 +62,14 @@ Rest text (alt p q) i j = Rest text p i j ⊎ Rest text q i j
 Rest text (star p) i j = (l : ℕ) × Rest text p i l × Rounds (Matches text p) j l
 Rest text (plus p) i j = (l : ℕ) × Rest text p i l × Rounds (Matches text p) j l
 Rest text (lookbehind n p) i j = ⊥
+Rest text (lookahead n p) i j = ⊥
 
 -- the pattern matches up to j from some place before i, and j is not before i
 abbrev pub Crosses : List ℕ → Pattern → ℕ → ℕ → Type 0
 Crosses text p i j = (k : ℕ) × (k < i) × (i ≤ j) × Matches text p k j
 
--- the marks within lookbehinds at place i are those of all ways that have begun before i
+-- the marks within lookbehinds at place i are those of all ways that have begun before i, and each
+-- lookahead is told by the next character
 abbrev pub Kept : List ℕ → Pattern → ℕ → Type 0
 Kept text empty i = Unit {0}
 Kept text (class m n rs) i = Unit {0}
@@ -62,13 +79,14 @@ Kept text (alt p q) i = Kept text p i × Kept text q i
 Kept text (star p) i = Kept text p i
 Kept text (plus p) i = Kept text p i
 Kept text (lookbehind n p) i = Kept text p i × ((j : ℕ) → Rest text p i j ↔ Crosses text p i j)
+Kept text (lookahead n p) i = is_glance p ≡ true
 
 -- at place k a match is under way, or one begins at k or later
 abbrev pub Later : List ℕ → Pattern → ℕ → Type 0
 Later text p k = ((j : ℕ) × Rest text p k j)
     ⊎ ((i j : ℕ) × (k ≤ i) × (i ≤ length text) × Matches text p i j)
 
--- how many classes stand in a pattern
+-- how many classes stand in a pattern, outside lookaheads
 abbrev pub classes : Pattern → ℕ
 classes empty = 0
 classes (class m n rs) = 1
@@ -78,6 +96,7 @@ classes (alt p q) = classes p + classes q
 classes (star p) = classes p
 classes (plus p) = classes p
 classes (lookbehind n p) = classes p
+classes (lookahead n p) = 0
 
 -- the pattern with the first marks of a list, in the order of its classes
 abbrev pub marked : List Bool → Pattern → Pattern
@@ -89,6 +108,7 @@ marked ms (alt p q) = alt (marked ms p) (marked (drop (classes p) ms) q)
 marked ms (star p) = star (marked ms p)
 marked ms (plus p) = plus (marked ms p)
 marked ms (lookbehind n p) = lookbehind n (marked ms p)
+marked ms (lookahead n p) = lookahead n p
 
 -- no class bears a mark
 abbrev pub is_clean : Pattern → Bool
@@ -100,6 +120,7 @@ is_clean (alt p q) = is_clean p && is_clean q
 is_clean (star p) = is_clean p
 is_clean (plus p) = is_clean p
 is_clean (lookbehind n p) = is_clean p
+is_clean (lookahead n p) = true
 
 -- the marks of a pattern, in the order of its classes
 abbrev pub marks_of : Pattern → List Bool
@@ -111,3 +132,4 @@ marks_of (alt p q) = marks_of p ++ marks_of q
 marks_of (star p) = marks_of p
 marks_of (plus p) = marks_of p
 marks_of (lookbehind n p) = marks_of p
+marks_of (lookahead n p) = []

@@ -4,7 +4,7 @@ use Rattle.std.specs.Prelude.{[], ◌∷◌, ◌++◌, map, reverse, length, Opt
 use Rattle.std.specs.Prelude.{option_and_then}
 use Rattle.std.specs.Str.{byte}
 use Rattle.strkw_ecma.specs.Tree.{Pattern, empty, class, look, cat, alt, start, end, boundary}
-use Rattle.strkw_ecma.specs.Tree.{no_boundary, lookbehind}
+use Rattle.strkw_ecma.specs.Tree.{no_boundary, lookbehind, lookahead}
 use Rattle.strkw_ecma.specs.Escapes.{Escape, itself, control, set, boundary as boundary_letter}
 use Rattle.strkw_ecma.specs.Escapes.{no_boundary as no_boundary_letter, null, letter, hexadecimal}
 use Rattle.strkw_ecma.specs.Escapes.{unicode, property, no_property, unknown, escape}
@@ -16,7 +16,8 @@ use Rattle.strkw_ecma.specs.machine.PropertyReading.{PropertyPart, brace_awaited
 use Rattle.strkw_ecma.specs.machine.PropertyReading.{PropertyRead, no_property_read, property_goes}
 use Rattle.strkw_ecma.specs.machine.PropertyReading.{property_ends, property_next}
 use Rattle.strkw_ecma.specs.Names.{may_follow, are_distinct, Extension, uncaptured, name_opening}
-use Rattle.strkw_ecma.specs.Names.{no_extension, extension, NameToken, name_end, name_backslash}
+use Rattle.strkw_ecma.specs.Names.{look_equals, look_negation, no_extension, extension, NameToken}
+use Rattle.strkw_ecma.specs.Names.{name_end, name_backslash}
 use Rattle.strkw_ecma.specs.Names.{name_equals, name_negation, name_character, name_token}
 use Rattle.strkw_ecma.specs.Classes.{ClassToken, closing_bracket, class_escaper, dash}
 use Rattle.strkw_ecma.specs.Classes.{class_char, class_token, class_escape, Item, char}
@@ -27,6 +28,7 @@ use Rattle.strkw_ecma.specs.Syntax.{brace, character, other, token, max_nesting}
 use Rattle.strkw_ecma.specs.Patterns.{one_char, Times, any_times, some_times, once_at_most}
 use Rattle.strkw_ecma.specs.Patterns.{exact_times, least_times, range_times, quantified_pattern}
 use Rattle.strkw_ecma.specs.Patterns.{copies}
+use Rattle.strkw_ecma.specs.Glances.{are_told}
 use Rattle.strkw_ecma.specs.Numbers.{max_count, CountToken, digit, comma, closing_brace, no_count}
 use Rattle.strkw_ecma.specs.Numbers.{count_token}
 use Rattle.strkw_ecma.specs.Size.{steps, max_term_steps, max_steps}
@@ -56,10 +58,11 @@ use Rattle.strkw_ecma.specs.declared.properties.PropertyRead.TheVariants as code
 -- the numbers of a count, where they have digits: the first, or both
 pub use Rattle.strkw_ecma.specs.declared.counts.Count.{Count}
 pub use Rattle.strkw_ecma.specs.declared.counts.Count.TheVariants.{Low as low, High as high}
--- a group that is open, or a lookbehind, negated or not
+-- a group that is open, or a lookbehind or a lookahead, negated or not
 pub use Rattle.strkw_ecma.specs.declared.reader.Enclosing.{Enclosing}
 pub use Rattle.strkw_ecma.specs.declared.reader.Enclosing.TheVariants.{Group as of_group}
 pub use Rattle.strkw_ecma.specs.declared.reader.Enclosing.TheVariants.{Behind as of_behind}
+pub use Rattle.strkw_ecma.specs.declared.reader.Enclosing.TheVariants.{Ahead as of_ahead}
 
 -- the alternatives before the one that is read, and the terms of that one
 pub record Side : Type 0 where
@@ -77,7 +80,7 @@ pub record Open : Type 0 where
   pub enclosing : Enclosing
   pub side : Side
 
--- the groups and lookbehinds that are open, the innermost first, and the names of all groups that
+-- the groups and lookarounds that are open, the innermost first, and the names of all groups that
 -- there were
 pub record Outer : Type 0 where
   pub groups : List Open
@@ -247,12 +250,18 @@ opened_within s e = after_opening s e (nat_lt (length s.outer.groups) max_nestin
 abbrev pub with_mode : Parts → Mode → Parts
 with_mode s m = record { outer = s.outer; level = s.level; last = s.last; mode = m }
 
--- behind the end of a group, or of a lookbehind
+-- behind the end of a group, or of a lookaround
 abbrev pub after_enclosed : Outer → Side → Enclosing → Pattern → Parts
 after_enclosed o l of_group p = record { outer = o; level = l; last = atom p; mode = between }
 after_enclosed o l (of_behind n) p = record {
   outer = o;
   level = record { earlier = l.earlier; current = cat l.current (lookbehind n p) };
+  last = none;
+  mode = between;
+}
+after_enclosed o l (of_ahead n) p = record {
+  outer = o;
+  level = record { earlier = l.earlier; current = cat l.current (lookahead n p) };
   last = none;
   mode = between;
 }
@@ -343,6 +352,8 @@ after_group s c true = Some (with_mode s extending)
 abbrev pub after_extension : Parts → Extension → Option Parts
 after_extension s uncaptured = opened_within s of_group
 after_extension s name_opening = Some (with_mode s (naming []))
+after_extension s look_equals = opened_within s (of_ahead false)
+after_extension s look_negation = opened_within s (of_ahead true)
 after_extension s no_extension = None
 
 -- a class after an item, and after a `-`
@@ -539,6 +550,11 @@ pattern_from s (c ∷ cs) = option_and_then (λ t. pattern_from t cs) (after_cha
 abbrev pub small_pattern : Option Pattern → Option Pattern
 small_pattern None = None
 small_pattern (Some p) = pattern_if (nat_le (steps p) max_steps) p
+
+-- the pattern in which each lookahead is told by the next character
+abbrev pub told_pattern : Option Pattern → Option Pattern
+told_pattern None = None
+told_pattern (Some p) = pattern_if (are_told p) p
 
 abbrev pub no_parts : Parts
 no_parts = record {

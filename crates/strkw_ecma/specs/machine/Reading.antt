@@ -18,8 +18,9 @@ use Rattle.strkw_ecma.specs.Properties.{property_of}
 use Rattle.strkw_ecma.specs.declared.tree.CharSet.{CharSet}
 use Rattle.strkw_ecma.specs.Names.{NameChar, verbatim, by_code, name_char_value, name_value}
 use Rattle.strkw_ecma.specs.Names.{may_follow, are_distinct, Extension, uncaptured, name_opening}
-use Rattle.strkw_ecma.specs.Names.{no_extension, extension, NameToken, name_end, name_backslash}
-use Rattle.strkw_ecma.specs.Names.{name_equals, name_negation, name_character, name_token}
+use Rattle.strkw_ecma.specs.Names.{look_equals, look_negation, no_extension, extension, NameToken}
+use Rattle.strkw_ecma.specs.Names.{name_end, name_backslash, name_equals, name_negation}
+use Rattle.strkw_ecma.specs.Names.{name_character, name_token}
 use Rattle.strkw_ecma.specs.Classes.{ClassToken, closing_bracket, class_escaper, dash}
 use Rattle.strkw_ecma.specs.Classes.{class_char, class_token, class_escape, ClassAtom}
 use Rattle.strkw_ecma.specs.Classes.{class_plain, hyphen, class_escaped, class_control, class_set}
@@ -29,13 +30,15 @@ use Rattle.strkw_ecma.specs.Numbers.{number, number_of, max_count, CountToken, d
 use Rattle.strkw_ecma.specs.Numbers.{closing_brace, no_count, count_token}
 use Rattle.strkw_ecma.specs.Size.{steps, max_term_steps, max_steps}
 use Rattle.strkw_ecma.specs.Lookahead.{is_apart}
+use Rattle.strkw_ecma.specs.Glances.{are_told}
 use Rattle.strkw_ecma.specs.Patterns.{pattern, atom_pattern, times, copies}
 use Rattle.strkw_ecma.specs.Syntax.{Disjunction, only, either, Alternative, nothing, more, Term}
 use Rattle.strkw_ecma.specs.Syntax.{at_start, at_end, at_boundary, at_no_boundary, once, quantified}
 use Rattle.strkw_ecma.specs.Syntax.{Quantifier, zero_or_more, one_or_more, zero_or_one, exactly}
 use Rattle.strkw_ecma.specs.Syntax.{at_least, from_to, greedy, lazy, capturing, plain_group}
-use Rattle.strkw_ecma.specs.Syntax.{named, Enclosing, of_group, of_lookbehind, with_own_name}
-use Rattle.strkw_ecma.specs.Syntax.{looks_behind, Atom, plain, escaped, control_escape}
+use Rattle.strkw_ecma.specs.Syntax.{named, Enclosing, of_group, of_lookbehind, of_lookahead}
+use Rattle.strkw_ecma.specs.Syntax.{with_own_name, looks_behind, looks_ahead}
+use Rattle.strkw_ecma.specs.Syntax.{Atom, plain, escaped, control_escape}
 use Rattle.strkw_ecma.specs.Syntax.{set_escape, coded, property_escape, dot, bracketed, group}
 use Rattle.strkw_ecma.specs.Syntax.{Token, bar, asterisk, plus, question, caret, dollar}
 use Rattle.strkw_ecma.specs.Syntax.{opening as opening_token, closing, point, backslash, bracket}
@@ -52,13 +55,13 @@ pub data Last : Type 0 where
   atom : Atom → Last
   counted : Atom → Quantifier → Last
 
--- a group or a lookbehind that is open, and what stands before it in the level around it
+-- a group or a lookaround that is open, and what stands before it in the level around it
 pub record Open : Type 0 where
   pub enclosing : Enclosing
   pub earlier : Option Disjunction
   pub current : Alternative
 
--- the groups and lookbehinds that are open, the innermost first, and the names of all groups that
+-- the groups and lookarounds that are open, the innermost first, and the names of all groups that
 -- there were
 pub record Outer : Type 0 where
   pub groups : List Open
@@ -142,6 +145,7 @@ with_term outer l x t = record {
 abbrev pub enclosed : Outer → Level → Enclosing → Disjunction → State
 enclosed outer l (of_group g) d = with_atom outer l none (group g d)
 enclosed outer l (of_lookbehind n) d = with_term outer l none (looks_behind n d)
+enclosed outer l (of_lookahead n) d = with_term outer l none (looks_ahead n d)
 
 abbrev pub closed_in : List Open → List (List ℕ) → Disjunction → Option State
 closed_in [] ns d = None
@@ -179,7 +183,7 @@ opened outer l x g true = Some (record {
   mode = between;
 })
 
--- a group or a lookbehind, where it is not nested too deep
+-- a group or a lookaround, where it is not nested too deep
 abbrev pub opened_within : Outer → Level → Last → Enclosing → Option State
 opened_within outer l x g = opened outer l x g (nat_lt (length outer.groups) max_nesting)
 
@@ -252,6 +256,8 @@ on_group outer l x c true = Some (with_mode outer l x extending)
 abbrev pub on_extension : Outer → Level → Last → Extension → Option State
 on_extension outer l x uncaptured = opened_within outer l x (of_group plain_group)
 on_extension outer l x name_opening = Some (with_mode outer l x (naming []))
+on_extension outer l x look_equals = opened_within outer l x (of_lookahead false)
+on_extension outer l x look_negation = opened_within outer l x (of_lookahead true)
 on_extension outer l x no_extension = None
 
 -- a class after an atom
@@ -462,6 +468,11 @@ abbrev pub small_tree : Option Disjunction → Option Disjunction
 small_tree None = None
 small_tree (Some d) = tree_if (nat_le (steps (pattern d)) max_steps) d
 
+-- the tree in which each lookahead is told by the next character
+abbrev pub told_tree : Option Disjunction → Option Disjunction
+told_tree None = None
+told_tree (Some d) = tree_if (are_told (pattern d)) d
+
 -- the tree of a pattern, where the text is one
 abbrev pub read_pattern : List ℕ → Option Disjunction
-read_pattern source = if is_apart source then small_tree (read_short source) else None
+read_pattern source = if is_apart source then told_tree (small_tree (read_short source)) else None

@@ -4,7 +4,8 @@ use Rattle.std.specs.Prelude.{None, length}
 use Rattle.std.specs.Str.{byte}
 use Rattle.strkw_ecma.specs.Syntax.{max_nesting}
 use Rattle.strkw_ecma.specs.Numbers.{CountToken, digit, comma, closing_brace, no_count, count_token}
-use Rattle.strkw_ecma.specs.Names.{Extension, uncaptured, name_opening, no_extension, extension}
+use Rattle.strkw_ecma.specs.Names.{Extension, uncaptured, name_opening, look_equals}
+use Rattle.strkw_ecma.specs.Names.{look_negation, no_extension, extension}
 use Rattle.strkw_ecma.specs.Names.{NameToken, name_end, name_backslash, name_equals, name_negation}
 use Rattle.strkw_ecma.specs.Names.{name_character, name_token}
 use Rattle.strkw_ecma.specs.machine.PropertyReading.{PropertyPart, brace_awaited, in_braces}
@@ -13,9 +14,8 @@ use Rattle.strkw_ecma.specs.machine.Parts.{between, escaping, opening, extending
 use Rattle.strkw_ecma.specs.machine.Parts.{counting, coding, in_class, class_escaping, class_coding}
 use Rattle.strkw_ecma.specs.machine.Parts.{in_property, in_class_property, naming, name_escaping}
 use Rattle.strkw_ecma.specs.machine.Parts.{name_coding, Parts}
-use Rattle.strkw_ecma.specs.Refusals.{is_look, is_reference, is_unknown}
+use Rattle.strkw_ecma.specs.Refusals.{is_reference, is_unknown}
 use Rattle.strkw_ecma.specs.declared.refusals.PatternRefusal.{PatternRefusal}
-use Rattle.strkw_ecma.specs.declared.refusals.PatternRefusal.TheVariants.{LookAhead}
 use Rattle.strkw_ecma.specs.declared.refusals.PatternRefusal.TheVariants.{BackReference, Property}
 use Rattle.strkw_ecma.specs.declared.refusals.PatternRefusal.TheVariants.{TooDeep, CountTooGreat}
 use Rattle.strkw_ecma.specs.declared.refusals.PatternRefusal.TheVariants.{TermTooLarge, NotTaken}
@@ -28,7 +28,7 @@ told_if true r = r
 abbrev pub escape_refusal : ℕ → PatternRefusal
 escape_refusal c = told_if (is_reference c) BackReference
 
--- of one group or lookbehind more, where fewer are open than may be
+-- of one group or lookaround more, where fewer are open than may be
 abbrev pub one_deeper : Bool → PatternRefusal
 one_deeper true = NotTaken
 one_deeper false = TooDeep
@@ -36,11 +36,13 @@ one_deeper false = TooDeep
 abbrev pub depth_refusal : Parts → PatternRefusal
 depth_refusal s = one_deeper (nat_lt (length s.outer.groups) max_nesting)
 
--- behind `(?`
-abbrev pub extension_refusal : ℕ → Extension → PatternRefusal
-extension_refusal c uncaptured = TooDeep
-extension_refusal c name_opening = NotTaken
-extension_refusal c no_extension = told_if (is_look c) LookAhead
+-- behind `(?`. What may stand there is refused where it is too deep
+abbrev pub extension_refusal : Extension → PatternRefusal
+extension_refusal uncaptured = TooDeep
+extension_refusal name_opening = NotTaken
+extension_refusal look_equals = TooDeep
+extension_refusal look_negation = TooDeep
+extension_refusal no_extension = NotTaken
 
 -- behind `(?<` and this much of a name. What may stand there is refused where it is too deep
 abbrev pub name_refusal : List ℕ → ℕ → NameToken → PatternRefusal
@@ -80,7 +82,7 @@ abbrev pub refusal_in : Parts → Mode → ℕ → PatternRefusal
 refusal_in s between c = NotTaken
 refusal_in s escaping c = escape_refusal c
 refusal_in s opening c = depth_refusal s
-refusal_in s extending c = extension_refusal c (extension c)
+refusal_in s extending c = extension_refusal (extension c)
 refusal_in s (counting n) c = count_refusal s.last n (count_token c)
 refusal_in s (coding k) c = NotTaken
 refusal_in s class_opened c = NotTaken

@@ -1,11 +1,11 @@
 -- What an outline of the code stands for, and its instructions.
 use Rattle.std.specs.Prelude.{ℕ, nat_lt, Bool, true, false, ◌&&◌, List, [], ◌∷◌, slice_get, Option}
-use Rattle.std.specs.Prelude.{Some, None}
+use Rattle.std.specs.Prelude.{Some, None, ◌==◌}
 use Rattle.strkw_ecma.specs.Tree.{Pattern, empty, class, look, cat, alt, start, end, boundary}
-use Rattle.strkw_ecma.specs.Tree.{no_boundary, lookbehind}
+use Rattle.strkw_ecma.specs.Tree.{no_boundary, lookbehind, lookahead}
 use Rattle.strkw_ecma.specs.Patterns.{Times, any_times, some_times, once_at_most, exact_times}
 use Rattle.strkw_ecma.specs.Patterns.{least_times, range_times, quantified_pattern}
-use Rattle.strkw_ecma.specs.Program.{Instruction, read, assert, fork, other, join, star_begin}
+use Rattle.strkw_ecma.specs.Program.{Instruction, read, assert, peek, fork, other, join, star_begin}
 use Rattle.strkw_ecma.specs.Program.{star_end, plus_begin, plus_end, look_begin, look_end}
 use Rattle.strkw_ecma.specs.declared.outline.Quantifier.{Quantifier as CodeQuantifier}
 use Rattle.strkw_ecma.specs.declared.outline.Quantifier.TheVariants as quantifier
@@ -17,6 +17,15 @@ use Rattle.strkw_ecma.specs.declared.code.Turn.{Turn}
 use Rattle.strkw_ecma.specs.declared.code.Turn.TheVariants as turn
 use Rattle.strkw_ecma.specs.declared.code.Instruction.{Instruction as CodeInstruction}
 use Rattle.strkw_ecma.specs.declared.code.Instruction.TheVariants as instruction
+
+-- it takes no copy of what it repeats
+abbrev pub is_never : Times → Bool
+is_never any_times = false
+is_never some_times = false
+is_never once_at_most = false
+is_never (exact_times n) = n == 0
+is_never (least_times n) = false
+is_never (range_times n m) = n == 0 && m == 0
 
 abbrev pub quantifier_of : CodeQuantifier → Times
 quantifier_of quantifier.ZeroOrMore = any_times
@@ -38,6 +47,7 @@ outlined_node (Outline-F.Then first second) = cat first.value second.value
 outlined_node (Outline-F.Or first second) = alt first.value second.value
 outlined_node (Outline-F.Repeated q body) = quantified_pattern (quantifier_of q) body.value
 outlined_node (Outline-F.Behind negated body) = lookbehind negated body.value
+outlined_node (Outline-F.Ahead negated body) = lookahead negated body.value
 
 abbrev pub outlined : Outline → Pattern
 outlined = fold-Outline Pattern outlined_node
@@ -62,9 +72,14 @@ abbrev pub reading : Bool → Bool → Option Class → Instruction
 reading again optional None = read again optional false []
 reading again optional (Some c) = read again optional c.negated c.sets.items
 
+abbrev pub peeking : Option Class → Instruction
+peeking None = peek false []
+peeking (Some c) = peek c.negated c.sets.items
+
 abbrev pub instructed : List Class → CodeInstruction → Instruction
 instructed classes (instruction.Read k again optional) =
     reading again optional (slice_get classes k)
+instructed classes (instruction.Peek k) = peeking (slice_get classes k)
 instructed classes (instruction.Turn t) = turned t
 
 abbrev pub instructions : List Class → List CodeInstruction → List Instruction
@@ -75,4 +90,5 @@ instructions classes (i ∷ is) = instructed classes i ∷ instructions classes 
 abbrev pub are_within : ℕ → List CodeInstruction → Bool
 are_within n [] = true
 are_within n (instruction.Read k again optional ∷ is) = nat_lt k n && are_within n is
+are_within n (instruction.Peek k ∷ is) = nat_lt k n && are_within n is
 are_within n (instruction.Turn t ∷ is) = are_within n is

@@ -3,7 +3,7 @@
 use Rattle.std.specs.Prelude.{ℕ, Bool, true, false, ◌&&◌, ◌||◌, List, [], ◌∷◌, Option}
 use Rattle.strkw_ecma.specs.Meaning.{holds}
 use Rattle.strkw_ecma.specs.machine.Marks.{reads}
-use Rattle.strkw_ecma.specs.Program.{Instruction, read, assert, fork, other, join, star_begin}
+use Rattle.strkw_ecma.specs.Program.{Instruction, read, assert, peek, fork, other, join, star_begin}
 use Rattle.strkw_ecma.specs.Program.{star_end, plus_begin, plus_end, look_begin, look_end}
 use Rattle.strkw_ecma.specs.Tree.{differ}
 
@@ -59,6 +59,12 @@ module _ (b a : Option ℕ) where
       }
   back_over (assert l) m s = record {
     ends = s.ends && holds l b a;
+    goes_on = s.goes_on;
+    around = s.around;
+    again = s.again;
+  }
+  back_over (peek n rs) m s = record {
+    ends = s.ends && reads a n rs;
     goes_on = s.goes_on;
     around = s.around;
     again = s.again;
@@ -128,6 +134,7 @@ module _ (b a : Option ℕ) where
   abbrev pub marks_behind : Instruction → List Bool → List Bool
   marks_behind (read again optional n rs) ms = below ms
   marks_behind (assert l) ms = ms
+  marks_behind (peek n rs) ms = ms
   marks_behind fork ms = ms
   marks_behind other ms = ms
   marks_behind join ms = ms
@@ -150,6 +157,11 @@ module _ (b a : Option ℕ) where
       record { enters = (optional && s.enters) || m; around = s.around; again = s.again }
   over (assert l) m s = record {
     enters = s.enters && holds l b a;
+    around = s.around;
+    again = s.again;
+  }
+  over (peek n rs) m s = record {
+    enters = s.enters && reads a n rs;
     around = s.around;
     again = s.again;
   }
@@ -199,6 +211,7 @@ module _ (b a : Option ℕ) where
   left_by (read more optional n rs) m s w =
       record { leaves = w.leaves; marks = ((s.enters || (more && m)) && reads a n rs) ∷ w.marks }
   left_by (assert l) m s w = w
+  left_by (peek n rs) m s w = w
   left_by fork m s w = w
   left_by other m s w = w
   left_by join m s w = w

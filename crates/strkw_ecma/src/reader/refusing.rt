@@ -28,17 +28,15 @@ fn of_escape(c: char) -> PatternRefusal
     }
 }
 
-// Behind `(?`. What may stand there is refused where the group is too deep.
+// Behind `(?`. What may stand there is refused where it is too deep.
 fn of_extension(c: char) -> PatternRefusal
-    ensures { result ≡ extension_refusal c (spec_extension c) }
+    ensures { result ≡ extension_refusal (spec_extension c) }
 {
     match Extension::of(c) {
-        Extension::Uncaptured => PatternRefusal::TooDeep,
-        Extension::NameOpening => PatternRefusal::NotTaken,
-        Extension::Unknown => match c {
-            '=' | '!' => PatternRefusal::LookAhead,
-            _ => PatternRefusal::NotTaken,
-        },
+        Extension::Uncaptured | Extension::Equals | Extension::Exclamation => {
+            PatternRefusal::TooDeep
+        }
+        Extension::NameOpening | Extension::Unknown => PatternRefusal::NotTaken,
     }
 }
 
@@ -79,7 +77,7 @@ impl Last {
 }
 
 impl Reader {
-    // Of one group or lookbehind more.
+    // Of one group or lookaround more.
     fn depth_refusal(&self) -> PatternRefusal
         ensures { result ≡ depth_refusal (parts_of self.now) }
     {
@@ -137,7 +135,13 @@ pub(crate) fn refusal_of(alloc: Global, source: &str) -> Result<PatternRefusal, 
         };
     }
     match reader.end(alloc)? {
-        Some(_) if is_apart(source) => Ok(PatternRefusal::TooLarge),
+        Some(outline) if is_apart(source) => {
+            if outline.is_told() {
+                Ok(PatternRefusal::TooLarge)
+            } else {
+                Ok(PatternRefusal::LookAhead)
+            }
+        }
         _ => Ok(PatternRefusal::NotTaken),
     }
 }

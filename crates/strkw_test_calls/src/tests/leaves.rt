@@ -416,7 +416,7 @@ const REFUSALS: &[Refused] = &[
         why: None,
     },
     Refused {
-        pattern: "^(a|b)*(?=c)",
+        pattern: "^(a|b)*(?=cd)",
         why: Some(PatternRefusal::LookAhead),
     },
     Refused {

@@ -26,7 +26,7 @@ loop-c-init c =
     record {
       last = refl;
       long = length-replicate 2600 false;
-      kept = rw none (kept_first (chars c.args.text.now) p c.requires.clean);
+      kept = rw none (kept_first (chars c.args.text.now) p c.requires.clean c.requires.told);
       later = rw none (at_first _ _ c.requires.clean);
     }
 
@@ -57,7 +57,12 @@ returns-then-step c =
     c.loop-c.invariant.kept _ c.step.ensures.left c.if-step.true in
     let F = Found (pattern_of c.args.program.now) (chars c.args.text.now) in
     let meaning : IsTrue true ↔ F = (λ _. c.loop-c.invariant.later.0 w, λ _. refl) in
-    record { meaning = meaning; search = same_answer F _ _ meaning (search_is_exact (pattern_of c.args.program.now) (chars c.args.text.now) c.requires.clean) }
+    record {
+      meaning = meaning;
+      search =
+          same_answer F _ _ meaning
+          (search_is_exact (pattern_of c.args.program.now) (chars c.args.text.now) c.requires.clean c.requires.told);
+    }
 
 pub returns : goal.returns
 returns c =
@@ -66,7 +71,12 @@ returns c =
     let F = Found (pattern_of c.args.program.now) (chars c.args.text.now) in
     let meaning = at_end (chars c.args.text.now) (marked c.loop-c.marks (pattern_of c.args.program.now)) _ c.loop-c.last c.loop-c.invariant.kept end.1
     c.loop-c.invariant.last c.step-2.result c.step-2.ensures.left F c.loop-c.invariant.later in
-    record { meaning = meaning; search = same_answer F _ _ meaning (search_is_exact (pattern_of c.args.program.now) (chars c.args.text.now) c.requires.clean) }
+    record {
+      meaning = meaning;
+      search =
+          same_answer F _ _ meaning
+          (search_is_exact (pattern_of c.args.program.now) (chars c.args.text.now) c.requires.clean c.requires.told);
+    }
 
 pub step-requires : goal.step-requires
 step-requires c = record { fits = omega (arith, few_marks c.args.program.now, c.loop-c.invariant.long) }

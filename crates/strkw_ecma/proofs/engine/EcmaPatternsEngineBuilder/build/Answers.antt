@@ -5,7 +5,7 @@ use Rattle.strkw_ecma.specs.Patterns.{pattern}
 use Rattle.strkw_ecma.specs.machine.Reading.{read_pattern}
 use Rattle.strkw_ecma.specs.machine.Searches.{IsSearchedBy}
 use Rattle.strkw_ecma.specs.declared.table.Table.{Table}
-use Rattle.strkw_ecma.proofs.Exact.{clean_of}
+use Rattle.strkw_ecma.proofs.Exact.{clean_of, told_read}
 use Rattle.strkw_ecma.proofs.engine.EcmaPatternsEngineBuilder.build.Goals as goal
 
 pub invariant_of-result : goal.invariant_of-result
@@ -15,6 +15,7 @@ invariant_of-result c =
     let Right : Option Table → Type 0 = λ o. MatchOption o Unit (λ t. IsSearchedBy t (pattern_of c.in-Ok-Some.program)) in
     record {
       clean = clean_of (pattern_of c.in-Ok-Some.program) (read_pattern (chars c.args.pattern.now)) read;
+      told = told_read (pattern_of c.in-Ok-Some.program) (chars c.args.pattern.now) read;
       exact = λ t is. subst Right is c.in-Ok.ensures;
     }
 

@@ -1,12 +1,12 @@
 use Rattle.std.proofs.Common.{◌≡◌, ◌∙◌, false, sym, ap}
-use Rattle.strkw_ecma.specs.Tree.{cat, alt, lookbehind}
+use Rattle.strkw_ecma.specs.Tree.{cat, alt, lookbehind, lookahead}
 use Rattle.strkw_ecma.specs.Patterns.{quantified_pattern}
-use Rattle.strkw_ecma.specs.Program.{alternatives, is_empty}
+use Rattle.strkw_ecma.specs.Program.{glance, alternatives, is_empty}
 use Rattle.strkw_ecma.specs.machine.Shape.{outlined, quantifier_of}
 use Rattle.strkw_ecma.specs.Size.{steps, steps_of}
 use Rattle.strkw_ecma.specs.machine.Sizes.{capped}
-use Rattle.strkw_ecma.proofs.Shapes.{outlined-Then, outlined-Or, outlined-Repeated, outlined-Behind, same_beside}
-use Rattle.strkw_ecma.proofs.Sizes.{sum_capped, more_capped, both_steps, alt_steps, beside_steps, behind_steps}
+use Rattle.strkw_ecma.proofs.Shapes.{outlined-Then, outlined-Or, outlined-Repeated, outlined-Behind, outlined-Ahead, same_beside}
+use Rattle.strkw_ecma.proofs.Sizes.{sum_capped, more_capped, both_steps, alt_steps, beside_steps, behind_steps, ahead_steps}
 use Rattle.strkw_ecma.proofs.outline.Outline.+steps.Goals as goal
 
 pub steps-returns-in-Then : goal.steps-returns-in-Then
@@ -38,6 +38,15 @@ steps-returns-in-Behind t c =
     rw shape
     (c.together-in-Behind.ensures ∙ more_capped (steps p) 2 _ c.steps-in-Behind.ensures
     ∙ ap capped (sym (behind_steps c.in-Behind.field-0 p)))
+
+pub steps-returns-in-Ahead : goal.steps-returns-in-Ahead
+steps-returns-in-Ahead t c =
+    let p = outlined c.deref-in-Ahead.result.now in
+    let shape : outlined c.args.self.now ≡ lookahead c.in-Ahead.field-0 p =
+    cc (c.in-Ahead.is, c.deref-in-Ahead.ensures, outlined-Ahead c.in-Ahead.field-0 c.in-Ahead.body) in
+    rw shape
+    (c.together-in-Ahead.ensures ∙ more_capped (steps_of (glance p)) 2 _ c.glance_steps.ensures
+    ∙ ap capped (sym (ahead_steps c.in-Ahead.field-0 p)))
 
 pub steps_beside-returns-in-Or : goal.steps_beside-returns-in-Or
 steps_beside-returns-in-Or t c =

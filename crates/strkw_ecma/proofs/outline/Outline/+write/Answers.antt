@@ -3,7 +3,7 @@ use Rattle.std.proofs.lemmas.Result.{IfOk-weaker}
 use Rattle.strkw_ecma.specs.Program.{is_empty, program, alternatives}
 use Rattle.strkw_ecma.specs.machine.Shape.{outlined}
 use Rattle.strkw_ecma.proofs.Written.{both_written}
-use Rattle.strkw_ecma.proofs.Shapes.{shapes, outlined-Then, outlined-Or, outlined-Behind}
+use Rattle.strkw_ecma.proofs.Shapes.{shapes, outlined-Then, outlined-Or, outlined-Behind, outlined-Ahead}
 use Rattle.strkw_ecma.proofs.Copies.{repeated_beside, repeats_program, program_choice}
 use Rattle.strkw_ecma.proofs.outline.Outline.+write.Goals as goal
 
@@ -31,6 +31,13 @@ write-returns-in_ok-write-in-Behind t c =
     (IfOk-weaker c.turn-in-Behind-2.result _ _
     (λ x h. both_written _ _ _ _ _ c.in_ok-turn-in-Behind.ensures (both_written _ _ _ _ _ c.in_ok-write-in-Behind.ensures h))
     c.turn-in-Behind-2.ensures)
+
+pub write-returns-in_ok-write_glance-in-Ahead : goal.write-returns-in_ok-write_glance-in-Ahead
+write-returns-in_ok-write_glance-in-Ahead t c =
+    rw (c.in-Ahead.is, outlined-Ahead, ← c.deref-in-Ahead.ensures)
+    (IfOk-weaker c.turn-in-Ahead-2.result _ _
+    (λ x h. both_written _ _ _ _ _ c.in_ok-turn-in-Ahead.ensures (both_written _ _ _ _ _ c.in_ok-write_glance-in-Ahead.ensures h))
+    c.turn-in-Ahead-2.ensures)
 
 pub write_beside-returns-in_ok-turn-in-Or : goal.write_beside-returns-in_ok-turn-in-Or
 write_beside-returns-in_ok-turn-in-Or t c =

@@ -1,10 +1,11 @@
 use Rattle.std.proofs.Common.{◌≡◌, ◌≤◌, ◌<◌, ◌+◌, ◌-◌, ℕ, suc, false, Bool, List, [], ◌∷◌, length, drop, drop-cons, get_or, slice_get, sym, ap, ◌∙◌, arith}
 use Rattle.strkw_ecma.specs.declared.code.Instruction.TheVariants.{Read, Turn}
 use Rattle.strkw_ecma.specs.Program.{Instruction, read_count}
-use Rattle.strkw_ecma.specs.machine.Shape.{turned, reading}
+use Rattle.strkw_ecma.specs.machine.Shape.{turned, reading, peeking}
 use Rattle.strkw_ecma.specs.machine.Walk.{Asked, asked}
 use Rattle.strkw_ecma.specs.machine.Machine.{program_of}
-use Rattle.strkw_ecma.proofs.Machines.{there, from_class, from_turn, from_end, one_read, none_read, one_mark_less, marks_are_reads, asked_reading, asked_turned}
+use Rattle.strkw_ecma.proofs.Machines.{there, from_class, from_peek, from_turn, from_end, one_read, none_peeked, none_read, one_mark_less, marks_are_reads}
+use Rattle.strkw_ecma.proofs.Machines.{peeked_within, asked_reading, asked_peeking, asked_turned}
 use Rattle.strkw_ecma.proofs.program.Program.ask.Goals as goal
 
 pub back-init : goal.back-init
@@ -51,7 +52,7 @@ bounds-marks-at c =
     one_mark_less c.args.self.now (c.back.place - 1) (omega (arith, c.back.invariant.within, c.back-test.true))
     c.in-Read.class c.in-Read.again c.in-Read.optional (there _ _ _ _ c.as_slice-instructions.ensures.value c.in-Read.is) c.back.at
     (ap (λ (k : ℕ). c.back.at + read_count (drop k (program_of c.args.self.now))) next ∙ c.back.invariant.counted) in
-    omega (arith, one, c.back.invariant.counted, c.args.self.now.counted, c.requires)
+    omega (arith, one, c.back.invariant.counted, c.args.self.now.counted, c.requires.fits)
 
 pub back-preserved-in-Read : goal.back-preserved-in-Read
 back-preserved-in-Read c =
@@ -69,7 +70,7 @@ back-preserved-in-Read c =
     (ap (λ (is : List Instruction). c.back.at + read_count is) rest ∙ c.back.invariant.counted) in
     let next_mark : suc (c.back.at - 1) ≡ c.back.at = omega (arith, one) in
     let marks : drop (c.back.at - 1) c.args.marks.now ≡ get_or c.args.marks.now (c.back.at - 1) false ∷ drop c.back.at c.args.marks.now =
-    drop-cons c.args.marks.now (c.back.at - 1) false (omega (arith, one, c.back.invariant.counted, p.counted, c.requires))
+    drop-cons c.args.marks.now (c.back.at - 1) false (omega (arith, one, c.back.invariant.counted, p.counted, c.requires.fits))
     ∙ ap (λ (k : ℕ). get_or c.args.marks.now (c.back.at - 1) false ∷ drop k c.args.marks.now) next_mark in
     record {
       within = omega (arith, c.back.invariant.within);
@@ -87,6 +88,38 @@ back-preserved-in-Read c =
           (λ n rs. c.back_over_class-ahead.ensures c.args.last c.args.next c.in-Read.again n rs c.back.walk)
           ∙ sym (ap (λ (ms : List Bool). asked c.args.last c.args.next (class_there ∷ drop c.back.place (program_of p)) ms) marks)
           ∙ sym (ap (λ (is : List Instruction). asked c.args.last c.args.next is (drop (c.back.at - 1) c.args.marks.now)) from);
+      around = omega (arith, c.back.invariant.around, c.back-test.true);
+      again = omega (arith, c.back.invariant.again, c.back-test.true);
+    }
+
+pub bounds-reads-class : goal.bounds-reads-class
+bounds-reads-class c =
+    let p = c.args.self.now in
+    let there_is : c.in-Peek.class < length p.code.classes.items =
+    peeked_within (length p.code.classes.items) p.code.instructions.items (c.back.place - 1) c.in-Peek.class _
+    (omega (arith, c.back.invariant.within, c.back-test.true)) (there _ _ _ _ c.as_slice-instructions.ensures.value c.in-Peek.is) p.within in
+    omega (arith, there_is, c.requires.enough)
+
+pub back-preserved-in-Peek : goal.back-preserved-in-Peek
+back-preserved-in-Peek c =
+    let p = c.args.self.now in
+    let next : suc (c.back.place - 1) ≡ c.back.place = omega (arith, c.back-test.true) in
+    let h : c.back.place - 1 < length p.code.instructions.items = omega (arith, c.back.invariant.within, c.back-test.true) in
+    let here = there _ _ _ _ c.as_slice-instructions.ensures.value c.in-Peek.is in
+    let class_there = peeking (slice_get p.code.classes.items c.in-Peek.class) in
+    let from : drop (c.back.place - 1) (program_of p) ≡ class_there ∷ drop c.back.place (program_of p) =
+    from_peek p (c.back.place - 1) h c.in-Peek.class here ∙ ap (λ (k : ℕ). class_there ∷ drop k (program_of p)) next in
+    let there_is : c.in-Peek.class < length p.code.classes.items =
+    peeked_within (length p.code.classes.items) p.code.instructions.items (c.back.place - 1) c.in-Peek.class _ h here p.within in
+    record {
+      within = omega (arith, c.back.invariant.within);
+      counted = ap (λ (is : List Instruction). c.back.at + read_count is) from
+          ∙ omega (arith, none_peeked (slice_get p.code.classes.items c.in-Peek.class) (drop c.back.place (program_of p)), c.back.invariant.counted);
+      asked =
+          asked_peeking c.args.last c.args.next (slice_get p.code.classes.items c.in-Peek.class) (get_or c.args.reads.now c.in-Peek.class false)
+          (drop c.back.place (program_of p)) (drop c.back.at c.args.marks.now) _ _ c.back.invariant.asked (c.requires.reads c.in-Peek.class there_is)
+          (λ n rs m r. c.back_over_peek-ahead.ensures c.args.last c.args.next n rs m c.back.walk r)
+          ∙ sym (ap (λ (is : List Instruction). asked c.args.last c.args.next is (drop c.back.at c.args.marks.now)) from);
       around = omega (arith, c.back.invariant.around, c.back-test.true);
       again = omega (arith, c.back.invariant.again, c.back-test.true);
     }

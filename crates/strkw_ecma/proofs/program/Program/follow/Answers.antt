@@ -2,7 +2,7 @@ use Rattle.std.proofs.Common.{◌≡◌, ◌≤◌, ◌<◌, ◌+◌, ℕ, suc, 
 use Rattle.std.proofs.Common.{drop-set-lt, take-append-drop, get_or, slice_get, Option, refl, sym, ap, ◌∙◌, arith}
 use Rattle.std.proofs.lemmas.List.{append_assoc}
 use Rattle.strkw_ecma.specs.declared.code.Instruction.{Instruction as CodeInstruction}
-use Rattle.strkw_ecma.specs.declared.code.Instruction.TheVariants.{Read, Turn}
+use Rattle.strkw_ecma.specs.declared.code.Instruction.TheVariants.{Read, Peek, Turn}
 use Rattle.strkw_ecma.specs.declared.tree.CharSet.{CharSet}
 use Rattle.strkw_ecma.specs.declared.code.Turn.{Turn as CodeTurn}
 use Rattle.strkw_ecma.specs.declared.program.Program.{Program}
@@ -13,9 +13,9 @@ use Rattle.strkw_ecma.specs.machine.Walk.{Walked, Following, over, followed}
 use Rattle.strkw_ecma.specs.machine.Marks.{classes}
 use Rattle.strkw_ecma.specs.machine.Machine.{pattern_of, program_of, class_reads, following_of}
 use Rattle.strkw_ecma.proofs.Programs.{with_marks}
-use Rattle.strkw_ecma.proofs.Machines.{there, one_mark_more, from_class, from_turn, from_end, none_read, marks_are_reads, few_marks, within_at}
-use Rattle.strkw_ecma.proofs.Machines.{followed_reading, followed_turned}
-use Rattle.strkw_ecma.proofs.program.Program.follow.Goals.{in-Read, in-Turn}
+use Rattle.strkw_ecma.proofs.Machines.{there, one_mark_more, from_class, from_peek, from_turn, from_end, none_peeked, none_read, marks_are_reads}
+use Rattle.strkw_ecma.proofs.Machines.{few_marks, within_at, peeked_within, followed_reading, followed_peeking, followed_turned}
+use Rattle.strkw_ecma.proofs.program.Program.follow.Goals.{in-Read, in-Peek, in-Turn}
 use Rattle.strkw_ecma.proofs.program.Program.follow.Goals as goal
 
 pub loop-instruction-init : goal.loop-instruction-init
@@ -34,6 +34,15 @@ bounds-reads-class c =
     let one : c.in-Read.class < length p.code.classes.items =
     within_at (length p.code.classes.items) p.code.instructions.items c.loop-instruction.instruction-index c.in-Read.class c.in-Read.again c.in-Read.optional _
     (omega (arith, end, c.loop-instruction-test.true)) (there _ _ _ _ c.deref-instruction-items.ensures.value c.in-Read.is) p.within in
+    omega (arith, one, c.requires.enough)
+
+pub bounds-reads-class-in-Peek : goal.bounds-reads-class-in-Peek
+bounds-reads-class-in-Peek c =
+    let p = c.args.self.now in
+    let end = ap length c.deref-instruction-items.ensures.value in
+    let one : c.in-Peek.class < length p.code.classes.items =
+    peeked_within (length p.code.classes.items) p.code.instructions.items c.loop-instruction.instruction-index c.in-Peek.class _
+    (omega (arith, end, c.loop-instruction-test.true)) (there _ _ _ _ c.deref-instruction-items.ensures.value c.in-Peek.is) p.within in
     omega (arith, one, c.requires.enough)
 
 -- a mark is left for the class
@@ -91,6 +100,18 @@ module _ (p : Program) (k at : ℕ) (within : k < length p.code.instructions.ite
       (from_turn p k within t here)
       ∙ ap (with_marks last next (take at marks)) (followed_turned last next t (drop (suc k) (program_of p)) (drop at marks) _ _ behind))
 
+  pub peek_followed : (class : ℕ) (reads_it : Bool) → get_or p.code.instructions.items k (Read 0 false false) ≡ Peek class
+      → reads_it ≡ class_reads next (slice_get p.code.classes.items class)
+      → all ≡ with_marks last next (take at marks) (followed last next (drop (k + 1) (program_of p)) (following_of (enters && reads_it) old) (drop at marks))
+  peek_followed class reads_it here reads_is =
+      rw next_place
+      (h
+      ∙ ap (λ (is : List Instruction). with_marks last next (take at marks) (followed last next is (following_of enters old) (drop at marks)))
+      (from_peek p k within class here)
+      ∙ ap (with_marks last next (take at marks))
+      (followed_peeking last next (slice_get p.code.classes.items class) reads_it (drop (suc k) (program_of p)) (drop at marks)
+      (following_of enters old) reads_is))
+
   pub class_followed : (class : ℕ) (again optional reads_it behind comes : Bool) (new : CodeWalk)
       → get_or p.code.instructions.items k (Read 0 false false) ≡ Read class again optional
       → ((n : Bool) (rs : List CharSet) → following_of comes new ≡ over last next (read again optional n rs) (get_or marks at false) (following_of enters old))
@@ -144,6 +165,26 @@ loop-instruction-preserved c =
                 w.in-Read.class w.in-Read.again w.in-Read.optional (get_or c.args.reads.now w.in-Read.class false) _ _ c.loop-instruction.walk here
                 (λ n rs. refl)
                 (c.requires.reads w.in-Read.class there_is) refl marked;
+            around = omega (arith, c.loop-instruction.invariant.around);
+          })
+      | in-Peek w ↦
+          let here = there _ _ k _ items w.in-Peek.is in
+          let there_is : w.in-Peek.class < length p.code.classes.items =
+          peeked_within (length p.code.classes.items) p.code.instructions.items k w.in-Peek.class _ within here p.within in
+          rw (w.walk-is, w.enters-is, w.marks-is, w.at-is)
+          (record {
+            counted =
+                ap (λ (n : ℕ). at + read_count (drop n (program_of p))) next
+                ∙ omega (
+                  arith,
+                  c.loop-instruction.invariant.counted,
+                  ap read_count (from_peek p k within w.in-Peek.class here),
+                  none_peeked (slice_get p.code.classes.items w.in-Peek.class) (drop (suc k) (program_of p)),
+                );
+            followed =
+                peek_followed p k at within c.args.last c.args.next c.loop-instruction.enters c.loop-instruction.walk _ c.loop-instruction.marks
+                c.loop-instruction.invariant.followed
+                w.in-Peek.class (get_or c.args.reads.now w.in-Peek.class false) here (c.requires.reads w.in-Peek.class there_is);
             around = omega (arith, c.loop-instruction.invariant.around);
           })
       | in-Turn w ↦

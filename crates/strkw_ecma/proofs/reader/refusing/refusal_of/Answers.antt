@@ -1,5 +1,4 @@
 use Rattle.std.proofs.Common.{◌≡◌, length, ◌∙◌, sym, ap, Some, option_map, subst, arith}
-use Rattle.std.specs.Prelude.{is_some}
 use Rattle.std.specs.Str.{chars}
 use Rattle.std.proofs.lemmas.Iterator.{YieldsList-from_chars}
 use Rattle.std.proofs.lemmas.List.{length_push}
@@ -8,7 +7,7 @@ use Rattle.strkw_ecma.specs.machine.Shape.{outlined}
 use Rattle.strkw_ecma.specs.machine.Parts.{parts_of, after_char, pattern_from}
 use Rattle.strkw_ecma.specs.Refusals.{IsReason}
 use Rattle.strkw_ecma.proofs.Parts.{goes_on, whole}
-use Rattle.strkw_ecma.proofs.Refused.{Stands, starts, stops_so, goes_so, too_large}
+use Rattle.strkw_ecma.proofs.Refused.{Stands, starts, stops_so, goes_so, too_large, looks_ahead_far}
 use Rattle.strkw_ecma.proofs.reader.refusing.refusal_of.Goals as goal
 
 pub returns-in-None-2 : goal.returns-in-None-2
@@ -41,11 +40,20 @@ loop-c-init c = record {
   stands = subst (Stands (chars c.args.source.now) 0) (sym c.new-reader.ensures) (starts (chars c.args.source.now));
 }
 
+pub returns-then-is_told : goal.returns-then-is_told
+returns-then-is_told c =
+    let text = chars c.args.source.now in
+    let end = YieldsList-end (YieldsList-from_chars c.args.source.now c.utf8.source cc) c.loop-c.yielded _ c.loop-c.yielded_by _ _
+    c.in-None.is c.next.ensures.steps in
+    let at_end = whole (parts_of c.loop-c.reader) text (length c.loop-c.yielded) (omega (arith, end.1)) c.requires.short c.loop-c.invariant.way in
+    too_large text (outlined c.in-Some-3.outline) c.requires.short (ap (option_map outlined) (sym c.in-Some-3.is) ∙ c.in_ok-outline.ensures ∙ at_end)
+    (sym c.is_apart.ensures ∙ c.if-is_apart.true) (sym c.is_told.ensures ∙ c.if-is_told.true) c.requires.refused
+
 pub returns-in-Some-3 : goal.returns-in-Some-3
 returns-in-Some-3 c =
     let text = chars c.args.source.now in
     let end = YieldsList-end (YieldsList-from_chars c.args.source.now c.utf8.source cc) c.loop-c.yielded _ c.loop-c.yielded_by _ _
     c.in-None.is c.next.ensures.steps in
     let at_end = whole (parts_of c.loop-c.reader) text (length c.loop-c.yielded) (omega (arith, end.1)) c.requires.short c.loop-c.invariant.way in
-    too_large text c.requires.short (sym (ap is_some (ap (option_map outlined) (sym c.in-Some-3.is) ∙ c.in_ok-end.ensures ∙ at_end)))
-    (sym c.is_apart.ensures ∙ c.if-is_apart.true) c.requires.refused
+    looks_ahead_far text (outlined c.in-Some-3.outline) c.requires.short (ap (option_map outlined) (sym c.in-Some-3.is) ∙ c.in_ok-outline.ensures ∙ at_end)
+    (sym c.is_told.ensures ∙ c.if-is_told.false)

@@ -1,0 +1,79 @@
+//! Which lookaheads the next character tells.
+
+ghost use Rattle.std.specs.Prelude.{◌≡◌, option_map};
+ghost use Rattle.strkw_ecma.specs.Glances.{is_glance as spec_is_glance, are_told};
+ghost use Rattle.strkw_ecma.specs.machine.Shape.{outlined, quantifier_of, is_never as spec_is_never};
+ghost use Rattle.strkw_ecma.specs.machine.Parts.{told_pattern};
+
+use crate::outline::{Outline, Quantifier};
+
+impl Quantifier {
+    // Whether it takes no copy of what it repeats.
+    fn is_never(self) -> bool
+        ensures { result ≡ spec_is_never (quantifier_of self) }
+    {
+        matches!(self, Quantifier::Exactly(0) | Quantifier::FromTo(0, 0))
+    }
+}
+
+impl Outline {
+    // Whether the next character tells what a lookahead for it finds.
+    #[cycle(is_glance)]
+    fn is_glance(&self) -> bool
+        ensures { result ≡ spec_is_glance (outlined self.now) }
+    {
+        match self {
+            Outline::Then(first, second) => first.is_nothing() && second.is_glance(),
+            Outline::Or(one, other) => one.is_glance() && other.is_glance(),
+            Outline::Repeated(quantifier, body) => match quantifier {
+                Quantifier::ZeroOrOne => body.is_glance(),
+                Quantifier::Exactly(_) => quantifier.is_never() || body.is_nothing(),
+                _ => quantifier.is_never(),
+            },
+            Outline::Ahead(_, body) => body.is_glance(),
+            Outline::Behind(..) => false,
+            Outline::Empty
+            | Outline::Class { .. }
+            | Outline::Start
+            | Outline::End
+            | Outline::Boundary
+            | Outline::NoBoundary => true,
+        }
+    }
+
+    /// Whether that is so of each lookahead in it.
+    #[cycle(is_told)]
+    pub(crate) fn is_told(&self) -> bool
+        ensures { result ≡ are_told (outlined self.now) }
+    {
+        match self {
+            Outline::Then(first, second) => first.is_told() && second.is_told(),
+            Outline::Or(one, other) => one.is_told() && other.is_told(),
+            Outline::Repeated(quantifier, body) => quantifier.is_never() || body.is_told(),
+            Outline::Behind(_, body) => body.is_told(),
+            Outline::Ahead(_, body) => body.is_glance(),
+            Outline::Empty
+            | Outline::Class { .. }
+            | Outline::Start
+            | Outline::End
+            | Outline::Boundary
+            | Outline::NoBoundary => true,
+        }
+    }
+}
+
+/// The outline, where that is so of it.
+pub(crate) fn if_told(outline: Option<Outline>) -> Option<Outline>
+    ensures { option_map outlined result ≡ told_pattern (option_map outlined outline) }
+{
+    match outline {
+        Some(outline) => {
+            if outline.is_told() {
+                Some(outline)
+            } else {
+                None
+            }
+        }
+        None => None,
+    }
+}
