@@ -45,7 +45,7 @@ line_error file line r =
     (member (codes "line") (number (unsigned line))
     (member (codes "message") (string (text_of r)) no_members))))))
 
--- an error of the value at a place of a document, and a place that the document has not
+-- an error of the value at a place of a document
 abbrev pub place_error : List ℕ → List ℕ → Report → Data
 place_error file place r =
     object (member (codes "file") (string file)
@@ -55,15 +55,24 @@ place_error file place r =
     (member (codes "message") (string (text_of r))
     (member (codes "place") (string place) no_members))))))
 
-abbrev pub place_missing : List ℕ → List ℕ → Data
-place_missing file place =
+-- what is wrong with a place by no keyword: its kind, and in words
+abbrev pub place_told : List ℕ → List ℕ → List ℕ → List ℕ → Data
+place_told file kind words place =
     object (member (codes "file") (string file)
-    (member (codes "kind") (string (codes "missing"))
-    (member (codes "message") (string (codes "missing"))
+    (member (codes "kind") (string kind)
+    (member (codes "message") (string words)
     (member (codes "place") (string place) no_members))))
+
+-- the document has not the place; its value is no string
+abbrev pub place_missing : List ℕ → List ℕ → Data
+place_missing file place = place_told file (codes "missing") (codes "missing") place
+
+abbrev pub place_no_string : List ℕ → List ℕ → Data
+place_no_string file place = place_told file (codes "notAString") (codes "not a string") place
 
 abbrev pub document_form : List ℕ → Form
 document_form file = record {
   said = λ place r. line_of (place_error file place r);
   lacking = λ place. line_of (place_missing file place);
+  no_string = λ place. line_of (place_no_string file place);
 }

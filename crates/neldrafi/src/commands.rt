@@ -9,6 +9,7 @@ mod plan;
 mod requests;
 pub(crate) mod text;
 
+use crate::building::Building;
 use crate::faults::Fault;
 use crate::options::OutputForm;
 use crate::outcome::Outcome;
@@ -41,19 +42,19 @@ Status: 0 all valid, 1 errors, 2 faults";
 /// The command with its subcommands.
 pub(crate) fn command<'a>(alloc: Global) -> Result<Command<'a>, AllocError> {
     Command::new(alloc, NAME)
-        .bin_name(NAME)?
         .about(ABOUT)
         .version(VERSION)
         .after_help(AFTER_HELP)
         .subcommand_required(true)
-        .subcommand(text::command(alloc)?)?
-        .subcommand(formats::command(alloc)?)?
-        .subcommand(requests::command(alloc)?)?
-        .subcommand(csv_files::command(alloc)?)?
-        .subcommand(json_files::command(alloc)?)?
-        .subcommand(check::command(alloc)?)?
-        .subcommand(explain::command(alloc)?)?
-        .subcommand(plan::command(alloc)?)
+        .bin_name(NAME)
+        .with_subcommand(text::command(alloc))
+        .with_subcommand(formats::command(alloc))
+        .with_subcommand(requests::command(alloc))
+        .with_subcommand(csv_files::command(alloc))
+        .with_subcommand(json_files::command(alloc))
+        .with_subcommand(check::command(alloc))
+        .with_subcommand(explain::command(alloc))
+        .with_subcommand(plan::command(alloc))
 }
 
 /// The form of output that the words ask for.

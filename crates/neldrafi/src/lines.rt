@@ -5,7 +5,7 @@ ghost use Rattle.serde_json.specs.View.{view};
 ghost use Rattle.serde_json.specs.Written.{has_float};
 ghost use Rattle.strkw_report.specs.Failures.{kind_failed};
 ghost use Rattle.strkw_plan.specs.Found.{report_found};
-ghost use Rattle.neldrafi.specs.Lines.{document_form, field_error, kind_name, line_error, line_of, place_error, place_missing};
+ghost use Rattle.neldrafi.specs.Lines.{document_form, field_error, kind_name, line_error, line_of, place_error, place_told};
 
 use crate::telling::Subject;
 use serde_json::{Value, json};
@@ -119,14 +119,21 @@ fn place_error(
     })
 }
 
-// The object about a place that the document has not.
-fn place_missing(alloc: Global, file: &str, place: &str) -> Result<Value, AllocError>
-    ensures { IfOk result (λ value. view value ≡ place_missing file.now place.now) }
+// The object about a place with which something is wrong by no keyword: its kind, and in words.
+fn place_told(
+    alloc: Global,
+    file: &str,
+    kind: &str,
+    words: &str,
+    place: &str,
+) -> Result<Value, AllocError>
+    ensures { IfOk result (λ value. view value
+        ≡ place_told file.now kind.now words.now place.now) }
 {
     json!(in alloc; {
         "file": file,
-        "kind": "missing",
-        "message": "missing",
+        "kind": kind,
+        "message": words,
         "place": place
     })
 }
@@ -180,7 +187,17 @@ impl PlaceForm for JsonLines<'_> {
     }
 
     fn push_missing(&self, alloc: Global, place: &str, out: &mut String) -> Result<(), AllocError> {
-        let value = place_missing(alloc, self.file, place)?;
+        let value = place_told(alloc, self.file, "missing", "missing", place)?;
+        push_line(alloc, &value, out)
+    }
+
+    fn push_no_string(
+        &self,
+        alloc: Global,
+        place: &str,
+        out: &mut String,
+    ) -> Result<(), AllocError> {
+        let value = place_told(alloc, self.file, "notAString", "not a string", place)?;
         push_line(alloc, &value, out)
     }
 }

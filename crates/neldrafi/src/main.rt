@@ -2,6 +2,7 @@
 #![tactic(auto)]
 
 mod bad_requests;
+mod building;
 mod colours;
 mod columns;
 mod commands;

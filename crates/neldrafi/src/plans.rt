@@ -38,18 +38,28 @@ fn read_value(rt: &HostRuntime, path: &str) -> Result<Value, Fault> {
     }
 }
 
+/// Puts a text into an object by a name, in place of what it has there. A value that is no object stays as it is.
+pub(crate) fn set_text(
+    alloc: Global,
+    object: &mut Value,
+    name: &str,
+    text: &str,
+) -> Result<(), AllocError> {
+    if let Some(members) = object.as_object_mut() {
+        let name = String::from_str(alloc, name)?;
+        let value = Value::String(String::from_str(alloc, text)?);
+        drop(members.insert(name, value)?);
+    }
+    Ok(())
+}
+
 /// Puts a delimiter into a plan, in place of its own. A value that is no object stays as it is.
 pub(crate) fn set_delimiter(
     alloc: Global,
     plan: &mut Value,
     delimiter: &str,
 ) -> Result<(), AllocError> {
-    if let Some(members) = plan.as_object_mut() {
-        let name = String::from_str(alloc, DELIMITER)?;
-        let value = Value::String(String::from_str(alloc, delimiter)?);
-        drop(members.insert(name, value)?);
-    }
-    Ok(())
+    set_text(alloc, plan, DELIMITER, delimiter)
 }
 
 /// What parts the fields of a file by a plan of columns: a comma, where it does not say it.

@@ -90,21 +90,62 @@ pub(crate) fn read_schema(rt: &HostRuntime, path: &str) -> Result<Value, Fault> 
     }
 }
 
+// The kind of plan as which a schema is read that stands in none.
+const KIND: PlanKind = PlanKind::Places;
+
 /// Refuses a schema that has another keyword than those that are checked or only annotate, and than these, whose names
-/// are let pass: as a plan of this one schema is refused.
+/// are let pass: as a plan of this one schema is refused, but that no member is a plan's own.
 pub(crate) fn require_keywords(
     alloc: Global,
     draft: Draft,
     ignored: &[&str],
     schema: &Value,
 ) -> Result<(), Fault> {
+    if let Some(member) = own_member(ignored, schema) {
+        return Err(Fault::Schema(SchemaFault::UnknownKeyword {
+            keyword: String::from_str(alloc, member)?,
+            nearest: None,
+        }));
+    }
+    let schema = without_own(schema)?;
     let draft = draft_number(draft);
     let ignored = names(alloc, ignored)?;
     let plan = json!(in alloc; {"draft": draft, "places": {"": schema}, "ignore": ignored})?;
-    match plan_in(alloc, PlanKind::Places, &plan) {
+    match plan_in(alloc, KIND, &plan) {
         Ok(_) => Ok(()),
         Err(fault) => Err(fault_of_schema(alloc, fault)),
     }
+}
+
+// A member of a schema that would be the plan's own if it stood in one, and is not let pass.
+fn own_member(ignored: &[&str], schema: &Value) -> Option<&'static str> {
+    let members = schema.as_object()?;
+    for name in KIND.own_members() {
+        if members.contains_key(*name) && !ignored.iter().any(|other| other == name) {
+            return Some(*name);
+        }
+    }
+    None
+}
+
+// A schema without the members that would be the plan's own if it stood in one. The only error is out of memory.
+fn without_own(schema: &Value) -> Result<Value, AllocError> {
+    let mut schema = schema.clone()?;
+    if let Some(members) = schema.as_object_mut() {
+        for name in KIND.own_members() {
+            drop(members.remove(*name));
+        }
+    }
+    Ok(schema)
+}
+
+// The name that was perhaps meant, where it is that of a keyword.
+fn nearest_keyword(nearest: Option<&'static str>) -> Option<&'static str> {
+    let nearest = nearest?;
+    if KIND.own_members().iter().any(|own| *own == nearest) {
+        return None;
+    }
+    Some(nearest)
 }
 
 // Names as an array.
@@ -127,7 +168,7 @@ pub(crate) fn compile<B: EngineBuilder>(
         IfOk result (λ k. IsInUse (keywords_demands B.Engine.outcome k) lists) }
 {
     // The kind and the name would say where the schema stands in a plan. It stands in none.
-    match compile_schema(alloc, rules, PlanKind::Places, draft, "", schema) {
+    match compile_schema(alloc, rules, KIND, draft, "", schema) {
         Ok(keywords) => Ok(keywords),
         Err(fault) => Err(fault_of_schema(alloc, fault)),
     }
@@ -141,7 +182,10 @@ fn fault_of_schema(alloc: Global, fault: PlanFault) -> Fault {
             keyword,
             nearest,
             ..
-        } => Fault::Schema(SchemaFault::UnknownKeyword { keyword, nearest }),
+        } => Fault::Schema(SchemaFault::UnknownKeyword {
+            keyword,
+            nearest: nearest_keyword(nearest),
+        }),
         PlanFault::UncheckedKeyword { keyword, .. } => {
             Fault::Schema(SchemaFault::UncheckedKeyword(keyword))
         }

@@ -133,14 +133,13 @@ impl<'a> Parts<'a> {
             return None;
         }
         let draft = self.draft?;
-        let schema = self.schema?;
         let instance = self.instance?;
         let validate_formats = self.validate_formats?;
         let ignore_unknown_formats = self.ignore_unknown_formats?;
         let fold = self.fold?;
         Some(Request {
             draft,
-            schema,
+            schema: self.schema?,
             instance,
             validate_formats,
             ignore_unknown_formats: ignore_unknown_formats.unwrap_or(true),

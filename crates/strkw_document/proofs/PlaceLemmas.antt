@@ -1,6 +1,7 @@
 -- What is said of one place, and of one place more.
-use Rattle.std.proofs.Common.{◌≡◌, ◌++◌, ◌∷◌, ◌∙◌, ℕ, List, [], length, refl, sym, ap, subst, append-nil, inl, inr}
-use Rattle.std.specs.Prelude.{Some, None}
+use Rattle.std.proofs.Common.{◌≡◌, ◌⊎◌, ◌++◌, ℕ, List, [], length, refl, sym, subst, inl, inr}
+use Rattle.std.proofs.lemmas.Bool.{false≢true}
+use Rattle.std.specs.Prelude.{false, true, Option, Some, None, is_some}
 use Rattle.std.specs.Str.{chars}
 use Rattle.std.specs.List.{concat}
 use Rattle.serde_json.specs.Data.{Data, Members, no_members, member}
@@ -9,12 +10,17 @@ use Rattle.strkw_uri.specs.Pointer.{IsJsonPointer}
 use Rattle.strkw_keywords.specs.Object.{Settings}
 use Rattle.strkw_plan.specs.Messages.{InstanceSaid, IsSchema}
 use Rattle.strkw_report.specs.declared.draft.Draft.{Draft}
-use Rattle.strkw_plan.specs.Plan.{Plan, plan_of, plan_problem}
+use Rattle.strkw_plan.specs.Faults.{Tells}
+use Rattle.strkw_plan.specs.Plan.{Plan, Problem, plan_of, plan_problem}
 use Rattle.strkw_plan.specs.declared.kind.PlanKind.TheVariants.{Places}
+use Rattle.strkw_plan.specs.declared.faults.PlanFault.{PlanFault}
+use Rattle.strkw_plan.specs.declared.faults.PlanFault.TheVariants as refused
+use Rattle.strkw_plan.specs.Compiled.{RefusesPlan}
 use Rattle.strkw_document.specs.Faults.{IsWhy, IsWhyInPlan}
+use Rattle.strkw_document.specs.Gives.{gives_fault}
 use Rattle.strkw_document.specs.declared.faults.DocumentFault.{DocumentFault}
 use Rattle.strkw_document.specs.declared.faults.DocumentFault.TheVariants as fault
-use Rattle.strkw_document.specs.Places.{Form, PlaceMessages, DocumentMessages}
+use Rattle.strkw_document.specs.Places.{Form, PlaceMessages, DocumentMessages, ValueMessages, lacking_messages, no_string_messages}
 
 module _ (form : Form) (s : Settings) (document : Data) where
   -- what is appended for a place: messages, and so many
@@ -22,19 +28,43 @@ module _ (form : Form) (s : Settings) (document : Data) where
   Said place schema count old new = (messages : List (List ℕ)) × PlaceMessages form s place schema document messages
       × (count ≡ length messages) × (new ≡ old ++ concat messages)
 
-  -- the one message that there is no value
-  pub said_missing : (place : List ℕ) (schema : Data) (old new : List ℕ) → IsJsonPointer (chars place) → ((members : Members) × IsSchema s schema members)
-      → pointer place document ≡ None → new ≡ old ++ form.lacking place → Said place schema 1 old new
-  said_missing place schema old new is_pointer is_schema e grown =
-      (form.lacking place ∷ [], (is_pointer, is_schema.0, is_schema.1, rw e refl), refl, grown ∙ ap (λ l. old ++ l) (sym (append-nil (form.lacking place))))
+  -- so many messages are these, and they were appended
+  abbrev pub Appended : List (List ℕ) → ℕ → List ℕ → List ℕ → Type 0
+  Appended messages count old new = (count ≡ length messages) × (new ≡ old ++ concat messages)
 
-  -- the messages about the value
-  pub said_of_value : (place : List ℕ) (schema value : Data) (count : ℕ) (old new : List ℕ) → IsJsonPointer (chars place) → pointer place document ≡ Some value
-      → ((members : Members) × (messages : List (List ℕ)) × IsSchema s schema members × InstanceSaid s members (form.said place) (as_str value) messages
-      × (count ≡ length messages) × (new ≡ old ++ concat messages)) → Said place schema count old new
-  said_of_value place schema value count old new is_pointer e said =
-      let (members, messages, is_schema, are, counted, grown) = said in
-      (messages, (is_pointer, members, is_schema, rw e are), counted, grown)
+  -- the messages that there is no value
+  pub said_missing : (place : List ℕ) (schema : Data) (ms : Members) (count : ℕ) (old new : List ℕ) → IsJsonPointer (chars place) → IsSchema s schema ms
+      → pointer place document ≡ None → Appended (lacking_messages form ms place) count old new → Said place schema count old new
+  said_missing place schema ms count old new is_pointer is_schema none said =
+      (lacking_messages form ms place, (is_pointer, ms, is_schema, rw none refl), said.0, said.1)
+
+  -- of a value that is no text there are the messages that it is no string
+  no_text : (place : List ℕ) (ms : Members) (instance : Option (List ℕ)) → is_some instance ≡ false
+      → ValueMessages form s ms place instance (no_string_messages form ms place)
+  no_text place ms None none = refl
+  no_text place ms (Some text) none = absurd (false≢true (sym none))
+
+  -- the messages that a value is no string
+  pub said_no_string : (place : List ℕ) (schema value : Data) (ms : Members) (count : ℕ) (old new : List ℕ) → IsJsonPointer (chars place)
+      → IsSchema s schema ms → pointer place document ≡ Some value → is_some (as_str value) ≡ false
+      → Appended (no_string_messages form ms place) count old new → Said place schema count old new
+  said_no_string place schema value ms count old new is_pointer is_schema found none said =
+      (no_string_messages form ms place, (is_pointer, ms, is_schema, rw found (no_text place ms (as_str value) none)), said.0, said.1)
+
+  -- the messages about a text are those about the string
+  of_text : (place : List ℕ) (ms : Members) (instance : Option (List ℕ)) (messages : List (List ℕ)) → is_some instance ≡ true
+      → InstanceSaid s ms (form.said place) instance messages → ValueMessages form s ms place instance messages
+  of_text place ms None messages some said = absurd (false≢true some)
+  of_text place ms (Some text) messages some said = said
+
+  -- the messages about a string
+  pub said_of_string : (place : List ℕ) (schema value : Data) (count : ℕ) (old new : List ℕ) → IsJsonPointer (chars place)
+      → pointer place document ≡ Some value → is_some (as_str value) ≡ true
+      → ((ms : Members) × (messages : List (List ℕ)) × IsSchema s schema ms × InstanceSaid s ms (form.said place) (as_str value) messages
+      × Appended messages count old new) → Said place schema count old new
+  said_of_string place schema value count old new is_pointer found some said =
+      let (ms, messages, is_schema, are, appended) = said in
+      (messages, (is_pointer, ms, is_schema, rw found (of_text place ms (as_str value) messages some are)), appended.0, appended.1)
 
   -- where there are no places, there are no messages
   pub no_places : DocumentMessages form s no_members document []
@@ -46,6 +76,31 @@ module _ (form : Form) (s : Settings) (document : Data) where
       → DocumentMessages form s more document rest → DocumentMessages form s (member place schema more) document (first ++ rest)
   unfolding DocumentMessages
   first_place place schema more first rest p q = (first, rest, p, q, refl)
+
+-- why a plan is refused is why the document is not checked
+pub by_refusal : (settings : Draft → Settings) (d : Data) (e : PlanFault) (why : DocumentFault) → RefusesPlan settings Places d e → gives_fault e why
+    → IsWhy settings d why
+by_refusal settings d (refused.NoPlan kind) why p gives = rw gives p
+by_refusal settings d (refused.UnknownMember kind name nearest) why p gives = rw gives p
+by_refusal settings d refused.NoNames why p gives = rw gives p
+by_refusal settings d refused.NoEach why p gives = rw gives p
+by_refusal settings d refused.NoDelimiter why p gives = rw gives p
+by_refusal settings d refused.NoLimits why p gives = rw gives p
+by_refusal settings d (refused.UnknownLimit kind name nearest) why p gives = rw gives p
+by_refusal settings d (refused.NoWholeLimit name) why p gives = rw gives p
+by_refusal settings d (refused.Empty kind) why p gives = rw gives p
+by_refusal settings d (refused.NoObject place) why p gives = rw gives p
+by_refusal settings d (refused.UnknownKeyword place keyword nearest) why p gives = rw gives p
+by_refusal settings d (refused.UncheckedKeyword place keyword) why p gives = rw gives p
+by_refusal settings d (refused.NoOwnValue kind place own) why p gives = rw gives p
+by_refusal settings d (refused.Refused place refusal) why p gives = rw gives p
+by_refusal settings d refused.Memory why p gives = rw gives tt
+
+-- the same of a value that is no plan
+pub by_problem : (settings : Draft → Settings) (d : Data) (e : PlanFault) (why : DocumentFault)
+    → (e ≡ refused.Memory) ⊎ ((problem : Problem) × (plan_problem Places d ≡ Some problem) × Tells Places e problem) → gives_fault e why → IsWhy settings d why
+by_problem settings d e why (inl memory) gives = by_refusal settings d e why (inl memory) gives
+by_problem settings d e why (inr told) gives = by_refusal settings d e why (inr (inl told)) gives
 
 -- why the places of a good plan are not checked is why the document is not
 pub why_of_plan : (settings : Draft → Settings) (d : Data) (p : Plan) (why : DocumentFault) → plan_problem Places d ≡ None → plan_of Places d ≡ Some p

@@ -1,5 +1,6 @@
 -- The messages about a document. A text is its UTF-8 bytes.
 use Rattle.std.specs.Prelude.{◌≡◌, ℕ, List, [], ◌∷◌, ◌++◌, Option, Some, None, codes}
+use Rattle.std.specs.Prelude.{if◌then◌else◌}
 use Rattle.std.specs.Str.{chars}
 use Rattle.serde_json.specs.Data.{Data, Members, no_members, member}
 use Rattle.serde_json.specs.Find.{as_str, pointer}
@@ -8,27 +9,49 @@ use Rattle.strkw_report.specs.Kinds.{Report}
 use Rattle.strkw_keywords.specs.Object.{Settings}
 use Rattle.strkw_plan.specs.Shown.{shown}
 use Rattle.strkw_plan.specs.Messages.{InstanceSaid, IsSchema, message}
+use Rattle.strkw_plan.specs.Own.{asks_for_string, is_optional}
 
--- the message about a place that the document has not
+-- the message about a place that the document has not, and about a value that is no string
 abbrev pub missing : List ℕ → List ℕ
 missing place = shown place ++ codes ": missing\n"
 
--- what is written of an error of the value at a place, and of a place that the document has not
+abbrev pub not_a_string : List ℕ → List ℕ
+not_a_string place = shown place ++ codes ": not a string\n"
+
+-- what is written of an error of the value at a place, of a place that the document has not, and of
+-- a value that is no string where one is asked for
 pub record Form : Type 0 where
   pub said : List ℕ → Report → List ℕ
   pub lacking : List ℕ → List ℕ
+  pub no_string : List ℕ → List ℕ
 
 -- the form of text
 abbrev pub text_form : Form
-text_form = record { said = message; lacking = missing }
+text_form = record { said = message; lacking = missing; no_string = not_a_string }
 
--- the messages in a form about what stands at a place, by its schema object: one for each error of
--- the value, which has none where it is no string; or the one that there is no value
+-- the messages in a form about a place that the document has not, by its schema object: the one
+-- that it is missing, unless it is optional
+abbrev pub lacking_messages : Form → Members → List ℕ → List (List ℕ)
+lacking_messages form schema place = if is_optional schema then [] else form.lacking place ∷ []
+
+-- the messages about a value that is no string: the one that it is none, where one is asked for
+abbrev pub no_string_messages : Form → Members → List ℕ → List (List ℕ)
+no_string_messages form schema place =
+    if asks_for_string schema then form.no_string place ∷ [] else []
+
+-- the messages about a value, the text that it is or none: one for each error of a string
+abbrev pub ValueMessages : Form → Settings → Members → List ℕ → Option (List ℕ) → List (List ℕ)
+    → Type 0
+ValueMessages form s schema place None messages = messages ≡ no_string_messages form schema place
+ValueMessages form s schema place (Some text) messages =
+    InstanceSaid s schema (form.said place) (Some text) messages
+
+-- the messages about what stands at a place, a value or none
 abbrev pub FoundMessages : Form → Settings → Members → List ℕ → Option Data → List (List ℕ)
     → Type 0
-FoundMessages form s schema place None messages = messages ≡ form.lacking place ∷ []
+FoundMessages form s schema place None messages = messages ≡ lacking_messages form schema place
 FoundMessages form s schema place (Some value) messages =
-    InstanceSaid s schema (form.said place) (as_str value) messages
+    ValueMessages form s schema place (as_str value) messages
 
 -- The messages about a place of a document by its schema. The place is a JSON pointer; what it
 -- evaluates to (RFC 6901, section 4) is that of `serde_json`.

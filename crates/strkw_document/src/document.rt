@@ -23,9 +23,13 @@ use strkw_plan::{Plan, PlanKind, Rules, plan_in};
 /// (RFC 6901) to schema objects, under the caller's rules. Answers how many errors there are.
 ///
 /// Each error of a value is a line `POINTER: KEYWORD: TEXT`, where KEYWORD is the place of the keyword in the schema
-/// object, as `/format`, and TEXT what is wrong; a place that the document has not is a line `POINTER: missing`; texts
-/// are shown as by `Shown`. They come place by place, in the order of the plan's members (sorted by their bytes, as
-/// `serde_json` keeps them), and at each place in the order of the keywords. A value that is no string has no errors.
+/// object, as `/format`, and TEXT what is wrong; texts are shown as by `Shown`. They come place by place, in the order of
+/// the plan's members (sorted by their bytes, as `serde_json` keeps them), and at each place in the order of the
+/// keywords.
+///
+/// A place that the document has not is a line `POINTER: missing`, unless its schema object has `"optional": true`. A
+/// value that is no string has no errors of keywords: it is a line `POINTER: not a string` where the schema object has
+/// `"string": true`, and has else no line.
 ///
 /// Errors: as `DocumentFault` says. After any but `Write`, nothing was written.
 pub fn check_document<B: EngineBuilder, W: Write>(
@@ -52,8 +56,8 @@ pub fn check_document<B: EngineBuilder, W: Write>(
     check_document_as(alloc, rules, plan, document, writer, &PlaceLines)
 }
 
-/// The same, in a form of the caller: each error, and each place that the document has not, is written as the form
-/// writes it.
+/// The same, in a form of the caller, which says how an error, a missing place and a value that is no string are
+/// written.
 ///
 /// Errors: as `check_document`.
 pub fn check_document_as<B: EngineBuilder, W: Write, F: PlaceForm>(

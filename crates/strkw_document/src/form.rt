@@ -2,6 +2,7 @@
 
 ghost use Rattle.std.specs.Prelude.{◌≡◌, ◌<◌, ◌++◌, OnOk, length, string_bytes};
 ghost use Rattle.strkw_plan.specs.Found.{report_found};
+ghost use Rattle.strkw_plan.specs.Shown.{shown};
 ghost use Rattle.strkw_document.specs.Places.{Form, text_form};
 
 use std::alloc::{AllocError, Global};
@@ -9,7 +10,7 @@ use strkw_plan::{FoundError, MessageForm, MessageLine, push_shown};
 
 /// How an error of a document is written. It is asked only where there is one.
 pub trait PlaceForm {
-    // what is written of an error at a place, and of a place that the document has not
+    // what is written of an error at a place, of a place that the document has not, and of a value that is no string
     ghost writes: { Self → Form };
 
     /// Appends what is written of an error of the value at a place. It is not empty. The only error is out of memory; a
@@ -31,10 +32,17 @@ pub trait PlaceForm {
     fn push_missing(&self, alloc: Global, place: &str, out: &mut String) -> Result<(), AllocError>
         ensures { OnOk result (string_bytes out.new
             ≡ string_bytes out.old ++ (writes self.now).lacking place.now) };
+
+    /// Appends what is written of a value at a place that is no string, where the plan asks for one. The only error is
+    /// out of memory; a beginning of it may then have been appended.
+    fn push_no_string(&self, alloc: Global, place: &str, out: &mut String) -> Result<(), AllocError>
+        ensures { OnOk result (string_bytes out.new
+            ≡ string_bytes out.old ++ (writes self.now).no_string place.now) };
 }
 
-/// The form of text: a line `POINTER: KEYWORD: TEXT`, where KEYWORD is the place of the keyword in the schema object, as
-/// `/format`, and TEXT what is wrong; or `POINTER: missing`. Texts are shown as by `Shown`.
+/// The form of text: a line `POINTER: KEYWORD: TEXT`, where KEYWORD is the place of the keyword in the schema object,
+/// as `/format`, and TEXT what is wrong; or `POINTER: missing`, or `POINTER: not a string`. Texts are shown as by
+/// `Shown`.
 #[derive(Clone, Copy)]
 pub struct PlaceLines;
 
@@ -57,9 +65,26 @@ impl PlaceForm for PlaceLines {
         place: &str,
         out: &mut String,
     ) -> Result<(), AllocError> {
-        push_shown(place, out)?;
-        out.push_str(": missing\n")
+        push_about(place, ": missing\n", out)
     }
+
+    fn push_no_string(
+        &self,
+        _alloc: Global,
+        place: &str,
+        out: &mut String,
+    ) -> Result<(), AllocError> {
+        push_about(place, ": not a string\n", out)
+    }
+}
+
+// Appends a place as it is shown, and the rest of the line about it.
+fn push_about(place: &str, rest: &str, out: &mut String) -> Result<(), AllocError>
+    ensures { OnOk result (string_bytes out.new
+        ≡ string_bytes out.old ++ shown place.now ++ rest.now) }
+{
+    push_shown(place, out)?;
+    out.push_str(rest)
 }
 
 // A form, at a place.

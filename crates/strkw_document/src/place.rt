@@ -1,18 +1,22 @@
 //! The messages about one place of a document.
 
-ghost use Rattle.std.specs.Prelude.{◌≡◌, ◌++◌, ℕ, List, length, IfErr, IfOk, string_bytes};
+ghost use Rattle.std.specs.Prelude.{◌≡◌, ◌++◌, ℕ, List, Some, length, IfErr, IfOk, string_bytes};
 ghost use Rattle.std.specs.List.{concat};
+ghost use Rattle.serde_json.specs.Data.{Members};
+ghost use Rattle.serde_json.specs.Find.{as_object};
 ghost use Rattle.serde_json.specs.View.{view};
 ghost use Rattle.strkw_plan.specs.Rules.{rules_settings};
-ghost use Rattle.strkw_document.specs.Places.{PlaceMessages};
+ghost use Rattle.strkw_document.specs.Places.{PlaceMessages, lacking_messages, no_string_messages};
 ghost use Rattle.strkw_document.specs.Faults.{IsWhyOfPlace};
 
 use crate::faults::DocumentFault;
 use crate::form::{AtPlace, PlaceForm};
 use serde_json::Value;
-use std::alloc::Global;
+use std::alloc::{AllocError, Global};
 use strkw_pattern::EngineBuilder;
-use strkw_plan::{PlanKind, Rules, check_instance_as, require_schema};
+use strkw_plan::{
+    PlanKind, Rules, asks_for_string, check_instance_as, is_optional, require_schema,
+};
 use strkw_report::Draft;
 use strkw_uri::is_valid_json_pointer;
 
@@ -42,20 +46,65 @@ pub(crate) fn check_place<B: EngineBuilder, F: PlaceForm>(
     if !is_valid_json_pointer(place) {
         return Err(DocumentFault::Pointer(String::from_str(alloc, place)?));
     }
-    let Some(value) = document.pointer(place) else {
-        require_schema(alloc, rules, PlanKind::Places, draft, place, schema)?;
-        form.push_missing(alloc, place, out)?;
-        return Ok(1);
-    };
-    Ok(check_instance_as(
-        alloc,
-        rules,
-        PlanKind::Places,
-        draft,
-        place,
-        schema,
-        &AtPlace { form, place },
-        value,
-        out,
-    )?)
+    match document.pointer(place) {
+        Some(value) if value.is_string() => Ok(check_instance_as(
+            alloc,
+            rules,
+            PlanKind::Places,
+            draft,
+            place,
+            schema,
+            &AtPlace { form, place },
+            value,
+            out,
+        )?),
+        Some(_) => {
+            require_schema(alloc, rules, PlanKind::Places, draft, place, schema)?;
+            Ok(push_no_string(alloc, form, place, schema, out)?)
+        }
+        None => {
+            require_schema(alloc, rules, PlanKind::Places, draft, place, schema)?;
+            Ok(push_missing(alloc, form, place, schema, out)?)
+        }
+    }
+}
+
+// Appends the message that a place is missing, unless its schema makes it optional, and answers how many that are.
+fn push_missing<F: PlaceForm>(
+    alloc: Global,
+    form: &F,
+    place: &str,
+    schema: &Value,
+    out: &mut String,
+) -> Result<u64, AllocError>
+    ensures { (members : Members) → as_object (view schema.now) ≡ Some members →
+        let messages = lacking_messages (F.writes form.now) members place.now in
+        IfOk result (λ count. (count ≡ length messages)
+        × (string_bytes out.new ≡ string_bytes out.old ++ concat messages)) }
+{
+    if is_optional(schema) {
+        return Ok(0);
+    }
+    form.push_missing(alloc, place, out)?;
+    Ok(1)
+}
+
+// Appends the message that a value is no string, where its schema asks for one, and answers how many that are.
+fn push_no_string<F: PlaceForm>(
+    alloc: Global,
+    form: &F,
+    place: &str,
+    schema: &Value,
+    out: &mut String,
+) -> Result<u64, AllocError>
+    ensures { (members : Members) → as_object (view schema.now) ≡ Some members →
+        let messages = no_string_messages (F.writes form.now) members place.now in
+        IfOk result (λ count. (count ≡ length messages)
+        × (string_bytes out.new ≡ string_bytes out.old ++ concat messages)) }
+{
+    if !asks_for_string(schema) {
+        return Ok(0);
+    }
+    form.push_no_string(alloc, place, out)?;
+    Ok(1)
 }

@@ -1,5 +1,8 @@
 -- On codecs.
-use Rattle.std.proofs.Common.{◌≡◌, ◌↔◌, ℕ, List, Bool, true, false, Option, Some, None, Result, Ok, Err, IfOk, refl, if◌then◌else◌}
+use Rattle.std.proofs.Common.{◌≡◌, ◌↔◌, ◌≤◌, ℕ, List, length, map, Bool, true, false, Option, Some, None, Result, Ok, Err, IfOk, refl, if◌then◌else◌}
+use Rattle.std.specs.List.{slice_get}
+use Rattle.std.specs.Str.{chars}
+use Rattle.std.proofs.lemmas.Option.{slice_get-map, slice_get_past}
 use Rattle.std.specs.Prelude.{String}
 use Rattle.std.specs.declared.alloc.Global.{Global}
 use Rattle.std.specs.Bool.{Decides}
@@ -12,7 +15,8 @@ use Rattle.strkw_coding.specs.Names.{codec_name}
 use Rattle.strkw_coding.specs.Rfc4648.{IsTextOf}
 use Rattle.strkw_coding.specs.declared.codec.DecodeError.{DecodeError}
 use Rattle.strkw_keywords.specs.Decodings.{decoded_of}
-use Rattle.strkw_keywords.specs.Demands.{CodecDecodes}
+use Rattle.strkw_keywords.specs.Demands.{CodecDecodes, RowDecodes}
+use Rattle.strkw_keywords.specs.Meanings.{CodecRow, Decoded, no_encoding}
 use Rattle.strkw_keywords.specs.Object.{codec_named}
 
 -- the codec of each name, and no codec of any other name
@@ -51,3 +55,20 @@ pub decodes : (c : Codec) (text : List ℕ) (r : Result (Option (String Global))
 decodes c text (Ok None) h = h
 decodes c text (Ok (Some s)) h = (h, IsUtf8-string_bytes s)
 decodes c text (Err e) h = tt
+
+-- what the caller's row at a position answers is what a text decodes to by it
+pub row_decodes : {A : Type 0} (meaning : A → CodecRow) (rows : List A) (at : ℕ) (row : A) (text : List ℕ) (r : Result (Option (String Global)) DecodeError)
+    → slice_get rows at ≡ Some row → IfOk r (λ o. decoded_of o ≡ (meaning row).decode (chars text))
+    → IfOk r (λ o. RowDecodes (map meaning rows) at text (decoded_of o))
+row_decodes meaning rows at row text (Ok o) there h = rw (slice_get-map meaning rows at, there) h
+row_decodes meaning rows at row text (Err e) there h = tt
+
+-- what it decodes to where it answers this, whatever the answer is
+pub row_decodes_to : {A : Type 0} (meaning : A → CodecRow) (rows : List A) (at : ℕ) (row : A) (text : List ℕ) (d : Decoded) → slice_get rows at ≡ Some row
+    → d ≡ (meaning row).decode (chars text) → RowDecodes (map meaning rows) at text d
+row_decodes_to meaning rows at row text d there h = rw (slice_get-map meaning rows at, there) h
+
+-- where there is no row, no text is an encoding
+pub no_row_decodes : {A : Type 0} (meaning : A → CodecRow) (rows : List A) (at : ℕ) (text : List ℕ) → length rows ≤ at
+    → RowDecodes (map meaning rows) at text no_encoding
+no_row_decodes meaning rows at text past = rw (slice_get-map meaning rows at, slice_get_past rows at past) refl

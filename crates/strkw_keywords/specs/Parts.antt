@@ -1,7 +1,9 @@
 -- What the parts of a validator say.
-use Rattle.std.specs.Prelude.{◌≡◌, ℕ, List, Option, Some, None}
+use Rattle.std.specs.Prelude.{◌≡◌, ℕ, List, true, Option, Some, None}
+use Rattle.std.specs.Borrow.{Bor}
 use Rattle.serde_json.specs.Data.{string}
 use Rattle.serde_json.specs.View.{view}
+use Rattle.strkw_keywords.specs.Places.{Place}
 use Rattle.strkw_keywords.specs.Meanings.{Lists, row_names, codec_names, first_named}
 use Rattle.strkw_keywords.specs.Remarks.{Remark, remark_at}
 use Rattle.strkw_keywords.specs.declared.parts.Noted.{Noted}
@@ -27,3 +29,25 @@ abbrev pub RowsAreFirst : Parts → Lists → Type 0
 RowsAreFirst parts lists = IsFirst parts.format (row_names lists.formats)
     × IsFirst parts.media_type (row_names lists.media_types)
     × IsFirst parts.codec (codec_names lists.codecs)
+
+-- the parts of a validator at a place that notes nothing, rests on no row and takes no memory
+abbrev pub plain_parts : Bor Place → Parts
+plain_parts origin = record {
+  origin = origin;
+  noted = None;
+  format = None;
+  media_type = None;
+  codec = None;
+  is_quiet = true;
+}
+
+-- and of one that only notes
+abbrev pub noting_parts : Bor Place → Noted → Parts
+noting_parts origin noted = record {
+  origin = origin;
+  noted = Some noted;
+  format = None;
+  media_type = None;
+  codec = None;
+  is_quiet = true;
+}

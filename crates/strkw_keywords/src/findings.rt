@@ -1,6 +1,6 @@
 //! What a validator finds of a text, and the errors that are built of it.
 
-ghost use Rattle.std.specs.Prelude.{◌++◌, ◌↔◌, ◌∷◌, ◌≡◌, IfOk, IsTrue, None, OnErr, OnOk, Some, [], option_map, option_to_list};
+ghost use Rattle.std.specs.Prelude.{◌++◌, ◌<◌, ◌↔◌, ◌∷◌, ◌≡◌, IfOk, IsTrue, None, OnErr, OnOk, Some, [], option_map, option_to_list, vec_capacity, vec_len};
 ghost use Rattle.strkw_keywords.specs.Errors.{reported};
 ghost use Rattle.strkw_keywords.specs.Findings.{finding_of, findings_of, first_of};
 ghost use Rattle.strkw_keywords.specs.Places.{standing};
@@ -96,7 +96,18 @@ fn error_found(
     }
 }
 
-// Adds the errors of what a validator finds: all of them, or none. Each is made, and has its room, before the first is
+// Adds an error that was found, if one was, where there is room for it.
+fn push_found(errors: &mut Vec<ValidationError>, error: Option<ValidationError>)
+    requires { vec_len errors.old < vec_capacity errors.old }
+    ensures items { errors.new.items ≡ errors.old.items ++ option_to_list error }
+    ensures room { vec_capacity errors.new ≡ vec_capacity errors.old }
+{
+    if let Some(error) = error {
+        errors.push_reserved(error);
+    }
+}
+
+// Adds the errors of what a validator finds: all of them, or none. Each has its room, and is made, before the first is
 // added.
 pub(crate) fn push_findings(
     alloc: Global,
@@ -116,14 +127,10 @@ pub(crate) fn push_findings(
     if findings.is_empty() {
         return Ok(());
     }
+    errors.reserve(2)?;
     let first = error_found(alloc, origin, text, site, &findings.first)?;
     let second = error_found(alloc, origin, text, site, &findings.second)?;
-    errors.reserve(2)?;
-    if let Some(first) = first {
-        errors.push_reserved(first);
-    }
-    if let Some(second) = second {
-        errors.push_reserved(second);
-    }
+    push_found(errors, first);
+    push_found(errors, second);
     Ok(())
 }

@@ -2,7 +2,7 @@
 
 ghost use Rattle.std.specs.Prelude.{◌↔◌, ◌≡◌, IfOk, IsTrue, None, Some, false, option_map, string_bytes, true};
 ghost use Rattle.strkw_keywords.specs.Lists.{lists_of};
-ghost use Rattle.strkw_keywords.specs.Parts.{RowsAreFirst, noted_remark};
+ghost use Rattle.strkw_keywords.specs.Parts.{RowsAreFirst, noted_remark, noting_parts, plain_parts};
 ghost use Rattle.strkw_keywords.specs.Places.{Place};
 ghost use Rattle.strkw_keywords.specs.Remarks.{remark_of};
 
@@ -103,14 +103,7 @@ impl Parts<'_> {
 impl<'a> Parts<'a> {
     // Those of a validator that notes nothing, rests on no row and takes no memory.
     pub(crate) fn plain(origin: &'a Origin) -> Parts<'a>
-        ensures { result ≡ record {
-          origin = origin.entry;
-          noted = None;
-          format = None;
-          media_type = None;
-          codec = None;
-          is_quiet = true;
-        } }
+        ensures { result ≡ plain_parts origin.entry }
     {
         Parts {
             origin,
@@ -124,14 +117,7 @@ impl<'a> Parts<'a> {
 
     // Those of a validator that only notes.
     pub(crate) fn noting(origin: &'a Origin, noted: Noted<'a>) -> Parts<'a>
-        ensures { result ≡ record {
-          origin = origin.entry;
-          noted = Some noted.entry;
-          format = None;
-          media_type = None;
-          codec = None;
-          is_quiet = true;
-        } }
+        ensures { result ≡ noting_parts origin.entry noted.entry }
     {
         Parts {
             noted: Some(noted),

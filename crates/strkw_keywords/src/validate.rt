@@ -256,11 +256,14 @@ pub trait Validate<N: Node>: Uses {
             ≡ annotation_of (Self.remark self.now) (N.text node.now)) }
     {
         let mut errors = Vec::new(alloc);
-        let mut annotation = None;
-        if let Some(text) = TextNode::of(node) {
-            self.push_errors(alloc, &text, site, checks, &mut errors)?;
-            annotation = self.note(alloc)?.map(|note| note.value);
-        }
+        let Some(text) = TextNode::of(node) else {
+            return Ok(EvaluationResult {
+                errors,
+                annotation: None,
+            });
+        };
+        self.push_errors(alloc, &text, site, checks, &mut errors)?;
+        let annotation = self.note(alloc)?.map(|note| note.value);
         Ok(EvaluationResult { errors, annotation })
     }
 }

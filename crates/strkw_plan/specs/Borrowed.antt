@@ -7,7 +7,7 @@ use Rattle.strkw_plan.specs.declared.problems.Problem.TheVariants.{NoPlan, Unkno
 use Rattle.strkw_plan.specs.declared.problems.Problem.TheVariants.{NoEach, NoDelimiter, NoLimits}
 use Rattle.strkw_plan.specs.declared.problems.Problem.TheVariants.{UnknownLimit, NoWholeLimit}
 use Rattle.strkw_plan.specs.declared.problems.Problem.TheVariants.{Empty, NoObject, UnknownKeyword}
-use Rattle.strkw_plan.specs.declared.problems.Problem.TheVariants.{UncheckedKeyword}
+use Rattle.strkw_plan.specs.declared.problems.Problem.TheVariants.{UncheckedKeyword, NoOwnValue}
 
 abbrev pub plan_view : Plan → written.Plan
 plan_view p = record {
@@ -31,3 +31,4 @@ problem_view Empty = written.empty
 problem_view (NoObject schema) = written.no_object schema.now
 problem_view (UnknownKeyword draft schema keyword) = written.unknown_keyword schema.now keyword.now
 problem_view (UncheckedKeyword schema keyword) = written.unchecked_keyword schema.now keyword.now
+problem_view (NoOwnValue schema own) = written.no_own_value schema.now own.now

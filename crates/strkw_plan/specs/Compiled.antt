@@ -39,6 +39,7 @@ Refuses s kind name schema (fault.NoObject place) = (place ≡ schema_place kind
     × (as_object schema ≡ None)
 Refuses s kind name schema (fault.UnknownKeyword place keyword nearest) = ⊥
 Refuses s kind name schema (fault.UncheckedKeyword place keyword) = ⊥
+Refuses s kind name schema (fault.NoOwnValue k place own) = ⊥
 Refuses s kind name schema (fault.Refused place refusal) = (place ≡ schema_place kind name)
     × IsRefused s schema (refusal_of refusal)
 Refuses s kind name schema fault.Memory = ⊤

@@ -7,10 +7,11 @@ use Rattle.strkw_plan.specs.declared.faults.PlanFault.{PlanFault}
 use Rattle.strkw_plan.specs.declared.faults.PlanFault.TheVariants as fault
 use Rattle.strkw_plan.specs.Plan.{Problem, no_plan, unknown_member, no_names, no_each}
 use Rattle.strkw_plan.specs.Plan.{no_delimiter, no_limits, unknown_limit, no_whole_limit, empty}
-use Rattle.strkw_plan.specs.Plan.{no_object, unknown_keyword, unchecked_keyword, schema_place}
+use Rattle.strkw_plan.specs.Plan.{no_object, unknown_keyword, unchecked_keyword, no_own_value}
+use Rattle.strkw_plan.specs.Plan.{schema_place}
 
 -- The fault tells of the problem of a plan of this kind, with the place of the schema object. That
--- a keyword that it proposes is near is said by `nearest_keyword`.
+-- a name that it proposes is near is said by `nearest_name`.
 abbrev pub Tells : PlanKind → PlanFault → Problem → Type 0
 Tells kind (fault.NoPlan k) p = (k ≡ kind) × (p ≡ no_plan)
 Tells kind (fault.UnknownMember k name nearest) p = (k ≡ kind)
@@ -29,6 +30,8 @@ Tells kind (fault.UnknownKeyword place keyword nearest) p = (name : List ℕ)
     × (place ≡ schema_place kind name) × (p ≡ unknown_keyword name (string_bytes keyword))
 Tells kind (fault.UncheckedKeyword place keyword) p = (name : List ℕ)
     × (place ≡ schema_place kind name) × (p ≡ unchecked_keyword name (string_bytes keyword))
+Tells kind (fault.NoOwnValue k place own) p = (k ≡ kind) × (name : List ℕ)
+    × (place ≡ schema_place kind name) × (p ≡ no_own_value name (string_bytes own))
 Tells kind (fault.Refused place refusal) p = ⊥
 Tells kind fault.Memory p = ⊥
 

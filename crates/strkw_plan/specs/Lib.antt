@@ -1,6 +1,7 @@
 pub mod Vocabulary
 pub mod Rows
 pub mod Shown
+pub mod Own
 pub mod Limits
 pub mod Plan
 pub mod Borrowed

@@ -16,6 +16,7 @@ use Rattle.strkw_plan.specs.declared.vocabulary.Standing.TheVariants.{Unchecked}
 use Rattle.strkw_plan.specs.declared.kind.PlanKind.{PlanKind}
 use Rattle.strkw_plan.specs.declared.kind.PlanKind.TheVariants.{Columns, Places}
 use Rattle.strkw_plan.specs.Limits.{limit_names, limits_in, whole_in}
+use Rattle.strkw_plan.specs.Own.{is_own_value, is_text, own_members}
 use Rattle.strkw_plan.specs.declared.limits.Limits.{Limits}
 use Rattle.strkw_plan.specs.Vocabulary.{standing_of}
 use Rattle.strkw_records.specs.Delimiters.{comma, is_delimiter}
@@ -54,10 +55,6 @@ are_strings (item d ds) = if is_some (as_str d) then are_strings ds else false
 abbrev pub ignored_in : Option Data → Option Items
 ignored_in None = Some no_items
 ignored_in (Some d) = option_and_then (λ ds. if are_strings ds then Some ds else None) (as_array d)
-
-abbrev pub is_text : List ℕ → Option (List ℕ) → Bool
-is_text text None = false
-is_text text (Some other) = bytes_eq other text
 
 abbrev pub is_ignored : Items → List ℕ → Bool
 is_ignored no_items name = false
@@ -103,6 +100,9 @@ pub data Problem : Type 0 where
   -- by which nothing is checked here
   unknown_keyword : List ℕ → List ℕ → Problem
   unchecked_keyword : List ℕ → List ℕ → Problem
+  -- the schema of the first name has an own member of the plan, of the second name, with a value
+  -- that such a member does not have
+  no_own_value : List ℕ → List ℕ → Problem
 
 -- the first member that a plan does not have
 abbrev pub member_problem : PlanKind → Members → Option Problem
@@ -138,45 +138,50 @@ standing_problem name keyword (Some Checked) = None
 standing_problem name keyword (Some Annotation) = None
 standing_problem name keyword (Some Unchecked) = Some (unchecked_keyword name keyword)
 
-abbrev pub keyword_problem : Draft → Items → List ℕ → List ℕ → Option Problem
-keyword_problem draft ignored name keyword =
-    if is_ignored ignored keyword then None
+-- an own member has one of its values, and whether `ignore` names it is not asked
+abbrev pub keyword_problem : PlanKind → Draft → Items → List ℕ → List ℕ → Data → Option Problem
+keyword_problem kind draft ignored name keyword d =
+    if list_any (bytes_eq keyword) (own_members kind) then (
+    if is_own_value kind d then None else Some (no_own_value name keyword))
+    else if is_ignored ignored keyword then None
     else standing_problem name keyword (standing_of draft keyword)
 
--- the first keyword of a schema object that is not as it should be
-abbrev pub keywords_problem : Draft → Items → List ℕ → Members → Option Problem
-keywords_problem draft ignored name no_members = None
-keywords_problem draft ignored name (member keyword d ms) =
-    option_or (keyword_problem draft ignored name keyword) (keywords_problem draft ignored name ms)
+-- the first member of a schema object that is not as it should be
+abbrev pub keywords_problem : PlanKind → Draft → Items → List ℕ → Members → Option Problem
+keywords_problem kind draft ignored name no_members = None
+keywords_problem kind draft ignored name (member keyword d ms) =
+    option_or (keyword_problem kind draft ignored name keyword d)
+    (keywords_problem kind draft ignored name ms)
 
-abbrev pub schema_problem : Draft → Items → List ℕ → Option Members → Option Problem
-schema_problem draft ignored name None = Some (no_object name)
-schema_problem draft ignored name (Some ms) = keywords_problem draft ignored name ms
+abbrev pub schema_problem : PlanKind → Draft → Items → List ℕ → Option Members → Option Problem
+schema_problem kind draft ignored name None = Some (no_object name)
+schema_problem kind draft ignored name (Some ms) = keywords_problem kind draft ignored name ms
 
 -- the first schema that is not as it should be
-abbrev pub schemas_problem : Draft → Items → Members → Option Problem
-schemas_problem draft ignored no_members = None
-schemas_problem draft ignored (member name d ms) =
-    option_or (schema_problem draft ignored name (as_object d)) (schemas_problem draft ignored ms)
+abbrev pub schemas_problem : PlanKind → Draft → Items → Members → Option Problem
+schemas_problem kind draft ignored no_members = None
+schemas_problem kind draft ignored (member name d ms) =
+    option_or (schema_problem kind draft ignored name (as_object d))
+    (schemas_problem kind draft ignored ms)
 
 abbrev pub is_empty : Members → Bool
 is_empty no_members = true
 is_empty (member name d ms) = false
 
-abbrev pub parts_problem : Option Draft → Option Members → Option Items → Option Bool → Option ℕ
-    → Option Problem
-parts_problem None schemas ignored each delimiter = Some no_plan
-parts_problem (Some draft) None ignored each delimiter = Some no_plan
-parts_problem (Some draft) (Some schemas) None each delimiter = Some no_names
-parts_problem (Some draft) (Some schemas) (Some ignored) None delimiter = Some no_each
-parts_problem (Some draft) (Some schemas) (Some ignored) (Some each) None = Some no_delimiter
-parts_problem (Some draft) (Some schemas) (Some ignored) (Some each) (Some delimiter) =
-    if is_empty schemas then Some empty else schemas_problem draft ignored schemas
+abbrev pub parts_problem : PlanKind → Option Draft → Option Members → Option Items → Option Bool
+    → Option ℕ → Option Problem
+parts_problem kind None schemas ignored each delimiter = Some no_plan
+parts_problem kind (Some draft) None ignored each delimiter = Some no_plan
+parts_problem kind (Some draft) (Some schemas) None each delimiter = Some no_names
+parts_problem kind (Some draft) (Some schemas) (Some ignored) None delimiter = Some no_each
+parts_problem kind (Some draft) (Some schemas) (Some ignored) (Some each) None = Some no_delimiter
+parts_problem kind (Some draft) (Some schemas) (Some ignored) (Some each) (Some delimiter) =
+    if is_empty schemas then Some empty else schemas_problem kind draft ignored schemas
 
 abbrev pub object_problem : PlanKind → Option Members → Option Problem
 object_problem kind None = Some no_plan
 object_problem kind (Some ms) = option_or (member_problem kind ms)
-    (option_or (limits_problem kind (get_member (codes "limits") ms)) (parts_problem
+    (option_or (limits_problem kind (get_member (codes "limits") ms)) (parts_problem kind
     (option_and_then draft_in (get_member (codes "draft") ms))
     (option_and_then as_object (get_member (schemas_member kind) ms))
     (ignored_in (get_member (codes "ignore") ms))

@@ -7,9 +7,10 @@ ghost use Rattle.strkw_plan.specs.Plan.{schema_place as spec_schema_place};
 ghost use Rattle.strkw_plan.specs.Faults.{Tells, refused_pattern};
 
 use crate::kind::PlanKind;
+use crate::own::nearest_name;
 use crate::problems::Problem;
 use crate::shown::{Shown, ShownValue};
-use crate::vocabulary::{nearest_keyword, nearest_of};
+use crate::vocabulary::nearest_of;
 use std::alloc::{AllocError, AllocFailed, Global};
 use std::fmt;
 use strkw_report::{CompileError, CompileErrorKind, Location};
@@ -57,7 +58,7 @@ pub enum PlanFault {
         place: Location,
         /// The name of the member.
         keyword: String,
-        /// A keyword of the draft, where one is one edit away.
+        /// A keyword of the draft, or else a member that is the plan's own, where one is one edit away.
         nearest: Option<&'static str>,
     },
     /// The schema object at this place has a keyword of the draft by which nothing is checked here.
@@ -66,6 +67,16 @@ pub enum PlanFault {
         place: Location,
         /// The keyword.
         keyword: String,
+    },
+    /// The schema object at this place has a member that is the plan's own (`PlanKind::own_members`) with a value that
+    /// such a member does not have: `empty` of a column is `"skip"`, `optional` and `string` of a place are booleans.
+    NoOwnValue {
+        /// What the plan is of.
+        kind: PlanKind,
+        /// The place of the schema object in the plan.
+        place: Location,
+        /// The name of the member.
+        member: String,
     },
     /// The schema object at this place is refused.
     Refused {
@@ -154,11 +165,16 @@ impl Problem<'_> {
             Problem::UnknownKeyword(draft, name, keyword) => PlanFault::UnknownKeyword {
                 place: schema_place(alloc, kind, name)?,
                 keyword: String::from_str(alloc, keyword)?,
-                nearest: nearest_keyword(alloc, draft, keyword)?,
+                nearest: nearest_name(alloc, kind, draft, keyword)?,
             },
             Problem::UncheckedKeyword(name, keyword) => PlanFault::UncheckedKeyword {
                 place: schema_place(alloc, kind, name)?,
                 keyword: String::from_str(alloc, keyword)?,
+            },
+            Problem::NoOwnValue(name, member) => PlanFault::NoOwnValue {
+                kind,
+                place: schema_place(alloc, kind, name)?,
+                member: String::from_str(alloc, member)?,
             },
         })
     }
@@ -228,6 +244,18 @@ impl fmt::Display for PlanFault {
                     f,
                     "keyword \"{keyword}\" at {place} is not checked here: `\"ignore\": [\"{keyword}\"]` lets it pass"
                 )
+            }
+            PlanFault::NoOwnValue {
+                kind,
+                place,
+                member,
+            } => {
+                let (place, member) = (Shown(place.as_str()), Shown(member));
+                let wrong = match kind {
+                    PlanKind::Columns => "not \"skip\"",
+                    PlanKind::Places => "neither true nor false",
+                };
+                write!(f, "\"{member}\" at {place} is {wrong}")
             }
             PlanFault::Refused { place, refusal } => {
                 let place = Shown(place.as_str());

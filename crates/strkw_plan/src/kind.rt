@@ -4,6 +4,7 @@ ghost use Rattle.std.specs.Prelude.{◌≡◌, map};
 ghost use Rattle.std.specs.List.{list_any};
 ghost use Rattle.std.specs.Str.{bytes_eq};
 ghost use Rattle.strkw_plan.specs.Limits.{limit_names};
+ghost use Rattle.strkw_plan.specs.Own.{own_members};
 ghost use Rattle.strkw_plan.specs.Plan.{plan_members, schemas_member};
 
 use crate::vocabulary::is_among;
@@ -50,6 +51,24 @@ impl PlanKind {
         ensures { result ≡ list_any (bytes_eq name.now) (plan_members self) }
     {
         is_among(name, self.members())
+    }
+
+    /// The names of the members of a schema object that are the plan's own, and keywords of no draft: `empty` of a
+    /// column, `optional` and `string` of a place.
+    pub fn own_members(self) -> &'static [&'static str]
+        ensures { map (λ name. name.now) result.now ≡ own_members self }
+    {
+        match self {
+            PlanKind::Columns => &["empty"],
+            PlanKind::Places => &["optional", "string"],
+        }
+    }
+
+    // Whether a member of this name of a schema object is the plan's own.
+    pub(crate) fn has_own_member(self, name: &str) -> bool
+        ensures { result ≡ list_any (bytes_eq name.now) (own_members self) }
+    {
+        is_among(name, self.own_members())
     }
 
     /// The names of all limits that a plan may say.

@@ -77,8 +77,8 @@ fn each_in(value: Option<&Value>) -> Option<bool>
     }
 }
 
-// The delimiter that a text is, or `None` where it is none.
-fn delimiter_of(text: &str) -> Option<Delimiter>
+/// The delimiter that a text is: one character of ASCII, and no quote, CR or LF. `None` where it is none.
+pub fn delimiter_of(text: &str) -> Option<Delimiter>
     ensures { option_map (λ delimiter. delimiter.byte) result ≡ delimiter_of text.now }
 {
     let bytes = text.as_bytes();
@@ -101,6 +101,7 @@ fn delimiter_in(value: Option<&Value>) -> Option<Delimiter>
 
 // The plan of these parts, or what is wrong with them first.
 fn plan_of_parts<'v>(
+    kind: PlanKind,
     draft: Option<Draft>,
     schemas: Option<&'v Map<String, Value>>,
     ignored: Option<&'v [Value]>,
@@ -114,12 +115,12 @@ fn plan_of_parts<'v>(
     ensures good { let ms = option_map (λ m. members_view m.now.entries) schemas.entry in
         let values = option_map (λ vs. items_view vs.now) ignored.entry in
         let byte = option_map (λ d. d.byte) delimiter in
-        IfOk result (λ p. parts_problem draft ms values checks_each byte ≡ None) }
+        IfOk result (λ p. parts_problem kind draft ms values checks_each byte ≡ None) }
     ensures problem { let ms = option_map (λ m. members_view m.now.entries) schemas.entry in
         let values = option_map (λ vs. items_view vs.now) ignored.entry in
         let byte = option_map (λ d. d.byte) delimiter in
         IfErr result (λ problem.
-        parts_problem draft ms values checks_each byte ≡ Some (problem_view problem)) }
+        parts_problem kind draft ms values checks_each byte ≡ Some (problem_view problem)) }
 {
     let draft = draft.ok_or(Problem::NoPlan)?;
     let schemas = schemas.ok_or(Problem::NoPlan)?;
@@ -129,7 +130,7 @@ fn plan_of_parts<'v>(
     if schemas.is_empty() {
         return Err(Problem::Empty);
     }
-    match schemas_problem(draft, ignored, schemas) {
+    match schemas_problem(kind, draft, ignored, schemas) {
         Some(problem) => Err(problem),
         None => Ok(Plan {
             draft,
@@ -161,6 +162,7 @@ fn plan_of_members<'v>(
         return Err(problem);
     }
     plan_of_parts(
+        kind,
         draft_at(members),
         schemas_at(members, kind),
         ignored_in(member(members, "ignore")),
@@ -185,7 +187,8 @@ fn plan_or_problem<'v>(kind: PlanKind, value: &'v Value) -> Result<Plan<'v>, Pro
 
 /// The plan of this kind that a value is: `{"draft": .., "columns": {NAME: SCHEMA, ..}}`, or `places` in place of
 /// `columns`. The members `ignore`, an array of names of keywords that are let pass, and `limits` may stand beside
-/// them, and in a plan of columns `duplicates` and `delimiter`.
+/// them, and in a plan of columns `duplicates` and `delimiter`. A schema object may have members that are the plan's
+/// own (`PlanKind::own_members`), beside keywords.
 ///
 /// Errors: what is wrong with the value first, as `PlanFault` says, but for `Refused`; and `Memory`.
 pub fn plan_in<'v>(alloc: Global, kind: PlanKind, value: &'v Value) -> Result<Plan<'v>, PlanFault>

@@ -7,6 +7,7 @@ ghost use Rattle.strkw_plan.specs.Borrowed.{problem_view};
 ghost use Rattle.strkw_plan.specs.Plan.{are_strings, is_ignored, keyword_problem, keywords_problem, member_problem, schema_problem, schemas_problem};
 
 use crate::kind::PlanKind;
+use crate::own::is_own_value;
 use crate::vocabulary::{Standing, standing_of};
 use serde_json::{Map, Value};
 use strkw_report::Draft;
@@ -28,6 +29,8 @@ pub(crate) enum Problem<'a> {
     UnknownKeyword(Draft, &'a str, &'a str),
     // The name of a schema, and its keyword.
     UncheckedKeyword(&'a str, &'a str),
+    // The name of a schema, and its own member of the plan.
+    NoOwnValue(&'a str, &'a str),
 }
 
 // The first member that a plan of this kind does not have.
@@ -70,16 +73,26 @@ fn is_ignored(ignored: &[Value], name: &str) -> bool
     false
 }
 
-// What is wrong with a keyword of the schema object of this name.
+// What is wrong with a member of the schema object of this name, in a plan of this kind.
 fn keyword_problem<'a>(
+    kind: PlanKind,
     draft: Draft,
     ignored: &[Value],
     schema: &'a str,
     keyword: &'a str,
+    value: &Value,
 ) -> Option<Problem<'a>>
-    ensures { option_map problem_view result
-        ≡ keyword_problem draft (items_view ignored.now) schema.now keyword.now }
+    ensures { let values = items_view ignored.now in
+        option_map problem_view result
+        ≡ keyword_problem kind draft values schema.now keyword.now (view value.now) }
 {
+    if kind.has_own_member(keyword) {
+        return if is_own_value(kind, value) {
+            None
+        } else {
+            Some(Problem::NoOwnValue(schema, keyword))
+        };
+    }
     if is_ignored(ignored, keyword) {
         return None;
     }
@@ -90,8 +103,9 @@ fn keyword_problem<'a>(
     }
 }
 
-// What is wrong with the first keyword of a schema object that is not as it should be.
+// What is wrong with the first member of a schema object that is not as it should be.
 fn keywords_problem<'a>(
+    kind: PlanKind,
     draft: Draft,
     ignored: &[Value],
     schema: &'a str,
@@ -99,10 +113,10 @@ fn keywords_problem<'a>(
 ) -> Option<Problem<'a>>
     ensures { let ms = members_view members.now.entries in
         option_map problem_view result
-        ≡ keywords_problem draft (items_view ignored.now) schema.now ms }
+        ≡ keywords_problem kind draft (items_view ignored.now) schema.now ms }
 {
-    for (keyword, _value) in members.iter() {
-        if let Some(problem) = keyword_problem(draft, ignored, schema, keyword) {
+    for (keyword, value) in members.iter() {
+        if let Some(problem) = keyword_problem(kind, draft, ignored, schema, keyword, value) {
             return Some(problem);
         }
     }
@@ -111,31 +125,35 @@ fn keywords_problem<'a>(
 
 // What is wrong with the schema of this name.
 fn schema_problem<'a>(
+    kind: PlanKind,
     draft: Draft,
     ignored: &[Value],
     name: &'a str,
     schema: &'a Value,
 ) -> Option<Problem<'a>>
-    ensures { option_map problem_view result
-        ≡ schema_problem draft (items_view ignored.now) name.now (as_object (view schema.now)) }
+    ensures { let ms = as_object (view schema.now) in
+        option_map problem_view result
+        ≡ schema_problem kind draft (items_view ignored.now) name.now ms }
 {
     match schema.as_object() {
-        Some(members) => keywords_problem(draft, ignored, name, members),
+        Some(members) => keywords_problem(kind, draft, ignored, name, members),
         None => Some(Problem::NoObject(name)),
     }
 }
 
 // What is wrong with the first schema that is not as it should be.
 pub(crate) fn schemas_problem<'a>(
+    kind: PlanKind,
     draft: Draft,
     ignored: &[Value],
     schemas: &'a Map<String, Value>,
 ) -> Option<Problem<'a>>
-    ensures { option_map problem_view result
-        ≡ schemas_problem draft (items_view ignored.now) (members_view schemas.now.entries) }
+    ensures { let ms = members_view schemas.now.entries in
+        option_map problem_view result
+        ≡ schemas_problem kind draft (items_view ignored.now) ms }
 {
     for (name, schema) in schemas.iter() {
-        if let Some(problem) = schema_problem(draft, ignored, name, schema) {
+        if let Some(problem) = schema_problem(kind, draft, ignored, name, schema) {
             return Some(problem);
         }
     }

@@ -154,7 +154,7 @@ abbrev pub quoted-none : (sep : ℕ) → {R : Type 0} (rem : R → Option (List 
 quoted-none sep rem a text g e = (gathers-none sep rem a a text st.InQuoted g e refl, nothing)
 
 -- and one that gathers there, and then more past bytes that leave the quote open, gathers both
-abbrev pub quoted-more : (sep : ℕ) → {R : Type 0} (rem : R → Option (List ℕ)) (a b c : Input R) (text : List ℕ) (g g1 g2 : Gathered)
+pub quoted-more : (sep : ℕ) → {R : Type 0} (rem : R → Option (List ℕ)) (a b c : Input R) (text : List ℕ) (g g1 g2 : Gathered)
     → (q : Quoted sep rem a b text g g1) → (k : Gathers sep rem b c q.0.rest st.InQuoted g1 st.InQuoted g2) → InQuotes k.bytes → Quoted sep rem a c text g g2
 quoted-more sep rem a b c text g g1 g2 q k i = (
   gathers-trans sep rem a b c text st.InQuoted st.InQuoted st.InQuoted g g1 g2 q.0 k,
@@ -163,7 +163,7 @@ quoted-more sep rem a b c text g g1 g2 q k i = (
 
 -- a run of bytes that are no quote
 -- is gathered behind what was gathered in quotes before
-abbrev pub quoted-run : (sep : ℕ) → {R : Type 0} (rem : R → Option (List ℕ)) (a b c d : Input R) (text : List ℕ) (g g1 g2 : Gathered)
+pub quoted-run : (sep : ℕ) → {R : Type 0} (rem : R → Option (List ℕ)) (a b c d : Input R) (text : List ℕ) (g g1 g2 : Gathered)
     (q : Quoted sep rem a b text g g1)
     → rest_of rem c ≡ Some q.0.rest → c.place ≡ b.place → (x rest : List ℕ) → Passes rem c d q.0.rest x rest → Runs (table_config sep) st.InQuoted x
     → whole_fields g2 ≡ whole_fields g1 → front_of_field g2 ≡ front_of_field g1 ++ x → Quoted sep rem a d text g g2

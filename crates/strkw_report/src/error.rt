@@ -1,4 +1,5 @@
-ghost use Rattle.std.specs.Prelude.{◌≡◌, IfOk, ◌++◌, codes, string_bytes};
+ghost use Rattle.std.specs.Prelude.{◌≡◌, IfOk, ◌++◌, codes, option_map, string_bytes};
+ghost use Rattle.strkw_report.specs.Paths.{below};
 ghost use Rattle.strkw_report.specs.Kinds.{report_at};
 ghost use Rattle.strkw_report.specs.KindOf.{kind_of};
 ghost use Rattle.strkw_report.specs.Standings.{standing_of};
@@ -127,17 +128,51 @@ pub fn error_at(
         ≡ report_at (standing_of location.now prefix.now site.now) keyword.now (kind_of kind)
         text.now) }
 {
-    let schema_path = location.join(keyword)?;
-    let absolute = match prefix {
-        Some(prefix) => Some(absolute_location(alloc, prefix, &schema_path)?),
-        None => None,
-    };
+    let instance = Value::try_from_str(alloc, text)?;
+    let places = places_at(alloc, keyword, location, prefix, site)?;
     Ok(ValidationError {
         kind,
-        instance: Value::try_from_str(alloc, text)?,
-        schema_path,
-        evaluation_path: site.evaluation.join(keyword)?,
-        instance_path: site.instance.clone()?,
+        instance,
+        schema_path: places.schema,
+        evaluation_path: places.evaluation,
+        instance_path: places.instance,
+        absolute: places.absolute,
+    })
+}
+
+// Where a keyword and an instance stand.
+#[derive(Drop)]
+struct Places {
+    schema: Location,
+    evaluation: Location,
+    instance: Location,
+    absolute: Option<String>,
+}
+
+fn places_at(
+    alloc: Global,
+    keyword: &str,
+    location: &Location,
+    prefix: &Option<String>,
+    site: &Site,
+) -> Result<Places, AllocError>
+    ensures schema { IfOk result (λ p. p.schema ≡ below location.now keyword.now) }
+    ensures evaluation { IfOk result (λ p.
+        p.evaluation ≡ below site.now.evaluation keyword.now) }
+    ensures instance { IfOk result (λ p. p.instance ≡ site.now.instance) }
+    ensures absolute { IfOk result (λ p. option_map string_bytes p.absolute ≡ option_map
+        (λ before. before ++ codes "#" ++ below location.now keyword.now)
+        (option_map string_bytes prefix.now)) }
+{
+    let schema = location.join(keyword)?;
+    let absolute = match prefix {
+        Some(prefix) => Some(absolute_location(alloc, prefix, &schema)?),
+        None => None,
+    };
+    Ok(Places {
+        schema,
+        evaluation: site.evaluation.join(keyword)?,
+        instance: site.instance.clone()?,
         absolute,
     })
 }

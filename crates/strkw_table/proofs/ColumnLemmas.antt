@@ -1,13 +1,13 @@
 -- Columns, one more at a time; and that what compiled columns say is what their schema objects mean.
 use Rattle.std.proofs.Common.{◌≡◌, ◌++◌, ◌+◌, ◌∷◌, ◌∙◌, ℕ, List, [], length, take, refl, sym, ap, subst, arith, slice_get, map, take_all}
-use Rattle.std.specs.Prelude.{zero, suc, Option, Some, None, IfSome}
+use Rattle.std.specs.Prelude.{zero, suc, Bool, true, false, Option, Some, None, IfSome}
 use Rattle.serde_json.specs.Data.{Members}
 use Rattle.csv.specs.Records.{field_at}
 use Rattle.strkw_report.specs.Kinds.{Report}
 use Rattle.strkw_pattern.specs.declared.engine.Outcome.{Outcome}
 use Rattle.strkw_keywords.specs.Demands.{IsInUse}
 use Rattle.strkw_keywords.specs.Errors.{NodeReports}
-use Rattle.strkw_keywords.specs.Object.{Settings}
+use Rattle.strkw_keywords.specs.Object.{Errors, Settings}
 use Rattle.strkw_object.specs.declared.strings.StringKeywords.{StringKeywords}
 use Rattle.strkw_object.specs.Compiled.{IsCompiledFrom, keywords_demands}
 use Rattle.strkw_report.specs.Standings.{root_site}
@@ -15,8 +15,10 @@ use Rattle.strkw_table.specs.declared.schema_column.SchemaColumn.{SchemaColumn}
 use Rattle.strkw_table.specs.Rows.{OfField, OfFirst, OfRecords}
 use Rattle.strkw_records.specs.Records.{LinedRecord}
 use Rattle.strkw_plan.specs.Compiled.{IsCompiledFor}
-use Rattle.strkw_table.specs.Fields.{FieldErrors, Form, MessagesOf, schema_named}
-use Rattle.strkw_table.specs.Columns.{AreColumns, ColumnMessages, CompiledErrors, IsUsable, keywords_of}
+use Rattle.strkw_plan.specs.Own.{object_says, skips_empty}
+use Rattle.strkw_table.specs.declared.compiled_object.CompiledObject.{CompiledObject}
+use Rattle.strkw_table.specs.Fields.{ErrorsUnless, FieldErrors, Form, MessagesOf, is_passed_over, schema_named}
+use Rattle.strkw_table.specs.Columns.{AreColumns, ColumnMessages, CompiledErrors, IsObjectFor, IsUsable, object_of}
 
 -- the names up to a place, and the name at it
 take-next : (names : List (List ℕ)) (n : ℕ) (name : List ℕ) → field_at names n ≡ Some name → take (suc n) names ≡ take n names ++ name ∷ []
@@ -37,6 +39,21 @@ unfolding field_at
 take-none [] n e = take_all n [] (omega arith)
 take-none (x ∷ xs) zero e = cc e
 take-none (x ∷ xs) (suc n) e = ap (λ l. x ∷ l) (take-none xs n e)
+
+-- errors that are meant one way are meant another, where those that are not passed over are
+errors_unless : (b c : Bool) (AreMeant AreToo : List Report → Type 0) (reports : List Report) → b ≡ c → (AreMeant reports → AreToo reports)
+    → ErrorsUnless b AreMeant reports → ErrorsUnless c AreToo reports
+errors_unless true true AreMeant AreToo reports same along none = none
+errors_unless true false AreMeant AreToo reports same along none = cc same
+errors_unless false true AreMeant AreToo reports same along meant = cc same
+errors_unless false false AreMeant AreToo reports same along meant = along meant
+
+-- what a schema is compiled to, with whether it skips empty fields, is an object for it
+pub is_object : {E : Type 0} (outcome : E → List ℕ → Outcome) (s : Settings) (schema : Option Members) (k : StringKeywords E) (skips : Bool)
+    → IsCompiledFor outcome s schema (Some k) → skips ≡ object_says skips_empty schema
+    → IsObjectFor outcome s schema (Some (record { keywords = k; skips_empty = skips }))
+is_object outcome s None k skips compiled same = absurd compiled
+is_object outcome s (Some schema) k skips compiled same = (compiled, same)
 
 -- what is said of columns is said of what they stand for, where that is so of each column
 module _ {C D : Type 0} (says : C → ℕ → List ℕ → List (List ℕ) → Type 0) (tells : D → ℕ → List ℕ → List (List ℕ) → Type 0) (columns : List C) (names : List D)
@@ -65,7 +82,7 @@ module _ {C D : Type 0} (says : C → ℕ → List ℕ → List (List ℕ) → T
         e,
       )
 
-module _ {E : Type 0} (find : List ℕ → Option (StringKeywords E)) where
+module _ {E : Type 0} (find : List ℕ → Option (CompiledObject E)) where
   -- no column has no name
   pub are_columns_none : AreColumns find [] []
   unfolding AreColumns
@@ -73,7 +90,7 @@ module _ {E : Type 0} (find : List ℕ → Option (StringKeywords E)) where
 
   -- one column more
   are_columns-more : (names : List (List ℕ)) (columns : List (SchemaColumn E)) (name : List ℕ) (column : SchemaColumn E) → AreColumns find names columns
-      → column.name.now ≡ name → keywords_of column ≡ find name → AreColumns find (names ++ name ∷ []) (columns ++ column ∷ [])
+      → column.name.now ≡ name → object_of column ≡ find name → AreColumns find (names ++ name ∷ []) (columns ++ column ∷ [])
   unfolding AreColumns
   are_columns-more [] [] name column p named found = (named, found, tt)
   are_columns-more [] (c ∷ cs) name column p named found = absurd p
@@ -83,7 +100,7 @@ module _ {E : Type 0} (find : List ℕ → Option (StringKeywords E)) where
   -- the same, by the name that stands at a place
   pub are_columns_next : (names : List (List ℕ)) (n : ℕ) (name : List ℕ) (columns : List (SchemaColumn E)) (column : SchemaColumn E)
       → field_at names n ≡ Some name
-      → AreColumns find (take n names) columns → column.name.now ≡ name → keywords_of column ≡ find name
+      → AreColumns find (take n names) columns → column.name.now ≡ name → object_of column ≡ find name
       → AreColumns find (take (n + 1) names) (columns ++ column ∷ [])
   are_columns_next names n name columns column e p named found =
       subst (λ l. AreColumns find l (columns ++ column ∷ [])) (sym (take-one_more names n name e))
@@ -107,29 +124,32 @@ module _ {E : Type 0} (find : List ℕ → Option (StringKeywords E)) where
   are_columns-length (n ∷ ns) [] p = absurd p
   are_columns-length (n ∷ ns) (c ∷ cs) p = ap suc (are_columns-length ns cs p.2)
 
-module _ {E : Type 0} (outcome : E → List ℕ → Outcome) (s : Settings) (schemas : Members) (find : List ℕ → Option (StringKeywords E))
-    (compiled : (name : List ℕ) → IsCompiledFor outcome s (schema_named schemas name) (find name)) where
+module _ {E : Type 0} (outcome : E → List ℕ → Outcome) (s : Settings) (schemas : Members) (find : List ℕ → Option (CompiledObject E))
+    (compiled : (name : List ℕ) → IsObjectFor outcome s (schema_named schemas name) (find name)) where
   -- what is compiled for a schema object reports the errors that the object means
-  compiled_errors : (schema : Option Members) (keywords : Option (StringKeywords E)) (field : List ℕ) (reports : List Report)
-      → IsCompiledFor outcome s schema keywords → CompiledErrors outcome s.lists keywords field reports → FieldErrors s schema field reports
+  compiled_errors : (schema : Option Members) (object : Option (CompiledObject E)) (field : List ℕ) (reports : List Report)
+      → IsObjectFor outcome s schema object → CompiledErrors outcome s.lists object field reports → FieldErrors s schema field reports
   compiled_errors None None field reports p q = q
-  compiled_errors None (Some k) field reports p q = absurd p
+  compiled_errors None (Some o) field reports p q = absurd p
   compiled_errors (Some schema) None field reports p q = absurd p
-  compiled_errors (Some schema) (Some k) field reports p q =
-      (p.entries, p.are_entries, subst (λ assertions. NodeReports assertions s.lists root_site (Some field) reports) p.asserts q)
+  compiled_errors (Some schema) (Some o) field reports p q =
+      let (from, skips) = p in
+      errors_unless (is_passed_over o.skips_empty field) (is_passed_over (skips_empty schema) field) _ (Errors s schema s.lists root_site (Some field)) reports
+      (ap (λ b. is_passed_over b field) skips)
+      (λ said. (from.entries, from.are_entries, subst (λ assertions. NodeReports assertions s.lists root_site (Some field) reports) from.asserts said)) q
 
   -- what may be compiled for a schema is in use with the lists, where each compiled object is
   compiled_usable : ((schema : Members) (k : StringKeywords E) → IsCompiledFrom outcome s schema k → IsInUse (keywords_demands outcome k) s.lists)
-      → (schema : Option Members) (keywords : Option (StringKeywords E)) → IsCompiledFor outcome s schema keywords
-      → IfSome keywords (λ k. IsInUse (keywords_demands outcome k) s.lists)
+      → (schema : Option Members) (object : Option (CompiledObject E)) → IsObjectFor outcome s schema object
+      → IfSome object (λ o. IsInUse (keywords_demands outcome o.keywords) s.lists)
   compiled_usable law None None p = tt
-  compiled_usable law None (Some k) p = absurd p
+  compiled_usable law None (Some o) p = absurd p
   compiled_usable law (Some schema) None p = absurd p
-  compiled_usable law (Some schema) (Some k) p = law schema k p
+  compiled_usable law (Some schema) (Some o) p = law schema o.keywords p.0
 
   -- the messages of a column about a field are those that its name means
   column_messages : (form : Form) (name : List ℕ) (column : SchemaColumn E) (line : ℕ) (field : List ℕ) (messages : List (List ℕ)) → column.name.now ≡ name
-      → keywords_of column ≡ find name
+      → object_of column ≡ find name
       → ColumnMessages form outcome s.lists column line field messages → MessagesOf form s schemas name line field messages
   column_messages form name column line field messages named found q =
       let (reports, errors, e) = q in (

@@ -9,7 +9,8 @@ use Rattle.strkw_plan.specs.declared.faults.PlanFault.{PlanFault}
 use Rattle.strkw_plan.specs.declared.faults.PlanFault.TheVariants as refused
 use Rattle.strkw_plan.specs.declared.kind.PlanKind.TheVariants.{Columns}
 use Rattle.strkw_plan.specs.Compiled.{RefusesAmong, RefusesPlan}
-use Rattle.strkw_plan.specs.Plan.{Plan, plan_of, plan_problem}
+use Rattle.strkw_plan.specs.Faults.{Tells}
+use Rattle.strkw_plan.specs.Plan.{Plan, Problem, plan_of, plan_problem}
 use Rattle.strkw_records.specs.declared.faults.ReadFault.{ReadFault}
 use Rattle.strkw_records.specs.declared.faults.ReadFault.TheVariants as read
 use Rattle.strkw_records.specs.declared.place.Place.{Place}
@@ -60,8 +61,15 @@ by_refusal settings plan (refused.Empty kind) why p gives = rw gives p
 by_refusal settings plan (refused.NoObject place) why p gives = rw gives p
 by_refusal settings plan (refused.UnknownKeyword place keyword nearest) why p gives = rw gives p
 by_refusal settings plan (refused.UncheckedKeyword place keyword) why p gives = rw gives p
+by_refusal settings plan (refused.NoOwnValue kind place own) why p gives = rw gives p
 by_refusal settings plan (refused.Refused place refusal) why p gives = rw gives p
 by_refusal settings plan refused.Memory why p gives = rw gives tt
+
+-- what is wrong with a plan is why the file is not checked
+pub why_of_problem : (settings : Draft → Settings) (plan : Data) (e : PlanFault) (why : TableFault)
+    → (e ≡ refused.Memory) ⊎ ((p : Problem) × (plan_problem Columns plan ≡ Some p) × Tells Columns e p) → GivesOfPlan e why → IsWhy settings plan why
+why_of_problem settings plan e why (inl memory) gives = by_refusal settings plan e why (inl memory) gives
+why_of_problem settings plan e why (inr told) gives = by_refusal settings plan e why (inr (inl told)) gives
 
 -- why a schema of a good plan is not compiled is why the file is not checked
 pub why_of_schemas : (settings : Draft → Settings) (plan : Data) (p : Plan) (e : PlanFault) (why : TableFault) → plan_problem Columns plan ≡ None
@@ -195,6 +203,7 @@ module _ (given : Option ℕ) (form : Form) (settings : Draft → Settings) (pla
   why_of_plan (refused.NoObject place) why gives written = rw gives written
   why_of_plan (refused.UnknownKeyword place keyword nearest) why gives written = rw gives written
   why_of_plan (refused.UncheckedKeyword place keyword) why gives written = rw gives written
+  why_of_plan (refused.NoOwnValue kind place own) why gives written = rw gives written
   why_of_plan (refused.Refused place refusal) why gives written = rw gives written
   why_of_plan refused.Memory why gives written = rw gives tt
 

@@ -21,8 +21,9 @@ use Rattle.serde_json.proofs.Views.{view-lookup}
 use Rattle.serde_json.specs.Find.{as_object}
 use Rattle.strkw_pattern.specs.declared.engine.Outcome.{Outcome}
 use Rattle.strkw_keywords.specs.Object.{Settings}
-use Rattle.strkw_object.specs.declared.strings.StringKeywords.{StringKeywords}
-use Rattle.strkw_plan.specs.Compiled.{IsAmong, IsCompiledFor}
+use Rattle.strkw_plan.specs.Compiled.{IsAmong}
+use Rattle.strkw_table.specs.declared.compiled_object.CompiledObject.{CompiledObject}
+use Rattle.strkw_table.specs.Columns.{IsObjectFor}
 use Rattle.strkw_table.specs.Fields.{schema_named}
 
 -- where each of some entries is found in a map, so is each member that they stand for
@@ -50,19 +51,19 @@ none_at_all : (name other : List ℕ) (d : Data) (ms : Members) → (name ≡ ot
 none_at_all name other d ms apart none = by_order name other d ms (slice_cmp nat_cmp name other) refl apart none
 
 module _ {E : Type 0} (outcome : E → List ℕ → Outcome) (s : Settings) (all rest : Members) (old new : List ℕ
-    → Option (StringKeywords E)) (key : List ℕ) (schema : Data) (k : StringKeywords E)
-    (done : (name : List ℕ) → get_member name (member key schema rest) ≡ None → IsCompiledFor outcome s (schema_named all name) (old name))
-    (found : get_member key all ≡ Some schema) (compiled : IsCompiledFor outcome s (as_object schema) (Some k)) where
+    → Option (CompiledObject E)) (key : List ℕ) (schema : Data) (o : CompiledObject E)
+    (done : (name : List ℕ) → get_member name (member key schema rest) ≡ None → IsObjectFor outcome s (schema_named all name) (old name))
+    (found : get_member key all ≡ Some schema) (compiled : IsObjectFor outcome s (as_object schema) (Some o)) where
   -- what is found by a name not left is compiled for its schema, be it new or not
   by_name : (name : List ℕ) (b : Bool) → bytes_eq key name ≡ b → get_member name rest ≡ None
-      → IsCompiledFor outcome s (schema_named all name) (cond b (Some k) (old name))
+      → IsObjectFor outcome s (schema_named all name) (cond b (Some o) (old name))
   by_name name true is none =
       let same : key ≡ name = (bytes_eq-Decides key name).0 is in
-      subst (λ n. IsCompiledFor outcome s (schema_named all n) (Some k)) same (rw found compiled)
+      subst (λ n. IsObjectFor outcome s (schema_named all n) (Some o)) same (rw found compiled)
   by_name name false is none = done name (none_at_all name key schema rest
       (λ same. not_from_Decides (bytes_eq key name) (bytes_eq-Decides key name) is (sym same)) none)
 
   -- one object more is compiled: each name that is not left has its object
-  pub one_more : ((name : List ℕ) → new name ≡ update bytes_eq old key (Some k) name) → (name : List ℕ) → get_member name rest ≡ None
-      → IsCompiledFor outcome s (schema_named all name) (new name)
-  one_more updates name none = subst (IsCompiledFor outcome s (schema_named all name)) (sym (updates name)) (by_name name (bytes_eq key name) refl none)
+  pub one_more : ((name : List ℕ) → new name ≡ update bytes_eq old key (Some o) name) → (name : List ℕ) → get_member name rest ≡ None
+      → IsObjectFor outcome s (schema_named all name) (new name)
+  one_more updates name none = subst (IsObjectFor outcome s (schema_named all name)) (sym (updates name)) (by_name name (bytes_eq key name) refl none)

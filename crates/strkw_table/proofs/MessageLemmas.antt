@@ -1,22 +1,22 @@
 -- What is said of a field by the schema object of its column.
-use Rattle.std.proofs.Common.{◌≡◌, ◌++◌, ◌∙◌, ℕ, List, [], Result, Ok, Err, length, refl, sym, ap, map, append_assoc, append-nil}
+use Rattle.std.proofs.Common.{◌≡◌, ◌++◌, ◌∙◌, ℕ, List, [], Result, Ok, Err, false, length, refl, sym, ap, map, append_assoc, append-nil}
 use Rattle.std.proofs.lemmas.List.{length-map}
 use Rattle.std.proofs.lemmas.List.Concat.{flat_map-append}
 use Rattle.std.proofs.lemmas.Str.{chars-append}
-use Rattle.std.specs.Prelude.{Some, None, IfOk, codes, decimal}
+use Rattle.std.specs.Prelude.{Some, IfOk, codes, decimal}
 use Rattle.std.specs.List.{concat, flat_map}
 use Rattle.std.specs.Str.{IsUtf8, chars}
 use Rattle.strkw_pattern.specs.declared.engine.Outcome.{Outcome}
 use Rattle.strkw_keywords.specs.Meanings.{Lists}
 use Rattle.strkw_keywords.specs.Errors.{NodeReports}
-use Rattle.strkw_object.specs.declared.strings.StringKeywords.{StringKeywords}
 use Rattle.strkw_object.specs.Compiled.{keywords_assertions}
 use Rattle.strkw_report.specs.Standings.{root_site}
+use Rattle.strkw_table.specs.declared.compiled_object.CompiledObject.{CompiledObject}
 use Rattle.strkw_table.specs.declared.schema_column.SchemaColumn.{SchemaColumn}
-use Rattle.strkw_table.specs.Fields.{Form, field_place}
+use Rattle.strkw_table.specs.Fields.{Form, field_place, is_passed_over}
 use Rattle.strkw_plan.specs.Messages.{AppendsSaid}
 use Rattle.strkw_plan.specs.Shown.{shown, shown_char}
-use Rattle.strkw_table.specs.Columns.{ColumnMessages, keywords_of}
+use Rattle.strkw_table.specs.Columns.{ColumnMessages, CompiledErrors, object_of}
 use Rattle.strkw_plan.proofs.Gathering.{concat-map}
 
 -- ---- the place of a field
@@ -41,20 +41,21 @@ Said form outcome lists column line field count old new = (messages : List (List
     (new ≡ old ++ concat messages)
 
 module _ {E : Type 0} (form : Form) (outcome : E → List ℕ → Outcome) (lists : Lists) (column : SchemaColumn E) (line : ℕ) (field old : List ℕ) where
-  -- nothing of a field whose column has no schema object
-  pub said_nothing : keywords_of column ≡ None → Said form outcome lists column line field 0 old old
-  said_nothing e = ([], ([], rw e refl, refl), refl, sym (append-nil old))
+  -- nothing of a field that has no errors
+  pub said_nothing : CompiledErrors outcome lists (object_of column) field [] → Said form outcome lists column line field 0 old old
+  said_nothing none = ([], ([], none, refl), refl, sym (append-nil old))
 
   -- and otherwise a message for each of its errors
-  pub said_errors : {F : Type 0} (result : Result ℕ F) (k : StringKeywords E) (new : List ℕ) → keywords_of column ≡ Some k
-      → IfOk result (λ count. AppendsSaid (NodeReports (keywords_assertions outcome k) lists root_site (Some field))
+  pub said_errors : {F : Type 0} (result : Result ℕ F) (o : CompiledObject E) (new : List ℕ) → object_of column ≡ Some o
+      → is_passed_over o.skips_empty field ≡ false
+      → IfOk result (λ count. AppendsSaid (NodeReports (keywords_assertions outcome o.keywords) lists root_site (Some field))
       (form line column.name.now) count old new)
       → IfOk result (λ count. Said form outcome lists column line field count old new)
-  said_errors (Ok count) k new e said =
+  said_errors (Ok count) o new e asked said =
       let say = form line column.name.now in (
         map say said.reports,
-        (said.reports, rw e said.reported, refl),
+        (said.reports, rw (e, asked) said.reported, refl),
         said.counted ∙ sym (length-map said.reports say),
         said.grown ∙ ap (λ l. old ++ l) (sym (concat-map say said.reports)),
       )
-  said_errors (Err e) k new same said = tt
+  said_errors (Err e) o new same asked said = tt

@@ -1,6 +1,6 @@
 -- The errors of the fields of a file, and the names in its first record.
-use Rattle.std.specs.Prelude.{◌≡◌, ◌<◌, ◌+◌, ℕ, List, [], ◌++◌, Option, Some, None, option_and_then}
-use Rattle.std.specs.Prelude.{codes, decimal, map, ⊤}
+use Rattle.std.specs.Prelude.{◌≡◌, ◌<◌, ◌+◌, ℕ, List, [], ◌∷◌, ◌++◌, Option, Some, None}
+use Rattle.std.specs.Prelude.{Bool, true, false, option_and_then, codes, decimal, map, ⊤}
 use Rattle.serde_json.specs.Data.{Members, no_members, member}
 use Rattle.serde_json.specs.Find.{get_member, as_object}
 use Rattle.csv.specs.Records.{field_at}
@@ -8,17 +8,30 @@ use Rattle.strkw_report.specs.Kinds.{Report}
 use Rattle.strkw_keywords.specs.Object.{Settings, Errors}
 use Rattle.strkw_report.specs.Standings.{root_site}
 use Rattle.strkw_plan.specs.Messages.{message}
+use Rattle.strkw_plan.specs.Own.{skips_empty}
 use Rattle.strkw_table.specs.Rows.{Says}
 
 -- the schema object of the column of this name
 abbrev pub schema_named : Members → List ℕ → Option Members
 schema_named schemas name = option_and_then as_object (get_member name schemas)
 
+-- a field is passed over: it is empty, and the column skips empty fields
+abbrev pub is_passed_over : Bool → List ℕ → Bool
+is_passed_over skips [] = skips
+is_passed_over skips (c ∷ cs) = false
+
+-- the errors of a field, by whether it is passed over: none, or else those that are meant
+abbrev pub ErrorsUnless : Bool → (List Report → Type 0) → List Report → Type 0
+ErrorsUnless true AreMeant reports = reports ≡ []
+ErrorsUnless false AreMeant reports = AreMeant reports
+
 -- the errors of a field by the schema object of its column; none where the column has no schema
--- object
+-- object, or the field is passed over
 abbrev pub FieldErrors : Settings → Option Members → List ℕ → List Report → Type 0
 FieldErrors s None field reports = reports ≡ []
-FieldErrors s (Some schema) field reports = Errors s schema s.lists root_site (Some field) reports
+FieldErrors s (Some schema) field reports =
+    ErrorsUnless (is_passed_over (skips_empty schema) field)
+    (Errors s schema s.lists root_site (Some field)) reports
 
 -- where a field is: the line on which its record begins, and its column
 abbrev pub field_place : ℕ → List ℕ → List ℕ

@@ -1,6 +1,7 @@
 //! Checks the fields of a CSV file, whose first record names its columns, by a schema object a column.
 #![tactic(auto)]
 
+mod compiled_object;
 mod faults;
 mod form;
 mod header;

@@ -4,22 +4,22 @@ ghost use Rattle.std.specs.Prelude.{◌≡◌, ℕ, List, Some, None, IfErr, IfO
 ghost use Rattle.std.specs.BTreeMap.{get_by_text};
 ghost use Rattle.serde_json.specs.View.{members_view};
 ghost use Rattle.csv.specs.Records.{fields_of};
-ghost use Rattle.strkw_plan.specs.Compiled.{IsCompiledFor, RefusesAmong};
+ghost use Rattle.strkw_plan.specs.Compiled.{RefusesAmong};
 ghost use Rattle.strkw_plan.specs.Rules.{rules_settings};
 ghost use Rattle.strkw_plan.specs.declared.kind.PlanKind.TheVariants.{Columns};
-ghost use Rattle.strkw_table.specs.Columns.{AreColumns};
+ghost use Rattle.strkw_table.specs.Columns.{AreColumns, IsObjectFor};
 ghost use Rattle.strkw_table.specs.Fields.{schema_named};
 
+use crate::compiled_object::{CompiledObject, compile_object};
 use crate::schema_column::SchemaColumn;
 use csv::StringRecord;
 use std::alloc::{AllocError, Global};
 use std::collections::BTreeMap;
-use strkw_object::StringKeywords;
 use strkw_pattern::EngineBuilder;
-use strkw_plan::{Plan, PlanFault, PlanKind, Rules, compile_schema};
+use strkw_plan::{Plan, PlanFault, Rules};
 
 /// The compiled schema objects of a plan, by the names of their columns.
-pub(crate) type Objects<E> = BTreeMap<String, StringKeywords<E>>;
+pub(crate) type Objects<E> = BTreeMap<String, CompiledObject<E>>;
 
 /// Compiles each schema object of a plan.
 ///
@@ -34,7 +34,7 @@ pub(crate) fn compile_objects<B: EngineBuilder>(
         plan.now.draft in
         let schemas = members_view plan.now.schemas.now.entries in
         IfOk result (λ objects. (name : List ℕ)
-        → IsCompiledFor B.Engine.outcome s (schema_named schemas name) (get_by_text objects name)) }
+        → IsObjectFor B.Engine.outcome s (schema_named schemas name) (get_by_text objects name)) }
     ensures refused { let s =
         rules_settings B.takes B.outcome admits accepted encoded decoding rules.now
         plan.now.draft in
@@ -42,8 +42,8 @@ pub(crate) fn compile_objects<B: EngineBuilder>(
 {
     let mut objects = BTreeMap::new(alloc);
     for (name, schema) in plan.schemas.iter() {
-        let keywords = compile_schema(alloc, rules, PlanKind::Columns, plan.draft, name, schema)?;
-        drop(objects.insert(name.clone()?, keywords)?);
+        let object = compile_object(alloc, rules, plan.draft, name, schema)?;
+        drop(objects.insert(name.clone()?, object)?);
     }
     Ok(objects)
 }
@@ -65,7 +65,7 @@ pub(crate) fn columns_of<'a, E>(
         };
         columns.push(SchemaColumn {
             name,
-            keywords: objects.get(name),
+            object: objects.get(name),
         })?;
     }
     Ok(columns)

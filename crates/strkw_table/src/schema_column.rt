@@ -5,10 +5,10 @@ ghost use Rattle.std.specs.List.{concat};
 ghost use Rattle.strkw_keywords.specs.Handed.{lists_of};
 ghost use Rattle.strkw_table.specs.Columns.{ColumnMessages, IsUsable};
 
+use crate::compiled_object::CompiledObject;
 use crate::form::{AtField, FieldForm};
 use std::alloc::{AllocError, Global};
 use strkw_keywords::Checks;
-use strkw_object::StringKeywords;
 use strkw_pattern::RegexEngine;
 use strkw_plan::push_messages_as;
 
@@ -16,7 +16,7 @@ use strkw_plan::push_messages_as;
 #[derive(Clone, Copy)]
 pub(crate) struct SchemaColumn<'a, E> {
     pub name: &'a str,
-    pub keywords: Option<&'a StringKeywords<E>>,
+    pub object: Option<&'a CompiledObject<E>>,
 }
 
 impl<E: RegexEngine> SchemaColumn<'_, E> {
@@ -39,14 +39,17 @@ impl<E: RegexEngine> SchemaColumn<'_, E> {
             × (count ≡ length messages)
             × (string_bytes out.new ≡ string_bytes out.old ++ concat messages)) }
     {
-        let Some(keywords) = self.keywords else {
+        let Some(object) = self.object else {
             return Ok(0);
         };
+        if object.passes_over(field) {
+            return Ok(0);
+        }
         let at = AtField {
             form,
             line,
             column: self.name,
         };
-        push_messages_as(alloc, keywords, checks, &at, &field, out)
+        push_messages_as(alloc, &object.keywords, checks, &at, &field, out)
     }
 }

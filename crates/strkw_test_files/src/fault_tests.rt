@@ -40,6 +40,14 @@ fn plan_in_under_refusal(rt: HostRuntime) -> Result<(), Fail> {
             "{\"draft\":7,\"columns\":{\"a\":true}}",
             "the schema at /columns/a is no object",
         ),
+        (
+            "{\"draft\":7,\"columns\":{\"a\":{\"emtpy\":\"skip\"}}}",
+            "unknown keyword \"emtpy\" at /columns/a: did you mean \"empty\"?",
+        ),
+        (
+            "{\"draft\":7,\"columns\":{\"a\":{\"empty\":1}}}",
+            "\"empty\" at /columns/a is not \"skip\"",
+        ),
     ] {
         if describe(alloc, plan)?.as_str() != wanted {
             return Err(Fail::new(wanted));

@@ -58,9 +58,10 @@ fn check_document_under_refusal(rt: HostRuntime) -> Result<(), Fail> {
     let alloc = rt.alloc();
     let plan = json(
         alloc,
-        "{\"draft\":7,\"places\":{\"/server/name\":{\"maxLength\":2,\"minLength\":4},\"/server/host\":{\"format\":\"ipv4\"}}}",
+        "{\"draft\":7,\"places\":{\"/server/name\":{\"maxLength\":2},\"/server/host\":{\"format\":\"ipv4\"},\
+         \"/server/port\":{\"string\":true}}}",
     )?;
-    let document = json(alloc, "{\"server\":{\"host\":\"::1\"}}")?;
+    let document = json(alloc, "{\"server\":{\"host\":\"::1\",\"port\":80}}")?;
     let rules = Rules::new(&NoPatterns);
     let mut out = Vec::with_capacity(alloc, 100)?;
     let errors = match check_document(alloc, &rules, &plan, &document, &mut out) {
@@ -69,9 +70,9 @@ fn check_document_under_refusal(rt: HostRuntime) -> Result<(), Fail> {
         Err(_) => return Err(Fail::new("a fault where there is memory")),
     };
     is_as_wanted(
-        errors == 2,
+        errors == 3,
         &out,
-        "/server/host: /format: \"::1\" is not a \"ipv4\"\n/server/name: missing\n",
+        "/server/host: /format: \"::1\" is not a \"ipv4\"\n/server/name: missing\n/server/port: not a string\n",
     )
 }
 

@@ -5,6 +5,7 @@ ghost use Rattle.strkw_keywords.specs.Handed.{lists_of};
 ghost use Rattle.strkw_object.specs.Compiled.{keywords_demands};
 ghost use Rattle.std.specs.Prelude.{decimal};
 
+use crate::building::{Building, subcommand};
 use crate::faults::Fault;
 use crate::files::{FileCheck, check_files};
 use crate::inputs::{InputFault, InputFile, Lines};
@@ -42,6 +43,9 @@ const JSON: &str = "json";
 // The option for formats that are not known.
 const IGNORE_UNKNOWN_FORMATS: &str = "ignore-unknown-formats";
 
+// What it does.
+const ABOUT: &str = "Checks each line of files by one schema object";
+
 // What its help ends with.
 const AFTER_HELP: &str = "\
 An error is a line `LINE: KEYWORD: TEXT`, and of several files it begins with the name of
@@ -57,27 +61,33 @@ Examples:
 
 /// What the subcommand takes.
 pub(crate) fn command<'a>(alloc: Global) -> Result<Command<'a>, AllocError> {
-    let json = Arg::new(alloc, JSON)
+    subcommand(alloc, NAME, ABOUT, AFTER_HELP)
+        .with(required(alloc, SCHEMA, "The file of the schema object"))
+        .with(files(alloc))
+        .with(color(alloc))
+        .with(draft(alloc))
+        .with(ignore(alloc))
+        .with(ignore_formats(alloc))
+        .with(json(alloc))
+        .with(max_errors(alloc))
+        .with(output_form(alloc))
+        .with(quiet(alloc))
+}
+
+// The option `--json`.
+fn json<'a>(alloc: Global) -> Arg<'a> {
+    Arg::new(alloc, JSON)
         .long(JSON)
         .action(ArgAction::SetTrue)
-        .help("Read each line as a JSON value; one that is no string is valid");
-    let ignore_formats = Arg::new(alloc, IGNORE_UNKNOWN_FORMATS)
+        .help("Read each line as a JSON value; one that is no string is valid")
+}
+
+// The option `--ignore-unknown-formats`.
+fn ignore_formats<'a>(alloc: Global) -> Arg<'a> {
+    Arg::new(alloc, IGNORE_UNKNOWN_FORMATS)
         .long(IGNORE_UNKNOWN_FORMATS)
         .action(ArgAction::SetTrue)
-        .help("Let every text pass a format that is not known");
-    Command::new(alloc, NAME)
-        .about("Checks each line of files by one schema object")
-        .after_help(AFTER_HELP)
-        .arg(required(alloc, SCHEMA, "The file of the schema object"))?
-        .arg(files(alloc))?
-        .arg(color(alloc))?
-        .arg(draft(alloc))?
-        .arg(ignore(alloc))?
-        .arg(ignore_formats)?
-        .arg(json)?
-        .arg(max_errors(alloc))?
-        .arg(output_form(alloc))?
-        .arg(quiet(alloc))
+        .help("Let every text pass a format that is not known")
 }
 
 // Where a text is: on the line of this number.

@@ -1,5 +1,6 @@
 //! `neldrafi csv`: checks CSV files by a plan.
 
+use crate::building::{Building, subcommand};
 use crate::columns::fault_of_missing;
 use crate::errors::ErrorLines;
 use crate::faults::Fault;
@@ -38,6 +39,9 @@ const SUMMARY: &str = "summary";
 // The option for a page about the errors in place of the messages.
 const REPORT: &str = "report";
 
+// What it does.
+const ABOUT: &str = "Checks CSV files by a plan: a schema object for each column";
+
 // What its help ends with.
 const AFTER_HELP: &str = "\
 An error is a line `LINE: COLUMN: KEYWORD: TEXT`, and of several files it begins with the
@@ -46,6 +50,7 @@ name of the file. With `--output json` it is an object with `file`, `line`, `col
 each keyword in each column, and the line of the first record with one. `--report` makes a
 page of HTML in place of the messages: how many errors there are, where they are, and the
 first twenty of each kind.
+An empty field of a column for which the plan has `\"empty\": \"skip\"` has no errors.
 
 Examples:
   neldrafi csv plan.json people.csv
@@ -62,34 +67,48 @@ const DELIMITER_HELP: &str =
 
 /// What the subcommand takes.
 pub(crate) fn command<'a>(alloc: Global) -> Result<Command<'a>, AllocError> {
-    let progress = Arg::new(alloc, PROGRESS)
+    subcommand(alloc, NAME, ABOUT, AFTER_HELP)
+        .with(required(alloc, PLAN, "The file of the plan"))
+        .with(files(alloc))
+        .with(color(alloc))
+        .with(delimiter(alloc, DELIMITER_HELP))
+        .with(max_errors(alloc))
+        .with(output_form(alloc))
+        .with(progress(alloc))
+        .with(quiet(alloc))
+        .with_made(summary(alloc))
+        .with_made(report(alloc))
+}
+
+// The option `--progress`.
+fn progress<'a>(alloc: Global) -> Arg<'a> {
+    Arg::new(alloc, PROGRESS)
         .long(PROGRESS)
         .action(ArgAction::SetTrue)
-        .help("Tell of every million records, and of all at the end, on standard error");
-    let summary = Arg::new(alloc, SUMMARY)
-        .long(SUMMARY)
-        .action(ArgAction::SetTrue)
-        .conflicts_with(MAX_ERRORS)?
-        .help("Write a table of the errors by column and keyword in place of them");
-    let report = Arg::new(alloc, REPORT)
-        .long(REPORT)
-        .value_name("PAGE")
-        .conflicts_with(SUMMARY)?
-        .conflicts_with(MAX_ERRORS)?
-        .help("Write a page of HTML about the errors to the file PAGE in place of them");
-    Command::new(alloc, NAME)
-        .about("Checks CSV files by a plan: a schema object for each column")
-        .after_help(AFTER_HELP)
-        .arg(required(alloc, PLAN, "The file of the plan"))?
-        .arg(files(alloc))?
-        .arg(color(alloc))?
-        .arg(delimiter(alloc, DELIMITER_HELP))?
-        .arg(max_errors(alloc))?
-        .arg(output_form(alloc))?
-        .arg(progress)?
-        .arg(quiet(alloc))?
-        .arg(summary)?
-        .arg(report)
+        .help("Tell of every million records, and of all at the end, on standard error")
+}
+
+// The option `--summary`.
+fn summary<'a>(alloc: Global) -> Result<Arg<'a>, AllocError> {
+    Ok(
+        Arg::new(alloc, SUMMARY)
+            .long(SUMMARY)
+            .action(ArgAction::SetTrue)
+            .conflicts_with(MAX_ERRORS)?
+            .help("Write a table of the errors by column and keyword in place of them"),
+    )
+}
+
+// The option `--report`.
+fn report<'a>(alloc: Global) -> Result<Arg<'a>, AllocError> {
+    Ok(
+        Arg::new(alloc, REPORT)
+            .long(REPORT)
+            .value_name("PAGE")
+            .conflicts_with(SUMMARY)?
+            .conflicts_with(MAX_ERRORS)?
+            .help("Write a page of HTML about the errors to the file PAGE in place of them"),
+    )
 }
 
 // Checks a CSV file by a plan.

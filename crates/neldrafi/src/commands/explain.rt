@@ -1,5 +1,6 @@
 //! `neldrafi explain`: what a schema object compiles to, in words.
 
+use crate::building::{Building, subcommand};
 use crate::faults::Fault;
 use crate::known_formats::KnownFormat;
 use crate::lines::push_line;
@@ -26,6 +27,9 @@ pub(crate) const NAME: &str = "explain";
 // The argument for the file of the schema object.
 const SCHEMA: &str = "SCHEMA";
 
+// What it does.
+const ABOUT: &str = "Says in words what a schema object checks";
+
 // What its help ends with.
 const AFTER_HELP: &str = "\
 It writes a line `KEYWORD: WORDS` for each member of the schema object, and a line where no
@@ -38,13 +42,11 @@ Examples:
 
 /// What the subcommand takes.
 pub(crate) fn command<'a>(alloc: Global) -> Result<Command<'a>, AllocError> {
-    Command::new(alloc, NAME)
-        .about("Says in words what a schema object checks")
-        .after_help(AFTER_HELP)
-        .arg(required(alloc, SCHEMA, "The file of the schema object"))?
-        .arg(draft(alloc))?
-        .arg(ignore(alloc))?
-        .arg(output_form(alloc))
+    subcommand(alloc, NAME, ABOUT, AFTER_HELP)
+        .with(required(alloc, SCHEMA, "The file of the schema object"))
+        .with(draft(alloc))
+        .with(ignore(alloc))
+        .with(output_form(alloc))
 }
 
 // A number of characters, as `1 character`.

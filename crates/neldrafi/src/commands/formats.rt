@@ -1,5 +1,6 @@
 //! `neldrafi formats`: a table of the formats.
 
+use crate::building::{Building, subcommand};
 use crate::drafts::{DRAFTS, draft_name};
 use crate::faults::Fault;
 use crate::known_formats::KnownFormat;
@@ -14,6 +15,9 @@ use std::alloc::{AllocError, Global};
 /// The name of the subcommand.
 pub(crate) const NAME: &str = "formats";
 
+// What it does.
+const ABOUT: &str = "Lists the formats with their drafts and an example of each";
+
 // What its help ends with.
 const AFTER_HELP: &str = "\
 The columns are the name, the first and the last draft that has the format, and a text of it.
@@ -25,10 +29,7 @@ Examples:
 
 /// What the subcommand takes.
 pub(crate) fn command<'a>(alloc: Global) -> Result<Command<'a>, AllocError> {
-    Command::new(alloc, NAME)
-        .about("Lists the formats with their drafts and an example of each")
-        .after_help(AFTER_HELP)
-        .arg(output_form(alloc))
+    subcommand(alloc, NAME, ABOUT, AFTER_HELP).with(output_form(alloc))
 }
 
 // The names of the first and the last draft that has a format.

@@ -1,5 +1,6 @@
 //! `neldrafi json`: checks JSON documents by a plan.
 
+use crate::building::{Building, subcommand};
 use crate::faults::Fault;
 use crate::files::{FileCheck, check_files};
 use crate::inputs::InputFile;
@@ -24,11 +25,18 @@ pub(crate) const NAME: &str = "json";
 // The argument for the file of the plan.
 const PLAN: &str = "PLAN";
 
+// What it does.
+const ABOUT: &str = "Checks JSON documents by a plan: a schema object for each place";
+
 // What its help ends with.
 const AFTER_HELP: &str = "\
 An error is a line `PLACE: KEYWORD: TEXT`, and of several files it begins with the name of
 the file. With `--output json` it is an object with `file`, `place`, `keyword`, `kind`,
 `message` and `instance`.
+
+A place that the document lacks is an error, `PLACE: missing`, unless the schema object has
+`\"optional\": true`. A value that is no string has no errors, but with `\"string\": true` the
+one `PLACE: not a string`.
 
 Examples:
   neldrafi json plan.json server.json
@@ -37,15 +45,13 @@ Examples:
 
 /// What the subcommand takes.
 pub(crate) fn command<'a>(alloc: Global) -> Result<Command<'a>, AllocError> {
-    Command::new(alloc, NAME)
-        .about("Checks JSON documents by a plan: a schema object for each place")
-        .after_help(AFTER_HELP)
-        .arg(required(alloc, PLAN, "The file of the plan"))?
-        .arg(files(alloc))?
-        .arg(color(alloc))?
-        .arg(max_errors(alloc))?
-        .arg(output_form(alloc))?
-        .arg(quiet(alloc))
+    subcommand(alloc, NAME, ABOUT, AFTER_HELP)
+        .with(required(alloc, PLAN, "The file of the plan"))
+        .with(files(alloc))
+        .with(color(alloc))
+        .with(max_errors(alloc))
+        .with(output_form(alloc))
+        .with(quiet(alloc))
 }
 
 // Checks a JSON document by a plan.

@@ -1,5 +1,6 @@
 //! `neldrafi plan`: a plan that is proposed for a CSV file, from a sample of its records.
 
+use crate::building::{Building, subcommand};
 use crate::drafts::draft_number;
 use crate::faults::Fault;
 use crate::inputs::{InputFile, STANDARD_INPUT};
@@ -9,15 +10,15 @@ use crate::options::{
 };
 use crate::outcome::Outcome;
 use crate::output::write_text;
-use crate::plans::set_delimiter;
+use crate::plans::{set_delimiter, set_text};
 use clap::builder::ValueParser;
 use clap::{Arg, ArgMatches, Command};
 use csv::StringRecord;
 use serde_json::{Map, Value, json};
 use std::alloc::{AllocError, Global};
 use std::collections::BTreeMap;
-use strkw_plan::PlanFault;
-use strkw_records::{Delimiter, Limits, RecordReader};
+use strkw_plan::{PlanFault, delimiter_of};
+use strkw_records::{Limits, RecordReader};
 use strkw_report::Draft;
 use strkw_shells::FileFault;
 use strkw_table::TableFault;
@@ -34,13 +35,16 @@ const RECORDS: &str = "records";
 // So many records are looked at where nothing is said.
 const SAMPLE: u64 = 10_000;
 
+// What it does.
+const ABOUT: &str = "Proposes a plan for a CSV file from a sample of its records";
+
 // What its help ends with.
 const AFTER_HELP: &str = "\
 The plan has for each column the first of these formats that all its values are of:
 date-time, date, time, duration, uuid, ipv4, ipv6, email, idn-email, uri, iri; and the
 lengths of its values.
-Where a column has empty values it has no format, and its description says which one the
-others are of. A plan from a sample is a start: edit it.
+Where a column has empty values and others, this is said of the others, and the empty ones
+are passed over: \"empty\": \"skip\". A plan from a sample is a start: edit it.
 
 Examples:
   neldrafi plan people.csv > plan.json
@@ -68,34 +72,40 @@ const PROPOSED: &[&str] = &[
 
 /// What the subcommand takes.
 pub(crate) fn command<'a>(alloc: Global) -> Result<Command<'a>, AllocError> {
-    let file = Arg::new(alloc, FILE)
+    subcommand(alloc, NAME, ABOUT, AFTER_HELP)
+        .with(file(alloc))
+        .with(delimiter(alloc, DELIMITER_HELP))
+        .with(draft(alloc))
+        .with(output_form(alloc))
+        .with(records(alloc))
+}
+
+// The file of the records.
+fn file<'a>(alloc: Global) -> Arg<'a> {
+    Arg::new(alloc, FILE)
         .default_value(STANDARD_INPUT)
         .hide_default_value(true)
-        .help("The CSV file; `-` is standard input, and so is no file");
-    let records = Arg::new(alloc, RECORDS)
+        .help("The CSV file; `-` is standard input, and so is no file")
+}
+
+// The option `--records`.
+fn records<'a>(alloc: Global) -> Arg<'a> {
+    Arg::new(alloc, RECORDS)
         .long(RECORDS)
         .value_name("N")
         .value_parser(ValueParser::unsigned(1, u64::MAX))
-        .help("Look at the first N records, and not at 10000");
-    Command::new(alloc, NAME)
-        .about("Proposes a plan for a CSV file from a sample of its records")
-        .after_help(AFTER_HELP)
-        .arg(file)?
-        .arg(delimiter(alloc, DELIMITER_HELP))?
-        .arg(draft(alloc))?
-        .arg(output_form(alloc))?
-        .arg(records)
+        .help("Look at the first N records, and not at 10000")
 }
 
 // What was seen of a column.
 #[derive(Debug, Drop)]
 struct Column {
-    // The formats of which all values are that are not empty.
+    // Whether it has an empty value, and one that is not.
+    has_empty: bool,
+    has_others: bool,
+    // The formats of which all those are that are not empty.
     formats: Vec<KnownFormat>,
-    // How many values there are, and how many of them are empty.
-    values: u64,
-    empty: u64,
-    // The least and the greatest number of characters of a value.
+    // The least and the greatest number of characters of one of them.
     least: u64,
     greatest: u64,
 }
@@ -115,9 +125,9 @@ impl Column {
     // No value was seen.
     fn new(alloc: Global, draft: Draft) -> Result<Column, AllocError> {
         Ok(Column {
+            has_empty: false,
+            has_others: false,
             formats: proposed(alloc, draft)?,
-            values: 0,
-            empty: 0,
             least: u64::MAX,
             greatest: 0,
         })
@@ -125,14 +135,14 @@ impl Column {
 
     // A value is seen.
     fn see(&mut self, alloc: Global, value: &str) -> Result<(), AllocError> {
-        let characters = value.chars().count() as u64;
-        self.values = self.values.saturating_add(1);
-        self.least = self.least.min(characters);
-        self.greatest = self.greatest.max(characters);
         if value.is_empty() {
-            self.empty = self.empty.saturating_add(1);
+            self.has_empty = true;
             return Ok(());
         }
+        let characters = value.chars().count() as u64;
+        self.has_others = true;
+        self.least = self.least.min(characters);
+        self.greatest = self.greatest.max(characters);
         let mut formats = Vec::new(alloc);
         for format in &self.formats {
             if format.is_valid(alloc, value)? {
@@ -143,36 +153,28 @@ impl Column {
         Ok(())
     }
 
-    // The format that is proposed, where a value was seen that has one.
-    fn format(&self) -> Option<&'static str> {
-        if self.empty == self.values {
-            return None;
-        }
-        Some(self.formats.first()?.as_str())
-    }
-
     // The schema object that is proposed.
     fn schema(&self, alloc: Global) -> Result<Value, AllocError> {
-        let (least, greatest) = (self.least, self.greatest);
-        if self.values == 0 {
-            return json!(in alloc; {});
-        }
-        match self.format() {
-            None => json!(in alloc; {"minLength": least, "maxLength": greatest}),
-            Some(format) if self.empty == 0 => json!(in alloc; {
-                "format": format,
-                "minLength": least,
-                "maxLength": greatest
-            }),
-            Some(format) => {
-                let (empty, values) = (self.empty, self.values);
-                let words = format!(in alloc;
-                    "{empty} of {values} values are empty, the others {format}"
-                )?;
-                let words = words.as_str();
-                json!(in alloc; {"description": words, "maxLength": greatest})
+        match (self.has_others, self.has_empty) {
+            (false, false) => json!(in alloc; {}),
+            (false, true) => json!(in alloc; {"minLength": 0, "maxLength": 0}),
+            (true, false) => self.schema_of_others(alloc),
+            (true, true) => {
+                let mut schema = self.schema_of_others(alloc)?;
+                set_text(alloc, &mut schema, "empty", "skip")?;
+                Ok(schema)
             }
         }
+    }
+
+    // The schema object that is proposed for the values that are not empty.
+    fn schema_of_others(&self, alloc: Global) -> Result<Value, AllocError> {
+        let (least, greatest) = (self.least, self.greatest);
+        let mut schema = json!(in alloc; {"minLength": least, "maxLength": greatest})?;
+        if let Some(format) = self.formats.first() {
+            set_text(alloc, &mut schema, "format", format.as_str())?;
+        }
+        Ok(schema)
     }
 }
 
@@ -247,20 +249,12 @@ fn reader_of(
     file: InputFile,
     said: Option<&str>,
 ) -> Result<RecordReader<InputFile>, Fault> {
-    let Some(delimiter) = delimiter_named(said.unwrap_or(",")) else {
+    let Some(delimiter) = delimiter_of(said.unwrap_or(",")) else {
         let fault = FileFault::of_plan(alloc, PlanFault::NoDelimiter);
         return Err(Fault::from(fault));
     };
     let limits = Limits::none();
     Ok(RecordReader::with_delimiter(alloc, file, limits, delimiter)?)
-}
-
-// The delimiter that a text is, or none.
-fn delimiter_named(text: &str) -> Option<Delimiter> {
-    match text.as_bytes() {
-        [byte] => Delimiter::new(*byte),
-        _ => None,
-    }
 }
 
 // A sample of so many records that a reader reads.

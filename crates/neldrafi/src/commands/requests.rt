@@ -1,6 +1,7 @@
 //! `neldrafi requests`: answers requests, one a line.
 
 use crate::bad_requests::why_bad;
+use crate::building::{Building, subcommand};
 use crate::faults::Fault;
 use crate::inputs::{InputFault, InputFile, LineBytes, Lines, STANDARD_INPUT};
 use crate::options::{OutputForm, Wanted, output as output_form};
@@ -20,6 +21,9 @@ const FILE: &str = "FILE";
 // The answer to a line that is no request.
 const BAD_REQUEST: &[u8] = b"bad request\nend\n";
 
+// What it does.
+const ABOUT: &str = "Answers requests, one a line";
+
 // What its help ends with.
 const AFTER_HELP: &str = "\
 A request is a line of JSON with a draft, a schema object and an instance. The status
@@ -33,15 +37,17 @@ Examples:
 
 /// What the subcommand takes.
 pub(crate) fn command<'a>(alloc: Global) -> Result<Command<'a>, AllocError> {
-    let file = Arg::new(alloc, FILE)
+    subcommand(alloc, NAME, ABOUT, AFTER_HELP)
+        .with(file(alloc))
+        .with(output_form(alloc))
+}
+
+// The file of the requests.
+fn file<'a>(alloc: Global) -> Arg<'a> {
+    Arg::new(alloc, FILE)
         .default_value(STANDARD_INPUT)
         .hide_default_value(true)
-        .help("The file of the requests; `-` is standard input, and so is no file");
-    Command::new(alloc, NAME)
-        .about("Answers requests, one a line")
-        .after_help(AFTER_HELP)
-        .arg(file)?
-        .arg(output_form(alloc))
+        .help("The file of the requests; `-` is standard input, and so is no file")
 }
 
 // What requests are answered with, and how it is told that a line is none.

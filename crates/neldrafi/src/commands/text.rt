@@ -1,5 +1,6 @@
 //! `neldrafi text`: whether texts are of a format.
 
+use crate::building::{Building, subcommand};
 use crate::drafts::draft_name;
 use crate::faults::Fault;
 use crate::inputs::{InputFile, Lines, STANDARD_INPUT};
@@ -24,6 +25,9 @@ const FORMAT: &str = "FORMAT";
 
 // The argument for the texts.
 const TEXT: &str = "TEXT";
+
+// What it does.
+const ABOUT: &str = "Says whether texts are of a format";
 
 // What its help ends with.
 const AFTER_HELP: &str = "\
@@ -60,21 +64,23 @@ impl fmt::Display for FormatFault {
 
 /// What the subcommand takes.
 pub(crate) fn command<'a>(alloc: Global) -> Result<Command<'a>, AllocError> {
-    let texts = Arg::new(alloc, TEXT).num_args(0usize..).help(
-        "Texts to judge; without any, each line of standard input is one",
-    );
-    Command::new(alloc, NAME)
-        .about("Says whether texts are of a format")
-        .after_help(AFTER_HELP)
-        .arg(required(
+    subcommand(alloc, NAME, ABOUT, AFTER_HELP)
+        .with(required(
             alloc,
             FORMAT,
             "The name of a format, as `neldrafi formats` lists them",
-        ))?
-        .arg(texts)?
-        .arg(draft(alloc))?
-        .arg(output_form(alloc))?
-        .arg(quiet(alloc))
+        ))
+        .with(texts(alloc))
+        .with(draft(alloc))
+        .with(output_form(alloc))
+        .with(quiet(alloc))
+}
+
+// The texts.
+fn texts<'a>(alloc: Global) -> Arg<'a> {
+    Arg::new(alloc, TEXT).num_args(0usize..).help(
+        "Texts to judge; without any, each line of standard input is one",
+    )
 }
 
 // The first format of the draft to whose name one edit leads, where one does.

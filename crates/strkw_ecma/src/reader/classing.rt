@@ -1,9 +1,10 @@
 //! How a class is read, behind `[`.
 
-ghost use Rattle.std.specs.Prelude.{◌≡◌, ◌==◌, IfOk, option_map};
+ghost use Rattle.std.specs.Prelude.{◌≡◌, ◌==◌, Some, IfOk, option_map};
 ghost use Rattle.std.specs.Str.{byte};
 ghost use Rattle.strkw_ecma.specs.Classes.{class_token as spec_class_token, class_escape as spec_class_escape};
-ghost use Rattle.strkw_ecma.specs.machine.Parts.{parts_of, class_of, within, after_class_token, after_class_escape, after_bracket};
+ghost use Rattle.strkw_ecma.specs.machine.Parts.{parts_of, class_of, when, within};
+ghost use Rattle.strkw_ecma.specs.machine.Parts.{after_class_token, after_class_escape, after_bracket};
 
 use super::{Mode, Reader};
 use crate::classes::{ClassReader, Item};
@@ -14,39 +15,46 @@ use crate::tokens::{ClassToken, Escape};
 use std::alloc::{AllocError, Global};
 
 impl Reader {
-    pub(super) fn with_class(self, class: Option<ClassReader>) -> Option<Reader>
-        ensures { option_map parts_of result ≡ within (parts_of self) (option_map class_of class) }
+    // Whether there is one.
+    pub(super) fn set_class(&mut self, class: Option<ClassReader>) -> bool
+        ensures { when result (Some (parts_of self.new))
+            ≡ within (parts_of self.old) (option_map class_of class) }
     {
         match class {
-            Some(class) => Some(self.with_mode(Mode::Class(class))),
-            None => None,
+            Some(class) => {
+                self.set_mode(Mode::Class(class));
+                true
+            }
+            None => false,
         }
     }
 
     pub(super) fn class_plain(
-        self,
+        &mut self,
         alloc: Global,
         class: ClassReader,
         c: char,
-    ) -> Result<Option<Reader>, AllocError>
-        ensures { IfOk result (λ r. option_map parts_of r
-            ≡ after_class_token (parts_of self) (class_of class) c (spec_class_token c)) }
+    ) -> Result<bool, AllocError>
+        ensures { IfOk result (λ taken. when taken (Some (parts_of self.new))
+            ≡ after_class_token (parts_of self.old) (class_of class) c (spec_class_token c)) }
     {
         match ClassToken::of(c) {
-            ClassToken::Closing => Ok(Some(self.with_atom(alloc, class.close()?)?)),
-            ClassToken::Backslash => Ok(Some(self.with_mode(Mode::ClassEscaping(class)))),
-            ClassToken::Dash => Ok(self.with_class(class.with_dash()?)),
-            ClassToken::Character => Ok(self.with_class(class.with_item(Item::Char(c))?)),
+            ClassToken::Closing => {
+                self.add_atom(alloc, class.close()?)?;
+                Ok(true)
+            }
+            ClassToken::Backslash => {
+                self.set_mode(Mode::ClassEscaping(class));
+                Ok(true)
+            }
+            ClassToken::Dash => Ok(self.set_class(class.with_dash()?)),
+            ClassToken::Character => Ok(self.set_class(class.with_item(Item::Char(c))?)),
         }
     }
 
-    pub(super) fn class_escaped(
-        self,
-        class: ClassReader,
-        c: char,
-    ) -> Result<Option<Reader>, AllocError>
-        ensures { IfOk result (λ r. option_map parts_of r
-            ≡ after_class_escape (parts_of self) (class_of class) c (spec_class_escape c)) }
+    pub(super) fn class_escaped(&mut self, class: ClassReader, c: char) -> Result<bool, AllocError>
+        ensures { IfOk result (λ taken. when taken (Some (parts_of self.new))
+            ≡ after_class_escape (parts_of self.old) (class_of class) c (spec_class_escape c)) }
     {
         let item = match Escape::of_class(c) {
             Escape::Itself => Item::Char(c),
@@ -55,37 +63,40 @@ impl Reader {
             Escape::Boundary => Item::Char('\u{8}'),
             Escape::Null => Item::Char('\0'),
             Escape::Letter => {
-                return Ok(Some(self.with_mode(Mode::ClassCoding(class, Coding::Letter))));
+                self.set_mode(Mode::ClassCoding(class, Coding::Letter));
+                return Ok(true);
             }
             Escape::Hexadecimal => {
                 let coding = Coding::Digits(Width::Byte, Wanted::Two, 0);
-                return Ok(Some(self.with_mode(Mode::ClassCoding(class, coding))));
+                self.set_mode(Mode::ClassCoding(class, coding));
+                return Ok(true);
             }
             Escape::Unicode => {
-                return Ok(Some(self.with_mode(Mode::ClassCoding(class, Coding::UnitOpened))));
+                self.set_mode(Mode::ClassCoding(class, Coding::UnitOpened));
+                return Ok(true);
             }
             Escape::Property => {
-                let part = PropertyPart::BraceAwaited(false);
-                return Ok(Some(self.with_mode(Mode::ClassProperty(class, part))));
+                self.set_mode(Mode::ClassProperty(class, PropertyPart::BraceAwaited(false)));
+                return Ok(true);
             }
             Escape::NoProperty => {
-                let part = PropertyPart::BraceAwaited(true);
-                return Ok(Some(self.with_mode(Mode::ClassProperty(class, part))));
+                self.set_mode(Mode::ClassProperty(class, PropertyPart::BraceAwaited(true)));
+                return Ok(true);
             }
-            Escape::NoBoundary | Escape::Unknown => return Ok(None),
+            Escape::NoBoundary | Escape::Unknown => return Ok(false),
         };
-        let class = class.with_item(item)?;
-        Ok(self.with_class(class))
+        Ok(self.set_class(class.with_item(item)?))
     }
 
     // Behind `[`.
-    pub(super) fn in_bracket(self, alloc: Global, c: char) -> Result<Option<Reader>, AllocError>
-        ensures { IfOk result (λ r. option_map parts_of r
-            ≡ after_bracket (parts_of self) c (c == byte "^")) }
+    pub(super) fn in_bracket(&mut self, alloc: Global, c: char) -> Result<bool, AllocError>
+        ensures { IfOk result (λ taken. when taken (Some (parts_of self.new))
+            ≡ after_bracket (parts_of self.old) c (c == byte "^")) }
     {
         if c == '^' {
             let class = ClassReader::new(alloc, true);
-            Ok(Some(self.with_mode(Mode::Class(class))))
+            self.set_mode(Mode::Class(class));
+            Ok(true)
         } else {
             self.class_plain(alloc, ClassReader::new(alloc, false), c)
         }

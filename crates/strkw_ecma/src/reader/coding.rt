@@ -1,7 +1,7 @@
 //! How an escape by a number is read, in a pattern and in a class.
 
-ghost use Rattle.std.specs.Prelude.{◌≡◌, IfOk, option_map};
-ghost use Rattle.strkw_ecma.specs.machine.Parts.{parts_of, class_of, after_coding, after_class_coding};
+ghost use Rattle.std.specs.Prelude.{◌≡◌, Some, IfOk};
+ghost use Rattle.strkw_ecma.specs.machine.Parts.{parts_of, class_of, after_coding, after_class_coding, when};
 
 use super::{Mode, Reader};
 use crate::classes::{ClassReader, Item};
@@ -9,31 +9,32 @@ use crate::codes::Coded;
 use std::alloc::{AllocError, Global};
 
 impl Reader {
-    pub(super) fn take_code(self, alloc: Global, coded: Coded) -> Result<Option<Reader>, AllocError>
-        ensures { IfOk result (λ r. option_map parts_of r ≡ after_coding (parts_of self) coded) }
+    pub(super) fn take_code(&mut self, alloc: Global, coded: Coded) -> Result<bool, AllocError>
+        ensures { IfOk result (λ taken. when taken (Some (parts_of self.new)) ≡ after_coding (parts_of self.old) coded) }
     {
         match coded {
-            Coded::Fails => Ok(None),
-            Coded::Goes(coding) => Ok(Some(self.with_mode(Mode::Coding(coding)))),
-            Coded::Makes(c) => Ok(Some(self.with_char(alloc, c)?)),
+            Coded::Fails => return Ok(false),
+            Coded::Goes(coding) => self.set_mode(Mode::Coding(coding)),
+            Coded::Makes(c) => self.add_char(alloc, c)?,
         }
+        Ok(true)
     }
 
     pub(super) fn class_coded(
-        self,
+        &mut self,
         class: ClassReader,
         coded: Coded,
-    ) -> Result<Option<Reader>, AllocError>
-        ensures { IfOk result (λ r. option_map parts_of r
-            ≡ after_class_coding (parts_of self) (class_of class) coded) }
+    ) -> Result<bool, AllocError>
+        ensures { IfOk result (λ taken. when taken (Some (parts_of self.new))
+            ≡ after_class_coding (parts_of self.old) (class_of class) coded) }
     {
         match coded {
-            Coded::Fails => Ok(None),
-            Coded::Goes(coding) => Ok(Some(self.with_mode(Mode::ClassCoding(class, coding)))),
-            Coded::Makes(c) => {
-                let class = class.with_item(Item::Char(c))?;
-                Ok(self.with_class(class))
+            Coded::Fails => Ok(false),
+            Coded::Goes(coding) => {
+                self.set_mode(Mode::ClassCoding(class, coding));
+                Ok(true)
             }
+            Coded::Makes(c) => Ok(self.set_class(class.with_item(Item::Char(c))?)),
         }
     }
 }

@@ -6,7 +6,7 @@ ghost use Rattle.strkw_ecma.specs.Syntax.{max_length};
 ghost use Rattle.strkw_ecma.specs.Numbers.{count_token as spec_count_token};
 ghost use Rattle.strkw_ecma.specs.Names.{extension as spec_extension, name_token as spec_name_token};
 ghost use Rattle.strkw_ecma.specs.machine.Outcomes.{takes_pattern};
-ghost use Rattle.strkw_ecma.specs.machine.Parts.{parts_of, last_of, part_of, expression_of};
+ghost use Rattle.strkw_ecma.specs.machine.Parts.{parts_of, no_parts, last_of, part_of, expression_of};
 ghost use Rattle.strkw_ecma.specs.Refusals.{IsReason, is_unknown as spec_is_unknown};
 ghost use Rattle.strkw_ecma.specs.machine.RefusalParts.{escape_refusal, depth_refusal, extension_refusal, name_refusal, term_refusal, count_refusal, part_refusal, refusal_at};
 
@@ -118,6 +118,31 @@ impl Reader {
             _ => PatternRefusal::NotTaken,
         }
     }
+
+    // Why a pattern that this reader, a new one, reads is not taken.
+    fn refusal_of(&mut self, alloc: Global, source: &str) -> Result<PatternRefusal, AllocError>
+        requires new { parts_of self.old ≡ no_parts }
+        requires short { length (chars source.now) ≤ max_length }
+        requires refused { takes_pattern (chars source.now) ≡ false }
+        ensures { IfOk result (IsReason (chars source.now)) }
+    {
+        for c in source.chars() {
+            let refusal = self.refusal_at(c);
+            if !self.next(alloc, c)? {
+                return Ok(refusal);
+            }
+        }
+        match self.end(alloc)? {
+            Some(outline) if is_apart(source) => {
+                if outline.is_told() {
+                    Ok(PatternRefusal::TooLarge)
+                } else {
+                    Ok(PatternRefusal::LookAhead)
+                }
+            }
+            _ => Ok(PatternRefusal::NotTaken),
+        }
+    }
 }
 
 // Why a pattern of no more characters than may be is not taken.
@@ -127,21 +152,5 @@ pub(crate) fn refusal_of(alloc: Global, source: &str) -> Result<PatternRefusal, 
     ensures { IfOk result (IsReason (chars source.now)) }
 {
     let mut reader = Reader::new(alloc);
-    for c in source.chars() {
-        let refusal = reader.refusal_at(c);
-        reader = match reader.next(alloc, c)? {
-            Some(next) => next,
-            None => return Ok(refusal),
-        };
-    }
-    match reader.end(alloc)? {
-        Some(outline) if is_apart(source) => {
-            if outline.is_told() {
-                Ok(PatternRefusal::TooLarge)
-            } else {
-                Ok(PatternRefusal::LookAhead)
-            }
-        }
-        _ => Ok(PatternRefusal::NotTaken),
-    }
+    reader.refusal_of(alloc, source)
 }

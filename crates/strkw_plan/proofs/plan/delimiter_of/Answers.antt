@@ -1,4 +1,4 @@
-use Rattle.std.proofs.Common.{◌∙◌, sym}
+use Rattle.std.proofs.Common.{sym}
 use Rattle.strkw_plan.proofs.Delimiters.{delimiter-none, delimiter-one}
 use Rattle.strkw_plan.proofs.plan.delimiter_of.Goals as goal
 

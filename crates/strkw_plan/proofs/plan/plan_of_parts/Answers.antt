@@ -14,5 +14,5 @@ returns-in-None-clause-good c =
     let entries = c.in_ok-schemas.schemas.now.entries in
     let values = items_view c.in_ok-ignored.ignored.now in
     let some : is_empty (members_view entries) ≡ false = has_members entries (λ none. absurd (search rules)) in
-    let good : schemas_problem c.in_ok-draft.draft values (members_view entries) ≡ None = search rules in
+    let good : schemas_problem c.args.kind c.in_ok-draft.draft values (members_view entries) ≡ None = search rules in
     rw (draft, schemas, ignored, each, delimiter, some) good

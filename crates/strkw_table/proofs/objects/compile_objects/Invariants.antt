@@ -3,8 +3,9 @@ use Rattle.std.specs.BTreeMap.{get_by_text}
 use Rattle.serde_json.specs.Data.{Data}
 use Rattle.serde_json.specs.Find.{get_member}
 use Rattle.serde_json.specs.View.{members_view}
-use Rattle.strkw_plan.specs.Compiled.{IsAmong, IsCompiledFor}
+use Rattle.strkw_plan.specs.Compiled.{IsAmong}
 use Rattle.strkw_plan.specs.Rules.{rules_settings}
+use Rattle.strkw_table.specs.Columns.{IsObjectFor}
 use Rattle.strkw_table.specs.Fields.{schema_named}
 use Rattle.strkw_table.proofs.objects.compile_objects.Given as goal
 
@@ -19,5 +20,5 @@ invariant-loop-name g l =
       among : (name : List ℕ) (schema : Data) → IsAmong name schema rest → IsAmong name schema all;
       found : (name : List ℕ) (schema : Data) → IsAmong name schema rest → get_member name all ≡ Some schema;
       done : (name : List ℕ) → get_member name rest ≡ None
-          → IsCompiledFor g.B.Engine.RegexEngine.outcome s (schema_named all name) (get_by_text l.objects name);
+          → IsObjectFor g.B.Engine.RegexEngine.outcome s (schema_named all name) (get_by_text l.objects name);
     }

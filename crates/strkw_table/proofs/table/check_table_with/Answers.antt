@@ -23,7 +23,8 @@ use Rattle.strkw_table.specs.Rows.{HaveShape}
 use Rattle.std.proofs.lemmas.Result.{IfErr-weaker, IfOk-weaker}
 use Rattle.strkw_table.proofs.RowLemmas.{have_shape-front, if_some, under_header}
 use Rattle.strkw_table.proofs.ColumnLemmas.{are_columns-length, column_fields, columns_usable, of_records-along}
-use Rattle.strkw_table.proofs.FaultLemmas.{if_err-no_plan, no_plan_of_names, why_along, why_of_first, why_of_names, why_of_schemas, why_under_header}
+use Rattle.strkw_table.proofs.FaultLemmas.{if_err-no_plan, no_plan_of_names, why_along, why_of_first, why_of_names, why_of_problem, why_of_schemas}
+use Rattle.strkw_table.proofs.FaultLemmas.{why_under_header}
 use Rattle.strkw_table.proofs.table.check_table_with.Goals as goal
 
 pub check_rows-requires : goal.check_rows-requires
@@ -38,6 +39,16 @@ check_rows-requires g c =
           (λ schema k of. c.lists_of_compile_are_in_use.ensures s schema k of)
           (fields_of c.read.new.row) c.in_ok-columns.columns.items c.in_ok-columns.ensures place column (rw c.deref.ensures.value at e);
     }
+
+pub returns-in_err-plan-clause-why : goal.returns-in_err-plan-clause-why
+returns-in_err-plan-clause-why g c =
+    let settings = rules_settings g.B.EngineBuilder.takes g.B.EngineBuilder.outcome (λ b. (goal.Format-dyn g b).admits b.1)
+    (λ b. (goal.MediaTypeCheck-dyn g b).accepted b.1)
+    (λ b. (goal.ContentCodec-dyn g b).encoded b.1) (λ b. (goal.ContentCodec-dyn g b).decoding b.1) c.args.rules.now in
+    let e = c.in_err-plan.field-0.0 in
+    let gives : IfErr c.from_residual.result (GivesOfPlan e) = search rules in
+    IfErr-weaker c.from_residual.result _ _
+    (λ why given. why_of_problem settings (view c.args.plan.now) e why c.in_err-plan.ensures.fault given) gives
 
 pub returns-in_err-objects-clause-why : goal.returns-in_err-objects-clause-why
 returns-in_err-objects-clause-why g c =

@@ -1,6 +1,5 @@
-use Rattle.std.proofs.Common.{Some, option_map, ap, sym, ◌∙◌}
-use Rattle.strkw_ecma.specs.machine.Shape.{outlined}
-use Rattle.strkw_ecma.specs.machine.Parts.{parts_of, joined}
+use Rattle.std.proofs.Common.{Some, ap, sym, ◌∙◌}
+use Rattle.strkw_ecma.specs.machine.Parts.{parts_of, side_of, last_of, level_ended}
 use Rattle.strkw_ecma.proofs.Parts.{none_closes, closes_with}
 use Rattle.strkw_ecma.proofs.reader.Reader.end.Goals as goal
 
@@ -9,6 +8,6 @@ returns-then-not-may_end c = none_closes _ (sym c.may_end.ensures ∙ c.if-not-m
 
 pub returns : goal.returns
 returns c =
-    let s = parts_of c.args.self in
-    ap Some (c.in_ok-join_alternatives.ensures ∙ ap (joined (option_map outlined c.args.self.level.earlier)) c.in_ok-before.ensures)
+    let s = parts_of c.args.self.now in
+    ap Some (c.in_ok-take.ensures.whole ∙ ap (λ l. level_ended (side_of c.args.self.now.level) (last_of l)) c.replace-last.ensures.value)
     ∙ closes_with s.outer.groups s.level s.last _ (sym c.may_end.ensures ∙ c.if-not-may_end.false)

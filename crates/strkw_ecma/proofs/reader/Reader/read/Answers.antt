@@ -1,11 +1,11 @@
-use Rattle.std.proofs.Common.{◌≡◌, length, ◌∙◌, sym, ap, Some, option_map, arith}
+use Rattle.std.proofs.Common.{◌≡◌, length, ◌∙◌, sym, ap, Some, arith}
 use Rattle.std.specs.Str.{chars}
 use Rattle.std.proofs.lemmas.Iterator.{YieldsList-from_chars}
 use Rattle.std.proofs.lemmas.List.{length_push}
 use Rattle.std.proofs.lemmas.Iterator.Consumers.{YieldsList-turn, YieldsList-end}
-use Rattle.strkw_ecma.specs.machine.Parts.{parts_of, after_char}
+use Rattle.strkw_ecma.specs.machine.Parts.{parts_of, after_char, when}
 use Rattle.strkw_ecma.proofs.Parts.{goes_on, stops, too_long, whole}
-use Rattle.strkw_ecma.proofs.reader.read_short.Goals as goal
+use Rattle.strkw_ecma.proofs.reader.Reader.read.Goals as goal
 
 pub returns-then-count-eq-MAX_LENGTH : goal.returns-then-count-eq-MAX_LENGTH
 returns-then-count-eq-MAX_LENGTH c =
@@ -13,12 +13,12 @@ returns-then-count-eq-MAX_LENGTH c =
     c.next.ensures.steps in
     too_long (chars c.args.source.now) (omega (arith, turn.0, c.loop-c.invariant.counted))
 
-pub returns-in-None-2 : goal.returns-in-None-2
-returns-in-None-2 c =
+pub returns-then-not-branch : goal.returns-then-not-branch
+returns-then-not-branch c =
     let turn = YieldsList-turn (YieldsList-from_chars c.args.source.now c.utf8.source cc) c.loop-c.yielded _ c.loop-c.yielded_by _ _ c.in-Some.c c.in-Some.is
     c.next.ensures.steps in
-    stops (parts_of c.loop-c.reader) (chars c.args.source.now) (length c.loop-c.yielded) c.in-Some.c turn.0 turn.1 c.loop-c.invariant.way
-    (ap (option_map parts_of) (sym c.in-None-2.is) ∙ c.in_ok-next.ensures)
+    stops (parts_of c.loop-c.self) (chars c.args.source.now) (length c.loop-c.yielded) c.in-Some.c turn.0 turn.1 c.loop-c.invariant.way
+    (ap (λ taken. when taken (Some (parts_of c.next-in-loop-c.new.self))) (sym c.if-not-branch.true) ∙ c.in_ok-next.ensures)
 
 pub loop-c-preserved : goal.loop-c-preserved
 loop-c-preserved c =
@@ -26,18 +26,18 @@ loop-c-preserved c =
     c.next.ensures.steps in
     let next = length_push c.loop-c.yielded c.in-Some.c in
     let text = chars c.args.source.now in
-    let step : Some (parts_of c.in-Some-2.next) ≡ after_char (parts_of c.loop-c.reader) c.in-Some.c =
-    ap (option_map parts_of) (sym c.in-Some-2.is) ∙ c.in_ok-next.ensures in
+    let step : Some (parts_of c.next-in-loop-c.new.self) ≡ after_char (parts_of c.loop-c.self) c.in-Some.c =
+    ap (λ taken. when taken (Some (parts_of c.next-in-loop-c.new.self))) (sym c.if-not-branch.false) ∙ c.in_ok-next.ensures in
     record {
       counted = omega (arith, next, c.loop-c.invariant.counted);
       short = omega (arith, next, c.loop-c.invariant.counted, c.loop-c.invariant.short, c.if-count-eq-MAX_LENGTH.false);
-      way = goes_on (parts_of c.loop-c.reader) text (length c.loop-c.yielded) c.in-Some.c turn.0 turn.1 c.loop-c.invariant.way _ step _ next;
+      way = goes_on (parts_of c.loop-c.self) text (length c.loop-c.yielded) c.in-Some.c turn.0 turn.1 c.loop-c.invariant.way _ step _ next;
     }
 
 pub returns : goal.returns
 returns c =
     let end = YieldsList-end (YieldsList-from_chars c.args.source.now c.utf8.source cc) c.loop-c.yielded _ c.loop-c.yielded_by _ _ c.in-None.is
     c.next.ensures.steps in
-    let at_end = whole (parts_of c.loop-c.reader) (chars c.args.source.now) (length c.loop-c.yielded)
+    let at_end = whole (parts_of c.loop-c.self) (chars c.args.source.now) (length c.loop-c.yielded)
     (omega (arith, end.1)) (omega (arith, end.1, c.loop-c.invariant.short)) c.loop-c.invariant.way in
     rw at_end at c.end.ensures

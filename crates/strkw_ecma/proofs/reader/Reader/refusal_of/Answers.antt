@@ -4,21 +4,21 @@ use Rattle.std.proofs.lemmas.Iterator.{YieldsList-from_chars}
 use Rattle.std.proofs.lemmas.List.{length_push}
 use Rattle.std.proofs.lemmas.Iterator.Consumers.{YieldsList-turn, YieldsList-end}
 use Rattle.strkw_ecma.specs.machine.Shape.{outlined}
-use Rattle.strkw_ecma.specs.machine.Parts.{parts_of, after_char, pattern_from}
+use Rattle.strkw_ecma.specs.machine.Parts.{parts_of, after_char, pattern_from, when}
 use Rattle.strkw_ecma.specs.Refusals.{IsReason}
 use Rattle.strkw_ecma.proofs.Parts.{goes_on, whole}
 use Rattle.strkw_ecma.proofs.Refused.{Stands, starts, stops_so, goes_so, too_large, looks_ahead_far}
-use Rattle.strkw_ecma.proofs.reader.refusing.refusal_of.Goals as goal
+use Rattle.strkw_ecma.proofs.reader.Reader.refusal_of.Goals as goal
 
-pub returns-in-None-2 : goal.returns-in-None-2
-returns-in-None-2 c =
+pub returns-then-not-branch : goal.returns-then-not-branch
+returns-then-not-branch c =
     let turn = YieldsList-turn (YieldsList-from_chars c.args.source.now c.utf8.source cc) c.loop-c.yielded _ c.loop-c.yielded_by _ _
     c.in-Some.c c.in-Some.is c.next.ensures.steps in
     let text = chars c.args.source.now in
     subst (IsReason text) (sym c.refusal_at-refusal.ensures)
     (stops_so text (length c.loop-c.yielded) _ c.in-Some.c turn.0 turn.1 (length_push c.loop-c.yielded c.in-Some.c ∙ omega arith)
-    (parts_of c.loop-c.reader) c.loop-c.invariant.stands
-    (ap (option_map parts_of) (sym c.in-None-2.is) ∙ c.in_ok-next.ensures))
+    (parts_of c.loop-c.self) c.loop-c.invariant.stands
+    (ap (λ taken. when taken (Some (parts_of c.next-in-loop-c.new.self))) (sym c.if-not-branch.true) ∙ c.in_ok-next.ensures))
 
 pub loop-c-preserved : goal.loop-c-preserved
 loop-c-preserved c =
@@ -26,18 +26,18 @@ loop-c-preserved c =
     c.in-Some.c c.in-Some.is c.next.ensures.steps in
     let next = length_push c.loop-c.yielded c.in-Some.c in
     let text = chars c.args.source.now in
-    let step : Some (parts_of c.in-Some-2.next) ≡ after_char (parts_of c.loop-c.reader) c.in-Some.c =
-    ap (option_map parts_of) (sym c.in-Some-2.is) ∙ c.in_ok-next.ensures in
+    let step : Some (parts_of c.next-in-loop-c.new.self) ≡ after_char (parts_of c.loop-c.self) c.in-Some.c =
+    ap (λ taken. when taken (Some (parts_of c.next-in-loop-c.new.self))) (sym c.if-not-branch.false) ∙ c.in_ok-next.ensures in
     record {
-      way = goes_on (parts_of c.loop-c.reader) text (length c.loop-c.yielded) c.in-Some.c turn.0 turn.1 c.loop-c.invariant.way _ step _ next;
+      way = goes_on (parts_of c.loop-c.self) text (length c.loop-c.yielded) c.in-Some.c turn.0 turn.1 c.loop-c.invariant.way _ step _ next;
       stands = goes_so text (length c.loop-c.yielded) _ c.in-Some.c turn.0 turn.1 (next ∙ omega arith)
-          (parts_of c.loop-c.reader) c.loop-c.invariant.stands _ step;
+          (parts_of c.loop-c.self) c.loop-c.invariant.stands _ step;
     }
 
 pub loop-c-init : goal.loop-c-init
 loop-c-init c = record {
-  way = ap (λ r. pattern_from r (chars c.args.source.now)) c.new-reader.ensures;
-  stands = subst (Stands (chars c.args.source.now) 0) (sym c.new-reader.ensures) (starts (chars c.args.source.now));
+  way = ap (λ r. pattern_from r (chars c.args.source.now)) c.requires.new;
+  stands = subst (Stands (chars c.args.source.now) 0) (sym c.requires.new) (starts (chars c.args.source.now));
 }
 
 pub returns-then-is_told : goal.returns-then-is_told
@@ -45,15 +45,15 @@ returns-then-is_told c =
     let text = chars c.args.source.now in
     let end = YieldsList-end (YieldsList-from_chars c.args.source.now c.utf8.source cc) c.loop-c.yielded _ c.loop-c.yielded_by _ _
     c.in-None.is c.next.ensures.steps in
-    let at_end = whole (parts_of c.loop-c.reader) text (length c.loop-c.yielded) (omega (arith, end.1)) c.requires.short c.loop-c.invariant.way in
-    too_large text (outlined c.in-Some-3.outline) c.requires.short (ap (option_map outlined) (sym c.in-Some-3.is) ∙ c.in_ok-outline.ensures ∙ at_end)
+    let at_end = whole (parts_of c.loop-c.self) text (length c.loop-c.yielded) (omega (arith, end.1)) c.requires.short c.loop-c.invariant.way in
+    too_large text (outlined c.in-Some-2.outline) c.requires.short (ap (option_map outlined) (sym c.in-Some-2.is) ∙ c.in_ok-outline.ensures ∙ at_end)
     (sym c.is_apart.ensures ∙ c.if-is_apart.true) (sym c.is_told.ensures ∙ c.if-is_told.true) c.requires.refused
 
-pub returns-in-Some-3 : goal.returns-in-Some-3
-returns-in-Some-3 c =
+pub returns-in-Some-2 : goal.returns-in-Some-2
+returns-in-Some-2 c =
     let text = chars c.args.source.now in
     let end = YieldsList-end (YieldsList-from_chars c.args.source.now c.utf8.source cc) c.loop-c.yielded _ c.loop-c.yielded_by _ _
     c.in-None.is c.next.ensures.steps in
-    let at_end = whole (parts_of c.loop-c.reader) text (length c.loop-c.yielded) (omega (arith, end.1)) c.requires.short c.loop-c.invariant.way in
-    looks_ahead_far text (outlined c.in-Some-3.outline) c.requires.short (ap (option_map outlined) (sym c.in-Some-3.is) ∙ c.in_ok-outline.ensures ∙ at_end)
+    let at_end = whole (parts_of c.loop-c.self) text (length c.loop-c.yielded) (omega (arith, end.1)) c.requires.short c.loop-c.invariant.way in
+    looks_ahead_far text (outlined c.in-Some-2.outline) c.requires.short (ap (option_map outlined) (sym c.in-Some-2.is) ∙ c.in_ok-outline.ensures ∙ at_end)
     (sym c.is_told.ensures ∙ c.if-is_told.false)
