@@ -2,11 +2,9 @@
 use Rattle.std.proofs.Common.{◌≡◌, ◌⊎◌, ◌++◌, ℕ, List, [], length, refl, sym, subst, inl, inr}
 use Rattle.std.proofs.lemmas.Bool.{false≢true}
 use Rattle.std.specs.Prelude.{false, true, Option, Some, None, is_some}
-use Rattle.std.specs.Str.{chars}
 use Rattle.std.specs.List.{concat}
 use Rattle.serde_json.specs.Data.{Data, Members, no_members, member}
-use Rattle.serde_json.specs.Find.{as_str, pointer}
-use Rattle.strkw_uri.specs.Pointer.{IsJsonPointer}
+use Rattle.serde_json.specs.Find.{as_str}
 use Rattle.strkw_keywords.specs.Object.{Settings}
 use Rattle.strkw_plan.specs.Messages.{InstanceSaid, IsSchema}
 use Rattle.strkw_report.specs.declared.draft.Draft.{Draft}
@@ -20,12 +18,13 @@ use Rattle.strkw_document.specs.Faults.{IsWhy, IsWhyInPlan}
 use Rattle.strkw_document.specs.Gives.{gives_fault}
 use Rattle.strkw_document.specs.declared.faults.DocumentFault.{DocumentFault}
 use Rattle.strkw_document.specs.declared.faults.DocumentFault.TheVariants as fault
-use Rattle.strkw_document.specs.Places.{Form, PlaceMessages, DocumentMessages, ValueMessages, lacking_messages, no_string_messages}
+use Rattle.strkw_document.specs.Places.{Form, FoundMessages, PlaceMessages, DocumentMessages, ValueMessages, lacking_messages, no_string_messages}
 
-module _ (form : Form) (s : Settings) (document : Data) where
-  -- what is appended for a place: messages, and so many
-  abbrev pub Said : List ℕ → Data → ℕ → List ℕ → List ℕ → Type 0
-  Said place schema count old new = (messages : List (List ℕ)) × PlaceMessages form s place schema document messages
+module _ (form : Form) (s : Settings) where
+  -- what is appended about what stands at a place: messages, and so many
+  abbrev pub Said : List ℕ → Data → Option Data → ℕ → List ℕ → List ℕ → Type 0
+  Said place schema found count old new = (ms : Members) × (messages : List (List ℕ)) × IsSchema s schema ms
+      × FoundMessages form s ms place found messages
       × (count ≡ length messages) × (new ≡ old ++ concat messages)
 
   -- so many messages are these, and they were appended
@@ -33,10 +32,9 @@ module _ (form : Form) (s : Settings) (document : Data) where
   Appended messages count old new = (count ≡ length messages) × (new ≡ old ++ concat messages)
 
   -- the messages that there is no value
-  pub said_missing : (place : List ℕ) (schema : Data) (ms : Members) (count : ℕ) (old new : List ℕ) → IsJsonPointer (chars place) → IsSchema s schema ms
-      → pointer place document ≡ None → Appended (lacking_messages form ms place) count old new → Said place schema count old new
-  said_missing place schema ms count old new is_pointer is_schema none said =
-      (lacking_messages form ms place, (is_pointer, ms, is_schema, rw none refl), said.0, said.1)
+  pub said_missing : (place : List ℕ) (schema : Data) (found : Option Data) (ms : Members) (count : ℕ) (old new : List ℕ) → IsSchema s schema ms
+      → found ≡ None → Appended (lacking_messages form ms place) count old new → Said place schema found count old new
+  said_missing place schema found ms count old new is_schema none said = (ms, lacking_messages form ms place, is_schema, rw none refl, said.0, said.1)
 
   -- of a value that is no text there are the messages that it is no string
   no_text : (place : List ℕ) (ms : Members) (instance : Option (List ℕ)) → is_some instance ≡ false
@@ -45,11 +43,11 @@ module _ (form : Form) (s : Settings) (document : Data) where
   no_text place ms (Some text) none = absurd (false≢true (sym none))
 
   -- the messages that a value is no string
-  pub said_no_string : (place : List ℕ) (schema value : Data) (ms : Members) (count : ℕ) (old new : List ℕ) → IsJsonPointer (chars place)
-      → IsSchema s schema ms → pointer place document ≡ Some value → is_some (as_str value) ≡ false
-      → Appended (no_string_messages form ms place) count old new → Said place schema count old new
-  said_no_string place schema value ms count old new is_pointer is_schema found none said =
-      (no_string_messages form ms place, (is_pointer, ms, is_schema, rw found (no_text place ms (as_str value) none)), said.0, said.1)
+  pub said_no_string : (place : List ℕ) (schema value : Data) (found : Option Data) (ms : Members) (count : ℕ) (old new : List ℕ) → IsSchema s schema ms
+      → found ≡ Some value → is_some (as_str value) ≡ false
+      → Appended (no_string_messages form ms place) count old new → Said place schema found count old new
+  said_no_string place schema value found ms count old new is_schema is none said =
+      (ms, no_string_messages form ms place, is_schema, rw is (no_text place ms (as_str value) none), said.0, said.1)
 
   -- the messages about a text are those about the string
   of_text : (place : List ℕ) (ms : Members) (instance : Option (List ℕ)) (messages : List (List ℕ)) → is_some instance ≡ true
@@ -58,14 +56,15 @@ module _ (form : Form) (s : Settings) (document : Data) where
   of_text place ms (Some text) messages some said = said
 
   -- the messages about a string
-  pub said_of_string : (place : List ℕ) (schema value : Data) (count : ℕ) (old new : List ℕ) → IsJsonPointer (chars place)
-      → pointer place document ≡ Some value → is_some (as_str value) ≡ true
+  pub said_of_string : (place : List ℕ) (schema value : Data) (found : Option Data) (count : ℕ) (old new : List ℕ)
+      → found ≡ Some value → is_some (as_str value) ≡ true
       → ((ms : Members) × (messages : List (List ℕ)) × IsSchema s schema ms × InstanceSaid s ms (form.said place) (as_str value) messages
-      × Appended messages count old new) → Said place schema count old new
-  said_of_string place schema value count old new is_pointer found some said =
+      × Appended messages count old new) → Said place schema found count old new
+  said_of_string place schema value found count old new is some said =
       let (ms, messages, is_schema, are, appended) = said in
-      (messages, (is_pointer, ms, is_schema, rw found (of_text place ms (as_str value) messages some are)), appended.0, appended.1)
+      (ms, messages, is_schema, rw is (of_text place ms (as_str value) messages some are), appended.0, appended.1)
 
+module _ (form : Form) (s : Settings) (document : Data) where
   -- where there are no places, there are no messages
   pub no_places : DocumentMessages form s no_members document []
   unfolding DocumentMessages

@@ -1,13 +1,14 @@
 //! Properties of characters, and how `\p{ }` and `\P{ }` are read, character by character behind their letter.
 
 ghost use Rattle.std.specs.Prelude.{◌≡◌, true, map, IfOk};
+ghost use Rattle.std.specs.List.{zip};
 ghost use Rattle.ucd_sets.specs.Loose.{value_named as spec_value_named};
 ghost use Rattle.strkw_ecma.specs.Properties.{has_property, category_named as spec_category_named, script_value_named, value_of as spec_value_of, property_of, is_property_char as spec_is_property_char};
 ghost use Rattle.strkw_ecma.specs.machine.PropertyReading.{property_next, on_equals, with_char};
 ghost use Rattle.strkw_ecma.specs.Refusals.{is_written as spec_is_written, is_unknown as spec_is_unknown};
 ghost use Rattle.strkw_ecma.specs.machine.Parts.{expression_of, part_of, property_read_of};
 
-use crate::values::{CATEGORIES, SCRIPTS};
+use crate::values::{CATEGORIES, CATEGORY_NAMES, SCRIPT_NAMES, SCRIPTS};
 use std::alloc::{AllocError, Global};
 use ucd_category::{GeneralCategory, GeneralCategoryGroup};
 use ucd_script::Script;
@@ -36,11 +37,12 @@ impl Property {
     }
 }
 
-// The value of the first row with this name.
-fn value_named<T: Copy>(rows: &[(&str, T)], name: &[u8]) -> Option<T>
-    ensures { result ≡ spec_value_named (map (λ row. (row.0.now, row.1)) rows.now) name.now }
+// The value beside the first spelling that is this name.
+fn value_named<T: Copy>(spellings: &[&str], values: &[T], name: &[u8]) -> Option<T>
+    ensures { result ≡ spec_value_named
+        (map (λ row. (row.0.now, row.1)) (zip spellings.now values.now)) name.now }
 {
-    for (spelling, value) in rows {
+    for (spelling, value) in spellings.iter().zip(values) {
         if spelling.as_bytes() == name {
             return Some(*value);
         }
@@ -51,13 +53,13 @@ fn value_named<T: Copy>(rows: &[(&str, T)], name: &[u8]) -> Option<T>
 fn category_named(name: &[u8]) -> Option<Property>
     ensures { result ≡ spec_category_named name.now }
 {
-    value_named(&CATEGORIES, name)
+    value_named(&CATEGORY_NAMES, &CATEGORIES, name)
 }
 
 fn script_named(name: &[u8]) -> Option<Script>
     ensures { result ≡ script_value_named name.now }
 {
-    value_named(&SCRIPTS, name)
+    value_named(&SCRIPT_NAMES, &SCRIPTS, name)
 }
 
 // Of a property by its name, the value by its.

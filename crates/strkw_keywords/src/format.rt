@@ -15,7 +15,7 @@ ghost use Rattle.strkw_keywords.specs.declared.keyword.Keyword.TheVariants as ke
 
 pub use crate::by_keyword::compile_format as compile;
 use crate::checks::{Checks, ContentCodec, Format, MediaTypeCheck, ask_row};
-use crate::compile::{Refused, no_string, origin_of};
+use crate::compile::{Refused, no_string};
 use crate::content::Untested;
 use crate::findings::{Findings, Found};
 use crate::keyed::Keyed;
@@ -125,19 +125,16 @@ pub(crate) fn build_format<B: EngineBuilder>(
         return Err(no_string(value, Keyword::Format));
     };
     if !checks_formats(&ctx.options, ctx.draft) {
-        let noting = Untested::keyed(origin_of(ctx)?, Keyword::Format, value.clone()?);
+        let noting = Untested::keyed(ctx, Keyword::Format, value)?;
         return Ok(Some(Validator::AnnotationOnlyFormat(noting)));
     }
     if let Some(position) = ctx.checks.format_named(name) {
         let name = String::from_str(alloc, name)?;
         let test = OfRow { position, name };
-        return Ok(Some(Validator::CustomFormat(Keyed::new(origin_of(ctx)?, test))));
+        return Ok(Some(Validator::CustomFormat(Keyed::of(ctx, test)?)));
     }
     match builtin_format(ctx.draft, name) {
-        Some(format) => {
-            let origin = origin_of(ctx)?;
-            Ok(Some(Validator::Format(Keyed::new(origin, OfBuiltin { format }))))
-        }
+        Some(format) => Ok(Some(Validator::Format(Keyed::of(ctx, OfBuiltin { format })?))),
         None if ignores_unknown(&ctx.options) => Ok(None),
         None => Err(Refused::Malformed {
             kind: CompileErrorKind::UnknownFormat {

@@ -11,7 +11,7 @@ ghost use Rattle.strkw_keywords.specs.Object.{as_limit, gives, greatest_entry, i
 ghost use Rattle.strkw_keywords.specs.Settings.{place_in};
 
 use crate::checks::Checks;
-use crate::compile::{Refused, origin_of, value_at};
+use crate::compile::{Refused, value_at};
 use crate::findings::{Findings, Found};
 use crate::keyed::Keyed;
 use crate::keyword::Keyword;
@@ -159,13 +159,12 @@ pub(crate) fn build_min<B: EngineBuilder, O: Object>(
         (min_share ctx.now.options (O.members parent.now)) result }
 {
     let limit = limit_of(value).ok_or(refused_limit(Keyword::MinLength))?;
-    let origin = origin_of(ctx)?;
     match greatest_in(&ctx.options, parent) {
         Some(max) => {
             let test = Between { min: limit, max };
-            Ok(Some(Validator::LengthRange(Keyed::new(origin, test))))
+            Ok(Some(Validator::LengthRange(Keyed::of(ctx, test)?)))
         }
-        None => Ok(Some(Validator::MinLength(Keyed::new(origin, AtLeast { limit })))),
+        None => Ok(Some(Validator::MinLength(Keyed::of(ctx, AtLeast { limit })?))),
     }
 }
 
@@ -183,6 +182,5 @@ pub(crate) fn build_max<B: EngineBuilder, O: Object>(
     if least_in(&ctx.options, parent).is_some() {
         return Ok(None);
     }
-    let origin = origin_of(ctx)?;
-    Ok(Some(Validator::MaxLength(Keyed::new(origin, AtMost { limit }))))
+    Ok(Some(Validator::MaxLength(Keyed::of(ctx, AtMost { limit })?)))
 }

@@ -92,14 +92,12 @@ impl<K: Kind> Literal<K> {
         ensures matcher { result.test.matcher ≡ matcher }
     {
         let of = PhantomData;
-        Keyed::new(
-            origin,
-            Literal {
-                pattern,
-                matcher,
-                of,
-            },
-        )
+        let test = Literal {
+            pattern,
+            matcher,
+            of,
+        };
+        Keyed { origin, test }
     }
 }
 

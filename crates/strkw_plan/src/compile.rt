@@ -1,13 +1,17 @@
 //! The schema objects of a plan, compiled.
 
-ghost use Rattle.std.specs.Prelude.{Some, IfOk, IfErr};
+ghost use Rattle.std.specs.Prelude.{◌≢◌, Some, IfOk, IfErr};
+ghost use Rattle.serde_json.specs.Data.{Data};
 ghost use Rattle.serde_json.specs.Find.{as_object};
 ghost use Rattle.serde_json.specs.View.{view};
 ghost use Rattle.strkw_keywords.specs.Demands.{IsInUse};
 ghost use Rattle.strkw_keywords.specs.Handed.{lists_of};
+ghost use Rattle.strkw_keywords.specs.Object.{Settings};
 ghost use Rattle.strkw_object.specs.Compiled.{keywords_demands};
 ghost use Rattle.strkw_plan.specs.Compiled.{IsCompiledFor, Refuses};
+ghost use Rattle.strkw_plan.specs.Messages.{IsRefused};
 ghost use Rattle.strkw_plan.specs.Rules.{rules_settings};
+ghost use Rattle.strkw_report.specs.Refusals.{memory, reason_of, refusal_of};
 
 use crate::faults::{PlanFault, schema_place};
 use crate::kind::PlanKind;
@@ -45,15 +49,21 @@ pub fn compile_schema<B: EngineBuilder>(
     let ctx = rules.context(alloc, draft);
     match compile_strings(alloc, &ctx, schema) {
         Ok(keywords) => Ok(keywords),
-        Err(
-            CompileError {
-                kind: CompileErrorKind::Memory,
-                ..
-            },
-        ) => Err(PlanFault::Memory),
-        Err(refusal) => Err(PlanFault::Refused {
-            place: schema_place(alloc, kind, name)?,
-            refusal,
-        }),
+        Err(refusal) => Err(fault_of(alloc, kind, name, refusal)),
+    }
+}
+
+// The fault of a plan of which the schema object of this name is refused so.
+fn fault_of(alloc: Global, kind: PlanKind, name: &str, refusal: CompileError) -> PlanFault
+    ensures { (s : Settings) (schema : Data)
+        → (reason_of refusal.kind ≢ memory → IsRefused s schema (refusal_of refusal))
+        → Refuses s kind name.now schema result }
+{
+    if let CompileErrorKind::Memory = refusal.kind {
+        return PlanFault::Memory;
+    }
+    match schema_place(alloc, kind, name) {
+        Ok(place) => PlanFault::Refused { place, refusal },
+        Err(_) => PlanFault::Memory,
     }
 }

@@ -1,6 +1,7 @@
 -- Why a file is not checked to its end.
-use Rattle.std.proofs.Common.{◌≡◌, ◌⊎◌, ℕ, List, [], length, subst, Option, Some, None, true, inl, inr}
-use Rattle.std.specs.Prelude.{Result, Ok, Err, IfErr}
+use Rattle.std.proofs.Common.{◌≡◌, ◌⊎◌, ℕ, List, [], length, sym, subst, Option, Some, None, true, inl, inr}
+use Rattle.std.specs.Prelude.{Result, Ok, Err, IfErr, IfOk, OnOk}
+use Rattle.std.specs.Result.{result_and}
 use Rattle.std.specs.List.{concat}
 use Rattle.serde_json.specs.Data.{Data}
 use Rattle.strkw_report.specs.declared.draft.Draft.{Draft}
@@ -23,7 +24,7 @@ use Rattle.strkw_records.specs.Records.{LinedRecord, TakesRecord}
 use Rattle.strkw_table.specs.declared.faults.TableFault.{TableFault}
 use Rattle.strkw_table.specs.declared.faults.TableFault.TheVariants as fault
 use Rattle.strkw_table.specs.Faults.{HaveColumns, IsHeader, IsNoPlanFault, IsUnexplained, IsWhy, IsWhyOfNames, IsWhyOfNext, IsWhyOfRows, IsWhyOfText}
-use Rattle.strkw_table.specs.Faults.{IsWhyUnread, delimiter_by, record_limits}
+use Rattle.strkw_table.specs.Faults.{IsWhyOfHeading, IsWhyUnread, delimiter_by, record_limits}
 use Rattle.strkw_table.specs.Fields.{AreDistinct, AreNamed, Form, MessagesOf}
 use Rattle.strkw_table.specs.Gives.{GivesOfPlan, GivesOfReading}
 use Rattle.strkw_table.specs.Rows.{AreFirstRecords, HaveShape, OfRecords}
@@ -91,6 +92,53 @@ no_plan_of_names p names (fault.Record why) named = tt
 no_plan_of_names p names fault.Write named = tt
 no_plan_of_names p names fault.Memory named = tt
 no_plan_of_names p names fault.TooLong named = tt
+
+-- nor one of which nothing is said
+pub no_plan_unexplained : (why : TableFault) → IsUnexplained why → IsNoPlanFault why
+no_plan_unexplained (fault.Plan why) p = p
+no_plan_unexplained (fault.Columns most found) p = tt
+no_plan_unexplained (fault.Missing name) p = tt
+no_plan_unexplained (fault.Twice name first second) p = tt
+no_plan_unexplained fault.NoHeader p = tt
+no_plan_unexplained (fault.Fields line expected found) p = tt
+no_plan_unexplained (fault.Record why) p = tt
+no_plan_unexplained fault.Write p = tt
+no_plan_unexplained fault.Memory p = tt
+no_plan_unexplained fault.TooLong p = tt
+
+-- nor one of reading
+pub no_plan_of_reading : (e : ReadFault) (why : TableFault) → GivesOfReading e why → IsNoPlanFault why
+no_plan_of_reading (read.Read e) why gives = rw gives tt
+no_plan_of_reading (read.OpenQuote line) why gives = rw gives tt
+no_plan_of_reading (read.LongRecord line most) why gives = rw gives tt
+no_plan_of_reading (read.LongField line number most) why gives = rw gives tt
+no_plan_of_reading (read.NotUtf8 line number) why gives = rw gives tt
+no_plan_of_reading read.Memory why gives = rw gives tt
+no_plan_of_reading read.TooLong why gives = rw gives tt
+
+-- a fault of two results, one after the other, is the first one's, or else the second one's behind what the first one did
+by_faults : {S T E : Type 0} (r : Result S E) (q : Result T E) (First Second Both : E → Type 0) (Done : Type 0) → ((e : E) → First e → Both e)
+    → IfErr r First → OnOk r Done → ((e : E) → Done → Second e → Both e) → IfErr q Second → IfErr (result_and r q) Both
+by_faults (Ok x) (Ok y) First Second Both Done alone first done along second = tt
+by_faults (Ok x) (Err e) First Second Both Done alone first done along second = along e done second
+by_faults (Err e) q First Second Both Done alone first done along second = alone e first
+
+-- and the value of both is the second one's, behind what the first one did
+by_values : {S T E : Type 0} (r : Result S E) (q : Result T E) (Second Both : T → Type 0) (Done : Type 0) → OnOk r Done
+    → ((x : T) → Done → Second x → Both x) → IfOk q Second → IfOk (result_and r q) Both
+by_values (Ok x) (Ok y) Second Both Done done along second = along y done second
+by_values (Ok x) (Err e) Second Both Done done along second = tt
+by_values (Err e) q Second Both Done done along second = tt
+
+-- the same of a result that is said to be that of both
+module _ {S T E : Type 0} (r : Result S E) (q both : Result T E) (is : both ≡ result_and r q) (Done : Type 0) (done : OnOk r Done) where
+  pub if_err-and : (First Second Both : E → Type 0) → ((e : E) → First e → Both e) → IfErr r First → ((e : E) → Done → Second e → Both e) → IfErr q Second
+      → IfErr both Both
+  if_err-and First Second Both alone first along second =
+      subst (λ b. IfErr b Both) (sym is) (by_faults r q First Second Both Done alone first done along second)
+
+  pub if_ok-and : (Second Both : T → Type 0) → ((x : T) → Done → Second x → Both x) → IfOk q Second → IfOk both Both
+  if_ok-and Second Both along second = subst (λ b. IfOk b Both) (sym is) (by_values r q Second Both Done done along second)
 
 -- what a reader explains of its text is why the next record is not read
 unread : {R : Type 0} (rem : R → Option (List ℕ)) (old new : RecordReader R) (text : List ℕ) (e : ReadFault) → Explains rem old new text e
@@ -184,6 +232,40 @@ module _ {C : Type 0} (says : C → ℕ → List ℕ → List (List ℕ) → Typ
   why_written other put fault.Memory p = p
   why_written other put fault.TooLong p = p
 
+module _ (delimiter : ℕ) (p : Plan) (text : List ℕ) where
+  -- why the first record is not read is why it does not name the columns
+  by_first : (e : ReadFault) (why : TableFault) → IsWhyUnread delimiter (record_limits p.limits) first_place text e → GivesOfReading e why
+      → IsWhyOfHeading delimiter p text why
+  by_first (read.Read e) why q gives = rw gives q
+  by_first (read.OpenQuote line) why q gives = rw gives q
+  by_first (read.NotUtf8 line number) why q gives = rw gives q
+  by_first (read.LongRecord line most) why q gives = rw gives q
+  by_first (read.LongField line number most) why q gives = rw gives q
+  by_first read.Memory why q gives = rw gives tt
+  by_first read.TooLong why q gives = rw gives tt
+
+  -- and so is why its names are not those of the plan
+  pub why_of_names : (names : List (List ℕ)) (why : TableFault) → IsHeader delimiter text names → IsWhyOfNames p names why
+      → IsWhyOfHeading delimiter p text why
+  why_of_names names (fault.Plan why) header named = (names, header, named)
+  why_of_names names (fault.Columns most found) header named = (names, header, named)
+  why_of_names names (fault.Missing name) header named = (names, header, named)
+  why_of_names names (fault.Twice name first second) header named = (names, header, named)
+  why_of_names names fault.NoHeader header named = cc named
+  why_of_names names (fault.Fields line expected found) header named = (names, header, named)
+  why_of_names names (fault.Record why) header named = cc named
+  why_of_names names fault.Write header named = (names, header, named)
+  why_of_names names fault.Memory header named = tt
+  why_of_names names fault.TooLong header named = tt
+
+-- what a reader explains of the first record is why it does not name the columns
+pub why_of_first : {R : Type 0} (rem : R → Option (List ℕ)) (old new : RecordReader R) (p : Plan) (text : List ℕ) (e : ReadFault) (why : TableFault)
+    → place_of old ≡ first_place → limits_of old ≡ record_limits p.limits → Explains rem old new text e → GivesOfReading e why
+    → IsWhyOfHeading (delimiter_of old) p text why
+why_of_first rem old new p text e why at keeps explained gives =
+    by_first (delimiter_of old) p text e why (subst (λ limits. IsWhyUnread (delimiter_of old) limits first_place text e) keeps
+    (subst (λ place. IsWhyUnread (delimiter_of old) (limits_of old) place text e) at (unread rem old new text e explained))) gives
+
 module _ (given : Option ℕ) (form : Form) (settings : Draft → Settings) (plan : Data) (text : List ℕ) (wrote : List ℕ → Type 0) where
   -- out of memory needs no reason
   pub why_of_memory : (why : TableFault) → why ≡ fault.Memory → IsWhyOfText given form settings plan text wrote why
@@ -207,43 +289,20 @@ module _ (given : Option ℕ) (form : Form) (settings : Draft → Settings) (pla
   why_of_plan (refused.Refused place refusal) why gives written = rw gives written
   why_of_plan refused.Memory why gives written = rw gives tt
 
-  -- so does a fault that says why the first record is not read
-  by_first : (p : Plan) (e : ReadFault) (why : TableFault) → plan_of Columns plan ≡ Some p → IsWhyUnread (delimiter_by given p)
-      (record_limits p.limits) first_place text e
-      → GivesOfReading e why → wrote [] → IsWhyOfText given form settings plan text wrote why
-  by_first p (read.Read e) why is q gives written = rw gives (inl (p, is, written, q))
-  by_first p (read.OpenQuote line) why is q gives written = rw gives (inl (p, is, written, q))
-  by_first p (read.NotUtf8 line number) why is q gives written = rw gives (inl (p, is, written, q))
-  by_first p (read.LongRecord line most) why is q gives written = rw gives (inl (p, is, written, q))
-  by_first p (read.LongField line number most) why is q gives written = rw gives (inl (p, is, written, q))
-  by_first p read.Memory why is q gives written = rw gives tt
-  by_first p read.TooLong why is q gives written = rw gives tt
-
-  -- and so does a first record that is not read
-  pub why_of_first : {R : Type 0} (rem : R → Option (List ℕ)) (old new : RecordReader R) (p : Plan) (e : ReadFault) (why : TableFault)
-      → plan_of Columns plan ≡ Some p
-      → place_of old ≡ first_place → delimiter_of old ≡ delimiter_by given p → limits_of old ≡ record_limits p.limits
-      → Explains rem old new text e → GivesOfReading e why → wrote [] → IsWhyOfText given form settings plan text wrote why
-  why_of_first rem old new p e why is at parts keeps explained gives written =
-      by_first p e why is (subst (λ delimiter. IsWhyUnread delimiter (record_limits p.limits) first_place text e) parts
-      (subst (λ limits. IsWhyUnread (delimiter_of old) limits first_place text e) keeps
-      (subst (λ place. IsWhyUnread (delimiter_of old) (limits_of old) place text e) at (unread rem old new text e explained)))) gives written
-
-  -- and one whose names are not those of the plan
-  pub why_of_names : (p : Plan) (names : List (List ℕ)) (why : TableFault) → plan_of Columns plan ≡ Some p → IsHeader (delimiter_by given p) text names
-      → IsWhyOfNames p names why
+  -- so does a first record that does not name the columns
+  pub why_of_heading : (p : Plan) (why : TableFault) → plan_of Columns plan ≡ Some p → IsWhyOfHeading (delimiter_by given p) p text why
       → wrote []
       → IsWhyOfText given form settings plan text wrote why
-  why_of_names p names (fault.Plan why) is header named written = cc named
-  why_of_names p names (fault.Columns most found) is header named written = (written, (p, names, is, header, named))
-  why_of_names p names (fault.Missing name) is header named written = (written, (p, names, is, header, named))
-  why_of_names p names (fault.Twice name first second) is header named written = (written, (p, names, is, header, named))
-  why_of_names p names fault.NoHeader is header named written = cc named
-  why_of_names p names (fault.Fields line expected found) is header named written = cc named
-  why_of_names p names (fault.Record why) is header named written = cc named
-  why_of_names p names fault.Write is header named written = tt
-  why_of_names p names fault.Memory is header named written = tt
-  why_of_names p names fault.TooLong is header named written = tt
+  why_of_heading p (fault.Plan why) is q written = written
+  why_of_heading p (fault.Columns most found) is (names, header, named) written = (written, (p, names, is, header, named))
+  why_of_heading p (fault.Missing name) is (names, header, named) written = (written, (p, names, is, header, named))
+  why_of_heading p (fault.Twice name first second) is (names, header, named) written = (written, (p, names, is, header, named))
+  why_of_heading p fault.NoHeader is none written = (written, (p, is, none))
+  why_of_heading p (fault.Fields line expected found) is (names, header, named) written = cc named
+  why_of_heading p (fault.Record why) is q written = inl (p, is, written, q)
+  why_of_heading p fault.Write is q written = tt
+  why_of_heading p fault.Memory is q written = tt
+  why_of_heading p fault.TooLong is q written = tt
 
   -- why one of the records behind the first is not checked
   pub why_under_header : (p : Plan) (names : LinedRecord) (behind : Place) (rest : List ℕ) (why : TableFault) → plan_of Columns plan ≡ Some p

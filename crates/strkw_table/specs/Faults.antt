@@ -145,6 +145,18 @@ IsWhyOfNames p names (fault.Twice name first second) = (p.checks_each ≡ false)
     × IsTwice names (string_bytes name) first second
 IsWhyOfNames p names why = why ≡ fault.Memory
 
+-- why the first record of a text does not name the columns of a plan, where this byte parts fields:
+-- it is not read, there is none, or its names are not those of the plan
+abbrev pub IsWhyOfHeading : ℕ → Plan → List ℕ → TableFault → Type 0
+IsWhyOfHeading delimiter p text (fault.Record why) =
+    IsWhyUnread delimiter (record_limits p.limits) first_place text why
+IsWhyOfHeading delimiter p text fault.NoHeader =
+    next_record (table_config delimiter) st.StartRecord [] [] text ≡ None
+IsWhyOfHeading delimiter p text fault.Memory = ⊤
+IsWhyOfHeading delimiter p text fault.TooLong = ⊤
+IsWhyOfHeading delimiter p text why = (names : List (List ℕ))
+    × IsHeader delimiter text names × IsWhyOfNames p names why
+
 -- a text was checked by a plan, and a delimiter of the caller if there is one, up to a record of
 -- which this is said, its first record naming the columns
 abbrev pub IsCheckedTo : Option ℕ → Form → (Draft → Settings) → Data → List ℕ → (List ℕ → Type 0)

@@ -211,23 +211,34 @@ pub(crate) fn check_rows<E: RegexEngine, R: Read, W: Write, P: Watch, F: FieldFo
         × Appends (W.contents writer.old) (W.contents writer.new) (concat messages)
         × (c.records ≡ length records) × (c.errors ≡ length messages)) }
 {
+    let mut row = StringRecord::new(alloc);
     let mut out = String::new(alloc);
     let checked = gather_rows(
-        alloc, columns, checks, form, reader, &mut out, writer, watch,
+        alloc, columns, checks, form, reader, &mut row, &mut out, writer, watch,
     );
+    write_rest(&out, writer).and(checked)
+}
+
+// Writes the last of the messages.
+fn write_rest<W: Write>(out: &String, writer: &mut W) -> Result<(), TableFault>
+    ensures why { IfErr result IsUnexplained }
+    ensures written { OnOk result
+        (Appends (W.contents writer.old) (W.contents writer.new) (string_bytes out.now)) }
+{
     if writer.write_all(out.as_bytes()).is_err() || writer.flush().is_err() {
         return Err(TableFault::Write);
     }
-    checked
+    Ok(())
 }
 
-// The same, with the last of the messages in `out`.
+// The same, with each record read into `row`, and the last of the messages in `out`.
 fn gather_rows<E: RegexEngine, R: Read, W: Write, P: Watch, F: FieldForm>(
     alloc: Global,
     columns: &[SchemaColumn<'_, E>],
     checks: &Checks<'_>,
     form: &F,
     reader: &mut RecordReader<R>,
+    row: &mut StringRecord,
     out: &mut String,
     writer: &mut W,
     watch: &mut P,
@@ -254,13 +265,12 @@ fn gather_rows<E: RegexEngine, R: Read, W: Write, P: Watch, F: FieldForm>(
         × (concat messages ≡ written ++ string_bytes out.new)
         × (c.records ≡ length records) × (c.errors ≡ length messages)) }
 {
-    let mut row = StringRecord::new(alloc);
     let mut checked = Checked {
         records: 0,
         errors: 0,
     };
     for turn in 0..u64::MAX {
-        let Some(more) = check_next(alloc, columns, checks, form, reader, &mut row, out)? else {
+        let Some(more) = check_next(alloc, columns, checks, form, reader, row, out)? else {
             return Ok(checked);
         };
         checked.errors = checked.errors.checked_add(more).ok_or(TableFault::TooLong)?;

@@ -1,26 +1,31 @@
 //! A whole file.
 
-ghost use Rattle.std.specs.Prelude.{◌≡◌, ◌∷◌, ◌⊎◌, ℕ, List, Some, None, true, length, option_map, IfOk, IfErr, OnOk};
+ghost use Rattle.std.specs.Prelude.{◌≡◌, ◌∷◌, ◌⊎◌, ℕ, List, Option, Some, None, true, length, option_map, IfOk, IfErr, OnOk};
+ghost use Rattle.std.specs.BTreeMap.{get_by_text};
 ghost use Rattle.std.specs.List.{concat};
 ghost use Rattle.std.specs.Io.KnownBytes.{Appends};
+ghost use Rattle.serde_json.specs.Data.{Data};
 ghost use Rattle.serde_json.specs.View.{members_view, view};
 ghost use Rattle.csv.specs.Records.{fields_of};
 ghost use Rattle.csv.specs.Reading.{strip_bom};
+ghost use Rattle.strkw_records.specs.Limits.{AreWithin};
 ghost use Rattle.strkw_records.specs.Lines.{first_place};
+ghost use Rattle.strkw_records.specs.Reading.{Takes, delimiter_of, limits_of, place_of, unread_of};
 ghost use Rattle.strkw_records.specs.Records.{AreLinedRecords, LinedRecord};
 ghost use Rattle.strkw_plan.specs.Borrowed.{plan_view};
 ghost use Rattle.strkw_plan.specs.Rules.{rules_settings};
 ghost use Rattle.strkw_plan.specs.Plan as written;
 ghost use Rattle.strkw_plan.specs.Plan.{plan_of, plan_problem};
 ghost use Rattle.strkw_plan.specs.declared.kind.PlanKind.TheVariants.{Columns};
-ghost use Rattle.strkw_table.specs.Faults.{HaveColumns, IsWhy, IsWhyOfNames, IsWhyOfText, delimiter_by, record_limits};
-ghost use Rattle.strkw_table.specs.Fields.{AreDistinct, AreNamed, MessagesOf, field_message};
+ghost use Rattle.strkw_table.specs.Columns.{IsObjectFor};
+ghost use Rattle.strkw_table.specs.Faults.{HaveColumns, IsNoPlanFault, IsWhy, IsWhyOfHeading, IsWhyOfNames, IsWhyOfText, delimiter_by, record_limits};
+ghost use Rattle.strkw_table.specs.Fields.{AreDistinct, AreNamed, MessagesOf, field_message, schema_named};
 ghost use Rattle.strkw_table.specs.Rows.{HaveShape, OfRecords};
 
 use crate::faults::TableFault;
 use crate::form::{FieldForm, FieldLines};
 use crate::header::{find_twice, require_named};
-use crate::objects::{columns_of, compile_objects};
+use crate::objects::{Objects, columns_of, compile_objects};
 use crate::rows::{Checked, Watch, check_rows};
 use csv::StringRecord;
 use serde_json::Value;
@@ -161,28 +166,106 @@ pub fn check_table_with<B: EngineBuilder, R: Read + Drop, W: Write, P: Watch, F:
         → IfErr result (IsWhyOfText given (F.said form.now) settings (view plan.now)
         (strip_bom text) (Appends (W.contents writer.old) (W.contents writer.new))) }
 {
-    lists_of_compile_are_in_use::<B::Engine>();
     let plan = plan_in(alloc, PlanKind::Columns, plan)?;
     let objects = compile_objects(alloc, rules, &plan)?;
     let limits = record_limits(plan.limits);
     let delimiter = delimiter_by(delimiter, &plan);
     let mut reader = RecordReader::with_delimiter(alloc, file, limits, delimiter)?;
-    let mut names = StringRecord::new(alloc);
-    if reader.read(&mut names)?.is_none() {
-        return Err(TableFault::NoHeader);
-    }
-    watch.names(&names);
-    require_header(alloc, &plan, &names)?;
-    let columns = columns_of(alloc, &objects, &names)?;
-    check_rows(
+    check_records(
         alloc,
-        &columns,
-        &rules.checks,
+        rules,
+        &plan,
+        &objects,
         form,
         &mut reader,
         writer,
         watch,
     )
+}
+
+// Checks the records of a reader that has read none: the first by the plan, and the others by what was compiled for the
+// columns that it names.
+fn check_records<B: EngineBuilder, R: Read, W: Write, P: Watch, F: FieldForm>(
+    alloc: Global,
+    rules: &Rules<'_, B>,
+    plan: &Plan<'_>,
+    objects: &Objects<B::Engine>,
+    form: &F,
+    reader: &mut RecordReader<R>,
+    writer: &mut W,
+    watch: &mut P,
+) -> Result<Checked, TableFault>
+    requires compiled { let s =
+        rules_settings B.takes B.outcome admits accepted encoded decoding rules.now
+        plan.now.draft in
+        let schemas = members_view plan.now.schemas.now.entries in
+        (name : List ℕ)
+        → IsObjectFor B.Engine.outcome s (schema_named schemas name)
+        (get_by_text objects.now name) }
+    requires place { place_of reader.old ≡ first_place }
+    requires limits { limits_of reader.old ≡ record_limits plan.now.limits }
+    ensures messages { let p = plan_view plan.now in
+        let settings =
+        rules_settings B.takes B.outcome admits accepted encoded decoding rules.now in
+        (text : List ℕ) → unread_of R.remaining reader.old ≡ Some text
+        → IfOk result (λ c. (names : LinedRecord)
+        × (records : List LinedRecord) × (messages : List (List ℕ))
+        × HaveColumns p names.fields
+        × AreNamed names.fields p.schemas
+        × ((p.checks_each ≡ true) ⊎ AreDistinct names.fields)
+        × AreLinedRecords (delimiter_of reader.old) first_place text (names ∷ records)
+        × HaveShape (record_limits p.limits) (length names.fields) (names ∷ records)
+        × OfRecords (MessagesOf (F.said form.now) (settings p.draft) p.schemas) names.fields
+        records messages
+        × Appends (W.contents writer.old) (W.contents writer.new) (concat messages)
+        × (c.records ≡ length records) × (c.errors ≡ length messages)) }
+    ensures why { IfErr result IsNoPlanFault }
+    ensures fault { let settings =
+        rules_settings B.takes B.outcome admits accepted encoded decoding rules.now in
+        (given : Option ℕ) (written : Data) (text : List ℕ)
+        → plan_of Columns written ≡ Some (plan_view plan.now)
+        → delimiter_of reader.old ≡ delimiter_by given (plan_view plan.now)
+        → unread_of R.remaining reader.old ≡ Some text
+        → IfErr result (IsWhyOfText given (F.said form.now) settings written text
+        (Appends (W.contents writer.old) (W.contents writer.new))) }
+{
+    lists_of_compile_are_in_use::<B::Engine>();
+    let mut names = StringRecord::new(alloc);
+    read_header(alloc, plan, reader, &mut names, watch)?;
+    let columns = columns_of(alloc, objects, &names)?;
+    check_rows(alloc, &columns, &rules.checks, form, reader, writer, watch)
+}
+
+// Reads the first record into `names`, and refuses one that does not name the columns as the plan wants them.
+fn read_header<R: Read, P: Watch>(
+    alloc: Global,
+    plan: &Plan<'_>,
+    reader: &mut RecordReader<R>,
+    names: &mut StringRecord,
+    watch: &mut P,
+) -> Result<(), TableFault>
+    requires place { place_of reader.old ≡ first_place }
+    requires limits { limits_of reader.old ≡ record_limits plan.now.limits }
+    ensures few { OnOk result (HaveColumns (plan_view plan.now) (fields_of names.new)) }
+    ensures named { OnOk result
+        (AreNamed (fields_of names.new) (members_view plan.now.schemas.now.entries)) }
+    ensures distinct { OnOk result
+        ((plan.now.checks_each ≡ true) ⊎ AreDistinct (fields_of names.new)) }
+    ensures within { OnOk result (AreWithin (record_limits plan.now.limits) (fields_of names.new)) }
+    ensures record { (text : List ℕ) → unread_of R.remaining reader.old ≡ Some text
+        → OnOk result ((line : ℕ)
+        × Takes R.remaining reader.old reader.new text line (fields_of names.new)) }
+    ensures limits { limits_of reader.new ≡ limits_of reader.old }
+    ensures delimiter { delimiter_of reader.new ≡ delimiter_of reader.old }
+    ensures why { IfErr result IsNoPlanFault }
+    ensures fault { (text : List ℕ) → unread_of R.remaining reader.old ≡ Some text
+        → IfErr result (IsWhyOfHeading (delimiter_of reader.old) (plan_view plan.now) text) }
+{
+    if reader.read(names)?.is_none() {
+        return Err(TableFault::NoHeader);
+    }
+    watch.names(names);
+    require_header(alloc, plan, names)
 }
 
 // The delimiter of the caller, or else of the plan.

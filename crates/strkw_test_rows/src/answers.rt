@@ -1,6 +1,6 @@
 //! What the four calls on one instance answered, as lines.
 
-use crate::shown::{OUT_OF_MEMORY, errors, push_error};
+use crate::shown::{OUT_OF_MEMORY, errors};
 use std::alloc::{AllocError, Global};
 use strkw_keywords::Fault;
 use strkw_report::{ErrorKind, Location, Site, ValidationError, error_at};
@@ -21,18 +21,27 @@ impl Answers {
     pub fn lines(&self, alloc: Global) -> Result<String, AllocError> {
         let (word, errors, notes) = (self.is_valid, &self.evaluate, &self.notes);
         let mut lines = format!(in alloc; "{word}\n{errors}{notes}")?;
-        let collected = &self.collect_errors;
-        if collected.as_str() != errors.as_str() {
-            let told = format!(in alloc; "    collect_errors says otherwise\n{collected}")?;
-            lines.push_str(&told)?;
+        let collected = self.collect_errors.as_str();
+        if collected != errors.as_str() {
+            push_otherwise(alloc, "collect_errors", collected, &mut lines)?;
         }
-        let first = &self.validate;
-        if !errors.starts_with(first.as_str()) || first.is_empty() != errors.is_empty() {
-            let told = format!(in alloc; "    validate says otherwise\n{first}")?;
-            lines.push_str(&told)?;
+        let first = self.validate.as_str();
+        if !errors.starts_with(first) || first.is_empty() != errors.is_empty() {
+            push_otherwise(alloc, "validate", first, &mut lines)?;
         }
         Ok(lines)
     }
+}
+
+// Appends that a call says otherwise, and what it says.
+fn push_otherwise(
+    alloc: Global,
+    call: &str,
+    said: &str,
+    lines: &mut String,
+) -> Result<(), AllocError> {
+    let told = format!(in alloc; "    {call} says otherwise\n{said}")?;
+    lines.push_str(&told)
 }
 
 /// The word for what `is_valid` answered.
@@ -46,13 +55,11 @@ pub fn word(is_valid: Result<bool, AllocError>) -> &'static str {
 
 /// The error that `validate` answered, if there is one.
 pub fn first_error(alloc: Global, verdict: Result<(), Fault>) -> Result<String, AllocError> {
-    let mut lines = String::new(alloc);
     match verdict {
-        Ok(()) => {}
-        Err(Fault::Invalid(error)) => push_error(alloc, &error, &mut lines)?,
-        Err(Fault::Memory) => lines.push_str(OUT_OF_MEMORY)?,
+        Ok(()) => Ok(String::new(alloc)),
+        Err(Fault::Invalid(error)) => errors(alloc, &[error]),
+        Err(Fault::Memory) => String::from_str(alloc, OUT_OF_MEMORY),
     }
-    Ok(lines)
 }
 
 /// A vector that holds one error, to be lent to `collect_errors`.
@@ -73,9 +80,9 @@ const LENT: &str =
 pub fn append(
     alloc: Global,
     outcome: Result<(), AllocError>,
-    found: &[ValidationError],
+    found: Vec<ValidationError>,
 ) -> Result<String, AllocError> {
-    let lines = errors(alloc, found)?;
+    let lines = errors(alloc, &found)?;
     match (outcome, lines.strip_prefix(LENT)) {
         (_, None) => String::from_str(alloc, "    the lent error is another\n"),
         (Ok(()), Some(rest)) => String::from_str(alloc, rest),

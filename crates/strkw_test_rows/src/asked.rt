@@ -6,6 +6,7 @@ use serde_json::{Map, Value};
 use std::alloc::{AllocError, Global};
 use strkw_keywords::{Checks, Context, Uses, Validate, Validator};
 use strkw_object::{StringKeywords, compile_strings};
+use strkw_report::Site;
 use strkw_test_doubles::{Name, ScriptedBuilder, ScriptedEngine, compile_entry};
 
 /// Appends what is compiled of the object, or of the one entry that the row names, and its answers; and where a pattern
@@ -47,11 +48,15 @@ fn push_entry(
     let Some(keyword) = row::keyword_named(name) else {
         return out.push_str("  no keyword\n");
     };
-    match compile_entry(alloc, ctx, keyword, schema) {
+    let compiled = compile_entry(alloc, ctx, keyword, schema);
+    let told = match &compiled {
         None => out.push_str("  adds nothing\n"),
-        Some(Err(refusal)) => shown::push_refusal(alloc, &refusal, out),
-        Some(Ok(validator)) => push_validator(alloc, row, all, &ctx.checks, &validator, out),
-    }
+        Some(Err(refusal)) => shown::push_refusal(alloc, refusal, out),
+        Some(Ok(validator)) => push_validator(alloc, row, all, &ctx.checks, validator, out),
+    };
+    // By a call: an arm that drops it is proved with the parts of every validator written out.
+    drop(compiled);
+    told
 }
 
 fn push_object(
@@ -130,14 +135,25 @@ fn push_of_validator(
 ) -> Result<(), AllocError> {
     let site = row::site(alloc, row)?;
     for instance in row::items(row, "instances") {
-        let name = Name {
-            text: instance.as_str(),
-        };
-        let lines = entry::lines(alloc, validator, instance, &site, checks)?;
-        let others = entry::lines(alloc, validator, &name, &site, checks)?;
-        push_answers(alloc, instance, &lines, &others, out)?;
+        push_validator_on(alloc, instance, &site, checks, validator, out)?;
     }
     Ok(())
+}
+
+fn push_validator_on(
+    alloc: Global,
+    instance: &Value,
+    site: &Site,
+    checks: &Checks<'_>,
+    validator: &Validator<ScriptedEngine<'_>>,
+    out: &mut String,
+) -> Result<(), AllocError> {
+    let name = Name {
+        text: instance.as_str(),
+    };
+    let lines = entry::lines(alloc, validator, instance, site, checks)?;
+    let others = entry::lines(alloc, validator, &name, site, checks)?;
+    push_answers(alloc, instance, &lines, &others, out)
 }
 
 fn push_keywords(
@@ -167,12 +183,23 @@ fn push_of_keywords(
 ) -> Result<(), AllocError> {
     let site = row::site(alloc, row)?;
     for instance in row::items(row, "instances") {
-        let name = Name {
-            text: instance.as_str(),
-        };
-        let lines = object::lines(alloc, keywords, instance, &site, checks)?;
-        let others = object::lines(alloc, keywords, &name, &site, checks)?;
-        push_answers(alloc, instance, &lines, &others, out)?;
+        push_keywords_on(alloc, instance, &site, checks, keywords, out)?;
     }
     Ok(())
+}
+
+fn push_keywords_on(
+    alloc: Global,
+    instance: &Value,
+    site: &Site,
+    checks: &Checks<'_>,
+    keywords: &StringKeywords<ScriptedEngine<'_>>,
+    out: &mut String,
+) -> Result<(), AllocError> {
+    let name = Name {
+        text: instance.as_str(),
+    };
+    let lines = object::lines(alloc, keywords, instance, site, checks)?;
+    let others = object::lines(alloc, keywords, &name, site, checks)?;
+    push_answers(alloc, instance, &lines, &others, out)
 }

@@ -64,15 +64,25 @@ fn answers<N: Node>(
     }
     let mut found = filled(alloc)?;
     let collected = validator.collect_errors(alloc, node, site, checks, &mut found);
-    let (evaluate, notes) = match validator.evaluate(alloc, node, site, checks) {
-        Ok(it) => (errors(alloc, &it.errors)?, annotation(alloc, &it)?),
-        Err(AllocError) => (String::from_str(alloc, OUT_OF_MEMORY)?, String::new(alloc)),
-    };
+    let collect_errors = append(alloc, collected, found)?;
+    let validate = first_error(alloc, validator.validate(alloc, node, site, checks))?;
+    let (evaluate, notes) = told(alloc, validator.evaluate(alloc, node, site, checks))?;
     Ok(Some(Answers {
         is_valid: word(validator.is_valid(alloc, node, checks)),
-        validate: first_error(alloc, validator.validate(alloc, node, site, checks))?,
-        collect_errors: append(alloc, collected, &found)?,
+        validate,
+        collect_errors,
         evaluate,
         notes,
     }))
+}
+
+// The lines of the errors and of the notes of `evaluate`.
+fn told(
+    alloc: Global,
+    outcome: Result<EvaluationResult, AllocError>,
+) -> Result<(String, String), AllocError> {
+    match outcome {
+        Ok(it) => Ok((errors(alloc, &it.errors)?, annotation(alloc, &it)?)),
+        Err(AllocError) => Ok((String::from_str(alloc, OUT_OF_MEMORY)?, String::new(alloc))),
+    }
 }

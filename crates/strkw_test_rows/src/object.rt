@@ -4,7 +4,7 @@ use crate::answers::{Answers, append, filled, first_error, word};
 use crate::shown::{OUT_OF_MEMORY, errors};
 use std::alloc::{AllocError, Global};
 use strkw_keywords::Checks;
-use strkw_object::{Note, StringKeywords};
+use strkw_object::{Note, ObjectEvaluation, StringKeywords};
 use strkw_report::{Node, Site};
 use strkw_test_doubles::ScriptedEngine;
 
@@ -45,15 +45,25 @@ fn answers<N: Node>(
     }
     let mut found = filled(alloc)?;
     let collected = keywords.collect_errors(alloc, node, site, checks, &mut found);
-    let (evaluate, notes) = match keywords.evaluate(alloc, node, site, checks) {
-        Ok(it) => (errors(alloc, &it.errors)?, notes_of(alloc, &it.notes)?),
-        Err(AllocError) => (String::from_str(alloc, OUT_OF_MEMORY)?, String::new(alloc)),
-    };
+    let collect_errors = append(alloc, collected, found)?;
+    let validate = first_error(alloc, keywords.validate(alloc, node, site, checks))?;
+    let (evaluate, notes) = told(alloc, keywords.evaluate(alloc, node, site, checks))?;
     Ok(Some(Answers {
         is_valid: word(keywords.is_valid(alloc, node, checks)),
-        validate: first_error(alloc, keywords.validate(alloc, node, site, checks))?,
-        collect_errors: append(alloc, collected, &found)?,
+        validate,
+        collect_errors,
         evaluate,
         notes,
     }))
+}
+
+// The lines of the errors and of the notes of `evaluate`.
+fn told(
+    alloc: Global,
+    outcome: Result<ObjectEvaluation, AllocError>,
+) -> Result<(String, String), AllocError> {
+    match outcome {
+        Ok(it) => Ok((errors(alloc, &it.errors)?, notes_of(alloc, &it.notes)?)),
+        Err(AllocError) => Ok((String::from_str(alloc, OUT_OF_MEMORY)?, String::new(alloc))),
+    }
 }

@@ -33,26 +33,35 @@ fn push_absolute(error: &ValidationError, lines: &mut String) -> Result<(), Allo
     lines.push_str("\n")
 }
 
-/// An error: its place and its text, and below them its kind, the instance with its place, and the other places. Where
-/// it is displayed as another text, a line says so.
-pub fn push_error(
+// An error: its place and its text, and below them its kind, the instance with its place, and the other places. Where
+// it is displayed as another text, a line says so.
+fn push_error(
     alloc: Global,
     error: &ValidationError,
     lines: &mut String,
 ) -> Result<(), AllocError> {
-    let (place, text) = (error.schema_path.as_str(), error.text(alloc)?);
+    let text = error.text(alloc)?;
+    push_told(alloc, error, &text, lines)?;
+    push_absolute(error, lines)?;
+    if error.to_string(alloc)?.as_str() == text.as_str() {
+        return Ok(());
+    }
+    lines.push_str("      displayed otherwise\n")
+}
+
+fn push_told(
+    alloc: Global,
+    error: &ValidationError,
+    text: &str,
+    lines: &mut String,
+) -> Result<(), AllocError> {
     let kind = kind(alloc, &error.kind)?;
     let (instance, at) = (&error.instance, error.instance_path.as_str());
-    let way = error.evaluation_path.as_str();
+    let (place, way) = (error.schema_path.as_str(), error.evaluation_path.as_str());
     let told = format!(in alloc;
         "    {place}: {text}\n      {kind}, by {way} of {instance} at '{at}'"
     )?;
-    lines.push_str(&told)?;
-    push_absolute(error, lines)?;
-    if error.to_string(alloc)?.as_str() != text.as_str() {
-        lines.push_str("      displayed otherwise\n")?;
-    }
-    Ok(())
+    lines.push_str(&told)
 }
 
 /// Errors in their order.
@@ -88,12 +97,22 @@ pub fn push_refusal(
     refusal: &CompileError,
     out: &mut String,
 ) -> Result<(), AllocError> {
-    let (place, text) = (refusal.location.as_str(), refusal.text(alloc)?);
-    let kind = refusal_kind(alloc, &refusal.kind)?;
-    let told = format!(in alloc; "  refused {place}: {text}\n    {kind}\n")?;
-    out.push_str(&told)?;
+    let text = refusal.text(alloc)?;
+    push_reason(alloc, refusal, &text, out)?;
     if refusal.to_string(alloc)?.as_str() == text.as_str() {
         return Ok(());
     }
     out.push_str("    displayed otherwise\n")
+}
+
+fn push_reason(
+    alloc: Global,
+    refusal: &CompileError,
+    text: &str,
+    out: &mut String,
+) -> Result<(), AllocError> {
+    let kind = refusal_kind(alloc, &refusal.kind)?;
+    let place = refusal.location.as_str();
+    let told = format!(in alloc; "  refused {place}: {text}\n    {kind}\n")?;
+    out.push_str(&told)
 }

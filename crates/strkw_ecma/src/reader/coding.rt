@@ -10,7 +10,8 @@ use std::alloc::{AllocError, Global};
 
 impl Reader {
     pub(super) fn take_code(&mut self, alloc: Global, coded: Coded) -> Result<bool, AllocError>
-        ensures { IfOk result (λ taken. when taken (Some (parts_of self.new)) ≡ after_coding (parts_of self.old) coded) }
+        ensures { IfOk result (λ taken. when taken (Some (parts_of self.new))
+            ≡ after_coding (parts_of self.old) coded) }
     {
         match coded {
             Coded::Fails => return Ok(false),

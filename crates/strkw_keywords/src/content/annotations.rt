@@ -13,7 +13,7 @@ ghost use Rattle.strkw_keywords.specs.Settings.{place_in, settings_of};
 ghost use Rattle.strkw_keywords.specs.Without.{IsWithoutSchema};
 
 use crate::checks::{Checks, ContentCodec, Format, MediaTypeCheck};
-use crate::compile::{Refused, locate, origin_of};
+use crate::compile::{Refused, locate};
 use crate::content_rule::ContentRule;
 use crate::findings::{Findings, Found};
 use crate::keyed::Keyed;
@@ -24,7 +24,7 @@ use crate::test::Test;
 use crate::validator::Validator;
 use crate::values::Object;
 use serde_json::{Map, Value};
-use std::alloc::Global;
+use std::alloc::{AllocError, Global};
 use strkw_pattern::EngineBuilder;
 use strkw_report::{CompileError, CompileErrorKind, Node, TextNode, holds_fraction};
 
@@ -45,14 +45,18 @@ pub struct Untested {
 }
 
 impl Untested {
-    // The validator that notes a value at a keyword.
-    pub(crate) fn keyed(origin: Origin, keyword: Keyword, value: Value) -> Keyed<Untested>
-        ensures { result ≡ record {
-          origin = origin;
-          test = record { keyword = keyword; value = value };
-        } }
+    // The validator that notes a value at a keyword, in the schema object of a context.
+    pub(crate) fn keyed<B>(
+        ctx: &Context<'_, B>,
+        keyword: Keyword,
+        value: &Value,
+    ) -> Result<Keyed<Untested>, AllocError>
+        ensures place { IfOk result (λ v. v.origin ≡ place_in ctx.now) }
+        ensures keyword { IfOk result (λ v. v.test.keyword ≡ keyword) }
+        ensures value { IfOk result (λ v. view v.test.value ≡ view value.now) }
     {
-        Keyed::new(origin, Untested { keyword, value })
+        let value = value.clone()?;
+        Keyed::of(ctx, Untested { keyword, value })
     }
 }
 
@@ -79,7 +83,7 @@ pub(crate) fn build_media_type_annotation<B: EngineBuilder>(
     if value.as_str().is_none() {
         return Ok(None);
     }
-    let noting = Untested::keyed(origin_of(ctx)?, Keyword::ContentMediaType, value.clone()?);
+    let noting = Untested::keyed(ctx, Keyword::ContentMediaType, value)?;
     Ok(Some(Validator::ContentMediaTypeAnnotation(noting)))
 }
 
@@ -94,7 +98,7 @@ pub(crate) fn build_encoding_annotation<B: EngineBuilder>(
     if value.as_str().is_none() {
         return Ok(None);
     }
-    let noting = Untested::keyed(origin_of(ctx)?, Keyword::ContentEncoding, value.clone()?);
+    let noting = Untested::keyed(ctx, Keyword::ContentEncoding, value)?;
     Ok(Some(Validator::ContentEncodingAnnotation(noting)))
 }
 
@@ -109,7 +113,7 @@ pub(crate) fn build_schema_annotation<B: EngineBuilder, O: Object>(
     if !notes_schema(parent, value)? {
         return Ok(None);
     }
-    let noting = Untested::keyed(origin_of(ctx)?, Keyword::ContentSchema, value.clone()?);
+    let noting = Untested::keyed(ctx, Keyword::ContentSchema, value)?;
     Ok(Some(Validator::ContentSchemaAnnotation(noting)))
 }
 
@@ -128,8 +132,11 @@ fn build_owned_schema<B: EngineBuilder>(
     {
         return Ok(None);
     }
-    let noting = Untested::keyed(origin_of(ctx)?, Keyword::ContentSchema, schema);
-    Ok(Some(Validator::ContentSchemaAnnotation(noting)))
+    let test = Untested {
+        keyword: Keyword::ContentSchema,
+        value: schema,
+    };
+    Ok(Some(Validator::ContentSchemaAnnotation(Keyed::of(ctx, test)?)))
 }
 
 // Whether a value is noted as a schema: where there is a media type beside it.

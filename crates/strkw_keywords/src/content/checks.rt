@@ -12,7 +12,7 @@ ghost use Rattle.strkw_keywords.specs.Settings.{place_in, settings_of};
 
 use super::{accepts, chosen_codec, chosen_media_type, decode, is_encoding};
 use crate::checks::{Checks, Choice, ContentCodec, Format, MediaTypeCheck};
-use crate::compile::{Refused, no_string, origin_of};
+use crate::compile::{Refused, no_string};
 use crate::content_rule::ContentRule;
 use crate::findings::{Findings, Found, FoundOne};
 use crate::keyed::Keyed;
@@ -204,10 +204,9 @@ pub(crate) fn build_media_type<B: EngineBuilder, O: Object>(
     let Some(media_type) = media_type_known(alloc, ctx, name)? else {
         return Ok(None);
     };
-    let origin = origin_of(ctx)?;
     let Some(encoding) = parent.value(Keyword::ContentEncoding) else {
         let test = OfMediaType { media_type };
-        return Ok(Some(Validator::ContentMediaType(Keyed::new(origin, test))));
+        return Ok(Some(Validator::ContentMediaType(Keyed::of(ctx, test)?)));
     };
     let Some(codec) = encoding.as_str() else {
         return Err(no_string(encoding, Keyword::ContentEncoding));
@@ -216,7 +215,7 @@ pub(crate) fn build_media_type<B: EngineBuilder, O: Object>(
         return Ok(None);
     };
     let test = EncodedMediaType { codec, media_type };
-    Ok(Some(Validator::ContentMediaTypeAndEncoding(Keyed::new(origin, test))))
+    Ok(Some(Validator::ContentMediaTypeAndEncoding(Keyed::of(ctx, test)?)))
 }
 
 pub(crate) fn build_encoding<B: EngineBuilder, O: Object>(
@@ -239,6 +238,5 @@ pub(crate) fn build_encoding<B: EngineBuilder, O: Object>(
     let Some(codec) = codec_known(alloc, ctx, name)? else {
         return Ok(None);
     };
-    let origin = origin_of(ctx)?;
-    Ok(Some(Validator::ContentEncoding(Keyed::new(origin, Encoded { codec }))))
+    Ok(Some(Validator::ContentEncoding(Keyed::of(ctx, Encoded { codec })?)))
 }

@@ -37,15 +37,14 @@ pub(crate) fn build_pattern<B: EngineBuilder>(
     let Some(text) = value.as_str() else {
         return Err(no_string(value, Keyword::Pattern));
     };
-    let origin = origin_of(ctx)?;
     let pattern = String::from_str(alloc, text)?;
     if let Some(literal) = analyze_pattern(alloc, text)? {
-        return Ok(Some(literal_validator(origin, pattern, literal)));
+        return Ok(Some(literal_validator(origin_of(ctx)?, pattern, literal)));
     }
     match ctx.builder.build(alloc, text) {
         Ok(engine) => {
             let test = Matching { pattern, engine };
-            Ok(Some(Validator::Pattern(Keyed::new(origin, test))))
+            Ok(Some(Validator::Pattern(Keyed::of(ctx, test)?)))
         }
         Err(BuildRefusal::Pattern) => Err(Refused::Malformed {
             keyword: Keyword::Pattern,

@@ -1,7 +1,5 @@
-use Rattle.std.proofs.Common.{rules, ◌≡◌, None, Some, Err, inl, inr, refl, sym, subst, string_bytes, bytes_eq}
+use Rattle.std.proofs.Common.{rules, ◌≡◌, None, Err, inl, inr, refl, sym, subst, string_bytes}
 use Rattle.std.specs.BTreeMap.{get_by_text}
-use Rattle.std.specs.Map.{update}
-use Rattle.std.proofs.lemmas.Map.Text.{btree_map_updates_text}
 use Rattle.serde_json.specs.Find.{get_member}
 use Rattle.serde_json.specs.View.{members_view, view}
 use Rattle.strkw_plan.specs.Compiled.{IsAmong}
@@ -30,29 +28,24 @@ loop-name-preserved g c =
     let rest = members_view c.next.new.self in
     let key = string_bytes c.in-Some.name.now in
     let schema = view c.in-Some.schema.now in
-    let copied : string_bytes c.in_ok-clone.field-0 ≡ key = search rules in
     let steps = c.in-Some.ensures.steps in
     let l = c.loop-name.invariant in
     let first : IsAmong key schema (members_view c.loop-name.name-iterator) = subst (λ es. IsAmong key schema (members_view es)) (sym steps)
-    (inl (refl, refl)) in record {
+    (inl (refl, refl)) in
+    let (object, compiled, updates) = c.in_ok-insert_object.ensures.compiled in record {
       among = λ name d is. l.among name d (subst (λ es. IsAmong name d (members_view es)) (sym steps) (inr is));
       found = λ name d is. l.found name d (subst (λ es. IsAmong name d (members_view es)) (sym steps) (inr is));
       done = one_more g.B.Engine.RegexEngine.outcome s all rest (get_by_text c.loop-name.objects)
-          (get_by_text c.insert.new.self) key schema c.in_ok-object.object
+          (get_by_text c.insert_object.new.objects) key schema object
           (λ name none. l.done name (subst (λ es. get_member name (members_view es) ≡ None) (sym steps) none))
-          (l.found key schema first)
-          c.in_ok-object.ensures.compiled
-          (λ name. subst (λ q. get_by_text c.insert.new.self name ≡ update bytes_eq (get_by_text c.loop-name.objects) q
-          (Some c.in_ok-object.object) name) copied (btree_map_updates_text (string_bytes c.in_ok-clone.field-0) c.loop-name.objects c.insert.new.self
-          (Some c.in_ok-object.object) c.in_ok-insert.ensures.updates name));
+          (l.found key schema first) compiled updates;
     }
 
-pub returns-in_err-object-clause-refused : goal.returns-in_err-object-clause-refused
-returns-in_err-object-clause-refused g c =
+pub returns-in_err-insert_object-clause-refused : goal.returns-in_err-insert_object-clause-refused
+returns-in_err-insert_object-clause-refused g c =
     let key = string_bytes c.in-Some.name.now in
     let schema = view c.in-Some.schema.now in
-    let named : c.deref.result.now ≡ key = search rules in
     let first : IsAmong key schema (members_view c.loop-name.name-iterator) =
     subst (λ es. IsAmong key schema (members_view es)) (sym c.in-Some.ensures.steps) (inl (refl, refl)) in
-    let told : c.from_residual.result ≡ Err c.in_err-object.field-0.0 = search rules in
-    rw told (inr (key, schema, c.loop-name.invariant.among key schema first, rw named at c.in_err-object.ensures.refused))
+    let told : c.from_residual.result ≡ Err c.in_err-insert_object.field-0.0 = search rules in
+    rw told (inr (key, schema, c.loop-name.invariant.among key schema first, c.in_err-insert_object.ensures.refused))

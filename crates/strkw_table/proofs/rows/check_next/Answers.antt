@@ -1,7 +1,38 @@
-use Rattle.std.proofs.Common.{rules, ◌≡◌, length, refl}
+use Rattle.std.proofs.Common.{rules, ◌≡◌, Err, length, refl}
+use Rattle.std.proofs.lemmas.Result.{IfErr-weaker}
+use Rattle.std.specs.Prelude.{IfErr}
 use Rattle.csv.specs.Records.{fields_of}
-use Rattle.strkw_records.specs.Reading.{place_of}
+use Rattle.strkw_records.specs.Reading.{delimiter_of, limits_of, place_of}
+use Rattle.strkw_table.specs.Faults.{IsNoPlanFault}
+use Rattle.strkw_table.specs.Gives.{GivesOfReading}
+use Rattle.strkw_table.proofs.FaultLemmas.{no_plan_of_reading, no_plan_unexplained, why_of_next, why_of_read}
 use Rattle.strkw_table.proofs.rows.check_next.Goals as goal
+
+pub returns-in_err-line-clause-why : goal.returns-in_err-line-clause-why
+returns-in_err-line-clause-why g c =
+    let e = c.in_err-line.field-0.0 in
+    let gives : IfErr c.from_residual.result (GivesOfReading e) = search rules in
+    IfErr-weaker c.from_residual.result (GivesOfReading e) IsNoPlanFault (no_plan_of_reading e) gives
+
+pub returns-in_err-line-clause-fault : goal.returns-in_err-line-clause-fault
+returns-in_err-line-clause-fault g c text source =
+    let e = c.in_err-line.field-0.0 in
+    let gives : IfErr c.from_residual.result (GivesOfReading e) = search rules in
+    IfErr-weaker c.from_residual.result (GivesOfReading e) _ (λ why. why_of_read g.R.Read.remaining c.args.reader.now c.read.new.self text
+    (length c.args.columns.now) e why (c.in_err-line.ensures.fault text source)) gives
+
+pub returns-in_err-count-clause-why : goal.returns-in_err-count-clause-why
+returns-in_err-count-clause-why g c =
+    let why = c.in_err-count.field-0.0 in
+    let told : c.from_residual-in_err-count.result ≡ Err why = search rules in
+    rw told (no_plan_unexplained why c.in_err-count.ensures.why)
+
+pub returns-in_err-count-clause-fault : goal.returns-in_err-count-clause-fault
+returns-in_err-count-clause-fault g c text source =
+    let why = c.in_err-count.field-0.0 in
+    let reader = c.args.reader.now in
+    let told : c.from_residual-in_err-count.result ≡ Err why = search rules in
+    rw told (why_of_next (delimiter_of reader) (limits_of reader) (length c.args.columns.now) (place_of reader) text why c.in_err-count.ensures.why)
 
 pub returns-clause-record : goal.returns-clause-record
 returns-clause-record g c text source =

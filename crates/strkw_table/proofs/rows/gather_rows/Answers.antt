@@ -30,9 +30,9 @@ loop-turn-init g c =
         text,
         source,
         first_records-none (delimiter_of c.args.reader.now) (place_of c.args.reader.now) text,
-        have_shape-none _ _,
+        have_shape-none (limits_of c.args.reader.now) (length c.args.columns.now),
         of_records-none (ColumnMessages (g.F.FieldForm.said c.args.form.now) g.E.RegexEngine.outcome lists) c.args.columns.now,
-        Appends-nil _,
+        Appends-nil (g.W.Write.contents c.args.writer.now),
         sym c.requires.empty,
         refl,
         refl,
@@ -64,10 +64,12 @@ loop-turn-preserved g c =
                 (place_of c.check_next.new.reader) text left rest records r first
                 (subst (λ delimiter. TakesRecord delimiter (place_of c.loop-turn.reader) left line fields
                 (place_of c.check_next.new.reader) rest) parted takes_record),
-            have_shape-more _ _ records r width wide (subst (λ limits. AreWithin limits fields) limited within),
+            have_shape-more (limits_of c.args.reader.now) (length c.args.columns.now) records r width wide
+                (subst (λ limits. AreWithin limits fields) limited within),
             of_records-more (ColumnMessages (g.F.FieldForm.said c.args.form.now) g.E.RegexEngine.outcome lists) c.args.columns.now records r messages more
                 all_said said,
-            Appends-trans _ _ _ written put appends appended,
+            Appends-trans (g.W.Write.contents c.args.writer.now) (g.W.Write.contents c.loop-turn.writer)
+                (g.W.Write.contents c.write_gathered.new.writer) written put appends appended,
             gathered messages more written (string_bytes c.loop-turn.out) (string_bytes c.check_next.new.out) put
                 (string_bytes c.write_gathered.new.out) joined more_out split,
             rw row_count (sym (length-append records (r ∷ []))),

@@ -13,8 +13,8 @@ returns-in-Some-2 g c =
     (c.matcher_answers_search.ensures (chars c.in-Some.text.now) c.in-Some-2.literal (rw c.in-Some-2.is at c.in_ok-literal.ensures))
     (search rules) c.literal_validator.ensures.remark (search rules)
 
-pub returns-in-Ok : goal.returns-in-Ok
-returns-in-Ok g c =
+pub returns-in_ok-of-in-Ok : goal.returns-in_ok-of-in-Ok
+returns-in_ok-of-in-Ok g c =
     engine_stands _ _ (view c.args.value.now) c.in-Some.text.now _
     (search rules) (rw c.in_default-2.is at c.in_ok-literal.ensures)
     (c.in-Ok.ensures.taken) (search rules) refl (search rules)
@@ -22,14 +22,9 @@ returns-in-Ok g c =
 pub returns-in_default : goal.returns-in_default
 returns-in_default g c = string_refused _ _ (view c.args.value.now) _ c.in_default.ensures c.no_string.ensures
 
-pub returns-in_err-origin : goal.returns-in_err-origin
-returns-in_err-origin g c =
-    let (e, is, same) = err_from_is_err_and c.from_residual.result c.from_residual.ensures.1 in
-    rw is (memory_refused _ _ (view c.args.value.now) e same)
-
 pub returns-in_err-pattern : goal.returns-in_err-pattern
 returns-in_err-pattern g c =
-    let (e, is, same) = err_from_is_err_and c.from_residual-in_err-pattern.result c.from_residual-in_err-pattern.ensures.1 in
+    let (e, is, same) = err_from_is_err_and c.from_residual.result c.from_residual.ensures.1 in
     rw is (memory_refused _ _ (view c.args.value.now) e same)
 
 pub returns-in_err-literal : goal.returns-in_err-literal
@@ -37,10 +32,20 @@ returns-in_err-literal g c =
     let (e, is, same) = err_from_is_err_and c.from_residual-in_err-literal.result c.from_residual-in_err-literal.ensures.1 in
     rw is (memory_refused _ _ (view c.args.value.now) e same)
 
+pub returns-in_err-origin_of : goal.returns-in_err-origin_of
+returns-in_err-origin_of g c =
+    let (e, is, same) = err_from_is_err_and c.from_residual-in_err-origin_of.result c.from_residual-in_err-origin_of.ensures.1 in
+    rw is (memory_refused _ _ (view c.args.value.now) e same)
+
+pub returns-in_err-of-in-Ok : goal.returns-in_err-of-in-Ok
+returns-in_err-of-in-Ok g c =
+    let (e, is, same) = err_from_is_err_and c.from_residual-in_err-of-in-Ok.result c.from_residual-in_err-of-in-Ok.ensures.1 in
+    rw is (memory_refused _ _ (view c.args.value.now) e same)
+
 pub returns-in-Err-Pattern : goal.returns-in-Err-Pattern
 returns-in-Err-Pattern g c =
     regex_refused _ _ (view c.args.value.now) c.in-Some.text.now _ (search rules) (rw c.in_default-2.is at c.in_ok-literal.ensures) (search rules)
     (λ place. search rules)
 
-pub returns : goal.returns
-returns g c = memory_refused _ _ (view c.args.value.now) _ refl
+pub returns-in-Err-Memory : goal.returns-in-Err-Memory
+returns-in-Err-Memory g c = memory_refused _ _ (view c.args.value.now) _ refl

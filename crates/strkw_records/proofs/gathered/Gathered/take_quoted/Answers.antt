@@ -21,7 +21,9 @@ pub returns-in_err-peek-clause-fails : goal.returns-in_err-peek-clause-fails
 returns-in_err-peek-clause-fails g c delimiter text e =
     let (x, is, same) = err_from_is_err_and c.from_residual.result c.from_residual.ensures.1 in
     let q = c.pieces.invariant.1 delimiter text e in
-    rw (is, same) (inl (inl (fails-later c.args.input.now.place c.pieces.input.place text q.0.bytes q.0.rest _ q.0.passes.splits q.0.passes.place (c.in_err-peek.ensures.fails q.0.rest))))
+    rw (is, same) (inl (inl (fails-later c.args.input.now.place c.pieces.input.place text q.0.bytes q.0.rest _
+    q.0.passes.splits q.0.passes.place
+    (c.in_err-peek.ensures.fails q.0.rest))))
 
 pub returns-then-is_none-clause-fails : goal.returns-then-is_none-clause-fails
 returns-then-is_none-clause-fails g c delimiter text e =
@@ -53,7 +55,8 @@ returns-in_err-take_run-clause-fails g c delimiter text e =
     rw (is, same) (inl (outside-gathers delimiter g.R.Read.remaining c.args.input.now c.peek.new.self text st.InQuoted st.InQuoted
     c.args.self.now c.pieces.self here _
     c.pieces.invariant.0
-    (by-run delimiter c.peek.new.self.place st.InQuoted c.pieces.self q.0.rest (take c.quoted_run-count.result c.peek.new.self.piece) (drop c.quoted_run-count.result q.0.rest)
+    (by-run delimiter c.peek.new.self.place st.InQuoted c.pieces.self q.0.rest
+    (take c.quoted_run-count.result c.peek.new.self.piece) (drop c.quoted_run-count.result q.0.rest)
     c.quoted_run-count.result _ size parts.0
     (joins-quoted delimiter c.pieces.self _ run)
     c.pieces.invariant.0.counted (c.in_err-take_run.ensures.fails q.0.rest kept.0))))
@@ -89,7 +92,9 @@ returns-in_err-take_byte-clause-fails g c delimiter text e =
     c.peek.ensures.place (take c.quoted_run-count.result c.peek.new.self.piece) (drop c.quoted_run-count.result q.0.rest)
     (c.in_ok-take_run.ensures.passes q.0.rest kept.0) run c.take_run.ensures.fields c.in_ok-take_run.ensures.front
     in
-    rw (is, same) (inl (inl (fails-later c.args.input.now.place c.take_run.new.input.place text q1.0.bytes q1.0.rest _ q1.0.passes.splits q1.0.passes.place (c.in_err-take_byte.ensures.fails q1.0.rest q1.0.passes.left))))
+    rw (is, same) (inl (inl (fails-later c.args.input.now.place c.take_run.new.input.place text q1.0.bytes q1.0.rest _
+    q1.0.passes.splits q1.0.passes.place
+    (c.in_err-take_byte.ensures.fails q1.0.rest q1.0.passes.left))))
 
 pub returns-in_err-is_doubled-clause-fails : goal.returns-in_err-is_doubled-clause-fails
 returns-in_err-is_doubled-clause-fails g c delimiter text e =
@@ -122,10 +127,13 @@ returns-in_err-is_doubled-clause-fails g c delimiter text e =
     c.args.self.now
     c.take_run.new.self c.take_run.new.self q1.0 closing
     in
-    rw (is, same) (inl (inl (fails-later c.args.input.now.place c.take_byte.new.self.place text h.bytes h.rest _ h.passes.splits h.passes.place (c.in_err-is_doubled.ensures.fails h.rest))))
+    rw (is, same) (inl (inl (fails-later c.args.input.now.place c.take_byte.new.self.place text h.bytes h.rest _
+    h.passes.splits h.passes.place
+    (c.in_err-is_doubled.ensures.fails h.rest))))
 
 pub returns-then-not-is_doubled-clause-counted : goal.returns-then-not-is_doubled-clause-counted
-returns-then-not-is_doubled-clause-counted g c = counts-later c.args.self.now c.pieces.self c.take_run.new.self c.pieces.invariant.0 c.in_ok-take_run.ensures.counted
+returns-then-not-is_doubled-clause-counted g c =
+    counts-later c.args.self.now c.pieces.self c.take_run.new.self c.pieces.invariant.0 c.in_ok-take_run.ensures.counted
 
 pub returns-then-not-is_doubled-clause-ok : goal.returns-then-not-is_doubled-clause-ok
 returns-then-not-is_doubled-clause-ok g c delimiter text e =
@@ -212,7 +220,9 @@ returns-in_err-take_run-2-clause-fails g c delimiter text e =
 
 pub pieces-preserved : goal.pieces-preserved
 pieces-preserved g c = (
-  counts-later c.args.self.now c.take_run.new.self c.take_run-in-pieces.new.self (counts-later c.args.self.now c.pieces.self c.take_run.new.self c.pieces.invariant.0 c.in_ok-take_run.ensures.counted) c.in_ok-take_run-2.ensures.counted,
+  counts-later c.args.self.now c.take_run.new.self c.take_run-in-pieces.new.self
+      (counts-later c.args.self.now c.pieces.self c.take_run.new.self c.pieces.invariant.0 c.in_ok-take_run.ensures.counted)
+      c.in_ok-take_run-2.ensures.counted,
   λ delimiter text e.
       let q = c.pieces.invariant.1 delimiter text e in
       let kept = c.in_ok-peek.ensures.kept q.0.rest q.0.passes.left in
