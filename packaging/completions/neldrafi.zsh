@@ -8,11 +8,12 @@ _neldrafi_formats() {
 }
 
 _neldrafi() {
-    local -a quiet color delimiter draft most help output ignore
+    local -a quiet color delimiter draft headless most help output ignore
     quiet=('(-q --quiet)'{-q,--quiet}'[write nothing to standard output]')
     color=('--color[when messages have colours]:when:(auto always never)')
     delimiter=('--delimiter[what parts the columns]:character:')
     draft=('--draft[the draft of JSON Schema]:draft:(4 6 7 2019-09 2020-12)')
+    headless=('--no-header[name the columns by number]')
     most=('--max-errors[stop after N messages about a file]:N:')
     output=('--output[the form of each line]:form:(text json)')
     ignore=('*--ignore[let a keyword of this name pass]:keyword:')
@@ -37,13 +38,13 @@ _neldrafi() {
     formats) _arguments $help $output ;;
     requests) _arguments $help $output '*:file:_files' ;;
     csv)
-        _arguments $help $quiet $color $most $output $delimiter \
+        _arguments $help $quiet $color $most $output $delimiter $headless \
             '--progress[tell of every million records]' \
             '--summary[write a table of the errors]' '--report[write a page about the errors]:page:_files' '*:file:_files'
         ;;
     json) _arguments $help $quiet $color $most $output '*:file:_files' ;;
     explain) _arguments $help $draft $ignore $output '*:file:_files' ;;
-    plan) _arguments $help $delimiter $draft $output '--records[look at the first N records]:N:' '*:file:_files' ;;
+    plan) _arguments $help $delimiter $draft $headless $output '--records[look at the first N records]:N:' '*:file:_files' ;;
     check)
         _arguments $help $quiet $color $draft $most $ignore $output '--json[each line is a JSON value]' \
             '--ignore-unknown-formats[let every text pass a format that is not known]' '*:file:_files'

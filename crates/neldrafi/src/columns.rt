@@ -7,6 +7,7 @@ use serde_json::Value;
 use std::alloc::{AllocError, Global};
 use std::fmt;
 use strkw_plan::{PlanKind, Shown};
+use strkw_table::Header;
 
 // No more names of a file than so many are told.
 const MOST_TOLD: usize = 20;
@@ -55,11 +56,13 @@ impl Likeness {
 pub(crate) struct ColumnsFault {
     missing: Vec<String>,
     found: Vec<String>,
+    // What names those that it has.
+    header: Header,
     // What parted them.
     delimiter: String,
 }
 
-/// The names in a first record.
+/// The names of columns.
 pub(crate) fn names_of(alloc: Global, record: &StringRecord) -> Result<Vec<String>, AllocError> {
     let mut names = Vec::new(alloc);
     for name in record.iter() {
@@ -89,8 +92,13 @@ fn is_among(name: &str, names: &[String]) -> bool {
 }
 
 /// The fault that tells of the columns of a plan that a file of these names lacks.
-pub(crate) fn fault_of_missing(alloc: Global, plan: &Value, found: Vec<String>) -> Fault {
-    match ColumnsFault::new(alloc, plan, found) {
+pub(crate) fn fault_of_missing(
+    alloc: Global,
+    plan: &Value,
+    header: Header,
+    found: Vec<String>,
+) -> Fault {
+    match ColumnsFault::new(alloc, plan, header, found) {
         Ok(fault) => Fault::Columns(fault),
         Err(_) => Fault::Memory,
     }
@@ -136,11 +144,17 @@ impl fmt::Display for Delimiters<'_> {
 }
 
 impl ColumnsFault {
-    // Of a plan, and a file that has these names.
-    fn new(alloc: Global, plan: &Value, found: Vec<String>) -> Result<ColumnsFault, AllocError> {
+    // Of a plan, and a file that has these names by its header.
+    fn new(
+        alloc: Global,
+        plan: &Value,
+        header: Header,
+        found: Vec<String>,
+    ) -> Result<ColumnsFault, AllocError> {
         Ok(ColumnsFault {
             missing: missing_in(alloc, plan, &found)?,
             found,
+            header,
             delimiter: String::from_str(alloc, delimiter_of(plan))?,
         })
     }
@@ -175,6 +189,18 @@ impl ColumnsFault {
         false
     }
 
+    // Tells of the columns that the file has: how many, where they are named by number.
+    fn tell_found<W: fmt::Write>(&self, f: &mut fmt::Formatter<W>) -> fmt::Result {
+        match (self.header, self.found.len()) {
+            (Header::First, _) => {
+                let found = Listed(&self.found);
+                write!(f, "{found}")
+            }
+            (Header::Absent, 1) => f.write_str("1 column, which is named by number"),
+            (Header::Absent, count) => write!(f, "{count} columns, which are named by number"),
+        }
+    }
+
     // Tells of the names that were found and are nearly the missing one.
     fn tell_likely<W: fmt::Write>(&self, missing: &str, f: &mut fmt::Formatter<W>) -> fmt::Result {
         for found in &self.found {
@@ -190,13 +216,14 @@ impl ColumnsFault {
 
 impl fmt::Display for ColumnsFault {
     fn fmt<W: fmt::Write>(&self, f: &mut fmt::Formatter<W>) -> fmt::Result {
-        let (missing, found) = (Listed(&self.missing), Listed(&self.found));
+        let missing = Listed(&self.missing);
         let columns = if self.missing.len() == 1 {
             "column"
         } else {
             "columns"
         };
-        write!(f, "the file has no {columns} {missing}: it has {found}")?;
+        write!(f, "the file has no {columns} {missing}: it has ")?;
+        self.tell_found(f)?;
         for missing in &self.missing {
             self.tell_likely(missing, f)?;
         }

@@ -74,6 +74,29 @@ fn told(rt: &HostRuntime, subject: Subject<'_>, wanted: Wanted, fault: &Fault) -
     }
 }
 
+// Checks a file, and tells of its fault. What comes is nothing where the output is closed. The errors are those that
+// keep the files behind from being checked.
+fn check_and_tell<C: FileCheck>(
+    rt: &HostRuntime,
+    path: &str,
+    label: &str,
+    wanted: Wanted,
+    check: &mut C,
+) -> Result<Option<Outcome>, Fault> {
+    match check_file(rt, path, label, wanted, check) {
+        Ok(outcome) => Ok(Some(outcome)),
+        Err(Fault::Closed) => Ok(None),
+        Err(fault) if fault.ends_all() => Err(fault),
+        Err(fault) => {
+            let subject = Subject {
+                file: Some(path),
+                label,
+            };
+            Ok(Some(told(rt, subject, wanted, &fault)))
+        }
+    }
+}
+
 // Checks each of the files, and tells of their faults.
 fn check_each<C: FileCheck>(
     rt: &HostRuntime,
@@ -84,18 +107,9 @@ fn check_each<C: FileCheck>(
     let mut outcome = Outcome::AllValid;
     for path in paths {
         let label = label_of(rt.alloc(), path, paths.len())?;
-        let one = match check_file(rt, path, &label, wanted, check) {
-            Ok(one) => one,
+        let Some(one) = check_and_tell(rt, path, &label, wanted, check)? else {
             // A line was to be written, so there is an error.
-            Err(Fault::Closed) => return Ok(outcome.max(Outcome::Errors)),
-            Err(fault) if fault.ends_all() => return Err(fault),
-            Err(fault) => {
-                let subject = Subject {
-                    file: Some(path),
-                    label: &label,
-                };
-                told(rt, subject, wanted, &fault)
-            }
+            return Ok(outcome.max(Outcome::Errors));
         };
         outcome = outcome.max(one);
     }

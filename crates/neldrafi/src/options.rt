@@ -8,6 +8,7 @@ use std::env;
 use std::env::VarError;
 use std::io::IsTerminal;
 use strkw_report::Draft;
+use strkw_table::Header;
 
 // The option for no output.
 const QUIET: &str = "quiet";
@@ -47,6 +48,9 @@ const DRAFT: &str = "draft";
 
 // The option for what parts columns.
 const DELIMITER: &str = "delimiter";
+
+// The option for a file whose first record names no columns.
+const NO_HEADER: &str = "no-header";
 
 /// The option for keywords that are let pass.
 pub(crate) const IGNORE: &str = "ignore";
@@ -195,6 +199,23 @@ pub(crate) fn delimiter_said<'a>(matches: &ArgMatches<'a>) -> Option<&'a str> {
     match matches.get_str(DELIMITER) {
         Some("\\t") => Some("\t"),
         word => word,
+    }
+}
+
+/// The option `--no-header`, with this help.
+pub(crate) fn no_header<'a>(alloc: Global, help: &'a str) -> Arg<'a> {
+    Arg::new(alloc, NO_HEADER)
+        .long(NO_HEADER)
+        .action(ArgAction::SetTrue)
+        .help(help)
+}
+
+/// What names the columns, by the option `--no-header`.
+pub(crate) fn header_said(matches: &ArgMatches<'_>) -> Header {
+    if matches.get_flag(NO_HEADER) {
+        Header::Absent
+    } else {
+        Header::First
     }
 }
 

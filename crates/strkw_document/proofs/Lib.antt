@@ -1,1 +1,2 @@
 mod PlaceLemmas
+pub mod SpotLemmas

@@ -1,30 +1,39 @@
 -- What is said of one place, and of one place more.
-use Rattle.std.proofs.Common.{◌≡◌, ◌⊎◌, ◌++◌, ℕ, List, [], length, refl, sym, subst, inl, inr}
+use Rattle.std.proofs.Common.{◌≡◌, ◌⊎◌, ◌∷◌, ◌++◌, ◌∙◌, ℕ, List, [], length, map, refl, sym, ap, subst, inl, inr, append-nil}
 use Rattle.std.proofs.lemmas.Bool.{false≢true}
+use Rattle.std.proofs.lemmas.List.{length-map}
 use Rattle.std.specs.Prelude.{false, true, Option, Some, None, is_some}
 use Rattle.std.specs.List.{concat}
 use Rattle.serde_json.specs.Data.{Data, Members, no_members, member}
-use Rattle.serde_json.specs.Find.{as_str}
+use Rattle.serde_json.specs.Find.{as_object, as_str}
+use Rattle.strkw_pattern.specs.declared.engine.Outcome.{Outcome}
+use Rattle.strkw_keywords.specs.Errors.{NodeReports}
+use Rattle.strkw_keywords.specs.Meanings.{Lists}
 use Rattle.strkw_keywords.specs.Object.{Settings}
-use Rattle.strkw_plan.specs.Messages.{InstanceSaid, IsSchema}
+use Rattle.strkw_object.specs.declared.strings.StringKeywords.{StringKeywords}
+use Rattle.strkw_object.specs.Compiled.{keywords_assertions}
+use Rattle.strkw_plan.specs.Messages.{AppendsSaid, InstanceSaid, IsSchema}
+use Rattle.strkw_plan.proofs.Gathering.{concat-map}
+use Rattle.strkw_report.specs.Standings.{root_site}
 use Rattle.strkw_report.specs.declared.draft.Draft.{Draft}
 use Rattle.strkw_plan.specs.Faults.{Tells}
 use Rattle.strkw_plan.specs.Plan.{Plan, Problem, plan_of, plan_problem}
 use Rattle.strkw_plan.specs.declared.kind.PlanKind.TheVariants.{Places}
 use Rattle.strkw_plan.specs.declared.faults.PlanFault.{PlanFault}
 use Rattle.strkw_plan.specs.declared.faults.PlanFault.TheVariants as refused
-use Rattle.strkw_plan.specs.Compiled.{RefusesPlan}
+use Rattle.strkw_plan.specs.Compiled.{IsCompiledFor, RefusesPlan}
+use Rattle.strkw_document.specs.Checked.{IsCheckedBy}
 use Rattle.strkw_document.specs.Faults.{IsWhy, IsWhyInPlan}
 use Rattle.strkw_document.specs.Gives.{gives_fault}
 use Rattle.strkw_document.specs.declared.faults.DocumentFault.{DocumentFault}
 use Rattle.strkw_document.specs.declared.faults.DocumentFault.TheVariants as fault
-use Rattle.strkw_document.specs.Places.{Form, FoundMessages, PlaceMessages, DocumentMessages, ValueMessages, lacking_messages, no_string_messages}
+use Rattle.strkw_document.specs.Spots.{Spot}
+use Rattle.strkw_document.specs.Places.{Form, FoundMessages, PlaceMessages, SpotsMessages, DocumentMessages, ValueMessages, lacking_messages, no_string_messages}
 
 module _ (form : Form) (s : Settings) where
-  -- what is appended about what stands at a place: messages, and so many
-  abbrev pub Said : List ℕ → Data → Option Data → ℕ → List ℕ → List ℕ → Type 0
-  Said place schema found count old new = (ms : Members) × (messages : List (List ℕ)) × IsSchema s schema ms
-      × FoundMessages form s ms place found messages
+  -- what is appended about what stands at a pointer: messages, and so many
+  abbrev pub Said : List ℕ → Members → Option Data → ℕ → List ℕ → List ℕ → Type 0
+  Said place ms found count old new = (messages : List (List ℕ)) × FoundMessages form s ms place found messages
       × (count ≡ length messages) × (new ≡ old ++ concat messages)
 
   -- so many messages are these, and they were appended
@@ -32,9 +41,9 @@ module _ (form : Form) (s : Settings) where
   Appended messages count old new = (count ≡ length messages) × (new ≡ old ++ concat messages)
 
   -- the messages that there is no value
-  pub said_missing : (place : List ℕ) (schema : Data) (found : Option Data) (ms : Members) (count : ℕ) (old new : List ℕ) → IsSchema s schema ms
-      → found ≡ None → Appended (lacking_messages form ms place) count old new → Said place schema found count old new
-  said_missing place schema found ms count old new is_schema none said = (ms, lacking_messages form ms place, is_schema, rw none refl, said.0, said.1)
+  pub said_missing : (place : List ℕ) (found : Option Data) (ms : Members) (count : ℕ) (old new : List ℕ)
+      → found ≡ None → Appended (lacking_messages form ms place) count old new → Said place ms found count old new
+  said_missing place found ms count old new none said = (lacking_messages form ms place, rw none refl, said.0, said.1)
 
   -- of a value that is no text there are the messages that it is no string
   no_text : (place : List ℕ) (ms : Members) (instance : Option (List ℕ)) → is_some instance ≡ false
@@ -43,11 +52,11 @@ module _ (form : Form) (s : Settings) where
   no_text place ms (Some text) none = absurd (false≢true (sym none))
 
   -- the messages that a value is no string
-  pub said_no_string : (place : List ℕ) (schema value : Data) (found : Option Data) (ms : Members) (count : ℕ) (old new : List ℕ) → IsSchema s schema ms
+  pub said_no_string : (place : List ℕ) (value : Data) (found : Option Data) (ms : Members) (count : ℕ) (old new : List ℕ)
       → found ≡ Some value → is_some (as_str value) ≡ false
-      → Appended (no_string_messages form ms place) count old new → Said place schema found count old new
-  said_no_string place schema value found ms count old new is_schema is none said =
-      (ms, no_string_messages form ms place, is_schema, rw is (no_text place ms (as_str value) none), said.0, said.1)
+      → Appended (no_string_messages form ms place) count old new → Said place ms found count old new
+  said_no_string place value found ms count old new is none said =
+      (no_string_messages form ms place, rw is (no_text place ms (as_str value) none), said.0, said.1)
 
   -- the messages about a text are those about the string
   of_text : (place : List ℕ) (ms : Members) (instance : Option (List ℕ)) (messages : List (List ℕ)) → is_some instance ≡ true
@@ -55,14 +64,53 @@ module _ (form : Form) (s : Settings) where
   of_text place ms None messages some said = absurd (false≢true some)
   of_text place ms (Some text) messages some said = said
 
-  -- the messages about a string
-  pub said_of_string : (place : List ℕ) (schema value : Data) (found : Option Data) (count : ℕ) (old new : List ℕ)
-      → found ≡ Some value → is_some (as_str value) ≡ true
-      → ((ms : Members) × (messages : List (List ℕ)) × IsSchema s schema ms × InstanceSaid s ms (form.said place) (as_str value) messages
-      × Appended messages count old new) → Said place schema found count old new
-  said_of_string place schema value found count old new is some said =
-      let (ms, messages, is_schema, are, appended) = said in
-      (ms, messages, is_schema, rw is (of_text place ms (as_str value) messages some are), appended.0, appended.1)
+  -- the messages about a string, by a compiled object
+  pub said_of_string : {E : Type 0} (outcome : E → List ℕ → Outcome) (k : StringKeywords E) (lists : Lists) (schema : Data)
+      (place : List ℕ) (value : Data) (found : Option Data) (ms : Members) (count : ℕ) (old new : List ℕ)
+      → IsCheckedBy outcome s lists schema ms k → found ≡ Some value → is_some (as_str value) ≡ true
+      → AppendsSaid (NodeReports (keywords_assertions outcome k) lists root_site (as_str value)) (form.said place) count old new
+      → Said place ms found count old new
+  said_of_string outcome k lists schema place value found ms count old new by is some said =
+      let from = by.1 in
+      let under = subst (λ l. NodeReports (keywords_assertions outcome k) l root_site (as_str value) said.reports) (sym by.2) said.reported in
+      let errors = subst (λ all. NodeReports all s.lists root_site (as_str value) said.reports) from.asserts under in
+      let messages = map (form.said place) said.reports in (
+        messages,
+        rw is (of_text place ms (as_str value) messages some (said.reports, (from.entries, from.are_entries, errors), refl)),
+        said.counted ∙ sym (length-map said.reports (form.said place)),
+        said.grown ∙ ap (λ l. old ++ l) (sym (concat-map (form.said place) said.reports)),
+      )
+
+  -- where there are no pointers, there are no messages
+  pub no_spots : (ms : Members) → SpotsMessages form s ms [] []
+  unfolding SpotsMessages
+  no_spots ms = refl
+
+  -- the messages about what stands at the first pointer, and about those behind it
+  pub first_spot : (ms : Members) (spot : Spot) (more : List Spot) (first rest : List (List ℕ)) → FoundMessages form s ms spot.0 spot.1 first
+      → SpotsMessages form s ms more rest → SpotsMessages form s ms (spot ∷ more) (first ++ rest)
+  unfolding SpotsMessages
+  first_spot ms spot more first rest p q = (first, rest, p, q, refl)
+
+  -- the messages about one pointer
+  pub one_spot : (ms : Members) (place : List ℕ) (value : Option Data) (messages : List (List ℕ)) → FoundMessages form s ms place value messages
+      → SpotsMessages form s ms ((place, value) ∷ []) messages
+  one_spot ms place value messages p = subst (SpotsMessages form s ms ((place, value) ∷ [])) (append-nil messages)
+      (first_spot ms (place, value) [] messages [] p (no_spots ms))
+
+-- what was compiled for a schema was compiled from an object
+pub checked_by : {E : Type 0} (outcome : E → List ℕ → Outcome) (s : Settings) (k : StringKeywords E) (schema : Data)
+    → IsCompiledFor outcome s (as_object schema) (Some k) → (ms : Members) × IsCheckedBy outcome s s.lists schema ms k
+checked_by outcome s k schema p = go (as_object schema) refl p where
+  go : (object : Option Members) → as_object schema ≡ object → IsCompiledFor outcome s object (Some k)
+      → (ms : Members) × IsCheckedBy outcome s s.lists schema ms k
+  go None e compiled = absurd compiled
+  go (Some ms) e compiled = (ms, (e, compiled, refl))
+
+-- a schema from which an object was compiled is one of which no entry is malformed
+pub is_schema : {E : Type 0} (outcome : E → List ℕ → Outcome) (s : Settings) (k : StringKeywords E) (schema : Data) (ms : Members)
+    → IsCheckedBy outcome s s.lists schema ms k → IsSchema s schema ms
+is_schema outcome s k schema ms by = let from = by.1 in (by.0, (from.entries, from.are_entries, from.good))
 
 module _ (form : Form) (s : Settings) (document : Data) where
   -- where there are no places, there are no messages

@@ -12,14 +12,14 @@ use Rattle.strkw_document.specs.declared.faults.DocumentFault.{DocumentFault}
 use Rattle.strkw_document.specs.declared.faults.DocumentFault.TheVariants as fault
 
 -- why one place is not checked: its schema is refused, or it is no JSON pointer; or it is out of
--- memory
+-- memory, or there are too many messages
 abbrev pub IsWhyOfPlace : Settings → List ℕ → Data → DocumentFault → Type 0
 IsWhyOfPlace s place schema (fault.Plan why) = Refuses s Places place schema why
 IsWhyOfPlace s place schema (fault.Pointer text) = (string_bytes text ≡ place)
     × (IsJsonPointer (chars place) → ⊥)
 IsWhyOfPlace s place schema fault.Write = ⊥
 IsWhyOfPlace s place schema fault.Memory = ⊤
-IsWhyOfPlace s place schema fault.TooLong = ⊥
+IsWhyOfPlace s place schema fault.TooLong = ⊤
 
 -- why the places of a plan with these schemas are not checked: one of them is not, or there are too
 -- many messages

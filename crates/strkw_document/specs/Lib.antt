@@ -1,3 +1,6 @@
+pub mod Spots
+pub mod Found
+pub mod Checked
 pub mod Places
 pub mod Faults
 pub mod Gives

@@ -3,13 +3,14 @@ use Rattle.std.specs.Prelude.{◌≡◌, ℕ, List, [], ◌∷◌, ◌++◌, Opt
 use Rattle.std.specs.Prelude.{if◌then◌else◌}
 use Rattle.std.specs.Str.{chars}
 use Rattle.serde_json.specs.Data.{Data, Members, no_members, member}
-use Rattle.serde_json.specs.Find.{as_str, pointer}
+use Rattle.serde_json.specs.Find.{as_str}
 use Rattle.strkw_uri.specs.Pointer.{IsJsonPointer}
 use Rattle.strkw_report.specs.Kinds.{Report}
 use Rattle.strkw_keywords.specs.Object.{Settings}
 use Rattle.strkw_plan.specs.Shown.{shown}
 use Rattle.strkw_plan.specs.Messages.{InstanceSaid, IsSchema, message}
 use Rattle.strkw_plan.specs.Own.{asks_for_string, is_optional}
+use Rattle.strkw_document.specs.Spots.{Spot, spots}
 
 -- the message about a place that the document has not, and about a value that is no string
 abbrev pub missing : List ℕ → List ℕ
@@ -53,12 +54,20 @@ FoundMessages form s schema place None messages = messages ≡ lacking_messages 
 FoundMessages form s schema place (Some value) messages =
     ValueMessages form s schema place (as_str value) messages
 
--- The messages about a place of a document by its schema. The place is a JSON pointer; what it
--- evaluates to (RFC 6901, section 4) is that of `serde_json`.
+-- the messages about what stands at each of these pointers
+unfoldable pub SpotsMessages : Form → Settings → Members → List Spot → List (List ℕ) → Type 0
+SpotsMessages form s schema [] messages = messages ≡ []
+SpotsMessages form s schema (spot ∷ more) messages =
+    (first : List (List ℕ)) × (rest : List (List ℕ))
+    × FoundMessages form s schema spot.0 spot.1 first × SpotsMessages form s schema more rest
+    × (messages ≡ first ++ rest)
+
+-- The messages about a place of a document by its schema. The place is a JSON pointer, and stands
+-- for the value to which it evaluates, or with `*` in it for more of them.
 abbrev pub PlaceMessages : Form → Settings → List ℕ → Data → Data → List (List ℕ) → Type 0
 PlaceMessages form s place schema document messages = IsJsonPointer (chars place)
     × (members : Members) × IsSchema s schema members
-    × FoundMessages form s members place (pointer place document) messages
+    × SpotsMessages form s members (spots place document) messages
 
 -- The messages about a document, place by place.
 unfoldable pub DocumentMessages : Form → Settings → Members → Data → List (List ℕ) → Type 0

@@ -27,6 +27,11 @@ use strkw_plan::{Plan, PlanKind, Rules, plan_in};
 /// the plan's members (sorted by their bytes, as `serde_json` keeps them), and at each place in the order of the
 /// keywords.
 ///
+/// In a place the reference token `*` stands for each element of an array, by its number, and each member of an object,
+/// by its name. A line has the pointer to the one value, and the lines of the place come in the order of the document.
+/// Where neither an array nor an object stands before `*`, the line has the rest of the place as it is, and is of a
+/// place that the document has not.
+///
 /// A place that the document has not is a line `POINTER: missing`, unless its schema object has `"optional": true`. A
 /// value that is no string has no errors of keywords: it is a line `POINTER: not a string` where the schema object has
 /// `"string": true`, and has else no line.

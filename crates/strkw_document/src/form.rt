@@ -8,7 +8,8 @@ ghost use Rattle.strkw_document.specs.Places.{Form, text_form};
 use std::alloc::{AllocError, Global};
 use strkw_plan::{FoundError, MessageForm, MessageLine, push_shown};
 
-/// How an error of a document is written. It is asked only where there is one.
+/// How an error of a document is written. It is asked only where there is one. The place that it is handed is the
+/// pointer to the one value, also where the place of the plan has `*`.
 pub trait PlaceForm {
     // what is written of an error at a place, of a place that the document has not, and of a value that is no string
     ghost writes: { Self → Form };

@@ -5,6 +5,7 @@ mod document;
 mod faults;
 mod form;
 mod place;
+mod spots;
 mod text;
 
 pub use document::{check_document, check_document_as};

@@ -34,3 +34,5 @@ pub mod Rows
 pub mod Bytes
 pub mod Named
 pub mod Distinct
+pub mod RunEnds
+pub mod Paged

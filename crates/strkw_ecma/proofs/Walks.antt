@@ -56,15 +56,6 @@ module _ (column : ℕ → Option ℕ) (end : ℕ) (entries text rest : List ℕ
   pub turn_goes : (entry == next_row) ≡ false → (entry == found) ≡ false → (to : ℕ) → to ≡ entry → walk column end entries to rest ≡ answer
   turn_goes e f to g = after to (rw e g) f
 
--- a character that has no column
--- there the walk comes to nothing
-pub walk_stops : (column : ℕ → Option ℕ) (end : ℕ) (entries text rest : List ℕ) (row c : ℕ) (answer : Option Bool)
-    → walk column end entries row text ≡ answer → text ≡ c ∷ rest → column c ≡ None → None ≡ answer
-walk_stops column end entries text rest row c answer so_far begins none =
-    sym (ap (λ (o : Option ℕ). option_and_then (λ (n : ℕ). if entry_at entries row n == found then Some true
-    else walk column end entries (row_after end row (entry_at entries row n)) rest) o) none)
-    ∙ sym (ap (walk column end entries row) begins) ∙ so_far
-
 -- at the end of the text the entry of the last column tells the answer
 pub walk_ends : (column : ℕ → Option ℕ) (end : ℕ) (entries text : List ℕ) (row entry : ℕ) (answer : Option Bool)
     → walk column end entries row text ≡ answer → text ≡ [] → entry ≡ entry_at entries row end → Some (entry == found) ≡ answer

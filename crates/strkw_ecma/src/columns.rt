@@ -1,10 +1,11 @@
 //! The columns of a table: characters about which the classes of a pattern give the same answers share one.
 
-ghost use Rattle.std.specs.Prelude.{◌≡◌, ◌≤◌, ◌<◌, length, IsTrue, IfSome};
-ghost use Rattle.strkw_ecma.specs.machine.Columns.{answers as spec_answers, place_of as spec_place_of, column_of, AreColumns, TellsSets, Tells};
+ghost use Rattle.std.specs.Prelude.{◌≡◌, ◌≤◌, ◌<◌, length, Some, IsTrue, IfSome};
+ghost use Rattle.strkw_ecma.specs.machine.Columns.{answers as spec_answers, place_of as spec_place_of, column_of, AreColumns, ArePages, TellsSets, Tells};
 ghost use Rattle.strkw_ecma.specs.machine.Machine.{pattern_of};
 
 use crate::marks::contains;
+use crate::pages::{PAGE, cell_of};
 use crate::program::Program;
 use crate::same_sets::are_same_sets;
 use crate::sets::WORD_CHARACTERS;
@@ -41,31 +42,30 @@ pub(crate) fn place_of(keys: &[u64], key: u64) -> Option<usize>
     None
 }
 
-/// The classes that are asked about a character, the answers that have a column, in the order of the columns, and the
-/// columns of the characters that are one byte, and of those that are one or two.
+/// The classes that are asked about a character, the answers that have a column, in the order of the columns, the columns
+/// of the characters that are one byte, and the pages with the columns of all.
 #[derive(Drop)]
 pub(crate) struct Columns {
     pub(crate) classes: Vec<Vec<CharSet>>,
     pub(crate) keys: Vec<u64>,
     pub(crate) ascii: Vec<u8>,
-    pub(crate) near: Vec<u8>,
+    pub(crate) pages: Vec<u16>,
+    pub(crate) cells: Vec<[u8; PAGE]>,
     ghost few: { length classes.items ≤ 64 },
     ghost few_columns: { length keys.items < 256 },
     ghost few_ascii: { length ascii.items ≤ 128 },
     ghost right_ascii: { AreColumns classes.items keys.items ascii.items },
-    ghost right_near: { AreColumns classes.items keys.items near.items },
+    ghost all_pages: { length pages.items ≡ 4352 },
+    ghost right_pages: { ArePages classes.items keys.items pages.items cells.items },
 }
 
 impl Columns {
-    /// The column of a character, where its answers have one.
-    pub(crate) fn column(&self, c: char) -> Option<usize>
-        ensures column { result ≡ column_of self.now.classes.items self.now.keys.items c }
-        ensures within { IfSome result (λ k. k < 256) }
+    /// The column of a character.
+    pub(crate) fn column(&self, c: char) -> usize
+        ensures column { column_of self.now.classes.items self.now.keys.items c ≡ Some result }
+        ensures within { result < 256 }
     {
-        match self.near.get(u32::from(c) as usize) {
-            Some(column) => Some(usize::from(*column)),
-            None => place_of(&self.keys, answers(&self.classes, c)),
-        }
+        usize::from(cell_of(&self.pages, &self.cells, u32::from(c)))
     }
 }
 

@@ -30,7 +30,7 @@ pub struct EcmaMatcher {
 impl EcmaMatcher {
     ghost use Rattle.strkw_ecma.specs.machine.Engine.{has_table as spec_has_table};
 
-    /// Whether matches are read off a table, as long as the characters of the text have columns of it.
+    /// Whether matches are read off a table.
     pub fn has_table(&self) -> bool
         ensures { result ≡ spec_has_table self.now }
     {
@@ -44,18 +44,16 @@ impl RegexEngine for EcmaMatcher {
 
     ghost outcome = { engine_outcome };
 
-    /// Whether the pattern is found in the text (RegExpBuiltinExec, ECMA-262 2024, section 22.2.7.2), in one pass, or
-    /// where a character has no column of the table, in two. It takes no memory, and there is no error.
+    /// Whether the pattern is found in the text (RegExpBuiltinExec, ECMA-262 2024, section 22.2.7.2), in one pass. It
+    /// takes no memory, and there is no error.
     fn is_match(&self, _alloc: Global, text: &str) -> Result<bool, EngineFailure>
         ensures answer { IsAnswer (engine_outcome self.now (chars text.now)) result }
         ensures never_fails { IsOk result }
     {
-        if let Some(table) = &self.table {
-            if let Some(found) = table.is_found(text) {
-                return Ok(found);
-            }
+        match &self.table {
+            Some(table) => Ok(table.is_found(text)),
+            None => Ok(is_found(&self.program, text)),
         }
-        Ok(is_found(&self.program, text))
     }
 }
 

@@ -2,25 +2,19 @@
 
 ghost use Rattle.std.specs.Prelude.{◌≡◌, ◌+◌, ◌==◌, ◌≤◌, ◌<◌, ℕ, true, false, length, Some, None, get_or, slice_get};
 ghost use Rattle.std.specs.Prelude.{IsTrue, IfOk, MatchOption};
-ghost use Rattle.strkw_ecma.specs.machine.Columns.{AreColumns, answers as spec_answers};
+ghost use Rattle.strkw_ecma.specs.machine.Columns.{answers as spec_answers};
 ghost use Rattle.strkw_ecma.specs.machine.Marks.{classes as spec_classes, is_clean};
 ghost use Rattle.strkw_ecma.specs.machine.Machine.{pattern_of};
 ghost use Rattle.strkw_ecma.specs.machine.Searches.{IsSearchedBy};
 ghost use Rattle.strkw_ecma.specs.machine.Table.{found, AreEntries, AreRows, IsDraft, IsTable};
 
-use crate::columns::{Columns, MOST_COLUMNS, answers, place_of, tells};
+use crate::columns::{MOST_COLUMNS, answers, tells};
 use crate::program::{Program, Room};
 use crate::runs::mark_runs;
 use crate::samples::{Sampled, sampled_of};
 use crate::states::{State, entry_of};
 use crate::table::{FOUND, Table};
-use crate::tree::CharSet;
 use std::alloc::{AllocError, Global};
-
-// Behind the characters that are one byte, and behind those that are one or two.
-const ASCII_END: u32 = 0x80;
-
-const NEAR_END: u32 = 0x800;
 
 /// The most rows and entries of a table. The state of an entry is looked for among those before it.
 const MOST_ROWS: usize = 1024;
@@ -168,14 +162,11 @@ impl Draft {
     fn is_table(&self, sampled: &Sampled, program: &Program) -> bool
         requires { AreRows (pattern_of program.now) sampled.now.samples.items
             self.now.entries.items self.now.states.items }
-        ensures { IsTrue result → IsTable sampled.now.classes.items sampled.now.keys.items
+        ensures { IsTrue result → IsTable sampled.now.columns.classes.items sampled.now.columns.keys.items
             sampled.now.samples.items self.now.entries.items self.now.states.items
             (pattern_of program.now) }
     {
-        if sampled.keys.len() > MOST_COLUMNS
-            || !tells(&sampled.classes, program)
-            || !are_keys(sampled)
-        {
+        if !tells(&sampled.columns.classes, program) || !are_keys(sampled) {
             return false;
         }
         self.begins()
@@ -192,80 +183,37 @@ fn end_entry(is_found: bool) -> u16
 // Whether the keys are the answers about the characters that stand for the columns.
 fn are_keys(sampled: &Sampled) -> bool
     ensures lengths { IsTrue result
-        → length sampled.now.samples.items ≡ length sampled.now.keys.items }
-    ensures sampled { IsTrue result → (k : ℕ) → k < length sampled.now.keys.items
-        → get_or sampled.now.keys.items k 0
-        ≡ spec_answers 0 sampled.now.classes.items (get_or sampled.now.samples.items k 0) }
+        → length sampled.now.samples.items ≡ length sampled.now.columns.keys.items }
+    ensures sampled { IsTrue result → (k : ℕ) → k < length sampled.now.columns.keys.items
+        → get_or sampled.now.columns.keys.items k 0
+        ≡ spec_answers 0 sampled.now.columns.classes.items (get_or sampled.now.samples.items k 0) }
 {
     let samples = sampled.samples.as_slice();
-    if samples.len() != sampled.keys.len() {
+    if samples.len() != sampled.columns.keys.len() {
         return false;
     }
-    for (k, key) in sampled.keys.as_slice().iter().enumerate() {
-        if *key != answers(&sampled.classes, samples[k]) {
+    for (k, key) in sampled.columns.keys.as_slice().iter().enumerate() {
+        if *key != answers(&sampled.columns.classes, samples[k]) {
             return false;
         }
     }
     true
 }
 
-// The columns of the characters below a number, where each has one.
-fn columns_below(
-    alloc: Global,
-    classes: &[Vec<CharSet>],
-    keys: &[u64],
-    end: u32,
-) -> Result<Option<Vec<u8>>, AllocError>
-    requires few { length classes.now ≤ 64 }
-    requires few_columns { length keys.now < 256 }
-    ensures { IfOk result (λ made. MatchOption made Unit
-        (λ columns. AreColumns classes.now keys.now columns.items × (length columns.items ≤ end))) }
-{
-    let mut columns = Vec::new(alloc);
-    for number in 0..end {
-        let Some(c) = char::from_u32(number) else {
-            return Ok(None);
-        };
-        match place_of(keys, answers(classes, c)) {
-            Some(column) => columns.push(column as u8)?,
-            None => return Ok(None),
-        }
-    }
-    Ok(Some(columns))
-}
-
 // The table of a draft with these columns, where they are right.
-fn table_if_right(
-    alloc: Global,
-    sampled: Sampled,
-    draft: Draft,
-    program: &Program,
-) -> Result<Option<Table>, AllocError>
+fn table_if_right(sampled: Sampled, draft: Draft, program: &Program) -> Option<Table>
     requires clean { is_clean (pattern_of program.now) ≡ true }
     requires rows { AreRows (pattern_of program.now) sampled.samples.items draft.entries.items
         draft.states.items }
-    ensures { IfOk result (λ made.
-        MatchOption made Unit (λ t. IsSearchedBy t (pattern_of program.now))) }
+    ensures { MatchOption result Unit (λ t. IsSearchedBy t (pattern_of program.now)) }
 {
     if !draft.is_table(&sampled, program) {
-        return Ok(None);
+        return None;
     }
-    let Sampled { classes, keys, .. } = sampled;
-    let Some(ascii) = columns_below(alloc, &classes, &keys, ASCII_END)? else {
-        return Ok(None);
-    };
-    let Some(near) = columns_below(alloc, &classes, &keys, NEAR_END)? else {
-        return Ok(None);
-    };
-    Ok(Some(Table {
-        columns: Columns {
-            classes,
-            keys,
-            ascii,
-            near,
-        },
+    Some(Table {
+        columns: sampled.columns,
         entries: draft.entries,
-    }))
+    })
 }
 
 /// The table of a pattern, where it has few enough states and columns.
@@ -291,5 +239,5 @@ pub(crate) fn table_of(alloc: Global, program: &Program) -> Result<Option<Table>
         return Ok(None);
     }
     mark_runs(&mut draft.entries, end, draft.states.len());
-    table_if_right(alloc, sampled, draft, program)
+    Ok(table_if_right(sampled, draft, program))
 }

@@ -1,43 +1,27 @@
-//! The columns that a table is made with: for each a character that stands for all of it. That a character has a
-//! column is not proved: a text with one that has none is searched by marks.
+//! The columns that a table is made with: for each a character that stands for all of it.
 
-ghost use Rattle.std.specs.Prelude.{◌≤◌, length};
+ghost use Rattle.std.specs.Prelude.{◌≡◌, ◌≤◌, ◌<◌, ℕ, length, get_or, IfOk};
+ghost use Rattle.strkw_ecma.specs.machine.Columns.{cell_of as spec_cell_of};
 
-use crate::columns::{MOST_CLASSES, MOST_COLUMNS, answers, place_of, tells_sets};
+use crate::columns::{Columns, MOST_CLASSES, tells_sets};
+use crate::pages::{Pages, cell_of, pages_of};
 use crate::program::Program;
-use crate::properties::Property;
 use crate::sets::WORD_CHARACTERS;
 use crate::tree::CharSet;
 use std::alloc::{AllocError, Global};
-use ucd_category::GeneralCategory;
-use ucd_script::Script;
 
-// A run of Unicode's tables is where it begins, times this, and the number of its value.
-const PLACES_OF_VALUES: u32 = 2048;
+// Behind the characters that are one byte.
+const ASCII_END: u32 = 0x80;
 
 /// How many sets the classes of a table may have together. Each is asked about each character that may stand for a
 /// column.
 const MOST_SETS: usize = 512;
 
-/// The classes of a pattern, and for each of the answers that they give about a character one such character.
+/// The columns of a pattern, and for each of them a character that has it.
 #[derive(Drop)]
 pub(crate) struct Sampled {
-    pub(crate) classes: Vec<Vec<CharSet>>,
-    pub(crate) keys: Vec<u64>,
+    pub(crate) columns: Columns,
     pub(crate) samples: Vec<char>,
-    ghost few: { length classes.items ≤ 64 },
-}
-
-impl Sampled {
-    // One more character, where no other has the same answers; up to one more than may be.
-    fn add(&mut self, c: char) -> Result<(), AllocError> {
-        let key = answers(&self.classes, c);
-        if self.keys.len() <= MOST_COLUMNS && place_of(&self.keys, key).is_none() {
-            self.keys.push(key)?;
-            self.samples.push(c)?;
-        }
-        Ok(())
-    }
 }
 
 // One more class, where none has the same sets.
@@ -72,61 +56,46 @@ fn set_count(classes: &[Vec<CharSet>]) -> usize {
     count
 }
 
-// Where the values of a property change.
-fn add_runs(borders: &mut Vec<char>, runs: &[u32]) -> Result<(), AllocError> {
-    for run in runs {
-        if let Some(c) = char::from_u32(*run / PLACES_OF_VALUES) {
-            borders.push(c)?;
-        }
+// The columns of the characters that are one byte.
+fn ascii_of(alloc: Global, pages: &Pages) -> Result<Vec<u8>, AllocError>
+    requires all { length pages.now.pages.items ≡ 4352 }
+    requires within { (k : ℕ) → k < 4352
+        → get_or pages.now.pages.items k 0 < length pages.now.cells.items }
+    ensures few { IfOk result (λ ascii. length ascii.items ≤ 128) }
+    ensures right { IfOk result (λ ascii. (c : ℕ) → c < length ascii.items
+        → get_or ascii.items c 0 ≡ spec_cell_of pages.now.pages.items pages.now.cells.items c) }
+{
+    let mut ascii = Vec::new(alloc);
+    for c in 0..ASCII_END {
+        ascii.push(cell_of(&pages.pages, &pages.cells, c))?;
     }
-    Ok(())
+    Ok(ascii)
 }
 
-// The first character of a set and the one behind it, and of properties where their values change.
-fn add_borders(borders: &mut Vec<char>, sets: &[CharSet]) -> Result<(), AllocError> {
-    for set in sets {
-        match set {
-            CharSet::Range(low, high) => {
-                borders.push(*low)?;
-                if let Some(after) = char::from_u32(u32::from(*high) + 1) {
-                    borders.push(after)?;
-                }
-            }
-            CharSet::Property(_, Property::Script(_)) => add_runs(borders, Script::runs())?,
-            CharSet::Property(..) => add_runs(borders, GeneralCategory::runs())?,
-        }
-    }
-    Ok(())
-}
-
-fn borders_of(alloc: Global, classes: &[Vec<CharSet>]) -> Result<Vec<char>, AllocError> {
-    let mut borders = Vec::new(alloc);
-    for byte in 0..128u8 {
-        borders.push(char::from(byte))?;
-    }
-    for class in classes {
-        add_borders(&mut borders, class)?;
-    }
-    Ok(borders)
-}
-
-/// The classes of a pattern and a character for each of their answers, where they are few enough.
+/// The columns of a pattern, where its classes and they are few enough.
+#[tactic(auto, using(crate::proofs::Paged::ascii_right))]
 pub(crate) fn sampled_of(alloc: Global, program: &Program) -> Result<Option<Sampled>, AllocError> {
     let classes = classes_of(alloc, program)?;
     if classes.len() > MOST_CLASSES || set_count(&classes) > MOST_SETS {
         return Ok(None);
     }
-    let borders = borders_of(alloc, &classes)?;
-    let mut sampled = Sampled {
-        classes,
-        keys: Vec::new(alloc),
-        samples: Vec::new(alloc),
-    };
-    for c in &borders {
-        sampled.add(*c)?;
-    }
-    if sampled.keys.len() > MOST_COLUMNS {
+    let Some(pages) = pages_of(alloc, &classes)? else {
         return Ok(None);
-    }
-    Ok(Some(sampled))
+    };
+    let ascii = ascii_of(alloc, &pages)?;
+    let Pages {
+        keys,
+        samples,
+        pages,
+        cells,
+        ..
+    } = pages;
+    let columns = Columns {
+        classes,
+        keys,
+        ascii,
+        pages,
+        cells,
+    };
+    Ok(Some(Sampled { columns, samples }))
 }

@@ -1,6 +1,6 @@
 //! The search by a table: one look at it for each character.
 
-ghost use Rattle.std.specs.Prelude.{◌≡◌, ◌^◌, ◌+◌, ◌≤◌, ◌<◌, length};
+ghost use Rattle.std.specs.Prelude.{◌≡◌, ◌^◌, ◌+◌, ◌≤◌, ◌<◌, Some, length};
 ghost use Rattle.std.specs.Str.{chars};
 ghost use Rattle.strkw_ecma.specs.machine.Columns.{column_of};
 ghost use Rattle.strkw_ecma.specs.machine.Table.{entry_at as spec_entry_at, walk};
@@ -35,11 +35,11 @@ pub(crate) fn entry_at(entries: &[u16], row: usize, column: usize) -> usize
 }
 
 impl Table {
-    /// Whether the pattern is found in the text; none where a character of it has no column. Inlined, its loop would
-    /// lie across a border of 32 bytes in some callers, where each turn takes twice as long.
+    /// Whether the pattern is found in the text. Inlined, its loop would lie across a border of 32 bytes in some
+    /// callers, where each turn takes twice as long.
     #[inline(never)]
-    pub(crate) fn is_found(&self, text: &str) -> Option<bool>
-        ensures { result
+    pub(crate) fn is_found(&self, text: &str) -> bool
+        ensures { Some result
             ≡ walk (column_of self.now.columns.classes.items self.now.columns.keys.items)
             (length self.now.columns.keys.items) self.now.entries.items 0 (chars text.now) }
     {
@@ -57,30 +57,30 @@ impl Table {
             } else if entry == NEXT_ROW {
                 row += end + 1;
             } else {
-                return Some(true);
+                return true;
             }
         }
-        Some(entry_at(entries, row, end) == FOUND)
+        entry_at(entries, row, end) == FOUND
     }
 
     // The same for what is left of a text, from a row on.
     #[inline(never)]
-    fn is_found_from(&self, row: usize, rest: &str) -> Option<bool>
+    fn is_found_from(&self, row: usize, rest: &str) -> bool
         requires { row ≤ length self.now.entries.items + 2 ^ 16 }
-        ensures { result
+        ensures { Some result
             ≡ walk (column_of self.now.columns.classes.items self.now.columns.keys.items)
             (length self.now.columns.keys.items) self.now.entries.items row (chars rest.now) }
     {
         let end = self.columns.keys.len();
         let mut row = row;
         for c in rest.chars() {
-            let column = self.columns.column(c)?;
+            let column = self.columns.column(c);
             match entry_at(&self.entries, row, column) {
                 NEXT_ROW => row += end + 1,
-                FOUND => return Some(true),
+                FOUND => return true,
                 place => row = place,
             }
         }
-        Some(entry_at(&self.entries, row, end) == FOUND)
+        entry_at(&self.entries, row, end) == FOUND
     }
 }

@@ -1,6 +1,6 @@
 //! A CSV file, checked by a plan.
 
-ghost use Rattle.std.specs.Prelude.{◌≡◌, ℕ, List, Some, None, IfErr, IfOk, OnOk};
+ghost use Rattle.std.specs.Prelude.{◌≡◌, ℕ, List, Some, IfErr, IfOk, OnOk};
 ghost use Rattle.std.specs.Io.KnownBytes.{Appends};
 ghost use Rattle.serde_json.specs.View.{view};
 ghost use Rattle.csv.specs.Reading.{strip_bom};
@@ -21,15 +21,16 @@ use strkw_companions::companions_of;
 use strkw_ecma::EcmaPatterns;
 use strkw_keywords::NamedFormat;
 use strkw_plan::{PlanKind, Rules};
-use strkw_table::{Checked, FieldForm, TableFault, Watch, check_table_as};
+use strkw_table::{Checked, FieldForm, Header, Reading, TableFault, Watch, check_table_with};
 
-/// Checks a CSV file by a plan, as `check_table_as` does by the patterns of `strkw_ecma` and the formats of
-/// `strkw_companions`.
+/// Checks a CSV file, whose columns a header names or none, by a plan, as `check_table_with` does by the patterns of
+/// `strkw_ecma` and the formats of `strkw_companions`.
 ///
 /// Errors: as `check_csv_by`.
 pub fn check_csv<R: Read + Drop, W: Write, P: Watch, F: FieldForm>(
     alloc: Global,
     plan: &Value,
+    header: Header,
     file: R,
     writer: &mut W,
     watch: &mut P,
@@ -44,16 +45,17 @@ pub fn check_csv<R: Read + Drop, W: Write, P: Watch, F: FieldForm>(
     }
     let mut rules = Rules::new(&EcmaPatterns);
     rules.checks = checks_of(&formats);
-    check_csv_by(alloc, &rules, plan, file, writer, watch, form)
+    check_csv_by(alloc, &rules, plan, header, file, writer, watch, form)
 }
 
 /// The same under these rules.
 ///
-/// Errors: those of `check_table_as`, as `FileFault` names them.
+/// Errors: those of `check_table_with`, as `FileFault` names them.
 pub fn check_csv_by<R: Read + Drop, W: Write, P: Watch, F: FieldForm>(
     alloc: Global,
     rules: &Rules<'_, EcmaPatterns>,
     plan: &Value,
+    header: Header,
     file: R,
     writer: &mut W,
     watch: &mut P,
@@ -63,7 +65,7 @@ pub fn check_csv_by<R: Read + Drop, W: Write, P: Watch, F: FieldForm>(
     ensures messages { let settings = rules_settings (λ _. takes_pattern) (λ _. pattern_outcome)
         admits accepted encoded decoding rules.now in
         (text : List ℕ) → R.remaining file ≡ Some text
-        → IfOk result (IsChecked settings (F.said form.now) (view plan.now) (strip_bom text)
+        → IfOk result (IsChecked header settings (F.said form.now) (view plan.now) (strip_bom text)
         (Appends (W.contents writer.old) (W.contents writer.new))) }
     ensures why { let settings = rules_settings (λ _. takes_pattern) (λ _. pattern_outcome)
         admits accepted encoded decoding rules.now in
@@ -71,10 +73,14 @@ pub fn check_csv_by<R: Read + Drop, W: Write, P: Watch, F: FieldForm>(
     ensures fault { let settings = rules_settings (λ _. takes_pattern) (λ _. pattern_outcome)
         admits accepted encoded decoding rules.now in
         (text : List ℕ) → R.remaining file ≡ Some text
-        → IfErr result (IsWhyUnchecked settings (F.said form.now) (view plan.now)
+        → IfErr result (IsWhyUnchecked header settings (F.said form.now) (view plan.now)
         (strip_bom text) (Appends (W.contents writer.old) (W.contents writer.new))) }
 {
-    match check_table_as(alloc, rules, plan, file, writer, watch, form) {
+    let reading = Reading {
+        delimiter: None,
+        header,
+    };
+    match check_table_with(alloc, rules, plan, reading, file, writer, watch, form) {
         Ok(checked) => Ok(checked),
         Err(TableFault::Write) => Err(FileFault::Write),
         Err(TableFault::Memory) => Err(FileFault::Memory),

@@ -1,5 +1,5 @@
 -- Why a file is not checked to its end.
-use Rattle.std.proofs.Common.{◌≡◌, ◌⊎◌, ℕ, List, [], length, sym, subst, Option, Some, None, true, inl, inr}
+use Rattle.std.proofs.Common.{◌≡◌, ◌⊎◌, ℕ, List, [], length, sym, subst, Option, Some, None, inl, inr}
 use Rattle.std.specs.Prelude.{Result, Ok, Err, IfErr, IfOk, OnOk}
 use Rattle.std.specs.Result.{result_and}
 use Rattle.std.specs.List.{concat}
@@ -18,15 +18,16 @@ use Rattle.strkw_records.specs.declared.place.Place.{Place}
 use Rattle.strkw_records.specs.declared.reader.RecordReader.{RecordReader}
 use Rattle.strkw_records.specs.Lines.{first_place}
 use Rattle.strkw_records.specs.declared.limits.Limits.{Limits}
-use Rattle.strkw_records.specs.Limits.{AreWithin}
 use Rattle.strkw_records.specs.Reading.{Explains, delimiter_of, limits_of, place_of}
-use Rattle.strkw_records.specs.Records.{LinedRecord, TakesRecord}
+use Rattle.strkw_records.specs.Records.{LinedRecord}
 use Rattle.strkw_table.specs.declared.faults.TableFault.{TableFault}
 use Rattle.strkw_table.specs.declared.faults.TableFault.TheVariants as fault
-use Rattle.strkw_table.specs.Faults.{HaveColumns, IsHeader, IsNoPlanFault, IsUnexplained, IsWhy, IsWhyOfNames, IsWhyOfNext, IsWhyOfRows, IsWhyOfText}
-use Rattle.strkw_table.specs.Faults.{IsWhyOfHeading, IsWhyUnread, delimiter_by, record_limits}
-use Rattle.strkw_table.specs.Fields.{AreDistinct, AreNamed, Form, MessagesOf}
+use Rattle.strkw_table.specs.declared.reading.Header.{Header}
+use Rattle.strkw_table.specs.Faults.{IsNoPlanFault, IsUnexplained, IsWhy, IsWhyOfNames, IsWhyOfNext, IsWhyOfRows, IsWhyOfText}
+use Rattle.strkw_table.specs.Faults.{IsWhyOfHeading, IsWhyUnread, delimiter_by}
+use Rattle.strkw_table.specs.Fields.{Form, MessagesOf}
 use Rattle.strkw_table.specs.Gives.{GivesOfPlan, GivesOfReading}
+use Rattle.strkw_table.specs.Headers.{HasColumns, Heads, record_limits}
 use Rattle.strkw_table.specs.Rows.{AreFirstRecords, HaveShape, OfRecords}
 
 -- a fault that is none of the plan needs no reason by the plan
@@ -141,7 +142,7 @@ module _ {S T E : Type 0} (r : Result S E) (q both : Result T E) (is : both ≡ 
   if_ok-and Second Both along second = subst (λ b. IfOk b Both) (sym is) (by_values r q Second Both Done done along second)
 
 -- what a reader explains of its text is why the next record is not read
-unread : {R : Type 0} (rem : R → Option (List ℕ)) (old new : RecordReader R) (text : List ℕ) (e : ReadFault) → Explains rem old new text e
+pub unread : {R : Type 0} (rem : R → Option (List ℕ)) (old new : RecordReader R) (text : List ℕ) (e : ReadFault) → Explains rem old new text e
     → IsWhyUnread (delimiter_of old) (limits_of old) (place_of old) text e
 unread rem old new text (read.Read e) p = tt
 unread rem old new text (read.OpenQuote line) p = p.0
@@ -154,17 +155,16 @@ unread rem old new text (read.LongField line number most) p = p
 unread rem old new text read.Memory p = tt
 unread rem old new text read.TooLong p = tt
 
--- and so it is why the next record is not checked
-pub why_of_read : {R : Type 0} (rem : R → Option (List ℕ)) (old new : RecordReader R) (text : List ℕ) (width : ℕ) (e : ReadFault) (why : TableFault)
-    → Explains rem old new text e
-    → GivesOfReading e why → IsWhyOfNext (delimiter_of old) (limits_of old) width (place_of old) text why
-why_of_read rem old new text width (read.Read e) why p gives = rw gives tt
-why_of_read rem old new text width (read.OpenQuote line) why p gives = rw gives p.0
-why_of_read rem old new text width (read.LongRecord line most) why p gives = rw gives p
-why_of_read rem old new text width (read.LongField line number most) why p gives = rw gives p
-why_of_read rem old new text width (read.NotUtf8 line number) why p gives = rw gives (unread rem old new text (read.NotUtf8 line number) p)
-why_of_read rem old new text width read.Memory why p gives = rw gives tt
-why_of_read rem old new text width read.TooLong why p gives = rw gives tt
+-- why the next record is not read is why it is not checked
+pub why_of_read : (delimiter : ℕ) (limits : Limits) (width : ℕ) (place : Place) (text : List ℕ) (e : ReadFault) (why : TableFault)
+    → IsWhyUnread delimiter limits place text e → GivesOfReading e why → IsWhyOfNext delimiter limits width place text why
+why_of_read delimiter limits width place text (read.Read e) why p gives = rw gives tt
+why_of_read delimiter limits width place text (read.OpenQuote line) why p gives = rw gives p
+why_of_read delimiter limits width place text (read.LongRecord line most) why p gives = rw gives p
+why_of_read delimiter limits width place text (read.LongField line number most) why p gives = rw gives p
+why_of_read delimiter limits width place text (read.NotUtf8 line number) why p gives = rw gives p
+why_of_read delimiter limits width place text read.Memory why p gives = rw gives tt
+why_of_read delimiter limits width place text read.TooLong why p gives = rw gives tt
 
 -- a fault that needs no reason has one at any record
 pub why_of_next : (delimiter : ℕ) (limits : Limits) (width : ℕ) (place : Place) (text : List ℕ) (why : TableFault) → IsUnexplained why
@@ -232,47 +232,47 @@ module _ {C : Type 0} (says : C → ℕ → List ℕ → List (List ℕ) → Typ
   why_written other put fault.Memory p = p
   why_written other put fault.TooLong p = p
 
-module _ (delimiter : ℕ) (p : Plan) (text : List ℕ) where
-  -- why the first record is not read is why it does not name the columns
-  by_first : (e : ReadFault) (why : TableFault) → IsWhyUnread delimiter (record_limits p.limits) first_place text e → GivesOfReading e why
-      → IsWhyOfHeading delimiter p text why
-  by_first (read.Read e) why q gives = rw gives q
-  by_first (read.OpenQuote line) why q gives = rw gives q
-  by_first (read.NotUtf8 line number) why q gives = rw gives q
-  by_first (read.LongRecord line most) why q gives = rw gives q
-  by_first (read.LongField line number most) why q gives = rw gives q
-  by_first read.Memory why q gives = rw gives tt
-  by_first read.TooLong why q gives = rw gives tt
+module _ (by : Header) (delimiter : ℕ) (p : Plan) (text : List ℕ) where
+  -- why the first record is not read is why a text does not have the columns
+  pub why_of_record : (e : ReadFault) (why : TableFault) → IsWhyUnread delimiter (record_limits p.limits) first_place text e → GivesOfReading e why
+      → IsWhyOfHeading by delimiter p text why
+  why_of_record (read.Read e) why q gives = rw gives q
+  why_of_record (read.OpenQuote line) why q gives = rw gives q
+  why_of_record (read.NotUtf8 line number) why q gives = rw gives q
+  why_of_record (read.LongRecord line most) why q gives = rw gives q
+  why_of_record (read.LongField line number most) why q gives = rw gives q
+  why_of_record read.Memory why q gives = rw gives tt
+  why_of_record read.TooLong why q gives = rw gives tt
 
   -- and so is why its names are not those of the plan
-  pub why_of_names : (names : List (List ℕ)) (why : TableFault) → IsHeader delimiter text names → IsWhyOfNames p names why
-      → IsWhyOfHeading delimiter p text why
-  why_of_names names (fault.Plan why) header named = (names, header, named)
-  why_of_names names (fault.Columns most found) header named = (names, header, named)
-  why_of_names names (fault.Missing name) header named = (names, header, named)
-  why_of_names names (fault.Twice name first second) header named = (names, header, named)
-  why_of_names names fault.NoHeader header named = cc named
-  why_of_names names (fault.Fields line expected found) header named = (names, header, named)
-  why_of_names names (fault.Record why) header named = cc named
-  why_of_names names fault.Write header named = (names, header, named)
-  why_of_names names fault.Memory header named = tt
-  why_of_names names fault.TooLong header named = tt
+  pub why_of_names : (names : List (List ℕ)) (place : Place) (left : List ℕ) (why : TableFault)
+      → HasColumns by delimiter (record_limits p.limits) text names place left → IsWhyOfNames p names why → IsWhyOfHeading by delimiter p text why
+  why_of_names names place left (fault.Plan why) has named = (names, place, left, has, named)
+  why_of_names names place left (fault.Columns most found) has named = (names, place, left, has, named)
+  why_of_names names place left (fault.Missing name) has named = (names, place, left, has, named)
+  why_of_names names place left (fault.Twice name first second) has named = (names, place, left, has, named)
+  why_of_names names place left fault.NoHeader has named = cc named
+  why_of_names names place left (fault.Fields line expected found) has named = (names, place, left, has, named)
+  why_of_names names place left (fault.Record why) has named = cc named
+  why_of_names names place left fault.Write has named = (names, place, left, has, named)
+  why_of_names names place left fault.Memory has named = tt
+  why_of_names names place left fault.TooLong has named = tt
 
--- what a reader explains of the first record is why it does not name the columns
-pub why_of_first : {R : Type 0} (rem : R → Option (List ℕ)) (old new : RecordReader R) (p : Plan) (text : List ℕ) (e : ReadFault) (why : TableFault)
-    → place_of old ≡ first_place → limits_of old ≡ record_limits p.limits → Explains rem old new text e → GivesOfReading e why
-    → IsWhyOfHeading (delimiter_of old) p text why
-why_of_first rem old new p text e why at keeps explained gives =
-    by_first (delimiter_of old) p text e why (subst (λ limits. IsWhyUnread (delimiter_of old) limits first_place text e) keeps
-    (subst (λ place. IsWhyUnread (delimiter_of old) (limits_of old) place text e) at (unread rem old new text e explained))) gives
+-- what a reader explains of the first record is why a text does not have the columns
+pub why_of_first : {R : Type 0} (by : Header) (old : RecordReader R) (p : Plan) (text : List ℕ) (e : ReadFault)
+    (why : TableFault) → place_of old ≡ first_place → limits_of old ≡ record_limits p.limits → IsWhyUnread (delimiter_of old) (limits_of old) (place_of old) text e
+    → GivesOfReading e why → IsWhyOfHeading by (delimiter_of old) p text why
+why_of_first by old p text e why at keeps is gives =
+    why_of_record by (delimiter_of old) p text e why (subst (λ limits. IsWhyUnread (delimiter_of old) limits first_place text e) keeps
+    (subst (λ place. IsWhyUnread (delimiter_of old) (limits_of old) place text e) at is)) gives
 
-module _ (given : Option ℕ) (form : Form) (settings : Draft → Settings) (plan : Data) (text : List ℕ) (wrote : List ℕ → Type 0) where
+module _ (by : Header) (given : Option ℕ) (form : Form) (settings : Draft → Settings) (plan : Data) (text : List ℕ) (wrote : List ℕ → Type 0) where
   -- out of memory needs no reason
-  pub why_of_memory : (why : TableFault) → why ≡ fault.Memory → IsWhyOfText given form settings plan text wrote why
+  pub why_of_memory : (why : TableFault) → why ≡ fault.Memory → IsWhyOfText by given form settings plan text wrote why
   why_of_memory why e = rw e tt
 
   -- a fault of the plan comes before anything is written
-  pub why_of_plan : (e : PlanFault) (why : TableFault) → GivesOfPlan e why → wrote [] → IsWhyOfText given form settings plan text wrote why
+  pub why_of_plan : (e : PlanFault) (why : TableFault) → GivesOfPlan e why → wrote [] → IsWhyOfText by given form settings plan text wrote why
   why_of_plan (refused.NoPlan kind) why gives written = rw gives written
   why_of_plan (refused.UnknownMember kind name nearest) why gives written = rw gives written
   why_of_plan refused.NoNames why gives written = rw gives written
@@ -289,40 +289,36 @@ module _ (given : Option ℕ) (form : Form) (settings : Draft → Settings) (pla
   why_of_plan (refused.Refused place refusal) why gives written = rw gives written
   why_of_plan refused.Memory why gives written = rw gives tt
 
-  -- so does a first record that does not name the columns
-  pub why_of_heading : (p : Plan) (why : TableFault) → plan_of Columns plan ≡ Some p → IsWhyOfHeading (delimiter_by given p) p text why
+  -- so does a text that does not have the columns
+  pub why_of_heading : (p : Plan) (why : TableFault) → plan_of Columns plan ≡ Some p → IsWhyOfHeading by (delimiter_by given p) p text why
       → wrote []
-      → IsWhyOfText given form settings plan text wrote why
+      → IsWhyOfText by given form settings plan text wrote why
   why_of_heading p (fault.Plan why) is q written = written
-  why_of_heading p (fault.Columns most found) is (names, header, named) written = (written, (p, names, is, header, named))
-  why_of_heading p (fault.Missing name) is (names, header, named) written = (written, (p, names, is, header, named))
-  why_of_heading p (fault.Twice name first second) is (names, header, named) written = (written, (p, names, is, header, named))
-  why_of_heading p fault.NoHeader is none written = (written, (p, is, none))
-  why_of_heading p (fault.Fields line expected found) is (names, header, named) written = cc named
+  why_of_heading p (fault.Columns most found) is q written = (written, (p, is, q))
+  why_of_heading p (fault.Missing name) is q written = (written, (p, is, q))
+  why_of_heading p (fault.Twice name first second) is q written = (written, (p, is, q))
+  why_of_heading p fault.NoHeader is q written = (written, (p, is, q))
+  why_of_heading p (fault.Fields line expected found) is (names, place, left, has, named) written = cc named
   why_of_heading p (fault.Record why) is q written = inl (p, is, written, q)
   why_of_heading p fault.Write is q written = tt
   why_of_heading p fault.Memory is q written = tt
   why_of_heading p fault.TooLong is q written = tt
 
-  -- why one of the records behind the first is not checked
-  pub why_under_header : (p : Plan) (names : LinedRecord) (behind : Place) (rest : List ℕ) (why : TableFault) → plan_of Columns plan ≡ Some p
-      → HaveColumns p names.fields → AreNamed names.fields p.schemas
-      → (p.checks_each ≡ true) ⊎ AreDistinct names.fields → AreWithin (record_limits p.limits) names.fields
-      → TakesRecord (delimiter_by given p) first_place text names.line names.fields behind rest
-      → IsWhyOfRows (MessagesOf form (settings p.draft) p.schemas) (delimiter_by given p) (record_limits p.limits) names.fields behind rest wrote why
-      → IsWhyOfText given form settings plan text wrote why
-  why_under_header p names behind rest (fault.Plan why) is few named each within header q = absurd q
-  why_under_header p names behind rest (fault.Columns most found) is few named each within header q = absurd q
-  why_under_header p names behind rest (fault.Missing name) is few named each within header q = absurd q
-  why_under_header p names behind rest (fault.Twice name first second) is few named each within header q = absurd q
-  why_under_header p names behind rest fault.NoHeader is few named each within header q = absurd q
-  why_under_header p names behind rest (fault.Fields line expected found) is few named each within header q =
-      (p, names, behind, rest, is, few, named, each, within, header, q)
-  why_under_header p names behind rest (fault.Record why) is few named each within header q =
-      inr (p, names, behind, rest, is, few, named, each, within, header, q)
-  why_under_header p names behind rest fault.Write is few named each within header q = tt
-  why_under_header p names behind rest fault.Memory is few named each within header q = tt
-  why_under_header p names behind rest fault.TooLong is few named each within header q = tt
+  -- why one of the records with data is not checked
+  pub why_of_data : (p : Plan) (names : List (List ℕ)) (place : Place) (left : List ℕ) (why : TableFault) → plan_of Columns plan ≡ Some p
+      → Heads by (delimiter_by given p) p text names place left
+      → IsWhyOfRows (MessagesOf form (settings p.draft) p.schemas) (delimiter_by given p) (record_limits p.limits) names place left wrote why
+      → IsWhyOfText by given form settings plan text wrote why
+  why_of_data p names place left (fault.Plan why) is heads q = absurd q
+  why_of_data p names place left (fault.Columns most found) is heads q = absurd q
+  why_of_data p names place left (fault.Missing name) is heads q = absurd q
+  why_of_data p names place left (fault.Twice name first second) is heads q = absurd q
+  why_of_data p names place left fault.NoHeader is heads q = absurd q
+  why_of_data p names place left (fault.Fields line expected found) is heads q = (p, names, place, left, is, heads, q)
+  why_of_data p names place left (fault.Record why) is heads q = inr (p, names, place, left, is, heads, q)
+  why_of_data p names place left fault.Write is heads q = tt
+  why_of_data p names place left fault.Memory is heads q = tt
+  why_of_data p names place left fault.TooLong is heads q = tt
 
 -- why one of the records is not checked by columns is why it is not by what they stand for
 module _ {C D : Type 0} (delimiter : ℕ) (limits : Limits) (says : C → ℕ → List ℕ → List (List ℕ) → Type 0) (tells : D → ℕ → List ℕ → List (List ℕ)

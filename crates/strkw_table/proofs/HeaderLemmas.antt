@@ -1,6 +1,6 @@
--- The names in the first record of a file.
-use Rattle.std.proofs.Common.{Bor, ◌≡◌, ◌<◌, ◌+◌, ℕ, zero, suc, List, [], ◌∷◌, length, Bool, true, false, Some, None, refl, sym, ap, subst, ◌∙◌, arith}
-use Rattle.std.proofs.Common.{bytes_eq, cond, true≢false}
+-- The names of the columns of a file.
+use Rattle.std.proofs.Common.{Bor, ◌≡◌, ◌<◌, ◌+◌, ◌++◌, ℕ, zero, suc, List, [], ◌∷◌, length, Bool, true, false, Some, None, refl, sym, ap, subst, ◌∙◌, arith}
+use Rattle.std.proofs.Common.{bytes_eq, cond, decimal, true≢false}
 use Rattle.std.specs.Option.{option_copied}
 use Rattle.std.specs.Prelude.{Option, is_some}
 use Rattle.std.specs.BTreeMap.{BTreeMap, get_by}
@@ -13,6 +13,20 @@ use Rattle.std.proofs.lemmas.Slice.Eq.{bytes_eq-Decides}
 use Rattle.std.proofs.lemmas.Option.{none-some, same_Some}
 use Rattle.csv.specs.Records.{field_at}
 use Rattle.strkw_table.specs.Fields.{AreDistinct}
+use Rattle.strkw_table.specs.Headers.{numbers}
+
+-- no field is no number
+pub numbers_none : (names : List (List ℕ)) → names ≡ [] → names ≡ numbers 0
+unfolding numbers
+numbers_none names none = none
+
+-- one number more
+pub numbers_next : (n : ℕ) (digits : List ℕ) (old new : List (List ℕ)) → old ≡ numbers n → digits ≡ decimal (n + 1) → new ≡ old ++ digits ∷ []
+    → new ≡ numbers (n + 1)
+unfolding numbers
+numbers_next n digits old new before next more =
+    let one : suc n ≡ n + 1 = omega arith in
+    subst (λ k. new ≡ numbers k) one (more ∙ ap (λ l. l ++ digits ∷ []) before ∙ ap (λ d. numbers n ++ d ∷ []) (next ∙ ap decimal (sym one)))
 
 -- where a name stands, of names with a place each
 abbrev pub place_in : BTreeMap (Bor (List ℕ)) ℕ → List ℕ → Option ℕ

@@ -1,5 +1,5 @@
 -- Why a file is not checked to its end.
-use Rattle.std.specs.Prelude.{◌≡◌, ◌≢◌, ◌⊎◌, ◌<◌, ◌≤◌, ℕ, List, [], true, false, length, Some, None}
+use Rattle.std.specs.Prelude.{◌≡◌, ◌≢◌, ◌⊎◌, ◌<◌, ℕ, List, [], false, length, Some, None}
 use Rattle.std.specs.Prelude.{string_bytes, Option, ⊤}
 use Rattle.std.specs.Option.{unwrap_or}
 use Rattle.std.specs.List.{concat}
@@ -14,16 +14,18 @@ use Rattle.strkw_plan.specs.Compiled.{IsAmong, RefusesPlan}
 use Rattle.strkw_records.specs.declared.faults.ReadFault.{ReadFault}
 use Rattle.strkw_records.specs.declared.faults.ReadFault.TheVariants as read
 use Rattle.strkw_records.specs.declared.place.Place.{Place}
-use Rattle.strkw_plan.specs.declared.limits.Limits.{Limits as PlanLimits}
 use Rattle.strkw_records.specs.declared.limits.Limits.{Limits}
-use Rattle.strkw_records.specs.Limits.{AreWithin, IsLongField, IsLongRecord, fields_so_far}
+use Rattle.strkw_records.specs.Limits.{IsLongField, IsLongRecord, fields_so_far}
 use Rattle.strkw_records.specs.Delimiters.{table_config}
 use Rattle.strkw_records.specs.Lines.{first_place}
 use Rattle.strkw_records.specs.Reading.{BeginsAt}
 use Rattle.strkw_records.specs.Records.{IsFirstNotUtf8, IsOpenAt, LinedRecord, TakesRecord}
 use Rattle.strkw_table.specs.declared.faults.TableFault.{TableFault}
 use Rattle.strkw_table.specs.declared.faults.TableFault.TheVariants as fault
-use Rattle.strkw_table.specs.Fields.{AreDistinct, AreNamed, Form, IsNamed, IsTwice, MessagesOf}
+use Rattle.strkw_table.specs.declared.reading.Header.{Header}
+use Rattle.strkw_table.specs.declared.reading.Header.TheVariants as header
+use Rattle.strkw_table.specs.Fields.{Form, IsNamed, IsTwice, MessagesOf}
+use Rattle.strkw_table.specs.Headers.{HasColumns, Heads, record_limits}
 use Rattle.strkw_table.specs.Rows.{AreFirstRecords, HaveShape, OfRecords, Says}
 
 -- ---- by the plan
@@ -108,25 +110,9 @@ IsWhyOfRows says delimiter limits columns place text wrote why = IsUnexplained w
 
 -- ---- by the file
 
--- how long a record may be by a plan
-abbrev pub record_limits : PlanLimits → Limits
-record_limits limits = record {
-  «record» = limits.longest_record;
-  field = limits.longest_field;
-}
-
 -- the byte that parts fields: the caller's, or else the plan's
 abbrev pub delimiter_by : Option ℕ → Plan → ℕ
 delimiter_by given p = unwrap_or given p.delimiter
-
--- the names in a first record are no more than the plan's limits let them be
-abbrev pub HaveColumns : Plan → List (List ℕ) → Type 0
-HaveColumns p names = length names ≤ p.limits.most_columns
-
--- these are the fields of the first record of a text, where this byte parts fields
-abbrev pub IsHeader : ℕ → List ℕ → List (List ℕ) → Type 0
-IsHeader delimiter text names = (line : ℕ) × (behind : Place) × (rest : List ℕ)
-    × TakesRecord delimiter first_place text line names behind rest
 
 -- why the names of schemas do not all stand among names: this one does not
 abbrev pub IsWhyUnnamed : Members → List (List ℕ) → TableFault → Type 0
@@ -145,44 +131,48 @@ IsWhyOfNames p names (fault.Twice name first second) = (p.checks_each ≡ false)
     × IsTwice names (string_bytes name) first second
 IsWhyOfNames p names why = why ≡ fault.Memory
 
--- why the first record of a text does not name the columns of a plan, where this byte parts fields:
--- it is not read, there is none, or its names are not those of the plan
-abbrev pub IsWhyOfHeading : ℕ → Plan → List ℕ → TableFault → Type 0
-IsWhyOfHeading delimiter p text (fault.Record why) =
+-- the columns of a text, by its header, are not those of a plan, where this byte parts fields
+abbrev pub IsWhyUnwanted : Header → ℕ → Plan → List ℕ → TableFault → Type 0
+IsWhyUnwanted by delimiter p text why = (names : List (List ℕ)) × (place : Place) × (left : List ℕ)
+    × HasColumns by delimiter (record_limits p.limits) text names place left
+    × IsWhyOfNames p names why
+
+-- a file that is to have a header has no record, where this byte parts fields
+abbrev pub LacksHeader : Header → ℕ → List ℕ → Type 0
+LacksHeader by delimiter text = (by ≡ header.First)
+    × (next_record (table_config delimiter) st.StartRecord [] [] text ≡ None)
+
+-- why a text does not have the columns of a plan, where this byte parts fields: its first record is
+-- not read, there is to be one and there is none, or the columns are not those of the plan
+abbrev pub IsWhyOfHeading : Header → ℕ → Plan → List ℕ → TableFault → Type 0
+IsWhyOfHeading by delimiter p text (fault.Record why) =
     IsWhyUnread delimiter (record_limits p.limits) first_place text why
-IsWhyOfHeading delimiter p text fault.NoHeader =
-    next_record (table_config delimiter) st.StartRecord [] [] text ≡ None
-IsWhyOfHeading delimiter p text fault.Memory = ⊤
-IsWhyOfHeading delimiter p text fault.TooLong = ⊤
-IsWhyOfHeading delimiter p text why = (names : List (List ℕ))
-    × IsHeader delimiter text names × IsWhyOfNames p names why
+IsWhyOfHeading by delimiter p text fault.NoHeader = LacksHeader by delimiter text
+IsWhyOfHeading by delimiter p text fault.Memory = ⊤
+IsWhyOfHeading by delimiter p text fault.TooLong = ⊤
+IsWhyOfHeading by delimiter p text why = IsWhyUnwanted by delimiter p text why
 
 -- a text was checked by a plan, and a delimiter of the caller if there is one, up to a record of
--- which this is said, its first record naming the columns
-abbrev pub IsCheckedTo : Option ℕ → Form → (Draft → Settings) → Data → List ℕ → (List ℕ → Type 0)
-    → (ℕ → Limits → List (List ℕ) → Place → List ℕ → Type 0) → Type 0
-IsCheckedTo given form settings plan text wrote IsSaid = (p : Plan) × (names : LinedRecord)
-    × (behind : Place) × (rest : List ℕ)
+-- which this is said, its columns named by the header
+abbrev pub IsCheckedTo : Header → Option ℕ → Form → (Draft → Settings) → Data → List ℕ
+    → (List ℕ → Type 0) → (ℕ → Limits → List (List ℕ) → Place → List ℕ → Type 0) → Type 0
+IsCheckedTo by given form settings plan text wrote IsSaid = (p : Plan) × (names : List (List ℕ))
+    × (place : Place) × (left : List ℕ)
     × (plan_of Columns plan ≡ Some p)
-    × HaveColumns p names.fields
-    × AreNamed names.fields p.schemas
-    × ((p.checks_each ≡ true) ⊎ AreDistinct names.fields)
-    × AreWithin (record_limits p.limits) names.fields
-    × TakesRecord (delimiter_by given p) first_place text names.line names.fields behind rest
+    × Heads by (delimiter_by given p) p text names place left
     × StopsAt (MessagesOf form (settings p.draft) p.schemas) (delimiter_by given p)
-    (record_limits p.limits) names.fields
-    behind rest wrote (IsSaid (delimiter_by given p) (record_limits p.limits) names.fields)
+    (record_limits p.limits) names
+    place left wrote (IsSaid (delimiter_by given p) (record_limits p.limits) names)
 
--- the same of the first record, and nothing was written
-abbrev pub IsWhyOfHeader : Option ℕ → Data → List ℕ → TableFault → Type 0
-IsWhyOfHeader given plan text why = (p : Plan) × (names : List (List ℕ))
-    × (plan_of Columns plan ≡ Some p)
-    × IsHeader (delimiter_by given p) text names × IsWhyOfNames p names why
+-- its columns are not those of the plan, for this reason
+abbrev pub IsWhyOfHeader : Header → Option ℕ → Data → List ℕ → TableFault → Type 0
+IsWhyOfHeader by given plan text why = (p : Plan)
+    × (plan_of Columns plan ≡ Some p) × IsWhyUnwanted by (delimiter_by given p) p text why
 
--- there is no first record, and nothing was written
-abbrev pub HasNoHeader : Option ℕ → Data → List ℕ → Type 0
-HasNoHeader given plan text = (p : Plan) × (plan_of Columns plan ≡ Some p)
-    × (next_record (table_config (delimiter_by given p)) st.StartRecord [] [] text ≡ None)
+-- it has no header, and is to have one
+abbrev pub HasNoHeader : Header → Option ℕ → Data → List ℕ → Type 0
+HasNoHeader by given plan text = (p : Plan)
+    × (plan_of Columns plan ≡ Some p) × LacksHeader by (delimiter_by given p) text
 
 -- why its first record is not read, and nothing was written
 abbrev pub IsWhyOfFirst : Option ℕ → Data → List ℕ → (List ℕ → Type 0) → ReadFault → Type 0
@@ -190,25 +180,25 @@ IsWhyOfFirst given plan text wrote why = (p : Plan) × (plan_of Columns plan ≡
     × IsWhyUnread (delimiter_by given p) (record_limits p.limits) first_place text why
 
 -- Why a file with this text is not checked by its plan, and what was written then: nothing but the
--- messages in a form about the records before the one that is to blame. A delimiter that the caller
--- gives counts in place of the plan's. A fault of the plan is told by `IsWhy`; of writing, memory
--- and too many records nothing is said.
-abbrev pub IsWhyOfText : Option ℕ → Form → (Draft → Settings) → Data → List ℕ → (List ℕ → Type 0)
-    → TableFault → Type 0
-IsWhyOfText given form settings plan text wrote (fault.Plan why) = wrote []
-IsWhyOfText given form settings plan text wrote (fault.Missing name) =
-    wrote [] × IsWhyOfHeader given plan text (fault.Missing name)
-IsWhyOfText given form settings plan text wrote (fault.Columns most found) =
-    wrote [] × IsWhyOfHeader given plan text (fault.Columns most found)
-IsWhyOfText given form settings plan text wrote (fault.Twice name first second) =
-    wrote [] × IsWhyOfHeader given plan text (fault.Twice name first second)
-IsWhyOfText given form settings plan text wrote fault.NoHeader =
-    wrote [] × HasNoHeader given plan text
-IsWhyOfText given form settings plan text wrote (fault.Fields line expected found) =
-    IsCheckedTo given form settings plan text wrote (λ delimiter limits names behind rest.
+-- messages in a form about the records before the one that is to blame. The header is the caller's,
+-- and a delimiter that it gives counts in place of the plan's. A fault of the plan is told by
+-- `IsWhy`; of writing, memory and too many records nothing is said.
+abbrev pub IsWhyOfText : Header → Option ℕ → Form → (Draft → Settings) → Data → List ℕ
+    → (List ℕ → Type 0) → TableFault → Type 0
+IsWhyOfText by given form settings plan text wrote (fault.Plan why) = wrote []
+IsWhyOfText by given form settings plan text wrote (fault.Missing name) =
+    wrote [] × IsWhyOfHeader by given plan text (fault.Missing name)
+IsWhyOfText by given form settings plan text wrote (fault.Columns most found) =
+    wrote [] × IsWhyOfHeader by given plan text (fault.Columns most found)
+IsWhyOfText by given form settings plan text wrote (fault.Twice name first second) =
+    wrote [] × IsWhyOfHeader by given plan text (fault.Twice name first second)
+IsWhyOfText by given form settings plan text wrote fault.NoHeader =
+    wrote [] × HasNoHeader by given plan text
+IsWhyOfText by given form settings plan text wrote (fault.Fields line expected found) =
+    IsCheckedTo by given form settings plan text wrote (λ delimiter limits names behind rest.
     IsWhyOfNext delimiter limits (length names) behind rest (fault.Fields line expected found))
-IsWhyOfText given form settings plan text wrote (fault.Record why) =
+IsWhyOfText by given form settings plan text wrote (fault.Record why) =
     IsWhyOfFirst given plan text wrote why
-    ⊎ IsCheckedTo given form settings plan text wrote (λ delimiter limits names behind rest.
+    ⊎ IsCheckedTo by given form settings plan text wrote (λ delimiter limits names behind rest.
     IsWhyUnread delimiter limits behind rest why)
-IsWhyOfText given form settings plan text wrote why = ⊤
+IsWhyOfText by given form settings plan text wrote why = ⊤

@@ -1,6 +1,6 @@
-//! The names in the first record of a file.
+//! The names of the columns of a file.
 
-ghost use Rattle.std.specs.Prelude.{◌≡◌, ℕ, List, Some, None, IfErr, IfOk, IfSome, OnOk};
+ghost use Rattle.std.specs.Prelude.{◌≡◌, ℕ, List, [], Some, None, IfErr, IfOk, IfSome, OnOk};
 ghost use Rattle.std.specs.BTreeMap.{get_by};
 ghost use Rattle.std.specs.Cmp.Lexicographic.{slice_cmp};
 ghost use Rattle.std.specs.Ordering.{nat_cmp};
@@ -8,12 +8,27 @@ ghost use Rattle.serde_json.specs.View.{members_view};
 ghost use Rattle.csv.specs.Records.{fields_of};
 ghost use Rattle.strkw_table.specs.Faults.{IsWhyUnnamed};
 ghost use Rattle.strkw_table.specs.Fields.{AreDistinct, AreNamed, IsNamed, IsTwice};
+ghost use Rattle.strkw_table.specs.Headers.{numbers};
 
 use crate::faults::TableFault;
 use csv::StringRecord;
+use itoa::Buffer;
 use serde_json::{Map, Value};
 use std::alloc::{AllocError, Global};
 use std::collections::BTreeMap;
+
+/// Appends the numbers of so many columns, from 1, to a record that has no field. The only error is out of memory.
+#[tactic(auto, using(crate::proofs::HeaderLemmas::numbers_none, crate::proofs::HeaderLemmas::numbers_next))]
+pub fn push_numbers(count: usize, names: &mut StringRecord) -> Result<(), AllocError>
+    requires { fields_of names.old ≡ [] }
+    ensures { OnOk result (fields_of names.new ≡ numbers count) }
+{
+    let mut digits = Buffer::new();
+    for at in 0..count {
+        names.push_field(digits.format(at + 1))?;
+    }
+    Ok(())
+}
 
 // The names, each with a place where it stands. The only error is out of memory.
 fn places_of<'a>(

@@ -7,14 +7,17 @@ ghost use Rattle.csv.specs.Machine.{next_record};
 ghost use Rattle.csv.specs.Records.{fields_of, field_at};
 ghost use Rattle.csv.specs.declared.parser.State.TheVariants as st;
 ghost use Rattle.strkw_keywords.specs.Handed.{lists_of};
+ghost use Rattle.strkw_records.specs.declared.place.Place.{Place};
 ghost use Rattle.strkw_records.specs.Delimiters.{table_config};
 ghost use Rattle.strkw_records.specs.Limits.{AreWithin};
-ghost use Rattle.strkw_records.specs.Reading.{Takes, delimiter_of, limits_of, place_of, unread_of};
-ghost use Rattle.strkw_records.specs.Records.{AreLinedRecords, LinedRecord};
+ghost use Rattle.strkw_records.specs.Reading.{delimiter_of, limits_of};
+ghost use Rattle.strkw_records.specs.Records.{AreLinedRecords, LinedRecord, TakesRecord};
+ghost use Rattle.strkw_table.specs.Ahead.{IsLeft};
 ghost use Rattle.strkw_table.specs.Columns.{AreUsable, ColumnMessages};
 ghost use Rattle.strkw_table.specs.Faults.{IsNoPlanFault, IsUnexplained, IsWhyOfNext, IsWhyOfRows};
 ghost use Rattle.strkw_table.specs.Rows.{AreFirstRecords, HaveShape, OfField, OfRecord, OfRecords};
 
+use crate::ahead::Records;
 use crate::faults::TableFault;
 use crate::form::FieldForm;
 use crate::schema_column::SchemaColumn;
@@ -39,7 +42,7 @@ pub struct Checked {
 
 /// Who is told how far a check has come.
 pub trait Watch {
-    /// These are the names in the first record, which are not yet compared with those of the plan. It need not listen.
+    /// These are the names of the columns, which are not yet compared with those of the plan. It need not listen.
     fn names(&mut self, _names: &StringRecord) {}
 
     /// So many records were checked, and there are so many messages about them.
@@ -104,45 +107,49 @@ fn check_record<E: RegexEngine, F: FieldForm>(
     Ok(count)
 }
 
-// Reads the next record, which has as many fields as there are columns, appends the messages about it, and answers how
+// Takes the next record, which has as many fields as there are columns, appends the messages about it, and answers how
 // many they are; `None` where there is no record.
 fn check_next<E: RegexEngine, R: Read, F: FieldForm>(
     alloc: Global,
     columns: &[SchemaColumn<'_, E>],
     checks: &Checks<'_>,
     form: &F,
-    reader: &mut RecordReader<R>,
-    row: &mut StringRecord,
+    records: &mut Records<R>,
     out: &mut String,
 ) -> Result<Option<u64>, TableFault>
     requires usable { let lists = lists_of admits accepted encoded decoding checks.now in
         AreUsable E.outcome lists columns.now }
     ensures why { IfErr result IsNoPlanFault }
-    ensures fault { (text : List ℕ) → unread_of R.remaining reader.old ≡ Some text
-        → IfErr result (IsWhyOfNext (delimiter_of reader.old) (limits_of reader.old)
-        (length columns.now) (place_of reader.old) text) }
-    ensures limits { limits_of reader.new ≡ limits_of reader.old }
-    ensures delimiter { delimiter_of reader.new ≡ delimiter_of reader.old }
-    ensures end { (text : List ℕ) → unread_of R.remaining reader.old ≡ Some text
+    ensures fault { (place : Place) (text : List ℕ) → IsLeft R.remaining records.old place text
+        → IfErr result (IsWhyOfNext (delimiter_of records.old.reader) (limits_of records.old.reader)
+        (length columns.now) place text) }
+    ensures limits { limits_of records.new.reader ≡ limits_of records.old.reader }
+    ensures delimiter { delimiter_of records.new.reader ≡ delimiter_of records.old.reader }
+    ensures end { (place : Place) (text : List ℕ) → IsLeft R.remaining records.old place text
         → IfOk result (λ o. o ≡ None
-        → next_record (table_config (delimiter_of reader.old)) st.StartRecord [] [] text ≡ None) }
+        → next_record (table_config (delimiter_of records.old.reader)) st.StartRecord [] [] text
+        ≡ None) }
     ensures kept { IfOk result (λ o. o ≡ None → string_bytes out.new ≡ string_bytes out.old) }
     ensures unsaid { IfErr result (λ why. (IsUnexplained why → ⊥)
         → string_bytes out.new ≡ string_bytes out.old) }
     ensures record { let lists = lists_of admits accepted encoded decoding checks.now in
-        (text : List ℕ) → unread_of R.remaining reader.old ≡ Some text
+        (place : Place) (text : List ℕ) → IsLeft R.remaining records.old place text
         → IfOk result (λ o. IfSome o (λ count. (line : ℕ) × (messages : List (List ℕ))
-        × Takes R.remaining reader.old reader.new text line (fields_of row.new)
-        × (length (fields_of row.new) ≡ length columns.now)
-        × AreWithin (limits_of reader.old) (fields_of row.new)
+        × (behind : Place) × (rest : List ℕ)
+        × TakesRecord (delimiter_of records.old.reader) place text line (fields_of records.new.row)
+        behind rest
+        × IsLeft R.remaining records.new behind rest
+        × (length (fields_of records.new.row) ≡ length columns.now)
+        × AreWithin (limits_of records.old.reader) (fields_of records.new.row)
         × OfRecord (ColumnMessages (F.said form.now) E.outcome lists) columns.now line
-        (fields_of row.new) messages
+        (fields_of records.new.row) messages
         × (count ≡ length messages)
         × (string_bytes out.new ≡ string_bytes out.old ++ concat messages))) }
 {
-    let Some(line) = reader.read(row)? else {
+    let Some(line) = records.take()? else {
         return Ok(None);
     };
+    let row = &records.row;
     if row.len() != columns.len() {
         return Err(TableFault::Fields {
             line,
@@ -180,8 +187,8 @@ fn write_gathered<W: Write>(
     Ok(())
 }
 
-/// Checks the records that a reader has left, and writes the messages about them, record by record, and in each from
-/// the first field to the last.
+/// Checks the records that are left, and writes the messages about them, record by record, and in each from the first
+/// field to the last.
 ///
 /// Errors: `Fields` and `Record`, and the messages about the records before are written all the same; `Write`,
 /// `Memory`, `TooLong`.
@@ -190,7 +197,7 @@ pub(crate) fn check_rows<E: RegexEngine, R: Read, W: Write, P: Watch, F: FieldFo
     columns: &[SchemaColumn<'_, E>],
     checks: &Checks<'_>,
     form: &F,
-    reader: &mut RecordReader<R>,
+    records: &mut Records<R>,
     writer: &mut W,
     watch: &mut P,
 ) -> Result<Checked, TableFault>
@@ -198,23 +205,22 @@ pub(crate) fn check_rows<E: RegexEngine, R: Read, W: Write, P: Watch, F: FieldFo
         AreUsable E.outcome lists columns.now }
     ensures why { IfErr result IsNoPlanFault }
     ensures fault { let lists = lists_of admits accepted encoded decoding checks.now in
-        (text : List ℕ) → unread_of R.remaining reader.old ≡ Some text
+        (place : Place) (text : List ℕ) → IsLeft R.remaining records.old place text
         → IfErr result (IsWhyOfRows (ColumnMessages (F.said form.now) E.outcome lists)
-        (delimiter_of reader.old) (limits_of reader.old) columns.now (place_of reader.old) text
+        (delimiter_of records.old.reader) (limits_of records.old.reader) columns.now place text
         (Appends (W.contents writer.old) (W.contents writer.new))) }
     ensures messages { let lists = lists_of admits accepted encoded decoding checks.now in
-        (text : List ℕ) → unread_of R.remaining reader.old ≡ Some text
-        → IfOk result (λ c. (records : List LinedRecord) × (messages : List (List ℕ))
-        × AreLinedRecords (delimiter_of reader.old) (place_of reader.old) text records
-        × HaveShape (limits_of reader.old) (length columns.now) records
-        × OfRecords (ColumnMessages (F.said form.now) E.outcome lists) columns.now records messages
+        (place : Place) (text : List ℕ) → IsLeft R.remaining records.old place text
+        → IfOk result (λ c. (rows : List LinedRecord) × (messages : List (List ℕ))
+        × AreLinedRecords (delimiter_of records.old.reader) place text rows
+        × HaveShape (limits_of records.old.reader) (length columns.now) rows
+        × OfRecords (ColumnMessages (F.said form.now) E.outcome lists) columns.now rows messages
         × Appends (W.contents writer.old) (W.contents writer.new) (concat messages)
-        × (c.records ≡ length records) × (c.errors ≡ length messages)) }
+        × (c.records ≡ length rows) × (c.errors ≡ length messages)) }
 {
-    let mut row = StringRecord::new(alloc);
     let mut out = String::new(alloc);
     let checked = gather_rows(
-        alloc, columns, checks, form, reader, &mut row, &mut out, writer, watch,
+        alloc, columns, checks, form, records, &mut out, writer, watch,
     );
     write_rest(&out, writer).and(checked)
 }
@@ -231,14 +237,13 @@ fn write_rest<W: Write>(out: &String, writer: &mut W) -> Result<(), TableFault>
     Ok(())
 }
 
-// The same, with each record read into `row`, and the last of the messages in `out`.
+// The same, with the last of the messages in `out`.
 fn gather_rows<E: RegexEngine, R: Read, W: Write, P: Watch, F: FieldForm>(
     alloc: Global,
     columns: &[SchemaColumn<'_, E>],
     checks: &Checks<'_>,
     form: &F,
-    reader: &mut RecordReader<R>,
-    row: &mut StringRecord,
+    records: &mut Records<R>,
     out: &mut String,
     writer: &mut W,
     watch: &mut P,
@@ -248,34 +253,34 @@ fn gather_rows<E: RegexEngine, R: Read, W: Write, P: Watch, F: FieldForm>(
     requires empty { string_bytes out.old ≡ [] }
     ensures why { IfErr result IsNoPlanFault }
     ensures fault { let lists = lists_of admits accepted encoded decoding checks.now in
-        (text : List ℕ) → unread_of R.remaining reader.old ≡ Some text
+        (place : Place) (text : List ℕ) → IsLeft R.remaining records.old place text
         → IfErr result (IsWhyOfRows (ColumnMessages (F.said form.now) E.outcome lists)
-        (delimiter_of reader.old) (limits_of reader.old) columns.now (place_of reader.old) text (λ lines.
-        (written : List ℕ)
+        (delimiter_of records.old.reader) (limits_of records.old.reader) columns.now place text
+        (λ lines. (written : List ℕ)
         × Appends (W.contents writer.old) (W.contents writer.new) written
         × (lines ≡ written ++ string_bytes out.new))) }
     ensures messages { let lists = lists_of admits accepted encoded decoding checks.now in
-        (text : List ℕ) → unread_of R.remaining reader.old ≡ Some text
-        → IfOk result (λ c. (records : List LinedRecord) × (messages : List (List ℕ))
+        (place : Place) (text : List ℕ) → IsLeft R.remaining records.old place text
+        → IfOk result (λ c. (rows : List LinedRecord) × (messages : List (List ℕ))
         × (written : List ℕ)
-        × AreLinedRecords (delimiter_of reader.old) (place_of reader.old) text records
-        × HaveShape (limits_of reader.old) (length columns.now) records
-        × OfRecords (ColumnMessages (F.said form.now) E.outcome lists) columns.now records messages
+        × AreLinedRecords (delimiter_of records.old.reader) place text rows
+        × HaveShape (limits_of records.old.reader) (length columns.now) rows
+        × OfRecords (ColumnMessages (F.said form.now) E.outcome lists) columns.now rows messages
         × Appends (W.contents writer.old) (W.contents writer.new) written
         × (concat messages ≡ written ++ string_bytes out.new)
-        × (c.records ≡ length records) × (c.errors ≡ length messages)) }
+        × (c.records ≡ length rows) × (c.errors ≡ length messages)) }
 {
     let mut checked = Checked {
         records: 0,
         errors: 0,
     };
     for turn in 0..u64::MAX {
-        let Some(more) = check_next(alloc, columns, checks, form, reader, row, out)? else {
+        let Some(more) = check_next(alloc, columns, checks, form, records, out)? else {
             return Ok(checked);
         };
         checked.errors = checked.errors.checked_add(more).ok_or(TableFault::TooLong)?;
         checked.records += 1;
-        write_gathered(out, is_due(out, reader), writer)?;
+        write_gathered(out, is_due(out, &records.reader), writer)?;
         watch.at(checked);
     }
     Err(TableFault::TooLong)

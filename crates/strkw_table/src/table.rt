@@ -1,6 +1,6 @@
 //! A whole file.
 
-ghost use Rattle.std.specs.Prelude.{◌≡◌, ◌∷◌, ◌⊎◌, ℕ, List, Option, Some, None, true, length, option_map, IfOk, IfErr, OnOk};
+ghost use Rattle.std.specs.Prelude.{◌≡◌, ◌∷◌, ◌⊎◌, ℕ, List, Option, Some, None, [], true, length, option_map, IfOk, IfErr, OnOk};
 ghost use Rattle.std.specs.BTreeMap.{get_by_text};
 ghost use Rattle.std.specs.List.{concat};
 ghost use Rattle.std.specs.Io.KnownBytes.{Appends};
@@ -8,6 +8,7 @@ ghost use Rattle.serde_json.specs.Data.{Data};
 ghost use Rattle.serde_json.specs.View.{members_view, view};
 ghost use Rattle.csv.specs.Records.{fields_of};
 ghost use Rattle.csv.specs.Reading.{strip_bom};
+ghost use Rattle.strkw_records.specs.declared.place.Place.{Place};
 ghost use Rattle.strkw_records.specs.Limits.{AreWithin};
 ghost use Rattle.strkw_records.specs.Lines.{first_place};
 ghost use Rattle.strkw_records.specs.Reading.{Takes, delimiter_of, limits_of, place_of, unread_of};
@@ -17,15 +18,20 @@ ghost use Rattle.strkw_plan.specs.Rules.{rules_settings};
 ghost use Rattle.strkw_plan.specs.Plan as written;
 ghost use Rattle.strkw_plan.specs.Plan.{plan_of, plan_problem};
 ghost use Rattle.strkw_plan.specs.declared.kind.PlanKind.TheVariants.{Columns};
+ghost use Rattle.strkw_table.specs.declared.reading.Header.TheVariants.{Absent, First};
+ghost use Rattle.strkw_table.specs.Ahead.{IsLeft};
 ghost use Rattle.strkw_table.specs.Columns.{IsObjectFor};
-ghost use Rattle.strkw_table.specs.Faults.{HaveColumns, IsNoPlanFault, IsWhy, IsWhyOfHeading, IsWhyOfNames, IsWhyOfText, delimiter_by, record_limits};
+ghost use Rattle.strkw_table.specs.Faults.{IsNoPlanFault, IsWhy, IsWhyOfHeading, IsWhyOfNames, IsWhyOfText, delimiter_by};
 ghost use Rattle.strkw_table.specs.Fields.{AreDistinct, AreNamed, MessagesOf, field_message, schema_named};
+ghost use Rattle.strkw_table.specs.Headers.{AreWanted, HaveColumns, Heads, record_limits};
 ghost use Rattle.strkw_table.specs.Rows.{HaveShape, OfRecords};
 
+use crate::ahead::Records;
 use crate::faults::TableFault;
 use crate::form::{FieldForm, FieldLines};
-use crate::header::{find_twice, require_named};
+use crate::header::{find_twice, push_numbers, require_named};
 use crate::objects::{Objects, columns_of, compile_objects};
+use crate::reading::{Header, Reading};
 use crate::rows::{Checked, Watch, check_rows};
 use csv::StringRecord;
 use serde_json::Value;
@@ -80,8 +86,8 @@ pub fn check_table<B: EngineBuilder, R: Read + Drop, W: Write, P: Watch>(
     ensures fault { let settings =
         rules_settings B.takes B.outcome admits accepted encoded decoding rules.now in
         (text : List ℕ) → R.remaining file ≡ Some text
-        → IfErr result (IsWhyOfText None field_message settings (view plan.now) (strip_bom text)
-        (Appends (W.contents writer.old) (W.contents writer.new))) }
+        → IfErr result (IsWhyOfText First None field_message settings (view plan.now)
+        (strip_bom text) (Appends (W.contents writer.old) (W.contents writer.new))) }
 {
     check_table_as(alloc, rules, plan, file, writer, watch, &FieldLines)
 }
@@ -120,78 +126,88 @@ pub fn check_table_as<B: EngineBuilder, R: Read + Drop, W: Write, P: Watch, F: F
     ensures fault { let settings =
         rules_settings B.takes B.outcome admits accepted encoded decoding rules.now in
         (text : List ℕ) → R.remaining file ≡ Some text
-        → IfErr result (IsWhyOfText None (F.said form.now) settings (view plan.now) (strip_bom text)
-        (Appends (W.contents writer.old) (W.contents writer.new))) }
+        → IfErr result (IsWhyOfText First None (F.said form.now) settings (view plan.now)
+        (strip_bom text) (Appends (W.contents writer.old) (W.contents writer.new))) }
 {
-    check_table_with(alloc, rules, plan, None, file, writer, watch, form)
+    let reading = Reading {
+        delimiter: None,
+        header: Header::First,
+    };
+    check_table_with(alloc, rules, plan, reading, file, writer, watch, form)
 }
 
-/// The same, with a delimiter of the caller, if there is one: it parts the fields in place of the plan's.
+/// The same, where the caller says how the text is read: what parts the fields, in place of the plan's delimiter, and
+/// what names the columns.
 ///
-/// Errors: as `check_table`.
+/// Without a header the columns are named by their numbers from 1, `1`, `2`, `3` and so on, as many as the first record
+/// has fields, and each record is checked. Then a file that has no record has no errors, whatever the plan names.
+///
+/// Errors: as `check_table`. Without a header there is no `NoHeader`.
 pub fn check_table_with<B: EngineBuilder, R: Read + Drop, W: Write, P: Watch, F: FieldForm>(
     alloc: Global,
     rules: &Rules<'_, B>,
     plan: &Value,
-    delimiter: Option<Delimiter>,
+    reading: Reading,
     file: R,
     writer: &mut W,
     watch: &mut P,
     form: &F,
 ) -> Result<Checked, TableFault>
     ensures plan { OnOk result (plan_problem Columns (view plan.now) ≡ None) }
-    ensures messages { let given = option_map (λ d. d.byte) delimiter in
+    ensures messages { let given = option_map (λ d. d.byte) reading.delimiter in
         let settings =
         rules_settings B.takes B.outcome admits accepted encoded decoding rules.now in
         (text : List ℕ) → R.remaining file ≡ Some text
-        → IfOk result (λ c. (p : written.Plan) × (names : LinedRecord)
+        → IfOk result (λ c. (p : written.Plan) × (names : List (List ℕ))
+        × (place : Place) × (left : List ℕ)
         × (records : List LinedRecord) × (messages : List (List ℕ))
         × (plan_of Columns (view plan.now) ≡ Some p)
-        × HaveColumns p names.fields
-        × AreNamed names.fields p.schemas
-        × ((p.checks_each ≡ true) ⊎ AreDistinct names.fields)
-        × AreLinedRecords (delimiter_by given p) first_place (strip_bom text) (names ∷ records)
-        × HaveShape (record_limits p.limits) (length names.fields) (names ∷ records)
-        × OfRecords (MessagesOf (F.said form.now) (settings p.draft) p.schemas) names.fields
-        records messages
+        × Heads reading.header (delimiter_by given p) p (strip_bom text) names place left
+        × AreLinedRecords (delimiter_by given p) place left records
+        × HaveShape (record_limits p.limits) (length names) records
+        × OfRecords (MessagesOf (F.said form.now) (settings p.draft) p.schemas) names records
+        messages
         × Appends (W.contents writer.old) (W.contents writer.new) (concat messages)
         × (c.records ≡ length records) × (c.errors ≡ length messages)) }
     ensures why { let settings =
         rules_settings B.takes B.outcome admits accepted encoded decoding rules.now in
         IfErr result (IsWhy settings (view plan.now)) }
-    ensures fault { let given = option_map (λ d. d.byte) delimiter in
+    ensures fault { let given = option_map (λ d. d.byte) reading.delimiter in
         let settings =
         rules_settings B.takes B.outcome admits accepted encoded decoding rules.now in
         (text : List ℕ) → R.remaining file ≡ Some text
-        → IfErr result (IsWhyOfText given (F.said form.now) settings (view plan.now)
+        → IfErr result (IsWhyOfText reading.header given (F.said form.now) settings (view plan.now)
         (strip_bom text) (Appends (W.contents writer.old) (W.contents writer.new))) }
 {
     let plan = plan_in(alloc, PlanKind::Columns, plan)?;
     let objects = compile_objects(alloc, rules, &plan)?;
     let limits = record_limits(plan.limits);
-    let delimiter = delimiter_by(delimiter, &plan);
-    let mut reader = RecordReader::with_delimiter(alloc, file, limits, delimiter)?;
+    let delimiter = delimiter_by(reading.delimiter, &plan);
+    let reader = RecordReader::with_delimiter(alloc, file, limits, delimiter)?;
+    let mut records = Records::new(alloc, reader);
     check_records(
         alloc,
         rules,
         &plan,
         &objects,
+        reading.header,
         form,
-        &mut reader,
+        &mut records,
         writer,
         watch,
     )
 }
 
-// Checks the records of a reader that has read none: the first by the plan, and the others by what was compiled for the
-// columns that it names.
+// Checks the records of a file, of which none was read: the columns by the plan, and the fields by what was compiled for
+// the columns.
 fn check_records<B: EngineBuilder, R: Read, W: Write, P: Watch, F: FieldForm>(
     alloc: Global,
     rules: &Rules<'_, B>,
     plan: &Plan<'_>,
     objects: &Objects<B::Engine>,
+    header: Header,
     form: &F,
-    reader: &mut RecordReader<R>,
+    records: &mut Records<R>,
     writer: &mut W,
     watch: &mut P,
 ) -> Result<Checked, TableFault>
@@ -202,38 +218,101 @@ fn check_records<B: EngineBuilder, R: Read, W: Write, P: Watch, F: FieldForm>(
         (name : List ℕ)
         → IsObjectFor B.Engine.outcome s (schema_named schemas name)
         (get_by_text objects.now name) }
-    requires place { place_of reader.old ≡ first_place }
-    requires limits { limits_of reader.old ≡ record_limits plan.now.limits }
+    requires ahead { records.old.ahead ≡ None }
+    requires place { place_of records.old.reader ≡ first_place }
+    requires limits { limits_of records.old.reader ≡ record_limits plan.now.limits }
     ensures messages { let p = plan_view plan.now in
+        let delimiter = delimiter_of records.old.reader in
         let settings =
         rules_settings B.takes B.outcome admits accepted encoded decoding rules.now in
-        (text : List ℕ) → unread_of R.remaining reader.old ≡ Some text
-        → IfOk result (λ c. (names : LinedRecord)
-        × (records : List LinedRecord) × (messages : List (List ℕ))
-        × HaveColumns p names.fields
-        × AreNamed names.fields p.schemas
-        × ((p.checks_each ≡ true) ⊎ AreDistinct names.fields)
-        × AreLinedRecords (delimiter_of reader.old) first_place text (names ∷ records)
-        × HaveShape (record_limits p.limits) (length names.fields) (names ∷ records)
-        × OfRecords (MessagesOf (F.said form.now) (settings p.draft) p.schemas) names.fields
-        records messages
+        (text : List ℕ) → unread_of R.remaining records.old.reader ≡ Some text
+        → IfOk result (λ c. (names : List (List ℕ)) × (place : Place) × (left : List ℕ)
+        × (rows : List LinedRecord) × (messages : List (List ℕ))
+        × Heads header delimiter p text names place left
+        × AreLinedRecords delimiter place left rows
+        × HaveShape (record_limits p.limits) (length names) rows
+        × OfRecords (MessagesOf (F.said form.now) (settings p.draft) p.schemas) names rows messages
         × Appends (W.contents writer.old) (W.contents writer.new) (concat messages)
-        × (c.records ≡ length records) × (c.errors ≡ length messages)) }
+        × (c.records ≡ length rows) × (c.errors ≡ length messages)) }
     ensures why { IfErr result IsNoPlanFault }
     ensures fault { let settings =
         rules_settings B.takes B.outcome admits accepted encoded decoding rules.now in
         (given : Option ℕ) (written : Data) (text : List ℕ)
         → plan_of Columns written ≡ Some (plan_view plan.now)
-        → delimiter_of reader.old ≡ delimiter_by given (plan_view plan.now)
-        → unread_of R.remaining reader.old ≡ Some text
-        → IfErr result (IsWhyOfText given (F.said form.now) settings written text
+        → delimiter_of records.old.reader ≡ delimiter_by given (plan_view plan.now)
+        → unread_of R.remaining records.old.reader ≡ Some text
+        → IfErr result (IsWhyOfText header given (F.said form.now) settings written text
         (Appends (W.contents writer.old) (W.contents writer.new))) }
 {
     lists_of_compile_are_in_use::<B::Engine>();
     let mut names = StringRecord::new(alloc);
-    read_header(alloc, plan, reader, &mut names, watch)?;
+    read_names(alloc, plan, header, records, &mut names, watch)?;
     let columns = columns_of(alloc, objects, &names)?;
-    check_rows(alloc, &columns, &rules.checks, form, reader, writer, watch)
+    check_rows(alloc, &columns, &rules.checks, form, records, writer, watch)
+}
+
+// Puts the names of the columns into `names`, and refuses those that are not as the plan wants them.
+fn read_names<R: Read, P: Watch>(
+    alloc: Global,
+    plan: &Plan<'_>,
+    header: Header,
+    records: &mut Records<R>,
+    names: &mut StringRecord,
+    watch: &mut P,
+) -> Result<(), TableFault>
+    requires ahead { records.old.ahead ≡ None }
+    requires empty { fields_of names.old ≡ [] }
+    requires place { place_of records.old.reader ≡ first_place }
+    requires limits { limits_of records.old.reader ≡ record_limits plan.now.limits }
+    ensures heads { (text : List ℕ) → unread_of R.remaining records.old.reader ≡ Some text
+        → OnOk result ((place : Place) × (left : List ℕ)
+        × Heads header (delimiter_of records.old.reader) (plan_view plan.now) text
+        (fields_of names.new) place left
+        × IsLeft R.remaining records.new place left) }
+    ensures limits { limits_of records.new.reader ≡ limits_of records.old.reader }
+    ensures delimiter { delimiter_of records.new.reader ≡ delimiter_of records.old.reader }
+    ensures why { IfErr result IsNoPlanFault }
+    ensures fault { (text : List ℕ) → unread_of R.remaining records.old.reader ≡ Some text
+        → IfErr result (IsWhyOfHeading header (delimiter_of records.old.reader) (plan_view plan.now)
+        text) }
+{
+    match header {
+        Header::First => read_header(alloc, plan, &mut records.reader, names, watch),
+        Header::Absent => number_columns(alloc, plan, records, names, watch),
+    }
+}
+
+// Looks at the first record, if there is one, puts the numbers of its fields into `names`, and refuses those that are
+// not as the plan wants them.
+fn number_columns<R: Read, P: Watch>(
+    alloc: Global,
+    plan: &Plan<'_>,
+    records: &mut Records<R>,
+    names: &mut StringRecord,
+    watch: &mut P,
+) -> Result<(), TableFault>
+    requires ahead { records.old.ahead ≡ None }
+    requires empty { fields_of names.old ≡ [] }
+    requires place { place_of records.old.reader ≡ first_place }
+    requires limits { limits_of records.old.reader ≡ record_limits plan.now.limits }
+    ensures heads { (text : List ℕ) → unread_of R.remaining records.old.reader ≡ Some text
+        → OnOk result (Heads Absent (delimiter_of records.old.reader) (plan_view plan.now) text
+        (fields_of names.new) first_place text) }
+    ensures left { (text : List ℕ) → unread_of R.remaining records.old.reader ≡ Some text
+        → OnOk result (IsLeft R.remaining records.new first_place text) }
+    ensures limits { limits_of records.new.reader ≡ limits_of records.old.reader }
+    ensures delimiter { delimiter_of records.new.reader ≡ delimiter_of records.old.reader }
+    ensures why { IfErr result IsNoPlanFault }
+    ensures fault { (text : List ℕ) → unread_of R.remaining records.old.reader ≡ Some text
+        → IfErr result (IsWhyOfHeading Absent (delimiter_of records.old.reader) (plan_view plan.now)
+        text) }
+{
+    if records.look()?.is_none() {
+        return Ok(());
+    }
+    push_numbers(records.row.len(), names)?;
+    watch.names(names);
+    require_header(alloc, plan, names)
 }
 
 // Reads the first record into `names`, and refuses one that does not name the columns as the plan wants them.
@@ -246,11 +325,7 @@ fn read_header<R: Read, P: Watch>(
 ) -> Result<(), TableFault>
     requires place { place_of reader.old ≡ first_place }
     requires limits { limits_of reader.old ≡ record_limits plan.now.limits }
-    ensures few { OnOk result (HaveColumns (plan_view plan.now) (fields_of names.new)) }
-    ensures named { OnOk result
-        (AreNamed (fields_of names.new) (members_view plan.now.schemas.now.entries)) }
-    ensures distinct { OnOk result
-        ((plan.now.checks_each ≡ true) ⊎ AreDistinct (fields_of names.new)) }
+    ensures wanted { OnOk result (AreWanted (plan_view plan.now) (fields_of names.new)) }
     ensures within { OnOk result (AreWithin (record_limits plan.now.limits) (fields_of names.new)) }
     ensures record { (text : List ℕ) → unread_of R.remaining reader.old ≡ Some text
         → OnOk result ((line : ℕ)
@@ -259,7 +334,7 @@ fn read_header<R: Read, P: Watch>(
     ensures delimiter { delimiter_of reader.new ≡ delimiter_of reader.old }
     ensures why { IfErr result IsNoPlanFault }
     ensures fault { (text : List ℕ) → unread_of R.remaining reader.old ≡ Some text
-        → IfErr result (IsWhyOfHeading (delimiter_of reader.old) (plan_view plan.now) text) }
+        → IfErr result (IsWhyOfHeading First (delimiter_of reader.old) (plan_view plan.now) text) }
 {
     if reader.read(names)?.is_none() {
         return Err(TableFault::NoHeader);
@@ -293,8 +368,8 @@ fn in_memory(bytes: Option<u64>) -> Option<usize>
     Some(bytes? as usize)
 }
 
-// Refuses a first record that has more columns than the plan lets it have, or not all of the plan, or a name twice
-// where the plan does not let that pass.
+// Refuses names of which there are more than the plan lets a file have, or which lack one of the plan, or have a name
+// twice where the plan does not let that pass.
 fn require_header(alloc: Global, plan: &Plan<'_>, names: &StringRecord) -> Result<(), TableFault>
     ensures few { OnOk result (HaveColumns (plan_view plan.now) (fields_of names.now)) }
     ensures named { OnOk result

@@ -2,9 +2,11 @@
 
 mod context;
 mod devices;
+mod encodings;
 mod entries;
 mod kept;
-mod leaves;
+mod names;
 mod objects;
 mod owned;
+mod patterns;
 mod reports;

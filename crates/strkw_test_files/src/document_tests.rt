@@ -118,8 +118,18 @@ pub(crate) fn format_of(
 fn describe(alloc: Global, rules: &Rules<'_, NoPatterns>, plan: &str) -> Result<String, Fail> {
     let (plan, document) = (json(alloc, plan)?, json(alloc, DOCUMENT)?);
     let mut out = Vec::with_capacity(alloc, 200)?;
-    match check_document(alloc, rules, &plan, &document, &mut out) {
-        Ok(_) => Ok(String::from_str(alloc, str::from_utf8(&out).unwrap_or("no text"))?),
+    let checked = check_document(alloc, rules, &plan, &document, &mut out);
+    told(alloc, &checked, &out)
+}
+
+// The messages, or what a fault says. Out of memory is an error here.
+fn told(
+    alloc: Global,
+    checked: &Result<u64, DocumentFault>,
+    messages: &[u8],
+) -> Result<String, Fail> {
+    match checked {
+        Ok(_) => Ok(String::from_str(alloc, str::from_utf8(messages).unwrap_or("no text"))?),
         Err(DocumentFault::Memory) => Err(AllocError.into()),
         Err(fault) => Ok(format!(in alloc; "{fault}")?),
     }

@@ -1,6 +1,7 @@
 //! One instance by one schema of a plan, with each growth refused, as the tests beside it.
 
 use crate::tests::json;
+use serde_json::Value;
 use std::alloc::{AllocError, Global};
 use std::test::Fail;
 use strkw_pattern::NoPatterns;
@@ -38,29 +39,43 @@ fn fault_text(alloc: Global, fault: &PlanFault) -> Result<String, Fail> {
 // What `check_instance` appends, where `require_schema` answers `Ok`.
 fn describe(alloc: Global, schema: &str) -> Result<String, Fail> {
     let (schema, rules) = (json(alloc, schema)?, Rules::new(&NoPatterns));
-    let (kind, draft) = (PlanKind::Columns, Draft::Draft7);
-    if let Err(fault) = require_schema(alloc, &rules, kind, draft, "a", &schema) {
-        return fault_text(alloc, &fault);
-    }
     let mut out = String::new(alloc);
-    match check_instance(alloc, &rules, kind, draft, "a", &schema, &TEXT, &mut out) {
+    match push_lines(alloc, &rules, &schema, &mut out) {
         Ok(_) => Ok(out),
         Err(fault) => fault_text(alloc, &fault),
     }
 }
 
+fn push_lines(
+    alloc: Global,
+    rules: &Rules<'_, NoPatterns>,
+    schema: &Value,
+    out: &mut String,
+) -> Result<u64, PlanFault> {
+    let (kind, draft) = (PlanKind::Columns, Draft::Draft7);
+    require_schema(alloc, rules, kind, draft, "a", schema)?;
+    check_instance(alloc, rules, kind, draft, "a", schema, &TEXT, out)
+}
+
 // The same by a schema that is compiled once.
 fn describe_by_compiled(alloc: Global, schema: &str) -> Result<String, Fail> {
     let (schema, rules) = (json(alloc, schema)?, Rules::new(&NoPatterns));
-    let (kind, draft) = (PlanKind::Columns, Draft::Draft7);
-    match compile_schema(alloc, &rules, kind, draft, "a", &schema) {
-        Ok(keywords) => {
-            let mut out = String::new(alloc);
-            push_messages(alloc, &keywords, &rules.checks, &"a", &TEXT, &mut out)?;
-            Ok(out)
-        }
+    let mut out = String::new(alloc);
+    match push_lines_by_compiled(alloc, &rules, &schema, &mut out) {
+        Ok(_) => Ok(out),
         Err(fault) => fault_text(alloc, &fault),
     }
+}
+
+fn push_lines_by_compiled(
+    alloc: Global,
+    rules: &Rules<'_, NoPatterns>,
+    schema: &Value,
+    out: &mut String,
+) -> Result<u64, PlanFault> {
+    let (kind, draft) = (PlanKind::Columns, Draft::Draft7);
+    let keywords = compile_schema(alloc, rules, kind, draft, "a", schema)?;
+    Ok(push_messages(alloc, &keywords, &rules.checks, &"a", &TEXT, out)?)
 }
 
 // Where it had memory it appends every line, or tells of the fault.

@@ -11,7 +11,7 @@ use strkw_table::{TableFault, check_table};
 
 // What is told of a document's bytes: its text as JSON, or what its fault says.
 fn document(alloc: Global, bytes: &[u8], longest: Option<u64>) -> Result<String, Fail> {
-    match read_document(alloc, bytes, longest) {
+    match &read_document(alloc, bytes, longest) {
         Ok(value) => Ok(format!(in alloc; "{value}")?),
         Err(DocumentTextFault::Memory) => Err(AllocError.into()),
         Err(fault) => Ok(format!(in alloc; "{fault}")?),
@@ -48,9 +48,8 @@ fn read_document_under_refusal(rt: HostRuntime) -> Result<(), Fail> {
     Ok(())
 }
 
-// What is told of a file whose first record has one name so many times, and whose second record so many empty fields.
-fn file_of_columns(alloc: Global, plan: &str, columns: usize) -> Result<String, Fail> {
-    let plan = json(alloc, plan)?;
+// A file whose first record has one name so many times, and whose second record so many empty fields.
+fn file_of_columns(alloc: Global, columns: usize) -> Result<String, AllocError> {
     let mut file = String::new(alloc);
     for _ in 1..columns {
         file.push_str("a,")?;
@@ -59,16 +58,16 @@ fn file_of_columns(alloc: Global, plan: &str, columns: usize) -> Result<String, 
     for _ in 1..columns {
         file.push_str(",")?;
     }
-    let mut out = Vec::new(alloc);
-    let rules = Rules::new(&NoPatterns);
-    match check_table(
-        alloc,
-        &rules,
-        &plan,
-        file.as_bytes(),
-        &mut out,
-        &mut Unwatched,
-    ) {
+    Ok(file)
+}
+
+// What is told of such a file by a plan: how many errors it has, or what a fault says.
+fn describe(alloc: Global, plan: &str, columns: usize) -> Result<String, Fail> {
+    let (plan, file) = (json(alloc, plan)?, file_of_columns(alloc, columns)?);
+    let (mut out, rules) = (Vec::new(alloc), Rules::new(&NoPatterns));
+    let bytes = file.as_bytes();
+    let checked = check_table(alloc, &rules, &plan, bytes, &mut out, &mut Unwatched);
+    match &checked {
         Ok(checked) => Ok(format!(in alloc; "{} errors", checked.errors)?),
         Err(TableFault::Memory) => Err(AllocError.into()),
         Err(fault) => Ok(format!(in alloc; "{fault}")?),
@@ -95,7 +94,7 @@ fn a_file_has_ten_thousand_columns_at_most(rt: HostRuntime) -> Result<(), Fail> 
             "the first record has 10002 columns, more than 10001",
         ),
     ] {
-        if file_of_columns(rt.alloc(), plan, columns)?.as_str() != wanted {
+        if describe(rt.alloc(), plan, columns)?.as_str() != wanted {
             return Err(Fail::new(wanted));
         }
     }

@@ -1,6 +1,6 @@
 //! Reads rows, one a line of JSON: a `plan`, and what is checked by it, the text of a CSV file (`file`), which may have a
-//! `delimiter` of the caller, or a JSON document (`document`). Prints each row, and under it the messages and how the
-//! check ended: what it counted, or why it could not be done. A line that begins with `#` is copied.
+//! `delimiter` of the caller and no `header`, or a JSON document (`document`). Prints each row, and under it the messages
+//! and how the check ended: what it counted, or why it could not be done. A line that begins with `#` is copied.
 #![tactic(auto)]
 
 #[cfg(test)]
@@ -25,7 +25,7 @@ use strkw_document::check_document;
 use strkw_pattern::NoPatterns;
 use strkw_plan::Rules;
 use strkw_records::Delimiter;
-use strkw_table::{Checked, FieldLines, Watch, check_table_with};
+use strkw_table::{Checked, FieldLines, Header, Reading, Watch, check_table_with};
 
 #[derive(Drop)]
 struct Unwatched;
@@ -65,9 +65,21 @@ fn check_row(alloc: Global, row: &Value, messages: &mut Vec<u8>) -> Result<Strin
         return String::from_str(alloc, "no plan");
     };
     match (row.get("file").and_then(Value::as_str), row.get("document")) {
-        (Some(file), None) => of_file(alloc, plan, delimiter_in(row), file, messages),
+        (Some(file), None) => of_file(alloc, plan, reading_in(row), file, messages),
         (None, Some(document)) => of_document(alloc, plan, document, messages),
         _ => String::from_str(alloc, "no file, or no document"),
+    }
+}
+
+// How a caller of this row has its file read.
+fn reading_in(row: &Value) -> Reading {
+    let header = match row.get("header").and_then(Value::as_bool) {
+        Some(false) => Header::Absent,
+        _ => Header::First,
+    };
+    Reading {
+        delimiter: delimiter_in(row),
+        header,
     }
 }
 
@@ -80,7 +92,7 @@ fn delimiter_in(row: &Value) -> Option<Delimiter> {
 fn of_file(
     alloc: Global,
     plan: &Value,
-    delimiter: Option<Delimiter>,
+    reading: Reading,
     file: &str,
     messages: &mut Vec<u8>,
 ) -> Result<String, AllocError> {
@@ -90,7 +102,7 @@ fn of_file(
         alloc,
         &rules,
         plan,
-        delimiter,
+        reading,
         bytes,
         messages,
         &mut watch,

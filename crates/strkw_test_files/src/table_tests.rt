@@ -8,7 +8,7 @@ use std::test::Fail;
 use strkw_keywords::{Checks, NamedFormat};
 use strkw_pattern::NoPatterns;
 use strkw_plan::Rules;
-use strkw_table::{TableFault, check_table};
+use strkw_table::{Checked, TableFault, check_table};
 
 const FILE: &str = "a,b\nxxx,xxxx\nxxxx,xxx\n";
 
@@ -48,15 +48,19 @@ fn cases() -> [(&'static str, Set, &'static str); 5] {
 fn describe(alloc: Global, rules: &Rules<'_, NoPatterns>, plan: &str) -> Result<String, Fail> {
     let plan = json(alloc, plan)?;
     let mut out = Vec::with_capacity(alloc, 200)?;
-    match check_table(
-        alloc,
-        rules,
-        &plan,
-        FILE.as_bytes(),
-        &mut out,
-        &mut Unwatched,
-    ) {
-        Ok(_) => Ok(String::from_str(alloc, str::from_utf8(&out).unwrap_or("no text"))?),
+    let file = FILE.as_bytes();
+    let checked = check_table(alloc, rules, &plan, file, &mut out, &mut Unwatched);
+    told(alloc, &checked, &out)
+}
+
+// The messages, or what a fault says. Out of memory is an error here.
+fn told(
+    alloc: Global,
+    checked: &Result<Checked, TableFault>,
+    messages: &[u8],
+) -> Result<String, Fail> {
+    match checked {
+        Ok(_) => Ok(String::from_str(alloc, str::from_utf8(messages).unwrap_or("no text"))?),
         Err(TableFault::Memory) => Err(AllocError.into()),
         Err(fault) => Ok(format!(in alloc; "{fault}")?),
     }

@@ -39,17 +39,21 @@ fn check_table_under_refusal(rt: HostRuntime) -> Result<(), Fail> {
     let file = "a,b\n2023-02-29,xy\n".as_bytes();
     let mut out = Vec::with_capacity(alloc, 100)?;
     let rules = Rules::new(&NoPatterns);
-    let checked = match check_table(alloc, &rules, &plan, file, &mut out, &mut Unwatched) {
-        Ok(checked) => checked,
-        Err(TableFault::Memory) => return Err(AllocError.into()),
-        Err(_) => return Err(Fail::new("a fault where there is memory")),
-    };
-    let is_counted = checked.records == 1 && checked.errors == 1;
+    let checked = check_table(alloc, &rules, &plan, file, &mut out, &mut Unwatched);
     is_as_wanted(
-        is_counted,
+        is_one_error(&checked)?,
         &out,
         "2: a: /format: \"2023-02-29\" is not a \"date\"\n",
     )
+}
+
+// Whether one record was checked, and has one error. Out of memory is an error here.
+fn is_one_error(checked: &Result<Checked, TableFault>) -> Result<bool, Fail> {
+    match checked {
+        Ok(checked) => Ok(checked.records == 1 && checked.errors == 1),
+        Err(TableFault::Memory) => Err(AllocError.into()),
+        Err(_) => Err(Fail::new("a fault where there is memory")),
+    }
 }
 
 // Where it had memory it writes every line.
@@ -59,21 +63,30 @@ fn check_document_under_refusal(rt: HostRuntime) -> Result<(), Fail> {
     let plan = json(
         alloc,
         "{\"draft\":7,\"places\":{\"/server/name\":{\"maxLength\":2},\"/server/host\":{\"format\":\"ipv4\"},\
-         \"/server/port\":{\"string\":true}}}",
+         \"/server/port\":{\"string\":true},\"/users/*/~0\":{\"maxLength\":2}}}",
     )?;
-    let document = json(alloc, "{\"server\":{\"host\":\"::1\",\"port\":80}}")?;
+    let document = json(
+        alloc,
+        "{\"server\":{\"host\":\"::1\",\"port\":80},\"users\":{\"a/b\":{\"~\":\"abc\"}}}",
+    )?;
     let rules = Rules::new(&NoPatterns);
-    let mut out = Vec::with_capacity(alloc, 100)?;
-    let errors = match check_document(alloc, &rules, &plan, &document, &mut out) {
-        Ok(errors) => errors,
-        Err(DocumentFault::Memory) => return Err(AllocError.into()),
-        Err(_) => return Err(Fail::new("a fault where there is memory")),
-    };
+    let mut out = Vec::with_capacity(alloc, 200)?;
+    let errors = check_document(alloc, &rules, &plan, &document, &mut out);
     is_as_wanted(
-        errors == 3,
+        are_four(&errors)?,
         &out,
-        "/server/host: /format: \"::1\" is not a \"ipv4\"\n/server/name: missing\n/server/port: not a string\n",
+        "/server/host: /format: \"::1\" is not a \"ipv4\"\n/server/name: missing\n/server/port: not a string\n\
+         /users/a~1b/~0: /maxLength: \"abc\" is longer than 2 characters\n",
     )
+}
+
+// Whether there are four errors. Out of memory is an error here.
+fn are_four(errors: &Result<u64, DocumentFault>) -> Result<bool, Fail> {
+    match errors {
+        Ok(errors) => Ok(*errors == 4),
+        Err(DocumentFault::Memory) => Err(AllocError.into()),
+        Err(_) => Err(Fail::new("a fault where there is memory")),
+    }
 }
 
 // The draft that the text of a plan names, or the name that stands twice in it.

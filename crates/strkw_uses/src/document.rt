@@ -11,8 +11,6 @@ use strkw_plan::{Rules, read_plan};
 
 /// The messages about a document by a plan, whose schema objects may have the format `article`.
 pub fn messages_about(alloc: Global, plan: &str, document: &str) -> Result<String> {
-    let plan = read_plan(alloc, plan)?;
-    let document = Value::from_str(alloc, document)?;
     let formats = vec![in alloc;
         NamedFormat {
             name: String::from_str(alloc, "article")?,
@@ -28,7 +26,18 @@ pub fn messages_about(alloc: Global, plan: &str, document: &str) -> Result<Strin
         },
         builder: &EcmaPatterns,
     };
+    messages_by(alloc, &rules, plan, document)
+}
+
+fn messages_by(
+    alloc: Global,
+    rules: &Rules<'_, EcmaPatterns>,
+    plan: &str,
+    document: &str,
+) -> Result<String> {
+    let plan = read_plan(alloc, plan)?;
+    let document = Value::from_str(alloc, document)?;
     let mut messages = Vec::new(alloc);
-    check_document(alloc, &rules, &plan, &document, &mut messages)?;
+    check_document(alloc, rules, &plan, &document, &mut messages)?;
     Ok(String::from_utf8(messages)?)
 }

@@ -2,7 +2,7 @@
 
 use anyhow::Result;
 use serde_json::{Map, Value};
-use std::alloc::Global;
+use std::alloc::{AllocError, Global};
 use strkw_keywords::{Context, Options};
 use strkw_object::compile_strings;
 use strkw_pattern::NoPatterns;
@@ -15,20 +15,33 @@ pub fn errors_at_born(
     object: &Map<String, Value>,
     text: &str,
 ) -> Result<Vec<ValidationError>> {
-    let root = Location::root(alloc);
     let mut options = Options::default();
     options.validate_formats = Some(true);
     let mut ctx = Context::new(alloc, Draft::Draft202012, &NoPatterns);
-    ctx.location = root.join("$defs")?.join("date")?;
+    ctx.location = Location::root(alloc).join("$defs")?.join("date")?;
     ctx.absolute = Some(String::from_str(alloc, "https://example.com/person.json")?);
     ctx.options = options;
-    let keywords = compile_strings(alloc, &ctx, object)?;
+    errors_at(alloc, &ctx, object, &born_site(alloc)?, text)
+}
 
-    let site = Site {
+// Where the text stands, and how evaluation came to it.
+fn born_site(alloc: Global) -> Result<Site, AllocError> {
+    let root = Location::root(alloc);
+    Ok(Site {
         evaluation: root.join("properties")?.join("born")?.join("$ref")?,
         instance: root.join("born")?,
-    };
+    })
+}
+
+fn errors_at(
+    alloc: Global,
+    ctx: &Context<'_, NoPatterns>,
+    object: &Map<String, Value>,
+    site: &Site,
+    text: &str,
+) -> Result<Vec<ValidationError>> {
+    let keywords = compile_strings(alloc, ctx, object)?;
     let mut errors = Vec::new(alloc);
-    keywords.collect_errors(alloc, &text, &site, &ctx.checks, &mut errors)?;
+    keywords.collect_errors(alloc, &text, site, &ctx.checks, &mut errors)?;
     Ok(errors)
 }

@@ -15,7 +15,7 @@ mod registered;
 use anyhow::{Context as _, Result};
 use engine::Masks;
 use registered::{ArticleNumber, AsciiText, EightBit};
-use serde_json::Value;
+use serde_json::{Map, Value};
 use std::alloc::Global;
 use strkw_keywords::{Checks, Context, NamedCodec, NamedFormat, NamedMediaType};
 use strkw_object::{StringKeywords, compile_strings};
@@ -54,9 +54,10 @@ fn main(rt: HostRuntime) -> Result<()> {
 fn print_located(rt: &impl Print, alloc: Global) -> Result<()> {
     let schema = Value::from_str(alloc, r#"{"format":"date"}"#)?;
     let object = schema.as_object().context("the schema is no object")?;
-    for error in located::errors_at_born(alloc, object, "soon")? {
-        let place = error.absolute.unwrap_or(String::new(alloc));
-        let (way, instance) = (error.evaluation_path, error.instance_path);
+    let errors = located::errors_at_born(alloc, object, "soon")?;
+    for error in &errors {
+        let place = error.absolute.as_deref().unwrap_or("");
+        let (way, instance) = (&error.evaluation_path, &error.instance_path);
         println!(rt; "{place} by {way} on {instance}")?;
     }
     Ok(())
@@ -87,13 +88,17 @@ fn print_answers(rt: &impl Print, alloc: Global) -> Result<()> {
 fn print_matches(rt: &impl Print, alloc: Global) -> Result<()> {
     let schema = Value::from_str(alloc, r#"{"pattern":"____-__-__"}"#)?;
     let object = schema.as_object().context("the schema is no object")?;
-    let ctx = Context::new(alloc, Draft::Draft7, &Masks);
-    let keywords = compile_strings(alloc, &ctx, object)?;
     for text in ["2024-02-29", "2024"] {
-        let valid = keywords.is_valid(alloc, &text, &ctx.checks)?;
+        let valid = is_of_mask(alloc, object, text)?;
         println!(rt; "mask on {text}: {valid}")?;
     }
     Ok(())
+}
+
+fn is_of_mask(alloc: Global, object: &Map<String, Value>, text: &str) -> Result<bool> {
+    let ctx = Context::new(alloc, Draft::Draft7, &Masks);
+    let keywords = compile_strings(alloc, &ctx, object)?;
+    Ok(keywords.is_valid(alloc, &text, &ctx.checks)?)
 }
 
 const SLUG: &str = r#"{"pattern":"^[a-z]+(-[a-z]+)*$"}"#;
@@ -117,7 +122,8 @@ fn print_patterns(rt: &impl Print, alloc: Global) -> Result<()> {
 fn print_errors_by(rt: &impl Print, alloc: Global, schema: &str, text: &str) -> Result<()> {
     let schema = Value::from_str(alloc, schema)?;
     let object = schema.as_object().context("the schema is no object")?;
-    for error in patterns::errors_by(alloc, object, text)? {
+    let errors = patterns::errors_by(alloc, object, text)?;
+    for error in &errors {
         println!(rt; "{error}")?;
     }
     Ok(())

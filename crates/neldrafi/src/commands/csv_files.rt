@@ -8,8 +8,8 @@ use crate::files::{FileCheck, check_files};
 use crate::inputs::{InputFile, STANDARD_INPUT};
 use crate::lines::JsonLines;
 use crate::options::{
-    FILE, MAX_ERRORS, OutputForm, Wanted, color, delimiter, delimiter_said, files, max_errors,
-    output as output_form, quiet, required,
+    FILE, MAX_ERRORS, OutputForm, Wanted, color, delimiter, delimiter_said, files, header_said,
+    max_errors, no_header, output as output_form, quiet, required,
 };
 use crate::outcome::Outcome;
 use crate::output::{FaultyWrite, Output};
@@ -22,7 +22,7 @@ use clap::{Arg, ArgAction, ArgMatches, Command};
 use serde_json::Value;
 use std::alloc::{AllocError, Global};
 use strkw_shells::{FileFault, check_csv};
-use strkw_table::{Checked, FieldForm, FieldLines, TableFault};
+use strkw_table::{Checked, FieldForm, FieldLines, Header, TableFault};
 
 /// The name of the subcommand.
 pub(crate) const NAME: &str = "csv";
@@ -51,11 +51,14 @@ each keyword in each column, and the line of the first record with one. `--repor
 page of HTML in place of the messages: how many errors there are, where they are, and the
 first twenty of each kind.
 An empty field of a column for which the plan has `\"empty\": \"skip\"` has no errors.
+With `--no-header` the first record is data too, and the plan names the columns `1`, `2`,
+`3` and so on.
 
 Examples:
   neldrafi csv plan.json people.csv
   neldrafi csv --max-errors 10 plan.json 2023.csv 2024.csv
   neldrafi csv --delimiter ';' plan.json people.csv
+  neldrafi csv --no-header plan.json rows.csv
   neldrafi csv --output json plan.json people.csv
   neldrafi csv --summary plan.json people.csv
   neldrafi csv --report errors.html plan.json people.csv
@@ -65,6 +68,10 @@ Examples:
 const DELIMITER_HELP: &str =
     "What parts the columns, in place of what the plan says; `\\t` is a tab";
 
+// What is said of the option for files without a header.
+const NO_HEADER_HELP: &str =
+    "Check the first record too, and name the columns by number: `1`, `2`, `3` and so on";
+
 /// What the subcommand takes.
 pub(crate) fn command<'a>(alloc: Global) -> Result<Command<'a>, AllocError> {
     subcommand(alloc, NAME, ABOUT, AFTER_HELP)
@@ -73,6 +80,7 @@ pub(crate) fn command<'a>(alloc: Global) -> Result<Command<'a>, AllocError> {
         .with(color(alloc))
         .with(delimiter(alloc, DELIMITER_HELP))
         .with(max_errors(alloc))
+        .with(no_header(alloc, NO_HEADER_HELP))
         .with(output_form(alloc))
         .with(progress(alloc))
         .with(quiet(alloc))
@@ -115,6 +123,7 @@ fn report<'a>(alloc: Global) -> Result<Arg<'a>, AllocError> {
 #[derive(Drop)]
 struct TableCheck<'a> {
     plan: &'a Value,
+    header: Header,
     form: OutputForm,
     asks_progress: bool,
     asks_summary: bool,
@@ -185,16 +194,40 @@ impl TableCheck<'_> {
     ) -> Result<Checked, Fault> {
         let alloc = rt.alloc();
         let mut progress = Progress::begin(rt, self.form, subject, self.asks_progress, &file);
-        let checked = check_csv(alloc, self.plan, file, output, &mut progress, form);
+        let checked = check_csv(
+            alloc,
+            self.plan,
+            self.header,
+            file,
+            output,
+            &mut progress,
+            form,
+        );
         progress.end(checked.as_ref().ok().copied());
         match checked {
             Ok(checked) => Ok(checked),
-            Err(FileFault::Write) => Err(output.fault()),
-            Err(FileFault::Table(TableFault::Missing(_))) => match progress.into_names() {
-                Some(names) => Err(fault_of_missing(alloc, self.plan, names)),
-                None => Err(Fault::Memory),
+            Err(fault) => {
+                let names = progress.into_names();
+                Err(self.fault_of(alloc, fault, names, output))
+            }
+        }
+    }
+
+    // The fault of a check, of a file with these names if they were read.
+    fn fault_of<W: FaultyWrite>(
+        &self,
+        alloc: Global,
+        fault: FileFault,
+        names: Option<Vec<String>>,
+        output: &mut W,
+    ) -> Fault {
+        match fault {
+            FileFault::Write => output.fault(),
+            FileFault::Table(TableFault::Missing(_)) => match names {
+                Some(names) => fault_of_missing(alloc, self.plan, self.header, names),
+                None => Fault::Memory,
             },
-            Err(e) => Err(Fault::from(e)),
+            fault => Fault::from(fault),
         }
     }
 }
@@ -252,6 +285,7 @@ pub(crate) fn run(rt: &HostRuntime, matches: &ArgMatches<'_>) -> Result<Outcome,
     let plan = read_plan_by(rt, path, delimiter_said(matches))?;
     let mut check = TableCheck {
         plan: &plan,
+        header: header_said(matches),
         form: OutputForm::of(matches),
         asks_progress: matches.get_flag(PROGRESS),
         asks_summary: matches.get_flag(SUMMARY),

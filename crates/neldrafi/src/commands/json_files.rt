@@ -34,6 +34,8 @@ An error is a line `PLACE: KEYWORD: TEXT`, and of several files it begins with t
 the file. With `--output json` it is an object with `file`, `place`, `keyword`, `kind`,
 `message` and `instance`.
 
+In a place `*` stands for each element of an array and each member of an object.
+
 A place that the document lacks is an error, `PLACE: missing`, unless the schema object has
 `\"optional\": true`. A value that is no string has no errors, but with `\"string\": true` the
 one `PLACE: not a string`.

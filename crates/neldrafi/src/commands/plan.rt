@@ -6,7 +6,8 @@ use crate::faults::Fault;
 use crate::inputs::{InputFile, STANDARD_INPUT};
 use crate::known_formats::KnownFormat;
 use crate::options::{
-    OutputForm, delimiter, delimiter_said, draft, draft_of, output as output_form,
+    OutputForm, delimiter, delimiter_said, draft, draft_of, header_said, no_header,
+    output as output_form,
 };
 use crate::outcome::Outcome;
 use crate::output::write_text;
@@ -21,7 +22,7 @@ use strkw_plan::{PlanFault, delimiter_of};
 use strkw_records::{Limits, RecordReader};
 use strkw_report::Draft;
 use strkw_shells::FileFault;
-use strkw_table::TableFault;
+use strkw_table::{Header, TableFault, push_numbers};
 
 /// The name of the subcommand.
 pub(crate) const NAME: &str = "plan";
@@ -45,15 +46,21 @@ date-time, date, time, duration, uuid, ipv4, ipv6, email, idn-email, uri, iri; a
 lengths of its values.
 Where a column has empty values and others, this is said of the others, and the empty ones
 are passed over: \"empty\": \"skip\". A plan from a sample is a start: edit it.
+With `--no-header` it is a plan for `neldrafi csv --no-header`: by number.
 
 Examples:
   neldrafi plan people.csv > plan.json
   neldrafi plan --delimiter ';' people.csv
+  neldrafi plan --no-header rows.csv
   neldrafi plan --draft 7 --records 1000 people.csv";
 
 // What is said of the option for what parts the columns.
 const DELIMITER_HELP: &str =
     "What parts the columns, in place of commas; `\\t` is a tab. The plan says it";
+
+// What is said of the option for files without a header.
+const NO_HEADER_HELP: &str =
+    "Look at the first record too, and name the columns by number: `1`, `2`, `3` and so on";
 
 // The formats that are proposed, the narrowest first. Of the others nearly each word is one.
 const PROPOSED: &[&str] = &[
@@ -76,6 +83,7 @@ pub(crate) fn command<'a>(alloc: Global) -> Result<Command<'a>, AllocError> {
         .with(file(alloc))
         .with(delimiter(alloc, DELIMITER_HELP))
         .with(draft(alloc))
+        .with(no_header(alloc, NO_HEADER_HELP))
         .with(output_form(alloc))
         .with(records(alloc))
 }
@@ -199,6 +207,20 @@ impl Sample {
         Ok(Sample { names, columns })
     }
 
+    // The sample of a file whose first record, which begins on a line, is data: its columns are numbered.
+    fn of_first(
+        alloc: Global,
+        draft: Draft,
+        line: u64,
+        row: &StringRecord,
+    ) -> Result<Sample, Fault> {
+        let mut names = StringRecord::new(alloc);
+        push_numbers(row.len(), &mut names)?;
+        let mut sample = Sample::new(alloc, draft, names)?;
+        sample.see(alloc, line, row)?;
+        Ok(sample)
+    }
+
     // The values of a record, which begins on a line, are seen.
     fn see(&mut self, alloc: Global, line: u64, row: &StringRecord) -> Result<(), Fault> {
         if row.len() != self.names.len() {
@@ -257,18 +279,30 @@ fn reader_of(
     Ok(RecordReader::with_delimiter(alloc, file, limits, delimiter)?)
 }
 
-// A sample of so many records that a reader reads.
-fn take_sample(
+// The sample that the first record of a reader begins.
+fn begin_sample(
     alloc: Global,
     draft: Draft,
+    header: Header,
+    reader: &mut RecordReader<InputFile>,
+) -> Result<Sample, Fault> {
+    let mut first = StringRecord::new(alloc);
+    let Some(line) = next_record(reader, &mut first)? else {
+        return Err(Fault::from(TableFault::NoHeader));
+    };
+    match header {
+        Header::First => Sample::new(alloc, draft, first),
+        Header::Absent => Sample::of_first(alloc, draft, line, &first),
+    }
+}
+
+// A sample of so many records that a reader reads behind the first.
+fn take_sample(
+    alloc: Global,
+    mut sample: Sample,
     mut reader: RecordReader<InputFile>,
     most: u64,
 ) -> Result<Sample, Fault> {
-    let mut names = StringRecord::new(alloc);
-    if next_record(&mut reader, &mut names)?.is_none() {
-        return Err(Fault::from(TableFault::NoHeader));
-    }
-    let mut sample = Sample::new(alloc, draft, names)?;
     let mut row = StringRecord::new(alloc);
     for _ in 0..most {
         let Some(line) = next_record(&mut reader, &mut row)? else {
@@ -294,8 +328,15 @@ pub(crate) fn run(rt: &HostRuntime, matches: &ArgMatches<'_>) -> Result<Outcome,
     let file = InputFile::open(rt, matches.get_str(FILE).unwrap_or(STANDARD_INPUT))?;
     let most = matches.get_one::<u64>(RECORDS).unwrap_or(SAMPLE);
     let said = delimiter_said(matches);
-    let reader = reader_of(alloc, file, said)?;
-    let mut plan = take_sample(alloc, draft, reader, most)?.plan(alloc, draft)?;
+    let header = header_said(matches);
+    let mut reader = reader_of(alloc, file, said)?;
+    let first = begin_sample(alloc, draft, header, &mut reader)?;
+    // Without a header the first record is one of those that are looked at.
+    let more = match header {
+        Header::First => most,
+        Header::Absent => most.saturating_sub(1),
+    };
+    let mut plan = take_sample(alloc, first, reader, more)?.plan(alloc, draft)?;
     if let Some(delimiter) = said {
         set_delimiter(alloc, &mut plan, delimiter)?;
     }

@@ -1,8 +1,9 @@
 -- Columns of a table: characters about which the classes of a pattern give the same answers share
 -- one.
-use Rattle.std.specs.Prelude.{◌≡◌, ℕ, suc, ◌+◌, ◌*◌, ◌<◌, ◌==◌, Bool, true, false, ◌||◌, List, []}
-use Rattle.std.specs.Prelude.{◌∷◌, length, get_or, Vec, Option, Some, None, option_map}
+use Rattle.std.specs.Prelude.{◌≡◌, ℕ, suc, ◌+◌, ◌*◌, ◌/◌, ◌%◌, ◌≤◌, ◌<◌, ◌==◌, Bool, true, false}
+use Rattle.std.specs.Prelude.{◌||◌, List, [], ◌∷◌, length, get_or, Vec, Option, Some, None, option_map}
 use Rattle.std.specs.Prelude.{if◌then◌else◌}
+use Rattle.std.specs.Char.{InScalarRange}
 use Rattle.std.specs.declared.alloc.Global.{Global}
 use Rattle.strkw_ecma.specs.Tree.{Pattern, empty, class, look, cat, alt, star, plus, lookbehind}
 use Rattle.strkw_ecma.specs.Tree.{lookahead, in_sets}
@@ -28,6 +29,37 @@ column_of classes keys c = place_of keys (answers 0 classes c)
 abbrev pub AreColumns : List (Vec CharSet Global) → List ℕ → List ℕ → Type 0
 AreColumns classes keys columns = (c : ℕ) → c < length columns
     → column_of classes keys c ≡ Some (get_or columns c 0)
+
+-- from a code point up to an end the characters share a column
+abbrev pub ShareColumn : List (Vec CharSet Global) → List ℕ → ℕ → ℕ → ℕ → Type 0
+ShareColumn classes keys c end column = (d : ℕ) → c ≤ d → d < end → InScalarRange d
+    → column_of classes keys d ≡ Some column
+
+-- 256 code points are a page, which has a cell for each of them
+abbrev pub cell_of : List ℕ → List (List ℕ) → ℕ → ℕ
+cell_of pages cells c = get_or (get_or cells (get_or pages (c / 256) 0) []) (c % 256) 0
+
+-- each page has cells, and in them each character its column
+pub record ArePages (classes : List (Vec CharSet Global)) (keys pages : List ℕ)
+    (cells : List (List ℕ)) : Type 0 where
+  pub within : (k : ℕ) → k < length pages → get_or pages k 0 < length cells
+  pub right : (c : ℕ) → c / 256 < length pages → InScalarRange c
+      → column_of classes keys c ≡ Some (cell_of pages cells c)
+
+-- the cells that are those of a column throughout, column by column
+pub record ArePlain (keys plain : List ℕ) (cells : List (List ℕ)) : Type 0 where
+  pub so_many : length plain ≡ length keys
+  pub within : (k : ℕ) → k < length plain → get_or plain k 0 < length cells
+  pub throughout : (k j : ℕ) → k < length plain → j < 256
+      → get_or (get_or cells (get_or plain k 0) []) j 0 ≡ k
+
+-- pages are being made, and columns with them
+pub record ArePaged (classes : List (Vec CharSet Global)) (keys plain pages : List ℕ)
+    (cells : List (List ℕ)) : Type 0 where
+  pub few_columns : length keys < 256
+  pub few_cells : length cells ≤ length keys + length pages
+  pub are_plain : ArePlain keys plain cells
+  pub are_pages : ArePages classes keys pages cells
 
 -- the answers tell whether a character is in these sets
 abbrev pub TellsSets : List (Vec CharSet Global) → List CharSet → Type 0

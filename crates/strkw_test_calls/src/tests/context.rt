@@ -225,14 +225,14 @@ pub(super) fn push_error(
 /// Whether `validate` answers the first of these lines, or that there is none.
 pub(super) fn gives_the_first(
     alloc: Global,
-    verdict: Result<(), Fault>,
+    verdict: &Result<(), Fault>,
     wanted: &str,
 ) -> Result<bool, AllocError> {
     match verdict {
         Ok(()) => Ok(wanted.is_empty()),
         Err(Fault::Invalid(error)) => {
             let mut line = String::new(alloc);
-            push_error(alloc, &error, &mut line)?;
+            push_error(alloc, error, &mut line)?;
             Ok(wanted.starts_with(line.as_str()))
         }
         Err(Fault::Memory) => Err(AllocError),

@@ -134,8 +134,8 @@ struct Compiling {
 }
 
 // Whether an entry was compiled, or refused at its place.
-fn is_made_so<V: Drop>(made: Made<V>, place: Option<&str>) -> Result<bool, AllocError> {
-    match &made {
+fn is_made_so<V: Drop>(made: &Made<V>, place: Option<&str>) -> Result<bool, AllocError> {
+    match made {
         Some(Ok(_validator)) => Ok(place.is_none()),
         Some(Err(refusal)) => is_at(refusal, place),
         None => Ok(false),
@@ -153,10 +153,13 @@ impl Asked for Compiling {
     fn is_answered(&self, alloc: Global, ctx: &Lent<'_>, schema: &Map<String, Value>) -> Answer {
         let (keyword, place) = (self.row.keyword, self.row.place);
         match self.by {
-            Compile::OfKeyword => is_made_so(compile_entry(alloc, ctx, keyword, schema), place),
+            Compile::OfKeyword => {
+                let made = compile_entry(alloc, ctx, keyword, schema);
+                is_made_so(&made, place)
+            }
             Compile::Among => {
-                let values = Values::of(schema);
-                is_made_so(compile_among(alloc, ctx, &values, keyword), place)
+                let made = compile_among(alloc, ctx, &Values::of(schema), keyword);
+                is_made_so(&made, place)
             }
         }
     }
@@ -301,7 +304,8 @@ fn answers<V: Validate<Value>>(
             Err(AllocError) => Err(AllocError),
         },
         Call::Validate => {
-            gives_the_first(alloc, validator.validate(alloc, node, site, checks), wanted)
+            let verdict = validator.validate(alloc, node, site, checks);
+            gives_the_first(alloc, &verdict, wanted)
         }
         Call::CollectErrors => {
             let mut errors = lent_errors(alloc)?;
@@ -340,10 +344,10 @@ fn is_answered_so<V: Validate<Value>>(
 fn is_told_so<V: Validate<Value> + Drop>(
     alloc: Global,
     asking: &Asking,
-    made: Made<V>,
+    made: &Made<V>,
     checks: &Checks,
 ) -> Result<bool, AllocError> {
-    match &made {
+    match made {
         Some(Ok(validator)) => is_answered_so(alloc, asking, validator, checks),
         Some(Err(refusal)) => is_at(refusal, None),
         None => Ok(false),
@@ -360,7 +364,7 @@ impl Asked for Asking {
 
     fn is_answered(&self, alloc: Global, ctx: &Lent<'_>, schema: &Map<String, Value>) -> Answer {
         let made = compile_entry(alloc, ctx, self.row.keyword, schema);
-        is_told_so(alloc, self, made, &ctx.checks)
+        is_told_so(alloc, self, &made, &ctx.checks)
     }
 }
 

@@ -46,7 +46,7 @@ impl Asked for Asking {
 
     fn is_answered(&self, alloc: Global, ctx: &Lent<'_>, schema: &Map<String, Value>) -> Answer {
         let made = compile_strings(alloc, ctx, schema);
-        is_told_so(alloc, self.question, made, &ctx.checks)
+        is_told_so(alloc, self.question, &made, &ctx.checks)
     }
 }
 
@@ -54,10 +54,10 @@ impl Asked for Asking {
 fn is_told_so(
     alloc: Global,
     question: Question,
-    made: Result<Keywords, CompileError>,
+    made: &Result<Keywords, CompileError>,
     checks: &Checks,
 ) -> Result<bool, AllocError> {
-    match &made {
+    match made {
         Ok(keywords) => is_answered_so(alloc, question, keywords, checks),
         Err(refusal) => match question {
             Question::Place(place) => is_at(refusal, place),
@@ -244,11 +244,8 @@ fn answers_so(
     match call {
         Call::IsValid => Ok(keywords.is_valid(alloc, node, checks)? == row.errors.is_empty()),
         Call::Validate => {
-            gives_the_first(
-                alloc,
-                keywords.validate(alloc, node, site, checks),
-                row.errors,
-            )
+            let verdict = keywords.validate(alloc, node, site, checks);
+            gives_the_first(alloc, &verdict, row.errors)
         }
         Call::CollectErrors => {
             let mut errors = lent_errors(alloc)?;

@@ -62,7 +62,8 @@ impl Asked for Noted {
 
     fn is_answered(&self, alloc: Global, ctx: &Lent<'_>, _schema: &Map<String, Value>) -> Answer {
         let given = object(alloc, self.schema)?;
-        is_compiled_so(alloc, self, compile_owned(alloc, ctx, given), &ctx.checks)
+        let made = compile_owned(alloc, ctx, given);
+        is_compiled_so(alloc, self, &made, &ctx.checks)
     }
 }
 
@@ -70,10 +71,10 @@ impl Asked for Noted {
 fn is_compiled_so(
     alloc: Global,
     row: &Noted,
-    made: Result<Keywords, CompileError>,
+    made: &Result<Keywords, CompileError>,
     checks: &Checks,
 ) -> Result<bool, AllocError> {
-    match &made {
+    match made {
         Ok(keywords) => Ok(row.place.is_none() && notes(alloc, keywords, checks, row.lines)?),
         Err(refusal) => is_at(refusal, row.place),
     }
@@ -89,10 +90,9 @@ fn notes(
     if !keywords.uses(checks) {
         return Ok(false);
     }
-    let node = Value::try_from_str(alloc, "x")?;
-    let found = keywords.evaluate(alloc, &node, &root_site(alloc), checks)?;
-    let is_one_each = keywords.validators().len() == found.notes.len();
-    Ok(is_one_each && note_lines(alloc, &found.notes)?.as_str() == lines)
+    let found = keywords.evaluate(alloc, &"x", &root_site(alloc), checks)?;
+    let noted = note_lines(alloc, &found.notes)?;
+    Ok(noted.as_str() == lines && keywords.validators().len() == found.notes.len())
 }
 
 #[test]
@@ -153,7 +153,8 @@ impl Asked for TakenFrom {
         let left = json(alloc, self.left)?;
         let mut given = object(alloc, self.schema)?;
         let taken = take_content_schema(alloc, ctx, &mut given);
-        Ok(Value::Object(given) == left && is_taken_so(alloc, self, taken)?)
+        let is_taken = is_taken_so(alloc, self, &taken);
+        Ok(Value::Object(given) == left && is_taken?)
     }
 }
 
@@ -161,9 +162,9 @@ impl Asked for TakenFrom {
 fn is_taken_so<V: Uses + Drop>(
     alloc: Global,
     row: &TakenFrom,
-    taken: Option<Result<V, CompileError>>,
+    taken: &Option<Result<V, CompileError>>,
 ) -> Result<bool, AllocError> {
-    match &taken {
+    match taken {
         None => Ok(row.value.is_none() && !row.is_refused),
         Some(Ok(validator)) => Ok(!row.is_refused && is_noted_by(alloc, validator, row.value)?),
         Some(Err(refusal)) => Ok(is_at(refusal, Some("/a/contentSchema"))? && row.is_refused),

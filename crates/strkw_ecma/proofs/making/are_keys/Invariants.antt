@@ -4,4 +4,4 @@ use Rattle.strkw_ecma.proofs.making.are_keys.Given as goal
 
 abbrev pub invariant-loop-k : goal.invariant-loop-k
 invariant-loop-k l =
-    (k : ℕ) → k < l.k → get_or l.sampled.keys.items k 0 ≡ answers 0 l.sampled.classes.items (get_or l.sampled.samples.items k 0)
+    (k : ℕ) → k < l.k → get_or l.sampled.columns.keys.items k 0 ≡ answers 0 l.sampled.columns.classes.items (get_or l.sampled.samples.items k 0)

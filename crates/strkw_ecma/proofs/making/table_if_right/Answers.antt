@@ -8,6 +8,6 @@ pub returns : goal.returns
 returns c =
     let sampled = c.args.sampled in
     let draft = c.args.draft in
-    let right : IsTable sampled.classes.items sampled.keys.items sampled.samples.items draft.entries.items draft.states.items (pattern_of c.args.program.now) =
+    let right : IsTable sampled.columns.classes.items sampled.columns.keys.items sampled.samples.items draft.entries.items draft.states.items (pattern_of c.args.program.now) =
     search rules in
     searches _ _ _ _ _ _ c.requires.clean right

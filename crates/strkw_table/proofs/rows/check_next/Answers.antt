@@ -2,7 +2,7 @@ use Rattle.std.proofs.Common.{rules, ◌≡◌, Err, length, refl}
 use Rattle.std.proofs.lemmas.Result.{IfErr-weaker}
 use Rattle.std.specs.Prelude.{IfErr}
 use Rattle.csv.specs.Records.{fields_of}
-use Rattle.strkw_records.specs.Reading.{delimiter_of, limits_of, place_of}
+use Rattle.strkw_records.specs.Reading.{delimiter_of, limits_of}
 use Rattle.strkw_table.specs.Faults.{IsNoPlanFault}
 use Rattle.strkw_table.specs.Gives.{GivesOfReading}
 use Rattle.strkw_table.proofs.FaultLemmas.{no_plan_of_reading, no_plan_unexplained, why_of_next, why_of_read}
@@ -15,11 +15,12 @@ returns-in_err-line-clause-why g c =
     IfErr-weaker c.from_residual.result (GivesOfReading e) IsNoPlanFault (no_plan_of_reading e) gives
 
 pub returns-in_err-line-clause-fault : goal.returns-in_err-line-clause-fault
-returns-in_err-line-clause-fault g c text source =
+returns-in_err-line-clause-fault g c place text left =
     let e = c.in_err-line.field-0.0 in
+    let reader = c.args.records.now.reader in
     let gives : IfErr c.from_residual.result (GivesOfReading e) = search rules in
-    IfErr-weaker c.from_residual.result (GivesOfReading e) _ (λ why. why_of_read g.R.Read.remaining c.args.reader.now c.read.new.self text
-    (length c.args.columns.now) e why (c.in_err-line.ensures.fault text source)) gives
+    IfErr-weaker c.from_residual.result (GivesOfReading e) _ (λ why. why_of_read (delimiter_of reader) (limits_of reader) (length c.args.columns.now) place text e why
+    (c.in_err-line.ensures.fault place text left)) gives
 
 pub returns-in_err-count-clause-why : goal.returns-in_err-count-clause-why
 returns-in_err-count-clause-why g c =
@@ -28,27 +29,20 @@ returns-in_err-count-clause-why g c =
     rw told (no_plan_unexplained why c.in_err-count.ensures.why)
 
 pub returns-in_err-count-clause-fault : goal.returns-in_err-count-clause-fault
-returns-in_err-count-clause-fault g c text source =
+returns-in_err-count-clause-fault g c place text left =
     let why = c.in_err-count.field-0.0 in
-    let reader = c.args.reader.now in
+    let reader = c.args.records.now.reader in
     let told : c.from_residual-in_err-count.result ≡ Err why = search rules in
-    rw told (why_of_next (delimiter_of reader) (limits_of reader) (length c.args.columns.now) (place_of reader) text why c.in_err-count.ensures.why)
+    rw told (why_of_next (delimiter_of reader) (limits_of reader) (length c.args.columns.now) place text why c.in_err-count.ensures.why)
 
 pub returns-clause-record : goal.returns-clause-record
-returns-clause-record g c text source =
-    let wide : length (fields_of c.read.new.row) ≡ length c.args.columns.now = search rules in
-    let (messages, said, count, out) = c.in_ok-count.ensures.messages in (
-      c.in-Some.line,
-      messages,
-      rw c.in-Some.is at (c.in_ok-line.ensures.record text source),
-      wide,
-      rw c.in-Some.is at c.in_ok-line.ensures.within,
-      said,
-      count,
-      out,
-    )
+returns-clause-record g c place text left =
+    let wide : length (fields_of c.take.new.self.row) ≡ length c.args.columns.now = search rules in
+    let (messages, said, count, out) = c.in_ok-count.ensures.messages in
+    let (behind, rest, takes, within, leaves) = rw c.in-Some.is at (c.in_ok-line.ensures.record place text left) in
+    (c.in-Some.line, messages, behind, rest, takes, leaves, wide, within, said, count, out)
 
 pub returns-then-len-columns-clause-fault : goal.returns-then-len-columns-clause-fault
-returns-then-len-columns-clause-fault g c text source =
-    let (rest, at_rest, taken) = rw c.in-Some.is at (c.in_ok-line.ensures.record text source) in
-    (refl, (fields_of c.read.new.row, place_of c.read.new.self, rest, taken, search rules, search rules))
+returns-then-len-columns-clause-fault g c place text left =
+    let (behind, rest, takes, within, leaves) = rw c.in-Some.is at (c.in_ok-line.ensures.record place text left) in
+    (refl, (fields_of c.take.new.self.row, behind, rest, takes, search rules, search rules))

@@ -8,7 +8,7 @@ use Rattle.strkw_keywords.specs.Handed.{lists_of}
 use Rattle.strkw_table.specs.Columns.{ColumnMessages}
 use Rattle.strkw_records.specs.Delimiters.{table_config}
 use Rattle.strkw_records.specs.Limits.{AreWithin}
-use Rattle.strkw_records.specs.Reading.{delimiter_of, limits_of, place_of}
+use Rattle.strkw_records.specs.Reading.{delimiter_of, limits_of}
 use Rattle.strkw_records.specs.Records.{LinedRecord, TakesRecord}
 use Rattle.strkw_table.specs.Faults.{IsWhyOfNext}
 use Rattle.strkw_table.proofs.FaultLemmas.{why_behind}
@@ -23,14 +23,15 @@ loop-turn-init g c =
       refl,
       refl,
       refl,
-      λ text source. (
+      λ place text left. (
         [],
         [],
         [],
+        place,
         text,
-        source,
-        first_records-none (delimiter_of c.args.reader.now) (place_of c.args.reader.now) text,
-        have_shape-none (limits_of c.args.reader.now) (length c.args.columns.now),
+        left,
+        first_records-none (delimiter_of c.args.records.now.reader) place text,
+        have_shape-none (limits_of c.args.records.now.reader) (length c.args.columns.now),
         of_records-none (ColumnMessages (g.F.FieldForm.said c.args.form.now) g.E.RegexEngine.outcome lists) c.args.columns.now,
         Appends-nil (g.W.Write.contents c.args.writer.now),
         sym c.requires.empty,
@@ -49,44 +50,43 @@ loop-turn-preserved g c =
       ap (λ n. n + 1) counted,
       c.in_ok-more.ensures.limits ∙ limited,
       c.in_ok-more.ensures.delimiter ∙ parted,
-      λ text source.
-          let (records, messages, written, left, at_left, first, width, all_said, appends, joined, row_count, count) = all text source in
-          let fields = fields_of c.check_next.new.row in
-          let (line, more, takes, wide, within, said, more_count, more_out) = rw c.in-Some.is at (c.in_ok-more.ensures.record left at_left) in
-          let (rest, at_rest, takes_record) = takes in
+      λ place text given.
+          let (rows, messages, written, here, left, at_left, first, width, all_said, appends, joined, row_count, count) = all place text given in
+          let fields = fields_of c.check_next.new.records.row in
+          let (line, more, behind, rest, takes, at_rest, wide, within, said, more_count, more_out) =
+          rw c.in-Some.is at (c.in_ok-more.ensures.record here left at_left) in
           let r : LinedRecord = record { line = line; fields = fields } in (
-            records ++ r ∷ [],
+            rows ++ r ∷ [],
             messages ++ more,
             written ++ put,
+            behind,
             rest,
             at_rest,
-            first_records-more (delimiter_of c.args.reader.now) (place_of c.args.reader.now) (place_of c.loop-turn.reader)
-                (place_of c.check_next.new.reader) text left rest records r first
-                (subst (λ delimiter. TakesRecord delimiter (place_of c.loop-turn.reader) left line fields
-                (place_of c.check_next.new.reader) rest) parted takes_record),
-            have_shape-more (limits_of c.args.reader.now) (length c.args.columns.now) records r width wide
+            first_records-more (delimiter_of c.args.records.now.reader) place here behind text left rest rows r first
+                (subst (λ delimiter. TakesRecord delimiter here left line fields behind rest) parted takes),
+            have_shape-more (limits_of c.args.records.now.reader) (length c.args.columns.now) rows r width wide
                 (subst (λ limits. AreWithin limits fields) limited within),
-            of_records-more (ColumnMessages (g.F.FieldForm.said c.args.form.now) g.E.RegexEngine.outcome lists) c.args.columns.now records r messages more
+            of_records-more (ColumnMessages (g.F.FieldForm.said c.args.form.now) g.E.RegexEngine.outcome lists) c.args.columns.now rows r messages more
                 all_said said,
             Appends-trans (g.W.Write.contents c.args.writer.now) (g.W.Write.contents c.loop-turn.writer)
                 (g.W.Write.contents c.write_gathered.new.writer) written put appends appended,
             gathered messages more written (string_bytes c.loop-turn.out) (string_bytes c.check_next.new.out) put
                 (string_bytes c.write_gathered.new.out) joined more_out split,
-            rw row_count (sym (length-append records (r ∷ []))),
+            rw row_count (sym (length-append rows (r ∷ []))),
             rw (sum, count, more_count) (sym (length-append messages more)),
           ),
     )
 
 pub returns-in_default-clause-messages : goal.returns-in_default-clause-messages
-returns-in_default-clause-messages g c text source =
+returns-in_default-clause-messages g c place text given =
     let (counted, limited, parted, all) = c.loop-turn.invariant in
-    let (records, messages, written, left, at_left, first, width, all_said, appends, joined, row_count, count) = all text source in
-    let none = c.in_ok-more.ensures.end left at_left (search rules) in
+    let (rows, messages, written, here, left, at_left, first, width, all_said, appends, joined, row_count, count) = all place text given in
+    let none = c.in_ok-more.ensures.end here left at_left (search rules) in
     let kept : string_bytes c.check_next.new.out ≡ string_bytes c.loop-turn.out = c.in_ok-more.ensures.kept (search rules) in (
-      records,
+      rows,
       messages,
       written,
-      all_records (delimiter_of c.args.reader.now) (place_of c.args.reader.now) (place_of c.loop-turn.reader) text left records first
+      all_records (delimiter_of c.args.records.now.reader) place here text left rows first
           (subst (λ delimiter. next_record (table_config delimiter) st.StartRecord [] [] left ≡ None) parted none),
       width,
       all_said,
@@ -97,20 +97,19 @@ returns-in_default-clause-messages g c text source =
     )
 
 pub returns-in_err-more-clause-fault : goal.returns-in_err-more-clause-fault
-returns-in_err-more-clause-fault g c text source =
+returns-in_err-more-clause-fault g c place text given =
     let lists = lists_of (λ b. (goal.Format-dyn g b).admits b.1) (λ b. (goal.MediaTypeCheck-dyn g b).accepted b.1)
     (λ b. (goal.ContentCodec-dyn g b).encoded b.1) (λ b. (goal.ContentCodec-dyn g b).decoding b.1) c.args.checks.now in
     let says = ColumnMessages (g.F.FieldForm.said c.args.form.now) g.E.RegexEngine.outcome lists in
     let why = c.in_err-more.field-0.0 in
     let told : c.from_residual.result ≡ Err why = search rules in
     let (counted, limited, parted, all) = c.loop-turn.invariant in
-    let (records, messages, written, left, at_left, first, width, all_said, appends, joined, row_count, count) = all text source in
+    let (rows, messages, written, here, left, at_left, first, width, all_said, appends, joined, row_count, count) = all place text given in
     let wrote : List ℕ → Type 0 = λ lines. (put : List ℕ)
     × Appends (g.W.Write.contents c.args.writer.now) (g.W.Write.contents c.loop-turn.writer) put × (lines ≡ put ++ string_bytes c.check_next.new.out) in
-    rw told (why_behind says (delimiter_of c.args.reader.now) (limits_of c.args.reader.now) c.args.columns.now
-    (place_of c.args.reader.now) text wrote records messages
-    (place_of c.loop-turn.reader) left why first width all_said
+    rw told (why_behind says (delimiter_of c.args.records.now.reader) (limits_of c.args.records.now.reader) c.args.columns.now
+    place text wrote rows messages here left why first width all_said
     (λ explained. (written, appends, joined ∙ ap (λ l. written ++ l) (sym (c.in_err-more.ensures.unsaid explained))))
-    (subst (λ delimiter. IsWhyOfNext delimiter (limits_of c.args.reader.now) (length c.args.columns.now) (place_of c.loop-turn.reader) left why) parted
-    (subst (λ limits. IsWhyOfNext (delimiter_of c.loop-turn.reader) limits (length c.args.columns.now) (place_of c.loop-turn.reader) left why) limited
-    (c.in_err-more.ensures.fault left at_left))))
+    (subst (λ delimiter. IsWhyOfNext delimiter (limits_of c.args.records.now.reader) (length c.args.columns.now) here left why) parted
+    (subst (λ limits. IsWhyOfNext (delimiter_of c.loop-turn.records.reader) limits (length c.args.columns.now) here left why) limited
+    (c.in_err-more.ensures.fault here left at_left))))

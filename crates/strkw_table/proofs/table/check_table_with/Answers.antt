@@ -1,4 +1,4 @@
-use Rattle.std.proofs.Common.{rules, ◌≡◌, ◌∙◌, ◌∷◌, Some, subst}
+use Rattle.std.proofs.Common.{rules, ◌≡◌, ◌∙◌, Some, ap, subst}
 use Rattle.std.specs.Prelude.{IfErr, option_map}
 use Rattle.std.specs.Io.KnownBytes.{Appends}
 use Rattle.std.proofs.KnownBytes.{Appends-nil}
@@ -6,11 +6,11 @@ use Rattle.serde_json.specs.View.{view}
 use Rattle.csv.specs.Reading.{strip_bom}
 use Rattle.strkw_plan.specs.Borrowed.{plan_view}
 use Rattle.strkw_plan.specs.Rules.{rules_settings}
-use Rattle.strkw_records.specs.Lines.{first_place}
-use Rattle.strkw_records.specs.Reading.{delimiter_of, unread_of}
+use Rattle.strkw_records.specs.Reading.{delimiter_of, limits_of, place_of, unread_of}
 use Rattle.strkw_records.specs.Records.{AreLinedRecords}
 use Rattle.strkw_table.specs.Gives.{GivesOfPlan}
 use Rattle.strkw_table.specs.Faults.{delimiter_by}
+use Rattle.strkw_table.specs.Headers.{Heads}
 use Rattle.std.proofs.lemmas.Result.{IfErr-weaker, IfOk-weaker}
 use Rattle.strkw_table.proofs.FaultLemmas.{if_err-no_plan, why_of_plan, why_of_problem, why_of_schemas}
 use Rattle.strkw_table.proofs.table.check_table_with.Goals as goal
@@ -18,8 +18,9 @@ use Rattle.strkw_table.proofs.table.check_table_with.Goals as goal
 pub check_records-requires : goal.check_records-requires
 check_records-requires g c = record {
   compiled = c.in_ok-objects.ensures.compiled;
-  place = c.in_ok-reader.ensures.place;
-  limits = c.in_ok-reader.ensures.limits ∙ c.record_limits-limits.ensures;
+  ahead = c.new-records.ensures.ahead;
+  place = ap place_of c.new-records.ensures.reader ∙ c.in_ok-reader.ensures.place;
+  limits = ap limits_of c.new-records.ensures.reader ∙ c.in_ok-reader.ensures.limits ∙ c.record_limits-limits.ensures;
 }
 
 pub returns-in_err-plan-clause-why : goal.returns-in_err-plan-clause-why
@@ -51,7 +52,7 @@ returns-in_err-plan-clause-fault g c text source =
     let wrote = Appends (g.W.Write.contents c.args.writer.now) (g.W.Write.contents c.args.writer.now) in
     let e = c.in_err-plan.field-0.0 in
     let gives : IfErr c.from_residual.result (GivesOfPlan e) = search rules in
-    IfErr-weaker c.from_residual.result _ _ (λ why given. why_of_plan (option_map (λ d. d.byte) c.args.delimiter) form settings
+    IfErr-weaker c.from_residual.result _ _ (λ why given. why_of_plan c.args.reading.header (option_map (λ d. d.byte) c.args.reading.delimiter) form settings
     (view c.args.plan.now) (strip_bom text) wrote e why given (Appends-nil _)) gives
 
 pub returns-in_err-objects-clause-fault : goal.returns-in_err-objects-clause-fault
@@ -63,7 +64,7 @@ returns-in_err-objects-clause-fault g c text source =
     let wrote = Appends (g.W.Write.contents c.args.writer.now) (g.W.Write.contents c.args.writer.now) in
     let e = c.in_err-objects.field-0.0 in
     let gives : IfErr c.from_residual-in_err-objects.result (GivesOfPlan e) = search rules in
-    IfErr-weaker c.from_residual-in_err-objects.result _ _ (λ why given. why_of_plan (option_map (λ d. d.byte) c.args.delimiter) form settings
+    IfErr-weaker c.from_residual-in_err-objects.result _ _ (λ why given. why_of_plan c.args.reading.header (option_map (λ d. d.byte) c.args.reading.delimiter) form settings
     (view c.args.plan.now) (strip_bom text) wrote e why given (Appends-nil _)) gives
 
 pub returns-clause-why : goal.returns-clause-why
@@ -76,20 +77,22 @@ returns-clause-why g c =
 pub returns-clause-messages : goal.returns-clause-messages
 returns-clause-messages g c text source =
     let plan = plan_view c.in_ok-plan.plan in
-    let unread : unread_of g.R.Read.remaining c.in_ok-reader.reader ≡ Some (strip_bom text) = rw source at c.in_ok-reader.ensures.text in
-    let parted : delimiter_of c.in_ok-reader.reader ≡ delimiter_by (option_map (λ d. d.byte) c.args.delimiter) plan =
-    c.in_ok-reader.ensures.delimiter ∙ c.delimiter_by-delimiter.ensures in
+    let same = c.new-records.ensures.reader in
+    let unread : unread_of g.R.Read.remaining c.new-records.result.reader ≡ Some (strip_bom text) =
+    ap (unread_of g.R.Read.remaining) same ∙ (rw source at c.in_ok-reader.ensures.text) in
+    let parted : delimiter_of c.new-records.result.reader ≡ delimiter_by (option_map (λ d. d.byte) c.args.reading.delimiter) plan =
+    ap delimiter_of same ∙ c.in_ok-reader.ensures.delimiter ∙ c.delimiter_by-delimiter.ensures in
     IfOk-weaker c.check_records.result _ _ (λ x h.
-    let (names, records, messages, few, named, each, are, shape, said, appends, rows, errors) = h in (
+    let (names, place, left, records, messages, heads, are, shape, said, appends, rows, errors) = h in (
       plan,
       names,
+      place,
+      left,
       records,
       messages,
       c.in_ok-plan.ensures.plan,
-      few,
-      named,
-      each,
-      subst (λ d. AreLinedRecords d first_place (strip_bom text) (names ∷ records)) parted are,
+      subst (λ d. Heads c.args.reading.header d plan (strip_bom text) names place left) parted heads,
+      subst (λ d. AreLinedRecords d place left records) parted are,
       shape,
       said,
       appends,
@@ -99,6 +102,8 @@ returns-clause-messages g c text source =
 
 pub returns-clause-fault : goal.returns-clause-fault
 returns-clause-fault g c text source =
-    let unread : unread_of g.R.Read.remaining c.in_ok-reader.reader ≡ Some (strip_bom text) = rw source at c.in_ok-reader.ensures.text in
-    c.check_records.ensures.fault (option_map (λ d. d.byte) c.args.delimiter) (view c.args.plan.now) (strip_bom text) c.in_ok-plan.ensures.plan
-    (c.in_ok-reader.ensures.delimiter ∙ c.delimiter_by-delimiter.ensures) unread
+    let same = c.new-records.ensures.reader in
+    let unread : unread_of g.R.Read.remaining c.new-records.result.reader ≡ Some (strip_bom text) =
+    ap (unread_of g.R.Read.remaining) same ∙ (rw source at c.in_ok-reader.ensures.text) in
+    c.check_records.ensures.fault (option_map (λ d. d.byte) c.args.reading.delimiter) (view c.args.plan.now) (strip_bom text) c.in_ok-plan.ensures.plan
+    (ap delimiter_of same ∙ c.in_ok-reader.ensures.delimiter ∙ c.delimiter_by-delimiter.ensures) unread

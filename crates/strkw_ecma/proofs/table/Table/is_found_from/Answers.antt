@@ -3,7 +3,7 @@ use Rattle.std.specs.Str.{chars}
 use Rattle.std.proofs.lemmas.Iterator.{YieldsList-from_chars}
 use Rattle.std.proofs.lemmas.Iterator.Consumers.{YieldsList-turn, YieldsList-end}
 use Rattle.strkw_ecma.specs.machine.Table.{entry_at, found, next_row}
-use Rattle.strkw_ecma.proofs.Walks.{at_place, turn_found, turn_next, turn_goes, walk_ends, walk_stops, within_table}
+use Rattle.strkw_ecma.proofs.Walks.{at_place, turn_found, turn_next, turn_goes, walk_ends, within_table}
 use Rattle.strkw_ecma.proofs.table.Table.is_found_from.Goals as goal
 
 longer : (xs : List ℕ) (c : ℕ) → length (xs ++ c ∷ []) ≡ suc (length xs)
@@ -14,12 +14,12 @@ loop-c-preserved-in-65534 c =
     let turn = YieldsList-turn (YieldsList-from_chars c.args.rest.now c.utf8.rest cc) c.loop-c.yielded _ c.loop-c.yielded_by _ _ c.in-Some.c c.in-Some.is
     c.next.ensures.steps in
     let begins = at_place (chars c.args.rest.now) _ _ c.in-Some.c turn.0 turn.1 (longer c.loop-c.yielded c.in-Some.c) in
-    let entry : c.entry_at.result ≡ entry_at c.args.self.now.entries.items c.loop-c.row c.in_ok-column.column = cc in
+    let entry : c.entry_at.result ≡ entry_at c.args.self.now.entries.items c.loop-c.row c.column-column.result = cc in
     let end_is : c.len-end.result ≡ length c.args.self.now.columns.keys.items = cc in
-    let within = within_table c.args.self.now.entries.items c.loop-c.row c.in_ok-column.column (sym entry ∙ c.in-65534.is) in
+    let within = within_table c.args.self.now.entries.items c.loop-c.row c.column-column.result (sym entry ∙ c.in-65534.is) in
     record {
       near = omega (arith, within);
-      so_far = turn_next _ _ _ _ _ _ _ _ _ _ c.loop-c.invariant.so_far begins (sym c.in_ok-column.ensures.column) entry c.in-65534.is _
+      so_far = turn_next _ _ _ _ _ _ _ _ _ _ c.loop-c.invariant.so_far begins c.column-column.ensures.column entry c.in-65534.is _
           (ap (λ (e : ℕ). c.loop-c.row + (e + 1)) end_is);
     }
 
@@ -28,20 +28,20 @@ returns-in-65535 c =
     let turn = YieldsList-turn (YieldsList-from_chars c.args.rest.now c.utf8.rest cc) c.loop-c.yielded _ c.loop-c.yielded_by _ _ c.in-Some.c c.in-Some.is
     c.next.ensures.steps in
     let begins = at_place (chars c.args.rest.now) _ _ c.in-Some.c turn.0 turn.1 (longer c.loop-c.yielded c.in-Some.c) in
-    let entry : c.entry_at.result ≡ entry_at c.args.self.now.entries.items c.loop-c.row c.in_ok-column.column = cc in
-    turn_found _ _ _ _ _ _ _ _ _ _ c.loop-c.invariant.so_far begins (sym c.in_ok-column.ensures.column) entry c.in-65535.is
+    let entry : c.entry_at.result ≡ entry_at c.args.self.now.entries.items c.loop-c.row c.column-column.result = cc in
+    turn_found _ _ _ _ _ _ _ _ _ _ c.loop-c.invariant.so_far begins c.column-column.ensures.column entry c.in-65535.is
 
 pub loop-c-preserved : goal.loop-c-preserved
 loop-c-preserved c =
     let turn = YieldsList-turn (YieldsList-from_chars c.args.rest.now c.utf8.rest cc) c.loop-c.yielded _ c.loop-c.yielded_by _ _ c.in-Some.c c.in-Some.is
     c.next.ensures.steps in
     let begins = at_place (chars c.args.rest.now) _ _ c.in-Some.c turn.0 turn.1 (longer c.loop-c.yielded c.in-Some.c) in
-    let entry : c.entry_at.result ≡ entry_at c.args.self.now.entries.items c.loop-c.row c.in_ok-column.column = cc in
+    let entry : c.entry_at.result ≡ entry_at c.args.self.now.entries.items c.loop-c.row c.column-column.result = cc in
     let goes : (c.entry_at.result == next_row) ≡ false = search rules in
     let misses : (c.entry_at.result == found) ≡ false = search rules in
     record {
       near = omega arith;
-      so_far = turn_goes _ _ _ _ _ _ _ _ _ _ c.loop-c.invariant.so_far begins (sym c.in_ok-column.ensures.column) entry goes misses _ refl;
+      so_far = turn_goes _ _ _ _ _ _ _ _ _ _ c.loop-c.invariant.so_far begins c.column-column.ensures.column entry goes misses _ refl;
     }
 
 pub returns : goal.returns
@@ -50,10 +50,3 @@ returns c =
     in
     let entry : c.entry_at-2.result ≡ entry_at c.args.self.now.entries.items c.loop-c.row (length c.args.self.now.columns.keys.items) = cc in
     walk_ends _ _ _ _ _ _ _ c.loop-c.invariant.so_far (drop_of_length-le (chars c.args.rest.now) (omega (arith, end.1))) entry
-
-pub returns-in_err-column : goal.returns-in_err-column
-returns-in_err-column c =
-    let turn = YieldsList-turn (YieldsList-from_chars c.args.rest.now c.utf8.rest cc) c.loop-c.yielded _ c.loop-c.yielded_by _ _ c.in-Some.c c.in-Some.is
-    c.next.ensures.steps in
-    let begins = at_place (chars c.args.rest.now) _ _ c.in-Some.c turn.0 turn.1 (longer c.loop-c.yielded c.in-Some.c) in
-    c.from_residual.ensures ∙ walk_stops _ _ _ _ _ _ c.in-Some.c _ c.loop-c.invariant.so_far begins (sym c.column.ensures.column ∙ c.in_err-column.was)

@@ -1,0 +1,15 @@
+use Rattle.std.proofs.Common.{◌*◌, ◌-◌, ◌≤◌, length}
+use Rattle.strkw_ecma.specs.machine.Columns.{ShareColumn, ArePaged}
+use Rattle.strkw_ecma.proofs.pages.pages_of.Given as goal
+
+-- the pages so far are right, and the run goes on behind them
+abbrev pub invariant-pages : goal.invariant-pages
+invariant-pages l = record {
+  few : length l.made.pages.items ≤ 4352;
+  end : l.run.end ≤ 0x110000;
+  paged : ArePaged l.classes l.made.keys.items l.made.plain.items l.made.pages.items l.made.cells.items;
+  shared : ShareColumn l.classes l.made.keys.items (length l.made.pages.items * 256) l.run.end l.run.column;
+}
+
+abbrev pub decreases-pages : goal.decreases-pages
+decreases-pages l = 4352 - length l.made.pages.items
