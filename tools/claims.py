@@ -5,14 +5,21 @@
 
 It asks of each document whether the files, functions and tests exist that it names, whether its links lead anywhere and
 its lines are at most 120 characters long; of each crate, whether it stands where every crate has to, with what it
-stands on, its files and its public functions; and of each number in `COUNTED` whether that is the count. The last line
-is `N passed, M failed`; a line before it tells each claim that does not hold.
+stands on, its files and its public functions; and of each number in `COUNTED` whether that is the count. It also asks
+whether bench/README.md and its pictures have the figures of bench/taken. The last line is `N passed, M failed`; a line
+before it tells each claim that does not hold.
 """
 import re
 import sys
 from pathlib import Path
 
 TOP = Path(__file__).resolve().parent.parent
+sys.path.insert(0, str(TOP / "bench"))
+
+from figures import is_of_readme, tables_of
+from named import LABELS
+from pictures import PICTURES
+
 LONGEST_LINE = 120
 LONGEST_README = 60
 # What the documents call by a name and is no file of the repository: examples, and what is built.
@@ -294,11 +301,24 @@ def of_the_gate(tree):
     yield f"README.md has the minutes of docs/gate.txt: {kept}", holds
 
 
+def of_measurements(tree):
+    """That bench/README.md has the stored figures of each named table and says what takes it, and that the pictures are
+    those that bench/plot draws."""
+    page = tree.text["bench/README.md"]
+    tables, files = tables_of(page, LABELS), {Path(name).stem for name in tree.under(r"bench/taken/\w+\.tsv")}
+    yield "bench/README.md, bench/named.py and bench/taken have the same tables", set(tables) == files == set(LABELS)
+    for name in sorted(files & set(tables)):
+        yield f"bench/README.md has the figures of bench/taken/{name}.tsv", is_of_readme(name, tables[name])
+        yield f"bench/README.md says what takes {name}", re.search(rf"^\|.*`{name}`.*\| .+ \|$", page, re.M)
+    for name, drawn in PICTURES.items():
+        yield f"{name} is what bench/plot draws", tree.text.get(name) == drawn()
+
+
 def main():
     """Tells each claim that does not hold, and counts the claims."""
     tree = Tree()
     counts = {True: 0, False: 0}
-    for ask in [of_documents, of_crates, of_functions, of_counts, of_versions, of_the_gate]:
+    for ask in [of_documents, of_crates, of_functions, of_counts, of_versions, of_the_gate, of_measurements]:
         for what, holds in ask(tree):
             counts[bool(holds)] += 1
             if not holds:

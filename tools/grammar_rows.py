@@ -1837,6 +1837,65 @@ LOOKS_AHEAD = [
 ]
 
 
+# Patterns with lookaheads at the front that look far, and in which texts of a and b each is found.
+FRONT_LOOKS = [
+    ("^(?=.*a)(?=.*b)[ab]*$", lambda text: "a" in text and "b" in text),
+    ("^(?=.*a)(?!.*bb)[ab]*$", lambda text: "a" in text and "bb" not in text),
+    ("^(?!.*aa)(?!.*bb).*$", lambda text: "aa" not in text and "bb" not in text),
+    ("^(?!ab|ba)..", lambda text: text[:2] in ("aa", "bb")),
+    ("^(?=ab)", lambda text: text.startswith("ab")),
+    ("^(?!ab)", lambda text: not text.startswith("ab")),
+    ("^(?=ab)(?!a)", never),
+    ("^(?=a|$)(?=a?b?$)", lambda text: text in ("", "a", "ab")),
+    ("^(?=ab)b", never),
+    ("^(?=ba)(?!.{3})b", lambda text: text == "ba"),
+    ("^\\b(?=ab)", lambda text: text.startswith("ab")),
+    ("^(?<!a)(?=ab)a", lambda text: text.startswith("ab")),
+    ("^(?<=a)(?=ab)", never),
+    ("^^(?!aa)a", lambda text: text[:1] == "a" and text[:2] != "aa"),
+    ("(?:)^(?:)(?=ab)", lambda text: text.startswith("ab")),
+    ("^$(?!a+)", lambda text: text == ""),
+    ("^(?=(?<n>ab))(?<m>a)", lambda text: text.startswith("ab")),
+    ("^(?=[ab]{2,3}$)(?!(?:a|b)*aa)", lambda text: len(text) in (2, 3) and "aa" not in text),
+]
+
+# Passwords of schemas, and texts with the verdict.
+PASSWORDS = [
+    ("^(?=.*\\d).{8,}$", {"abcdefg1": 1, "abcdefgh": 0, "abcde1": 0, "1abcdefgh": 1}),
+    ("^(?=.*[a-z])(?=.*[A-Z])(?=.*\\d)(?=.*[^\\w\\s]).{8,64}$", {
+        "aB3!efgh": 1, "aB3efghi": 0, "ab3!efgh": 0, "AB3!EFGH": 0, "aBc!efgh": 0, "aB3!": 0, "aB3!" + "e" * 61: 0,
+        "aB3!" + "e" * 60: 1}),
+    ("^(?!.*\\s)(?=.*\\p{Lu})\\S{2,}$", {"\u00c4a": 1, "\u00e4a": 0, "\u00c4 a": 0, "\u00c4": 0, "a\U0001d400": 1}),
+    ("^(?=.{1,253}$)([a-z0-9]([a-z0-9-]{0,61}[a-z0-9])?\\.)+[a-z]{2,}$", {
+        "example.com": 1, "-a.com": 0, "a.b": 0, ("a" * 50 + ".") * 4 + "b" * 46 + ".com": 0,
+        ("a" * 50 + ".") * 4 + "b" * 45 + ".com": 1}),
+]
+
+# Patterns with a lookahead that looks far, and is not at the front behind `^`, or within another.
+NO_FRONTS = [
+    "(?=ab)^", "a^(?=ab)", "^a(?=ab)", "^a?(?=ab)", "^a{0,2}(?=ab)", "^(?:a|)(?=ab)", "(?:^)(?=ab)", "(^)(?=ab)",
+    "(^(?=ab))", "(?:^(?=ab))a", "^(?=ab)|a", "a|^(?=ab)", "(?<=^(?=ab))a", "^(?=(?=ab))", "^(?!(?!ab))",
+    "^(?=a(?=ab))", "^(?=ab)a(?=ab)", "$(?=ab)", "\\b(?=ab)", "(?<!a)(?=ab)", "^(?:(?=ab))", "^(?=a|^(?=ab))"]
+
+
+def front_rows():
+    """The rows of lookaheads at the front."""
+    yield "lookaheads at the front behind `^`, for more than one character: with each body, alone and before `[ab]*$`"
+    far = [body for body in FAR if "(?=" not in body and "(?!" not in body]
+    rows = []
+    for body, word in itertools.product(far, words("ab", range(4))):
+        stands = stands_ahead(body, word, 0)
+        for end in ("", "[ab]*$"):
+            rows += [[f"^(?={body}){end}", word, stands], [f"^(?!{body}){end}", word, not stands]]
+    yield searches(rows)
+    for pattern, found in FRONT_LOOKS:
+        yield searches([[pattern, text, bool(found(text))] for text in words("ab", range(5))])
+    yield searches([[pattern, text, bool(found)] for pattern, told in PASSWORDS for text, found in told.items()])
+    yield refusals("it has a look-ahead of more than one character", NO_FRONTS)
+    yield refusals("taken", ["^(?=.{1000}.{300})(?=.{1000}.{297})", "^(?=.{1000}.{1000}.{597})a"])
+    yield refusals("it takes more than 2600 steps", ["^(?=.{1000}.{300})(?=.{1000}.{298})", "^(?=.{1000}.{1000}.{598})a"])
+
+
 def ahead_rows():
     """The rows of lookaheads."""
     yield ("lookaheads of one character, `(?= )` and `(?! )`, with each body, before each text of a and b; within "
@@ -1862,6 +1921,7 @@ def ahead_rows():
     texts_of_letters = ("", "Ab", "aB", "\u00c9a", "\u00e9A", "A")
     yield searches([["^(?=\\p{Lu})\\p{L}+$", text, text[:1] in ("A", "\u00c9")] for text in texts_of_letters])
     yield from ahead_syntax_rows()
+    yield from front_rows()
 
 
 # Patterns that begin as a lookahead does, and whether they are taken.
@@ -1940,11 +2000,22 @@ def limits_of_patterns():
         yield [["\\p{L}{1000}", 1], ["c", steps]], [["c", 1000 + steps]], found
 
 
+# What stands for itself behind a backslash without the flag `u`: ASCII but letters, digits, blanks, SyntaxCharacter, `/`.
+NEEDLESSLY_ESCAPED = "!\"#%&',-:;<=>@_`~"
+NOT_TAKEN = "it is no pattern of ECMA-262 in Unicode mode, or of a part of it that is not taken here"
+
+
 def refusal_rows():
     """Patterns by why they are not taken, and some that are."""
     yield "why patterns are not taken"
     forms = ("\\{}", "a\\{}b", "(a)\\{}", "(?:\\{})", "a|\\{}")
     yield refusals("it has a back reference", in_forms(forms, "123456789k"))
+    for character in NEEDLESSLY_ESCAPED:
+        why = f"\\{character} is valid only without the flag u: write {character} for it"
+        yield refusals(why, in_forms(forms, character))
+    yield refusals(NOT_TAKEN, [f"[\\{character}]" for character in NEEDLESSLY_ESCAPED if character != "-"])
+    yield refusals(NOT_TAKEN, in_forms(forms, "agyzAGYZ \u00e9\n"))
+    yield refusals("taken", in_forms(forms, "/^$.*+?()[]{}|\\"))
     forms = ("(?{}a)", "a(?{})", "(?:(?{}))", "(?<n>(?{}a))", "a|(?{}b)", "(?<=(?{}a))", "(?<!a)(?{}b)")
     yield refusals("taken", in_forms(forms, ("=", "!", "<=", "<!")))
     above = ("1001}", "1001,}", "1001,1002}", "0,1001}", "1000,1001}", "2000}", "10000}", "01001}")

@@ -83,22 +83,22 @@ class Maker:
         return name + "." if self.random.random() < 0.02 else name
 
 
-def answers_of(program, names):
-    """Which of the names the program accepts: each has a row that expects so, and that tells a wrong answer."""
-    rows = "".join(json.dumps({"ask": "texts", "of": "idn-hostname", "yes": [name]}) + "\n" for name in names)
+def answers_of(program, kind, texts):
+    """Which of the texts the program takes for this format: each has a row that expects so, and tells a wrong answer."""
+    rows = "".join(json.dumps({"ask": "texts", "of": kind, "yes": [text]}) + "\n" for text in texts)
     run = subprocess.run(program, cwd=CRATE, input=rows, stdout=subprocess.PIPE, stderr=subprocess.PIPE, text=True,
                          errors="replace")
-    told = re.findall(r"^texts of idn-hostname: (1 as expected|1 WRONG of 1)$", run.stdout, re.MULTILINE)
-    if len(told) != len(names):
-        raise SystemExit(f"idna_compare: {len(told)} answers to {len(names)} names: {(run.stdout + run.stderr)[-500:]}")
+    told = re.findall(rf"^texts of {kind}: (1 as expected|1 WRONG of 1)$", run.stdout, re.MULTILINE)
+    if len(told) != len(texts):
+        raise SystemExit(f"{len(told)} answers to {len(texts)} texts: {(run.stdout + run.stderr)[-500:]}")
     return [answer == "1 as expected" for answer in told]
 
 
-def here(names):
-    """Which of the names the program accepts, as it is built or as `rt try` runs it."""
+def here(kind, texts):
+    """Which of the texts the program takes for this format, as it is built or as `rt try` runs it."""
     if PROGRAM.exists():
-        return answers_of([PROGRAM], names)
-    return answers_of(["rt", "try", "--seconds", str(SECONDS), "--steps", str(STEPS)], names)
+        return answers_of([PROGRAM], kind, texts)
+    return answers_of(["rt", "try", "--seconds", str(SECONDS), "--steps", str(STEPS)], kind, texts)
 
 
 def there(name):
@@ -144,7 +144,7 @@ def reason(name, is_here):
 def compare(names):
     """Counts what both sides say, and tells the differences by their reasons."""
     counts, told, unexplained = Counter(), Counter(), 0
-    for name, is_here in zip(names, here(names)):
+    for name, is_here in zip(names, here("idn-hostname", names)):
         is_there, said = there(name)
         counts[f"{'accepted' if is_here else 'refused'} here, {'accepted' if is_there else 'refused'} by idna"] += 1
         if is_here == is_there:

@@ -2,7 +2,7 @@
 use Rattle.std.proofs.Common.{◌≡◌, ◌⊎◌, ◌∷◌, ◌++◌, ◌∙◌, ℕ, List, [], length, map, refl, sym, ap, subst, inl, inr, append-nil}
 use Rattle.std.proofs.lemmas.Bool.{false≢true}
 use Rattle.std.proofs.lemmas.List.{length-map}
-use Rattle.std.specs.Prelude.{false, true, Option, Some, None, is_some}
+use Rattle.std.specs.Prelude.{false, true, Option, Some, None, is_some, if◌then◌else◌}
 use Rattle.std.specs.List.{concat}
 use Rattle.serde_json.specs.Data.{Data, Members, no_members, member}
 use Rattle.serde_json.specs.Find.{as_object, as_str}
@@ -13,6 +13,7 @@ use Rattle.strkw_keywords.specs.Object.{Settings}
 use Rattle.strkw_object.specs.declared.strings.StringKeywords.{StringKeywords}
 use Rattle.strkw_object.specs.Compiled.{keywords_assertions}
 use Rattle.strkw_plan.specs.Messages.{AppendsSaid, InstanceSaid, IsSchema}
+use Rattle.strkw_plan.specs.Own.{asks_for_string, is_optional}
 use Rattle.strkw_plan.proofs.Gathering.{concat-map}
 use Rattle.strkw_report.specs.Standings.{root_site}
 use Rattle.strkw_report.specs.declared.draft.Draft.{Draft}
@@ -28,7 +29,8 @@ use Rattle.strkw_document.specs.Gives.{gives_fault}
 use Rattle.strkw_document.specs.declared.faults.DocumentFault.{DocumentFault}
 use Rattle.strkw_document.specs.declared.faults.DocumentFault.TheVariants as fault
 use Rattle.strkw_document.specs.Spots.{Spot}
-use Rattle.strkw_document.specs.Places.{Form, FoundMessages, PlaceMessages, SpotsMessages, DocumentMessages, ValueMessages, lacking_messages, no_string_messages}
+use Rattle.strkw_document.specs.Places.{Form, FoundMessages, PlaceMessages, SpotsMessages, DocumentMessages}
+use Rattle.strkw_document.specs.Places.{ValueMessages, lacking_messages, no_string_messages}
 
 module _ (form : Form) (s : Settings) where
   -- what is appended about what stands at a pointer: messages, and so many
@@ -37,13 +39,35 @@ module _ (form : Form) (s : Settings) where
       × (count ≡ length messages) × (new ≡ old ++ concat messages)
 
   -- so many messages are these, and they were appended
-  abbrev pub Appended : List (List ℕ) → ℕ → List ℕ → List ℕ → Type 0
+  abbrev Appended : List (List ℕ) → ℕ → List ℕ → List ℕ → Type 0
   Appended messages count old new = (count ≡ length messages) × (new ≡ old ++ concat messages)
 
-  -- the messages that there is no value
-  pub said_missing : (place : List ℕ) (found : Option Data) (ms : Members) (count : ℕ) (old new : List ℕ)
+  -- nothing was appended: of no messages
+  nothing : (messages : List (List ℕ)) (old : List ℕ) → messages ≡ [] → Appended messages 0 old old
+  nothing messages old is = rw is (refl, sym (append-nil old))
+
+  -- one message was appended
+  one : (messages : List (List ℕ)) (message old new : List ℕ) → messages ≡ message ∷ [] → new ≡ old ++ message → Appended messages 1 old new
+  one messages message old new is grown = rw is (refl, grown ∙ ap (λ l. old ++ l) (sym (append-nil message)))
+
+  -- of what is missing there are the messages that it is
+  said_missing : (place : List ℕ) (found : Option Data) (ms : Members) (count : ℕ) (old new : List ℕ)
       → found ≡ None → Appended (lacking_messages form ms place) count old new → Said place ms found count old new
   said_missing place found ms count old new none said = (lacking_messages form ms place, rw none refl, said.0, said.1)
+
+  -- a place that is missing and not optional has one message
+  pub told_missing : (place : List ℕ) (found : Option Data) (ms : Members) (old new : List ℕ) → found ≡ None → is_optional ms ≡ false
+      → new ≡ old ++ form.lacking place → Said place ms found 1 old new
+  told_missing place found ms old new none due grown =
+      let is = ap (λ b. if b then [] else form.lacking place ∷ []) due in
+      said_missing place found ms 1 old new none (one (lacking_messages form ms place) (form.lacking place) old new is grown)
+
+  -- one that is missing and optional has none
+  pub passed_missing : (place : List ℕ) (found : Option Data) (ms : Members) (old : List ℕ) → found ≡ None → is_optional ms ≡ true
+      → Said place ms found 0 old old
+  passed_missing place found ms old none optional =
+      let is = ap (λ b. if b then [] else form.lacking place ∷ []) optional in
+      said_missing place found ms 0 old old none (nothing (lacking_messages form ms place) old is)
 
   -- of a value that is no text there are the messages that it is no string
   no_text : (place : List ℕ) (ms : Members) (instance : Option (List ℕ)) → is_some instance ≡ false
@@ -52,11 +76,27 @@ module _ (form : Form) (s : Settings) where
   no_text place ms (Some text) none = absurd (false≢true (sym none))
 
   -- the messages that a value is no string
-  pub said_no_string : (place : List ℕ) (value : Data) (found : Option Data) (ms : Members) (count : ℕ) (old new : List ℕ)
+  said_no_string : (place : List ℕ) (value : Data) (found : Option Data) (ms : Members) (count : ℕ) (old new : List ℕ)
       → found ≡ Some value → is_some (as_str value) ≡ false
       → Appended (no_string_messages form ms place) count old new → Said place ms found count old new
   said_no_string place value found ms count old new is none said =
       (no_string_messages form ms place, rw is (no_text place ms (as_str value) none), said.0, said.1)
+
+  -- a value that is no string has one message where one is asked for
+  pub told_no_string : (place : List ℕ) (value : Data) (found : Option Data) (ms : Members) (old new : List ℕ)
+      → found ≡ Some value → is_some (as_str value) ≡ false → asks_for_string ms ≡ true
+      → new ≡ old ++ form.no_string place → Said place ms found 1 old new
+  told_no_string place value found ms old new is none due grown =
+      let one_message = ap (λ b. if b then form.no_string place ∷ [] else []) due in
+      said_no_string place value found ms 1 old new is none
+      (one (no_string_messages form ms place) (form.no_string place) old new one_message grown)
+
+  -- and none where none is asked for
+  pub passed_no_string : (place : List ℕ) (value : Data) (found : Option Data) (ms : Members) (old : List ℕ)
+      → found ≡ Some value → is_some (as_str value) ≡ false → asks_for_string ms ≡ false → Said place ms found 0 old old
+  passed_no_string place value found ms old is none not_due =
+      let no_message = ap (λ b. if b then form.no_string place ∷ [] else []) not_due in
+      said_no_string place value found ms 0 old old is none (nothing (no_string_messages form ms place) old no_message)
 
   -- the messages about a text are those about the string
   of_text : (place : List ℕ) (ms : Members) (instance : Option (List ℕ)) (messages : List (List ℕ)) → is_some instance ≡ true

@@ -1,5 +1,7 @@
 -- A place without `*` stands for itself.
-use Rattle.std.proofs.Common.{◌≡◌, ◌≢◌, ◌⊎◌, ◌∷◌, ◌++◌, ◌∙◌, ◌==◌, ℕ, zero, suc, ◌<◌, List, [], length, map, drop, take, ◌-◌, length-drop, false, inl, inr, refl, sym, ap, subst, codes, arith, append_assoc, ne_eqb, Bor, IsUtf8}
+use Rattle.std.proofs.Common.{◌≡◌, ◌≢◌, ◌⊎◌, ◌∷◌, ◌++◌, ◌∙◌, ◌==◌, ◌<◌, ◌-◌, ℕ, zero, suc, List, []}
+use Rattle.std.proofs.Common.{length, map, drop, take, length-drop, codes, append_assoc, IsUtf8}
+use Rattle.std.proofs.Common.{false, inl, inr, refl, sym, ap, subst, arith, ne_eqb, Bor}
 use Rattle.std.specs.Prelude.{Option, Some, None, option_and_then}
 use Rattle.std.specs.List.{slice_split, onto_first, join_with_byte}
 use Rattle.std.specs.Str.{bytes_eq, chars}

@@ -23,8 +23,8 @@ use strkw_plan::{Plan, PlanKind, Rules, plan_in};
 /// (RFC 6901) to schema objects, under the caller's rules. Answers how many errors there are.
 ///
 /// Each error of a value is a line `POINTER: KEYWORD: TEXT`, where KEYWORD is the place of the keyword in the schema
-/// object, as `/format`, and TEXT what is wrong; texts are shown as by `Shown`. They come place by place, in the order of
-/// the plan's members (sorted by their bytes, as `serde_json` keeps them), and at each place in the order of the
+/// object, as `/format`, and TEXT what is wrong; texts are shown as by `Shown`. They come place by place, in the order
+/// of the plan's members (sorted by their bytes, as `serde_json` keeps them), and at each place in the order of the
 /// keywords.
 ///
 /// In a place the reference token `*` stands for each element of an array, by its number, and each member of an object,

@@ -1,9 +1,8 @@
 //! The messages about one place of a document.
 
-ghost use Rattle.std.specs.Prelude.{◌≡◌, ◌⊎◌, ◌++◌, ℕ, List, Some, length, map, option_map, IfErr, IfOk, string_bytes};
+ghost use Rattle.std.specs.Prelude.{◌≡◌, ◌⊎◌, ◌++◌, ℕ, List, length, map, option_map, IfErr, IfOk, string_bytes};
 ghost use Rattle.std.specs.List.{concat};
 ghost use Rattle.serde_json.specs.Data.{Members};
-ghost use Rattle.serde_json.specs.Find.{as_object};
 ghost use Rattle.serde_json.specs.View.{view};
 ghost use Rattle.strkw_keywords.specs.Demands.{IsInUse};
 ghost use Rattle.strkw_keywords.specs.Handed.{lists_of};
@@ -13,7 +12,7 @@ ghost use Rattle.strkw_plan.specs.Rules.{rules_settings};
 ghost use Rattle.strkw_document.specs.Checked.{IsCheckedBy};
 ghost use Rattle.strkw_document.specs.Faults.{IsWhyOfPlace};
 ghost use Rattle.strkw_document.specs.Found.{spot_view};
-ghost use Rattle.strkw_document.specs.Places.{FoundMessages, PlaceMessages, SpotsMessages, lacking_messages, no_string_messages};
+ghost use Rattle.strkw_document.specs.Places.{FoundMessages, PlaceMessages, SpotsMessages};
 ghost use Rattle.strkw_document.specs.declared.faults.DocumentFault.TheVariants.{Memory, TooLong};
 
 use crate::faults::DocumentFault;
@@ -98,7 +97,7 @@ fn check_spots<E: RegexEngine, F: PlaceForm>(
 }
 
 // Appends the messages about what stands at a pointer, a value or none, by a compiled schema, and answers how many they
-// are.
+// are. Of a value that is no string there is one where a string is asked for, and of none one unless it is optional.
 fn check_found<E: RegexEngine, F: PlaceForm>(
     alloc: Global,
     keywords: &StringKeywords<E>,
@@ -131,47 +130,15 @@ fn check_found<E: RegexEngine, F: PlaceForm>(
                 out,
             )
         }
-        Some(_) => push_no_string(alloc, form, place, schema, out),
-        None => push_missing(alloc, form, place, schema, out),
+        Some(_) if !asks_for_string(schema) => Ok(0),
+        Some(_) => {
+            form.push_no_string(alloc, place, out)?;
+            Ok(1)
+        }
+        None if is_optional(schema) => Ok(0),
+        None => {
+            form.push_missing(alloc, place, out)?;
+            Ok(1)
+        }
     }
-}
-
-// Appends the message that a place is missing, unless its schema makes it optional, and answers how many that are.
-fn push_missing<F: PlaceForm>(
-    alloc: Global,
-    form: &F,
-    place: &str,
-    schema: &Value,
-    out: &mut String,
-) -> Result<u64, AllocError>
-    ensures { (members : Members) → as_object (view schema.now) ≡ Some members →
-        let messages = lacking_messages (F.writes form.now) members place.now in
-        IfOk result (λ count. (count ≡ length messages)
-        × (string_bytes out.new ≡ string_bytes out.old ++ concat messages)) }
-{
-    if is_optional(schema) {
-        return Ok(0);
-    }
-    form.push_missing(alloc, place, out)?;
-    Ok(1)
-}
-
-// Appends the message that a value is no string, where its schema asks for one, and answers how many that are.
-fn push_no_string<F: PlaceForm>(
-    alloc: Global,
-    form: &F,
-    place: &str,
-    schema: &Value,
-    out: &mut String,
-) -> Result<u64, AllocError>
-    ensures { (members : Members) → as_object (view schema.now) ≡ Some members →
-        let messages = no_string_messages (F.writes form.now) members place.now in
-        IfOk result (λ count. (count ≡ length messages)
-        × (string_bytes out.new ≡ string_bytes out.old ++ concat messages)) }
-{
-    if !asks_for_string(schema) {
-        return Ok(0);
-    }
-    form.push_no_string(alloc, place, out)?;
-    Ok(1)
 }

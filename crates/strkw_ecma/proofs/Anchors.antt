@@ -46,7 +46,7 @@ word_behind text i =
     (λ e. let f = at.0 e in (i + 1, (f.0, f.1, f.2, refl)), λ found. at.1 (found.1.0, found.1.1, found.1.2))
 
 -- what a test tells, its negation tells of the contrary
-told_unless : (n b : Bool) (A : Type 0) → (b ≡ true) ↔ A → (differ n b ≡ true) ↔ Unless n A
+pub told_unless : (n b : Bool) (A : Type 0) → (b ≡ true) ↔ A → (differ n b ≡ true) ↔ Unless n A
 told_unless false b A told = told
 told_unless true false A told = (λ e a. absurd (true≢false (sym (told.1 a))), λ none. refl)
 told_unless true true A told = (λ e. absurd (true≢false (sym e)), λ none. absurd (none (told.0 refl)))

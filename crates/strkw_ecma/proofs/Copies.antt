@@ -1,12 +1,20 @@
 -- What is repeated, and the programs of what is repeated and of alternatives.
-use Rattle.std.proofs.Common.{◌≡◌, ℕ, zero, suc, ◌-◌, true, false, List, [], ◌∷◌, ◌++◌, drop, Result, IfOk, refl, ap, ◌∙◌}
+use Rattle.std.proofs.Common.{◌≡◌, ℕ, zero, suc, ◌-◌, true, false, List, [], ◌∷◌, ◌++◌, drop, Result, IfOk, Box, refl, sym, ap, subst, ◌∙◌}
 use Rattle.std.proofs.lemmas.Result.{IfOk-weaker}
 use Rattle.std.specs.Vec.{vec_len}
+use Rattle.std.specs.declared.alloc.Global.{Global}
 use Rattle.strkw_ecma.specs.Tree.{Pattern, empty, alt}
 use Rattle.strkw_ecma.specs.Patterns.{repeated}
 use Rattle.strkw_ecma.specs.Program.{Instruction, fork, other, join, is_empty, program, alternatives, copied}
 use Rattle.strkw_ecma.specs.machine.Machine.{written, Writes}
+use Rattle.strkw_ecma.specs.machine.Shape.{outlined, outlined_node}
 use Rattle.strkw_ecma.specs.declared.code.Code.{Code}
+use Rattle.strkw_ecma.specs.declared.outline.Quantifier.{Quantifier}
+use Rattle.strkw_ecma.specs.declared.outline.Outline.{Outline}
+use Rattle.strkw_ecma.specs.declared.outline.Outline.TheOpen.{Outline-F}
+use Rattle.strkw_ecma.specs.declared.outline.Outline.TheViews.{roll-Outline}
+use Rattle.strkw_ecma.specs.declared.outline.Outline.TheFolds.{fold-roll-Outline, ind-Outline}
+use Rattle.strkw_ecma.specs.declared.outline.Outline.TheVariants.{Or, Repeated, rolls-Or, rolls-Repeated}
 use Rattle.strkw_ecma.proofs.Programs.{by_option}
 use Rattle.strkw_ecma.proofs.Written.{repeats_written}
 
@@ -14,6 +22,33 @@ use Rattle.strkw_ecma.proofs.Written.{repeats_written}
 pub repeated_beside : (n : ℕ) (p : Pattern) → alternatives (repeated n p) ≡ program (repeated n p)
 repeated_beside zero p = refl
 repeated_beside (suc n) p = refl
+
+-- a pattern stands among alternatives as it stands alone
+abbrev IsAlone : Pattern → Type 0
+IsAlone p = alternatives p ≡ program p
+
+-- one node does that is neither a choice nor repeated
+node_alone : (x : Outline-F Outline) → ((a b : Box Outline Global) → roll-Outline x ≡ Or a b → ⊥)
+    → ((q : Quantifier) (b : Box Outline Global) → roll-Outline x ≡ Repeated q b → ⊥) → IsAlone (outlined (roll-Outline x))
+node_alone Outline-F.Empty no_choice not_repeated = subst IsAlone (sym (fold-roll-Outline Pattern outlined_node Outline-F.Empty)) refl
+node_alone (Outline-F.Class n s) no_choice not_repeated = subst IsAlone (sym (fold-roll-Outline Pattern outlined_node (Outline-F.Class n s))) refl
+node_alone Outline-F.Start no_choice not_repeated = subst IsAlone (sym (fold-roll-Outline Pattern outlined_node Outline-F.Start)) refl
+node_alone Outline-F.End no_choice not_repeated = subst IsAlone (sym (fold-roll-Outline Pattern outlined_node Outline-F.End)) refl
+node_alone Outline-F.Boundary no_choice not_repeated = subst IsAlone (sym (fold-roll-Outline Pattern outlined_node Outline-F.Boundary)) refl
+node_alone Outline-F.NoBoundary no_choice not_repeated = subst IsAlone (sym (fold-roll-Outline Pattern outlined_node Outline-F.NoBoundary)) refl
+node_alone (Outline-F.Then a b) no_choice not_repeated = subst IsAlone (sym (fold-roll-Outline Pattern outlined_node (Outline-F.Then a b))) refl
+node_alone (Outline-F.Or a b) no_choice not_repeated = absurd (no_choice a b (rolls-Or a b))
+node_alone (Outline-F.Repeated q b) no_choice not_repeated = absurd (not_repeated q b (rolls-Repeated q b))
+node_alone (Outline-F.Behind n b) no_choice not_repeated = subst IsAlone (sym (fold-roll-Outline Pattern outlined_node (Outline-F.Behind n b))) refl
+node_alone (Outline-F.Ahead n b) no_choice not_repeated = subst IsAlone (sym (fold-roll-Outline Pattern outlined_node (Outline-F.Ahead n b))) refl
+
+-- an outline does that is neither a choice nor repeated
+pub alone_beside : (o : Outline) → ((a b : Box Outline Global) → o ≡ Or a b → ⊥) → ((q : Quantifier) (b : Box Outline Global) → o ≡ Repeated q b → ⊥)
+    → IsAlone (outlined o)
+alone_beside =
+    ind-Outline
+    (λ o. ((a b : Box Outline Global) → o ≡ Or a b → ⊥) → ((q : Quantifier) (b : Box Outline Global) → o ≡ Repeated q b → ⊥) → IsAlone (outlined o))
+    (λ x y is. node_alone x)
 
 -- the program of what is repeated is so many copies of its program
 pub program_repeated : (n : ℕ) (p : Pattern) → program (repeated n p) ≡ copied n (program p)

@@ -1,5 +1,5 @@
 -- The laws of a pattern's text.
-use Rattle.std.proofs.Common.{◌≡◌, ◌↔◌, ◌⊎◌, inl, inr, ℕ, zero, suc, Bool, true, false, List, Option, Some, None, IsTrue, refl, sym, ap, subst, ◌∙◌, true≢false}
+use Rattle.std.proofs.Common.{◌≡◌, ◌↔◌, ◌⊎◌, inl, inr, ℕ, Bool, true, false, List, Option, Some, None, IsTrue, refl, sym, ap, subst, ◌∙◌, true≢false}
 use Rattle.std.proofs.Common.{length, leb, nat_le, ◌≤◌, if◌then◌else◌, option_map}
 use Rattle.std.specs.Prelude.{is_some}
 use Rattle.std.proofs.lemmas.Bool.{leb-true, le-leb}
@@ -7,86 +7,36 @@ use Rattle.strkw_pattern.specs.Matcher.{outcome_of}
 use Rattle.strkw_pattern.specs.declared.engine.Outcome.{Outcome}
 use Rattle.strkw_pattern.specs.declared.engine.Outcome.TheVariants.{Match, NoMatch}
 use Rattle.strkw_ecma.specs.Names.{are_distinct}
-use Rattle.strkw_ecma.specs.Syntax.{Disjunction, names, only, either, Alternative, nothing, more, Term, at_start, at_end, at_boundary, at_no_boundary}
-use Rattle.strkw_ecma.specs.Syntax.{looks_behind, looks_ahead, once}
-use Rattle.strkw_ecma.specs.Syntax.{quantified, Atom, plain, escaped, control_escape, set_escape, coded, property_escape, dot, bracketed, group, max_length}
+use Rattle.strkw_ecma.specs.Syntax.{Disjunction, names}
+use Rattle.strkw_ecma.specs.Syntax.{max_length}
 use Rattle.strkw_ecma.specs.machine.Reading.{read, read_short, read_pattern, tree_if, small_tree, told_tree}
 use Rattle.strkw_ecma.specs.Lookahead.{is_apart}
-use Rattle.strkw_ecma.specs.Glances.{are_told}
-use Rattle.strkw_ecma.specs.Size.{steps, max_steps}
+use Rattle.strkw_ecma.specs.Front.{parts, steps_of_parts, are_parts_told}
+use Rattle.strkw_ecma.specs.Size.{max_steps}
 use Rattle.strkw_ecma.specs.Meaning.{Found}
-use Rattle.strkw_ecma.specs.Tree.{Pattern, empty, alt}
-use Rattle.strkw_ecma.specs.machine.Marks.{is_clean}
-use Rattle.strkw_ecma.specs.Patterns.{pattern, alternative_pattern, term_pattern, atom_pattern, Times, any_times, some_times, once_at_most, exact_times}
-use Rattle.strkw_ecma.specs.Patterns.{least_times, range_times, times, repeated, quantified_pattern}
+use Rattle.strkw_ecma.specs.Tree.{Pattern}
+use Rattle.strkw_ecma.specs.machine.Search.{are_parts_clean}
+use Rattle.strkw_ecma.specs.Patterns.{pattern}
 use Rattle.strkw_ecma.specs.machine.Outcomes.{outcome_of_read, search_outcome}
 use Rattle.strkw_ecma.specs.Laws.{IsPattern, IsExact}
 use Rattle.strkw_ecma.proofs.Readings.{complete}
 use Rattle.strkw_ecma.proofs.Spelled.{IsSpelled, sound}
 use Rattle.strkw_ecma.proofs.Formed.{IsFormed, read_formed}
-use Rattle.strkw_ecma.proofs.Answers.{search_is_exact}
-use Rattle.strkw_ecma.proofs.Steps.{and_true}
-
--- a pattern without marks has none where it is repeated
-clean_repeated : (n : ℕ) (p : Pattern) → is_clean p ≡ true → is_clean (repeated n p) ≡ true
-clean_repeated zero p h = refl
-clean_repeated (suc n) p h = and_true _ _ h (clean_repeated n p h)
-
--- and none under a quantifier
-clean_times : (t : Times) (p : Pattern) → is_clean p ≡ true → is_clean (quantified_pattern t p) ≡ true
-clean_times any_times p h = h
-clean_times some_times p h = h
-clean_times once_at_most p h = h
-clean_times (exact_times n) p h = clean_repeated n p h
-clean_times (least_times n) p h = and_true _ _ (clean_repeated n p h) h
-clean_times (range_times n m) p h = and_true _ _ (clean_repeated n p h) (clean_repeated _ (alt empty p) h)
-
-mutual
-  -- the pattern of a tree has no marks
-  pub clean : (d : Disjunction) → is_clean (pattern d) ≡ true
-  clean (only a) = clean_alternative a
-  clean (either d a) = and_true _ _ (clean d) (clean_alternative a)
-
-  -- nor has that of an alternative
-  clean_alternative : (a : Alternative) → is_clean (alternative_pattern a) ≡ true
-  clean_alternative nothing = refl
-  clean_alternative (more a t) = and_true _ _ (clean_alternative a) (clean_term t)
-
-  -- nor has that of a term
-  clean_term : (t : Term) → is_clean (term_pattern t) ≡ true
-  clean_term at_start = refl
-  clean_term at_end = refl
-  clean_term (looks_behind n d) = clean d
-  clean_term (looks_ahead n d) = refl
-  clean_term (once a) = clean_atom a
-  clean_term at_boundary = refl
-  clean_term at_no_boundary = refl
-  clean_term (quantified a q g) = clean_times (times q) (atom_pattern a) (clean_atom a)
-
-  -- nor has that of an atom
-  clean_atom : (a : Atom) → is_clean (atom_pattern a) ≡ true
-  clean_atom (plain c) = refl
-  clean_atom (escaped c) = refl
-  clean_atom (control_escape c) = refl
-  clean_atom (set_escape c) = refl
-  clean_atom (coded d) = refl
-  clean_atom (property_escape n e) = refl
-  clean_atom dot = refl
-  clean_atom (bracketed n r e) = refl
-  clean_atom (group g d) = clean d
+use Rattle.strkw_ecma.proofs.FrontMeaning.{found_parts, parts_are_exact}
+use Rattle.strkw_ecma.proofs.Unmarked.{unmarked_pattern, parts_clean}
 
 -- a tree whose lookaheads are told is that of a pattern, if it is one when told
-told_of : (source : List ℕ) (d : Disjunction) (b : Bool) → are_told (pattern d) ≡ b
-    → (are_told (pattern d) ≡ true → IsPattern source d) → IsTrue (is_some (tree_if b d)) → (d : Disjunction) × IsPattern source d
+told_of : (source : List ℕ) (d : Disjunction) (b : Bool) → are_parts_told (parts (pattern d)) ≡ b
+    → (are_parts_told (parts (pattern d)) ≡ true → IsPattern source d) → IsTrue (is_some (tree_if b d)) → (d : Disjunction) × IsPattern source d
 told_of source d false e p h = absurd (true≢false (sym h))
 told_of source d true e p h = (d, p e)
 
 -- and one that is not left out for its size either, if it is one when small too
-small_of : (source : List ℕ) (d : Disjunction) (b : Bool) → nat_le (steps (pattern d)) max_steps ≡ b
-    → (steps (pattern d) ≤ max_steps → are_told (pattern d) ≡ true → IsPattern source d)
+small_of : (source : List ℕ) (d : Disjunction) (b : Bool) → nat_le (steps_of_parts (parts (pattern d))) max_steps ≡ b
+    → (steps_of_parts (parts (pattern d)) ≤ max_steps → are_parts_told (parts (pattern d)) ≡ true → IsPattern source d)
     → IsTrue (is_some (told_tree (tree_if b d))) → (d : Disjunction) × IsPattern source d
 small_of source d false e p h = absurd (true≢false (sym h))
-small_of source d true e p h = told_of source d (are_told (pattern d)) refl (p (leb-true (steps (pattern d)) max_steps e)) h
+small_of source d true e p h = told_of source d (are_parts_told (parts (pattern d))) refl (p (leb-true (steps_of_parts (parts (pattern d))) max_steps e)) h
 
 -- a tree is read only where no name is there twice
 distinct_of : (d : Disjunction) (b : Bool) → are_distinct (names d) ≡ b → is_some (tree_if b d) ≡ true → are_distinct (names d) ≡ true
@@ -101,7 +51,7 @@ derived_of source false b o a e r s f h = absurd (true≢false (sym h))
 derived_of source true false o a e r s f h = absurd (true≢false (sym h))
 derived_of source true true None a e r s f h = absurd (true≢false (sym h))
 derived_of source true true (Some d) a e r s f h =
-    small_of source d (nat_le (steps (pattern d)) max_steps) refl
+    small_of source d (nat_le (steps_of_parts (parts (pattern d))) max_steps) refl
     (λ m t. record {
       formed = f;
       spelled = s;
@@ -119,7 +69,7 @@ read_is source d p =
     ∙ ap (λ (b : Bool). told_tree (small_tree (if b then read source else None))) (le-leb (length source) max_length p.short)
     ∙ ap (λ (z : List ℕ). told_tree (small_tree (read z))) (sym p.spelled) ∙ ap (λ o. told_tree (small_tree o)) (complete d p.formed)
     ∙ ap (λ (b : Bool). told_tree (small_tree (tree_if b d))) p.distinct
-    ∙ ap (λ (b : Bool). told_tree (tree_if b d)) (le-leb (steps (pattern d)) max_steps p.small)
+    ∙ ap (λ (b : Bool). told_tree (tree_if b d)) (le-leb (steps_of_parts (parts (pattern d))) max_steps p.small)
     ∙ ap (λ (b : Bool). tree_if b d) p.told
 
 -- the tree that there is, or else the first one
@@ -147,6 +97,10 @@ match_of false = (λ h. absurd (true≢false (sym (ap is_match h))), λ h. absur
 both : {A B C : Type 0} → A ↔ B → B ↔ C → A ↔ C
 both e f = (λ a. f.0 (e.0 a), λ c. e.1 (f.1 c))
 
+-- an equivalence, told from its other side
+back : {A B : Type 0} → A ↔ B → B ↔ A
+back e = (e.1, e.0)
+
 -- an answer comes to a match or to none
 by_answer : (b : Bool) → (outcome_of b ≡ Match) ⊎ (outcome_of b ≡ NoMatch)
 by_answer true = inl refl
@@ -166,7 +120,9 @@ exact source = record {
   decided = decided_of (read_pattern source);
   meant = λ d p text.
       subst (λ (o : Option Disjunction). (outcome_of_read o text ≡ Match) ↔ Found (pattern d) text) (sym (read_is source d p))
-      (both (match_of _) (search_is_exact (pattern d) text (clean d) p.told));
+      (both (match_of _)
+      (both (parts_are_exact text (parts (pattern d)) (parts_clean (pattern d) (unmarked_pattern d)) p.told)
+      (back (found_parts text (pattern d)))));
 }
 
 -- the pattern that there is, or else the first one
@@ -180,10 +136,10 @@ unfolding pattern_or
 same_pattern p q h = ap (pattern_or p) h
 
 -- the pattern that the code has read
--- it has no marks
-pub clean_of : (p : Pattern) (o : Option Disjunction) → Some p ≡ option_map pattern o → is_clean p ≡ true
+-- its parts have no marks
+pub clean_of : (p : Pattern) (o : Option Disjunction) → Some p ≡ option_map pattern o → are_parts_clean (parts p) ≡ true
 clean_of p None e = absurd (true≢false (ap is_some e))
-clean_of p (Some d) e = ap is_clean (same_pattern p (pattern d) e) ∙ clean d
+clean_of p (Some d) e = ap (λ q. are_parts_clean (parts q)) (same_pattern p (pattern d) e) ∙ parts_clean (pattern d) (unmarked_pattern d)
 
 -- its search comes to what is defined for the tree that is read
 pub outcome_of_it : (p : Pattern) (o : Option Disjunction) → Some p ≡ option_map pattern o → search_outcome p ≡ outcome_of_read o
@@ -211,9 +167,9 @@ taken_is p source e =
     let taken = taken_of p source e in same_pattern p _ (e ∙ ap (option_map pattern) (read_is source taken.0 taken.1))
 
 -- so it is not too large
-pub small_read : (p : Pattern) (source : List ℕ) → Some p ≡ option_map pattern (read_pattern source) → steps p ≤ max_steps
+pub small_read : (p : Pattern) (source : List ℕ) → Some p ≡ option_map pattern (read_pattern source) → steps_of_parts (parts p) ≤ max_steps
 small_read p source e = rw (taken_is p source e) (taken_of p source e).1.small
 
--- and what its lookaheads look for is told
-pub told_read : (p : Pattern) (source : List ℕ) → Some p ≡ option_map pattern (read_pattern source) → are_told p ≡ true
-told_read p source e = ap are_told (taken_is p source e) ∙ (taken_of p source e).1.told
+-- and what the lookaheads of its parts look for is told
+pub told_read : (p : Pattern) (source : List ℕ) → Some p ≡ option_map pattern (read_pattern source) → are_parts_told (parts p) ≡ true
+told_read p source e = ap (λ q. are_parts_told (parts q)) (taken_is p source e) ∙ (taken_of p source e).1.told

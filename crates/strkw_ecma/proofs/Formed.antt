@@ -31,7 +31,9 @@ use Rattle.strkw_ecma.specs.machine.Reading.{Open, Outer, Level, Last, none, ato
 use Rattle.strkw_ecma.specs.machine.Reading.{opening, extending, class_opened, Count, low, high, counting, when, with_count, longer, range_read, on_low}
 use Rattle.strkw_ecma.specs.machine.Reading.{on_high, on_count, in_class, class_escaping, coding, class_coding, in_property, in_class_property, is_between}
 use Rattle.strkw_ecma.specs.machine.Reading.{State, with_mode, new_level, ended, joined, level_ended, enclosed, closed_in, naming, name_escaping, name_coding}
-use Rattle.strkw_ecma.specs.machine.Reading.{with_name_char, name_read, look_read, on_naming, on_name_escape, on_name_coding, tree_if, closes, with_quantifier, questioned}
+use Rattle.strkw_ecma.specs.machine.Reading.{with_name_char, name_read, look_read, on_naming}
+use Rattle.strkw_ecma.specs.machine.Reading.{on_name_escape, on_name_coding, tree_if, closes}
+use Rattle.strkw_ecma.specs.machine.Reading.{with_quantifier, questioned}
 use Rattle.strkw_ecma.specs.machine.Reading.{opened, on_token, on_group, on_extension, on_escape, took, took_dash, ranged, class_read, within, on_class_token}
 use Rattle.strkw_ecma.specs.machine.Reading.{on_class_escape, on_coding, on_class_coding, on_property, on_class_property, on_class, next_in, next, read_from}
 use Rattle.strkw_ecma.specs.machine.Reading.{initial, read}

@@ -21,6 +21,10 @@ pub mod Answers
 pub mod ClassSpelled
 pub mod Spelled
 pub mod Formed
+pub mod Fronts
+pub mod FrontMeaning
+pub mod Unmarked
+pub mod Finders
 pub mod Exact
 pub mod Parts
 pub mod Refused

@@ -1,5 +1,8 @@
 -- Pages of columns while they are made: what is there stays, and what is added is right.
-use Rattle.std.proofs.Common.{◌≡◌, ◌⊎◌, ⊎_elim, ℕ, suc, ◌+◌, ◌*◌, ◌/◌, ◌%◌, ◌<◌, ◌≤◌, ◌==◌, Bool, true, false, List, [], ◌∷◌, ◌++◌, Vec, Global, length, get_or, replicate, Option, Some, None, option_map, refl, sym, ap, subst, ◌∙◌, length-append, if◌then◌else◌, inl, arith, true≢false}
+use Rattle.std.proofs.Common.{◌≡◌, ◌⊎◌, ⊎_elim, ℕ, suc, ◌+◌, ◌*◌, ◌/◌, ◌%◌, ◌<◌, ◌≤◌, ◌==◌, Bool}
+use Rattle.std.proofs.Common.{true, false, List, [], ◌∷◌, ◌++◌, Vec, Global, length, get_or}
+use Rattle.std.proofs.Common.{replicate, Option, Some, None, option_map, refl, sym, ap, subst, ◌∙◌}
+use Rattle.std.proofs.Common.{length-append, if◌then◌else◌, inl, arith, true≢false}
 use Rattle.std.specs.Prelude.{is_some}
 use Rattle.std.specs.Char.{InScalarRange}
 use Rattle.std.proofs.lemmas.Bool.{eq-eqb}
@@ -123,9 +126,12 @@ column_added classes keys later plain more_plain pages cells more_cells key page
       are_plain = record {
         so_many = omega (arith, so_many, one_key, one_plain);
         within = λ k h.
-            ⊎_elim (λ before. plain_within classes keys later plain more_plain pages pages cells more_cells was keys_stay plain_stays pages_stay cells_stay k before)
+            ⊎_elim
+            (λ before.
+            plain_within classes keys later plain more_plain pages pages cells more_cells was keys_stay plain_stays pages_stay cells_stay k before)
             (λ last.
-            let is : get_or more_plain k 0 ≡ length cells = ap (λ (i : ℕ). get_or more_plain i 0) last ∙ stands_last plain more_plain (length cells) 0 plain_is in
+            let is : get_or more_plain k 0 ≡ length cells =
+            ap (λ (i : ℕ). get_or more_plain i 0) last ∙ stands_last plain more_plain (length cells) 0 plain_is in
             omega (arith, is, one_page))
             (below_or_same k (length plain) (omega (arith, h, one_plain)));
         throughout = λ k j h inside.
@@ -133,7 +139,8 @@ column_added classes keys later plain more_plain pages cells more_cells key page
             (λ before.
             plain_throughout classes keys later plain more_plain pages pages cells more_cells was keys_stay plain_stays pages_stay cells_stay k j before inside)
             (λ last.
-            let is : get_or more_plain k 0 ≡ length cells = ap (λ (i : ℕ). get_or more_plain i 0) last ∙ stands_last plain more_plain (length cells) 0 plain_is in
+            let is : get_or more_plain k 0 ≡ length cells =
+            ap (λ (i : ℕ). get_or more_plain i 0) last ∙ stands_last plain more_plain (length cells) 0 plain_is in
             ap (λ (i : ℕ). get_or (get_or more_cells i []) j 0) is
             ∙ ap (λ (l : List ℕ). get_or l j 0) (stands_last cells more_cells page [] cells_are ∙ throughout)
             ∙ get_or-replicate 256 j (length keys) 0 inside ∙ sym (last ∙ so_many))
@@ -149,7 +156,8 @@ column_added classes keys later plain more_plain pages cells more_cells key page
 pub page_added : (classes : List (Vec CharSet Global)) (keys plain pages more_pages : List ℕ) (cells more_cells : List (List ℕ)) (number : ℕ)
     → ArePaged classes keys plain pages cells → more_pages ≡ pages ++ number ∷ [] → IsFront cells more_cells → length more_cells ≤ length cells + 1
     → number < length more_cells
-    → ((j : ℕ) → j < 256 → InScalarRange (length pages * 256 + j) → column_of classes keys (length pages * 256 + j) ≡ Some (get_or (get_or more_cells number []) j 0))
+    → ((j : ℕ) → j < 256 → InScalarRange (length pages * 256 + j)
+    → column_of classes keys (length pages * 256 + j) ≡ Some (get_or (get_or more_cells number []) j 0))
     → ArePaged classes keys plain more_pages more_cells
 page_added classes keys plain pages more_pages cells more_cells number was pages_are cells_stay few within right =
     let keys_stay : IsFront keys keys = ([], sym (append-nil keys)) in
@@ -166,7 +174,9 @@ page_added classes keys plain pages more_pages cells more_cells number was pages
       };
       are_pages = record {
         within = λ k h.
-            ⊎_elim (λ before. page_within classes keys keys plain plain pages more_pages cells more_cells was keys_stay plain_stays pages_stay cells_stay k before)
+            ⊎_elim
+            (λ before.
+            page_within classes keys keys plain plain pages more_pages cells more_cells was keys_stay plain_stays pages_stay cells_stay k before)
             (λ last.
             let is : get_or more_pages k 0 ≡ number = ap (λ (i : ℕ). get_or more_pages i 0) last ∙ stands_last pages more_pages number 0 pages_are in
             omega (arith, is, within))

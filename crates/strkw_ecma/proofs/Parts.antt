@@ -22,14 +22,18 @@ use Rattle.strkw_ecma.specs.Classes.{ClassToken, closing_bracket, class_escaper,
 use Rattle.strkw_ecma.specs.Classes.{hyphen, class_escaped, class_control, class_set, backspace, class_coded, class_property, Ranges, no_ranges, item, set_item}
 use Rattle.strkw_ecma.specs.Classes.{property_set, range, range_list, sets_of}
 use Rattle.strkw_ecma.specs.Syntax.{Disjunction, Alternative, Term, at_start, at_end, at_boundary, at_no_boundary, Quantifier, exactly, at_least, from_to}
-use Rattle.strkw_ecma.specs.Syntax.{zero_or_more, one_or_more, capturing, plain_group, named, Enclosing, of_group, of_lookbehind, with_own_name, Atom, plain, escaped}
-use Rattle.strkw_ecma.specs.Syntax.{control_escape, set_escape, coded, property_escape, dot, Token, bar, asterisk, plus, question, caret, dollar, opening as opening_token}
+use Rattle.strkw_ecma.specs.Syntax.{zero_or_more, one_or_more, capturing, plain_group, named}
+use Rattle.strkw_ecma.specs.Syntax.{Enclosing, of_group, of_lookbehind, with_own_name, Atom, plain}
+use Rattle.strkw_ecma.specs.Syntax.{escaped}
+use Rattle.strkw_ecma.specs.Syntax.{control_escape, set_escape, coded, property_escape, dot, Token}
+use Rattle.strkw_ecma.specs.Syntax.{bar, asterisk, plus, question, caret, dollar}
+use Rattle.strkw_ecma.specs.Syntax.{opening as opening_token}
 use Rattle.strkw_ecma.specs.Syntax.{closing, point, backslash, bracket, brace, character, other, token, of_lookahead, max_nesting, max_length}
 use Rattle.strkw_ecma.specs.Patterns.{pattern, alternative_pattern, term_pattern, atom_pattern, times, copies, quantified_pattern}
 use Rattle.strkw_ecma.specs.Numbers.{number, number_of, max_count, CountToken, digit, comma, closing_brace, no_count, count_token}
 use Rattle.strkw_ecma.specs.Size.{steps, max_term_steps, max_steps}
 use Rattle.strkw_ecma.specs.Lookahead.{is_apart}
-use Rattle.strkw_ecma.specs.Glances.{are_told}
+use Rattle.strkw_ecma.specs.Front.{parts, steps_of_parts, are_parts_told}
 use Rattle.strkw_ecma.proofs.Digits.{number_push}
 use Rattle.strkw_ecma.proofs.CodeImages.{coding_image, coded_image, next_coding_image}
 use Rattle.strkw_ecma.specs.machine.Reading as reading
@@ -37,11 +41,15 @@ use Rattle.strkw_ecma.specs.machine.Parts as parts
 use Rattle.strkw_ecma.specs.machine.Reading.{Open, Outer, Level, State, with_count, when, longer, range_read, on_low, on_high, on_count, Mode, between}
 use Rattle.strkw_ecma.specs.machine.Reading.{with_mode, opened_within, on_group, on_extension, on_class, on_class_token, on_class_escape, on_coding}
 use Rattle.strkw_ecma.specs.machine.Reading.{on_class_coding, on_property, on_class_property, within, next_in, is_between, with_atom, with_term}
-use Rattle.strkw_ecma.specs.machine.Reading.{with_quantifier, questioned, opened, enclosed, closed_in, with_name_char, name_read, look_read, on_naming, on_name_escape}
+use Rattle.strkw_ecma.specs.machine.Reading.{with_quantifier, questioned, opened, enclosed}
+use Rattle.strkw_ecma.specs.machine.Reading.{closed_in, with_name_char, name_read, look_read}
+use Rattle.strkw_ecma.specs.machine.Reading.{on_naming, on_name_escape}
 use Rattle.strkw_ecma.specs.machine.Reading.{on_name_coding, closed, on_token, on_escape, next, read_from, initial, read, read_short, read_pattern, tree_if}
 use Rattle.strkw_ecma.specs.machine.Reading.{small_tree, told_tree}
 use Rattle.strkw_ecma.specs.machine.Parts.{Side, Parts, after_count, after_low, after_high, after_high_brace, after_counting, small, value, ended, joined}
-use Rattle.strkw_ecma.specs.machine.Parts.{level_ended, level_so_far, new_level, after_atom, after_term, after_bar, after_opening, after_enclosed, closing_in, after_name_char}
+use Rattle.strkw_ecma.specs.machine.Parts.{level_ended, level_so_far, new_level, after_atom}
+use Rattle.strkw_ecma.specs.machine.Parts.{after_term, after_bar, after_opening, after_enclosed}
+use Rattle.strkw_ecma.specs.machine.Parts.{closing_in, after_name_char}
 use Rattle.strkw_ecma.specs.machine.Parts.{after_name, after_look, after_naming, after_name_escape, after_name_coding, closes, after_closing, after_quantifier}
 use Rattle.strkw_ecma.specs.machine.Parts.{after_question, after_escape, after_token, after_group, after_extension, after_class_token, after_class_escape}
 use Rattle.strkw_ecma.specs.machine.Parts.{after_coding, after_class_coding, after_property, after_class_property, after_bracket, after_in, after_char}
@@ -664,12 +672,12 @@ whole s text k h short w =
 -- a tree is kept as such exactly where its pattern is
 small_image : (o : Option Disjunction) → option_map pattern (small_tree o) ≡ small_pattern (option_map pattern o)
 small_image None = refl
-small_image (Some d) = tree_image (nat_le (steps (pattern d)) max_steps) d
+small_image (Some d) = tree_image (nat_le (steps_of_parts (parts (pattern d))) max_steps) d
 
 -- and exactly where each lookahead in its pattern is told
 told_image : (o : Option Disjunction) → option_map pattern (told_tree o) ≡ told_pattern (option_map pattern o)
 told_image None = refl
-told_image (Some d) = tree_image (are_told (pattern d)) d
+told_image (Some d) = tree_image (are_parts_told (parts (pattern d))) d
 
 -- where no digit stands behind `\0`, the pattern of the text is what is read, unless that is too large, or not told
 pub read_whole : (text : List ℕ) (o p q : Option Pattern) → true ≡ is_apart text → o ≡ option_map pattern (read_short text)

@@ -15,7 +15,9 @@ use Rattle.ucd_derived.proofs.Computing.{ucd_derived}
 use Rattle.strkw_ecma.specs.Names.{NameChar, verbatim, by_code, name_char_spelling, name_spelling, name_char_value, name_value, is_unicode, is_name_start}
 use Rattle.strkw_ecma.specs.Names.{is_name_part, IsNameChar, AreNameParts, IsName, may_follow, are_distinct, NameToken, name_end, name_backslash}
 use Rattle.strkw_ecma.specs.Names.{name_equals, name_negation, name_character, name_token}
-use Rattle.strkw_ecma.specs.Syntax.{Disjunction, only, either, Alternative, nothing, more, Term, at_start, at_end, at_boundary, at_no_boundary, looks_behind, once}
+use Rattle.strkw_ecma.specs.Syntax.{Disjunction, only, either, Alternative, nothing, more, Term}
+use Rattle.strkw_ecma.specs.Syntax.{at_start, at_end, at_boundary, at_no_boundary, looks_behind}
+use Rattle.strkw_ecma.specs.Syntax.{once}
 use Rattle.strkw_ecma.specs.Syntax.{quantified, Quantifier, zero_or_more, one_or_more, zero_or_one, exactly, at_least, from_to, greedy, lazy, Atom, plain}
 use Rattle.strkw_ecma.specs.Syntax.{escaped, control_escape, set_escape, coded, property_escape, dot, bracketed, group, Group, capturing, plain_group, named}
 use Rattle.strkw_ecma.specs.Syntax.{Enclosing, of_group, of_lookbehind, of_lookahead, looks_ahead, lookbehind_spelling, lookahead_spelling, with_own_name}

@@ -10,7 +10,7 @@ use Rattle.strkw_ecma.specs.Syntax.{enclosing_spelling, atom_spelling, Quantifie
 use Rattle.strkw_ecma.specs.WellFormed.{IsWellFormed, IsEnclosing}
 use Rattle.strkw_ecma.specs.Patterns.{pattern}
 use Rattle.strkw_ecma.specs.Tree.{Pattern}
-use Rattle.strkw_ecma.specs.Size.{steps, max_steps}
+use Rattle.strkw_ecma.specs.Size.{max_steps}
 use Rattle.strkw_ecma.specs.Numbers.{number, number_of, CountToken, digit, comma, closing_brace, no_count, count_token}
 use Rattle.strkw_ecma.specs.Names.{NameChar, name_value, Extension, uncaptured, name_opening, look_equals, look_negation, no_extension, extension}
 use Rattle.strkw_ecma.specs.Names.{NameToken, name_end, name_backslash, name_equals, name_negation, name_character, name_token}
@@ -21,13 +21,13 @@ use Rattle.strkw_ecma.specs.machine.Reading.{naming, name_escaping, name_coding,
 use Rattle.strkw_ecma.specs.machine.Reading.{with_count, with_quantifier, when, with_digit, longer, range_read, on_low, on_high, on_count, on_extension}
 use Rattle.strkw_ecma.specs.machine.Reading.{on_naming, name_read, next_in, read, read_short, read_pattern, small_tree, told_tree, tree_if}
 use Rattle.strkw_ecma.specs.Lookahead.{is_apart}
-use Rattle.strkw_ecma.specs.Glances.{are_told}
+use Rattle.strkw_ecma.specs.Front.{parts, steps_of_parts, are_parts_told}
 use Rattle.strkw_ecma.specs.machine.Outcomes.{takes_pattern}
-use Rattle.strkw_ecma.specs.Refusals.{IsBeginning, Has, HasTermWithin, is_unknown, IsReason}
-use Rattle.strkw_ecma.specs.machine.RefusalParts.{told_if, one_deeper, extension_refusal, name_refusal, term_refusal, range_refusal, count_refusal}
+use Rattle.strkw_ecma.specs.Refusals.{IsBeginning, Has, HasTerm, HasTermWithin, is_reference, is_needlessly_escaped, is_unknown, IsReason}
+use Rattle.strkw_ecma.specs.machine.RefusalParts.{told_if, escape_refusal, one_deeper, extension_refusal, name_refusal, term_refusal, range_refusal, count_refusal}
 use Rattle.strkw_ecma.specs.machine.RefusalParts.{part_refusal, refusal_at}
 use Rattle.strkw_ecma.specs.declared.refusals.PatternRefusal.{PatternRefusal}
-use Rattle.strkw_ecma.specs.declared.refusals.PatternRefusal.TheVariants.{LookAhead, BackReference, Property, TooDeep, TooLarge}
+use Rattle.strkw_ecma.specs.declared.refusals.PatternRefusal.TheVariants.{LookAhead, BackReference, IdentityEscape, Property, TooDeep, TooLarge}
 use Rattle.strkw_ecma.specs.machine.Parts as parts
 use Rattle.strkw_ecma.specs.machine.Reading as reading
 use Rattle.strkw_ecma.specs.machine.Parts.{Parts, after_char}
@@ -71,6 +71,16 @@ one_behind a m c rest text e = ap (λ z. a ++ z) (append_assoc m (c ∷ []) rest
 told_so : (text : List ℕ) (r : PatternRefusal) (b : Bool) → (b ≡ true → IsReason text r) → IsReason text (told_if b r)
 told_so text r false f = tt
 told_so text r true f = f refl
+
+-- what is told of a character behind a backslash that stands where a term may is so
+escape_told : (text : List ℕ) (c : ℕ) → HasTerm (byte "\\" ∷ c ∷ []) text → IsReason text (escape_refusal c)
+escape_told text c has = by_test (is_reference c) refl
+  where
+    -- the same by whether it is a reference
+    by_test : (b : Bool) → is_reference c ≡ b
+        → IsReason text (if b then BackReference else told_if (is_needlessly_escaped c) (IdentityEscape c))
+    by_test true is = (c, is, has)
+    by_test false is = told_so text (IdentityEscape c) (is_needlessly_escaped c) (λ told. (told, has))
 
 -- `Some` of anything is not `None`
 not_some : {T : Type 0} (t : T) → Some t ≡ None → ⊥
@@ -276,7 +286,7 @@ stops : (outer : Outer) (l : Level) (x : Last) → AreLevels outer.groups → Is
     → spelled (with_mode outer l x m) ++ c ∷ rest ≡ text → IsReason text (refusal_at (image (with_mode outer l x m)) c)
 stops outer l x f g h between w c rest text refused e = tt
 stops outer l x f g h escaping w c rest text refused e =
-    told_so text BackReference _ (λ told. (c, told, (length outer.groups, term_behind outer l x f g h c rest text (byte "\\" ∷ []) e)))
+    escape_told text c (length outer.groups, term_behind outer l x f g h c rest text (byte "\\" ∷ []) e)
 stops outer l x f g h opening w c rest text refused e = depth_told outer l x f g h c rest text e
 stops outer l x f g h extending w c rest text refused e =
     extension_told outer l x f g h c rest text (extension c) (char_of_extension_token c) refused e
@@ -358,23 +368,23 @@ module _ (text : List ℕ) (k next c : ℕ) (within : k < length text) (is : c �
 
 -- where all is read that may be, and the pattern is not taken, it is too large, or has a lookahead that is not told
 -- where it is told, it is left out for its size
-left_out : (b : Bool) (d : Disjunction) → are_told (pattern d) ≡ true → is_some (told_tree (tree_if b d)) ≡ false → b ≡ false
+left_out : (b : Bool) (d : Disjunction) → are_parts_told (parts (pattern d)) ≡ true → is_some (told_tree (tree_if b d)) ≡ false → b ≡ false
 left_out false d told refused = refl
 left_out true d told refused = absurd (true≢false (sym (ap (λ (b : Bool). is_some (tree_if b d)) told) ∙ refused))
 
 -- a well-formed tree of a text whose lookaheads are told, and that is left out, makes `TooLarge` a reason
-large_of : (text : List ℕ) (o : Option Disjunction) (p : Pattern) → IsSpelled o text → IsFormed o → Some p ≡ option_map pattern o → are_told p ≡ true
-    → is_some (told_tree (small_tree o)) ≡ false → IsReason text TooLarge
+large_of : (text : List ℕ) (o : Option Disjunction) (p : Pattern) → IsSpelled o text → IsFormed o → Some p ≡ option_map pattern o
+    → are_parts_told (parts p) ≡ true → is_some (told_tree (small_tree o)) ≡ false → IsReason text TooLarge
 large_of text None p w f some told refused = absurd (not_some p some)
 large_of text (Some d) p w f some told refused =
-    let all_told : are_told (pattern d) ≡ true = ap are_told (sym (same_pattern p (pattern d) some)) ∙ told in
-    (d, f, w, leb-false _ _ (left_out (nat_le (steps (pattern d)) max_steps) d all_told refused))
+    let all_told : are_parts_told (parts (pattern d)) ≡ true = ap (λ q. are_parts_told (parts q)) (sym (same_pattern p (pattern d) some)) ∙ told in
+    (d, f, w, leb-false _ _ (left_out (nat_le (steps_of_parts (parts (pattern d))) max_steps) d all_told refused))
 
 -- one whose lookaheads are not told makes `LookAhead` one
-ahead_of : (text : List ℕ) (o : Option Disjunction) (p : Pattern) → IsSpelled o text → IsFormed o → Some p ≡ option_map pattern o → are_told p ≡ false
-    → IsReason text LookAhead
+ahead_of : (text : List ℕ) (o : Option Disjunction) (p : Pattern) → IsSpelled o text → IsFormed o → Some p ≡ option_map pattern o
+    → are_parts_told (parts p) ≡ false → IsReason text LookAhead
 ahead_of text None p w f some told = absurd (not_some p some)
-ahead_of text (Some d) p w f some told = (d, f, w, ap are_told (sym (same_pattern p (pattern d) some)) ∙ told)
+ahead_of text (Some d) p w f some told = (d, f, w, ap (λ q. are_parts_told (parts q)) (sym (same_pattern p (pattern d) some)) ∙ told)
 
 -- a text that is short is read as it is
 all_read : (text : List ℕ) → length text ≤ max_length → read_short text ≡ read text
@@ -382,14 +392,14 @@ all_read text short = ap (λ (b : Bool). if b then read text else None) (le-leb 
 
 -- a text that is short, apart and read as a tree, and is not taken, is too large where its lookaheads are told
 pub too_large : (text : List ℕ) (p : Pattern) → length text ≤ max_length → Some p ≡ option_map pattern (read_short text) → is_apart text ≡ true
-    → are_told p ≡ true → takes_pattern text ≡ false → IsReason text TooLarge
+    → are_parts_told (parts p) ≡ true → takes_pattern text ≡ false → IsReason text TooLarge
 too_large text p short some apart told refused =
     large_of text (read text) p (sound text) (read_formed text) (some ∙ ap (option_map pattern) (all_read text short)) told
     (ap (λ o. is_some (told_tree (small_tree o))) (sym (all_read text short))
     ∙ ap (λ (b : Bool). is_some (if b then told_tree (small_tree (read_short text)) else None)) (sym apart) ∙ refused)
 
 -- and else has one that is not told
-pub looks_ahead_far : (text : List ℕ) (p : Pattern) → length text ≤ max_length → Some p ≡ option_map pattern (read_short text) → are_told p ≡ false
-    → IsReason text LookAhead
+pub looks_ahead_far : (text : List ℕ) (p : Pattern) → length text ≤ max_length → Some p ≡ option_map pattern (read_short text)
+    → are_parts_told (parts p) ≡ false → IsReason text LookAhead
 looks_ahead_far text p short some told =
     ahead_of text (read text) p (sound text) (read_formed text) (some ∙ ap (option_map pattern) (all_read text short)) told

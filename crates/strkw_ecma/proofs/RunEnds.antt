@@ -1,5 +1,7 @@
 -- Code points that the runs of Unicode's tables, sets and classes have alike.
-use Rattle.std.proofs.Common.{◌≡◌, ℕ, ◌+◌, ◌*◌, ◌/◌, ◌%◌, ◌<◌, ◌||◌, Bool, List, ◌∷◌, Vec, Global, length, drop, get_or, map, slice_index, sym, ap, subst, ◌∙◌, if◌then◌else◌}
+use Rattle.std.proofs.Common.{◌≡◌, ℕ, ◌+◌, ◌*◌, ◌/◌, ◌%◌, ◌<◌, ◌||◌, Bool, List, ◌∷◌, Vec, Global}
+use Rattle.std.proofs.Common.{length, drop, get_or, map, slice_index, sym, ap, subst, ◌∙◌}
+use Rattle.std.proofs.Common.{if◌then◌else◌}
 use Rattle.std.proofs.lemmas.List.{drop_more}
 use Rattle.ucd_table.specs.Steps.{run_value, unpack}
 use Rattle.ucd_table.proofs.StepsLemmas.{step_value-here, run_value-drop}

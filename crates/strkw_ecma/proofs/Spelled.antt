@@ -20,8 +20,12 @@ use Rattle.strkw_ecma.specs.Syntax.{group_spelling, lookbehind_spelling, lookahe
 use Rattle.strkw_ecma.specs.machine.Reading.{Open, Outer, Level, Last, none, atom, counted, fresh, Mode, between, escaping, opening, extending, class_opened}
 use Rattle.strkw_ecma.specs.machine.Reading.{Count, low, high, counting, with_count, longer, on_low, on_high, on_count, range_read, in_class, class_escaping}
 use Rattle.strkw_ecma.specs.machine.Reading.{coding, class_coding, in_property, in_class_property, naming, name_escaping, name_coding, with_name_char}
-use Rattle.strkw_ecma.specs.machine.Reading.{name_read, look_read, on_naming, on_name_escape, on_name_coding, on_coding, on_property, tree_if, closes, is_between, State}
-use Rattle.strkw_ecma.specs.machine.Reading.{ended, level_ended, new_level, with_atom, with_term, with_mode, enclosed, closed_in, closed, with_quantifier, questioned}
+use Rattle.strkw_ecma.specs.machine.Reading.{name_read, look_read, on_naming, on_name_escape}
+use Rattle.strkw_ecma.specs.machine.Reading.{on_name_coding, on_coding, on_property, tree_if}
+use Rattle.strkw_ecma.specs.machine.Reading.{closes, is_between, State}
+use Rattle.strkw_ecma.specs.machine.Reading.{ended, level_ended, new_level, with_atom, with_term}
+use Rattle.strkw_ecma.specs.machine.Reading.{with_mode, enclosed, closed_in, closed}
+use Rattle.strkw_ecma.specs.machine.Reading.{with_quantifier, questioned}
 use Rattle.strkw_ecma.specs.machine.Reading.{opened, opened_within, on_token, on_group, on_extension, on_escape, on_class, next, next_in, read_from, initial}
 use Rattle.strkw_ecma.specs.machine.Reading.{read}
 use Rattle.strkw_ecma.specs.Numbers.{number, number_of, max_count, CountToken, digit, comma, closing_brace, no_count, count_token}

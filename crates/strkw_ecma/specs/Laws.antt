@@ -9,8 +9,8 @@ use Rattle.strkw_ecma.specs.Sets.{word_characters}
 use Rattle.strkw_ecma.specs.declared.tree.CharSet.{CharSet}
 use Rattle.strkw_ecma.specs.Codes.{max_code_point}
 use Rattle.strkw_ecma.specs.Lookahead.{is_apart}
-use Rattle.strkw_ecma.specs.Size.{steps, max_steps}
-use Rattle.strkw_ecma.specs.Glances.{are_told}
+use Rattle.strkw_ecma.specs.Size.{max_steps}
+use Rattle.strkw_ecma.specs.Front.{parts, steps_of_parts, are_parts_told}
 use Rattle.strkw_ecma.specs.Meaning.{Found}
 use Rattle.strkw_ecma.specs.Patterns.{pattern}
 use Rattle.strkw_ecma.specs.machine.Outcomes.{takes_pattern, pattern_outcome}
@@ -47,9 +47,9 @@ pub record IsPattern (source : List ℕ) (d : Disjunction) : Type 0 where
   pub apart : is_apart source ≡ true
   -- no two groups have the same name
   pub distinct : are_distinct (names d) ≡ true
-  pub small : steps (pattern d) ≤ max_steps
-  -- what each lookahead looks for is told by the next character
-  pub told : are_told (pattern d) ≡ true
+  pub small : steps_of_parts (parts (pattern d)) ≤ max_steps
+  -- what each lookahead looks for is told by the next character, but at the front behind `^`
+  pub told : are_parts_told (parts (pattern d)) ≡ true
 
 -- what is taken is a pattern, each pattern is taken, it has one tree, and it comes to a match
 -- exactly where that is found, and to none elsewhere

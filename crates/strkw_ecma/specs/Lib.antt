@@ -16,6 +16,7 @@ pub mod Names
 pub mod Syntax
 pub mod Patterns
 pub mod WellFormed
+pub mod Front
 pub mod Laws
 pub mod Refusals
 -- How the code reads and searches: the laws say that it comes to the same.

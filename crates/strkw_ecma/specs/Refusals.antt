@@ -8,14 +8,15 @@ use Rattle.strkw_ecma.specs.Properties.{Expression, alone, valued, property_of, 
 use Rattle.strkw_ecma.specs.Properties.{property_spelling}
 use Rattle.strkw_ecma.specs.Size.{steps, max_term_steps, max_steps}
 use Rattle.strkw_ecma.specs.Patterns.{pattern, atom_pattern, times, copies}
-use Rattle.strkw_ecma.specs.Glances.{are_told}
+use Rattle.strkw_ecma.specs.Front.{parts, steps_of_parts, are_parts_told}
 use Rattle.strkw_ecma.specs.Syntax.{Disjunction, spelling, Enclosing, enclosing_spelling, Atom}
 use Rattle.strkw_ecma.specs.Syntax.{atom_spelling, Quantifier, quantifier_spelling, max_nesting}
 use Rattle.strkw_ecma.specs.Syntax.{max_length}
 use Rattle.strkw_ecma.specs.WellFormed.{IsWellFormed, IsEnclosing, IsAtom}
 use Rattle.strkw_ecma.specs.declared.refusals.PatternRefusal.{PatternRefusal}
 use Rattle.strkw_ecma.specs.declared.refusals.PatternRefusal.TheVariants.{LookAhead}
-use Rattle.strkw_ecma.specs.declared.refusals.PatternRefusal.TheVariants.{BackReference, Property}
+use Rattle.strkw_ecma.specs.declared.refusals.PatternRefusal.TheVariants.{BackReference, IdentityEscape}
+use Rattle.strkw_ecma.specs.declared.refusals.PatternRefusal.TheVariants.{Property}
 use Rattle.strkw_ecma.specs.declared.refusals.PatternRefusal.TheVariants.{TooLong, TooDeep}
 use Rattle.strkw_ecma.specs.declared.refusals.PatternRefusal.TheVariants.{CountTooGreat}
 use Rattle.strkw_ecma.specs.declared.refusals.PatternRefusal.TheVariants.{TermTooLarge, TooLarge}
@@ -46,6 +47,12 @@ HasTerm part text = (n : ℕ) × HasTermWithin n part text
 abbrev pub is_reference : ℕ → Bool
 is_reference = is_one_of (codes "123456789k")
 
+-- behind a backslash: a character that stands for itself without the flag `u` (22.2.1,
+-- IdentityEscape), and in Unicode mode only where nothing is before it. It is one of ASCII that is
+-- no letter, no digit, no blank, no SyntaxCharacter and no `/`
+abbrev pub is_needlessly_escaped : ℕ → Bool
+is_needlessly_escaped = is_one_of (codes "!\"#%&',-:;<=>@_`~")
+
 abbrev pub is_empty : List ℕ → Bool
 is_empty [] = true
 is_empty (c ∷ cs) = false
@@ -70,10 +77,14 @@ IsTooLong text = max_length < length text
 
 -- what a refusal says of the text of a pattern that is not taken
 abbrev pub IsReason : List ℕ → PatternRefusal → Type 0
--- the whole is well formed, and a lookahead in it looks for more than the next character tells
+-- the whole is well formed, and a lookahead in it, but at the front behind `^`, looks for more than
+-- the next character tells
 IsReason text LookAhead =
-    (d : Disjunction) × IsWellFormed 0 d × (spelling d ≡ text) × (are_told (pattern d) ≡ false)
+    (d : Disjunction) × IsWellFormed 0 d × (spelling d ≡ text)
+    × (are_parts_told (parts (pattern d)) ≡ false)
 IsReason text BackReference = (c : ℕ) × (is_reference c ≡ true) × HasTerm (byte "\\" ∷ c ∷ []) text
+IsReason text (IdentityEscape c) =
+    (is_needlessly_escaped c ≡ true) × HasTerm (byte "\\" ∷ c ∷ []) text
 IsReason text Property =
     (b : Bool) × (e : Expression) × (has_property_chars e ≡ true) × (is_unknown e ≡ true)
     × Has (byte "\\" ∷ property_spelling b e) text
@@ -90,6 +101,7 @@ IsReason text TermTooLarge =
     × HasTermWithin n (atom_spelling a ++ quantifier_spelling q) text
 -- the whole is well formed
 IsReason text TooLarge =
-    (d : Disjunction) × IsWellFormed 0 d × (spelling d ≡ text) × (max_steps < steps (pattern d))
+    (d : Disjunction) × IsWellFormed 0 d × (spelling d ≡ text)
+    × (max_steps < steps_of_parts (parts (pattern d)))
 -- nothing more than that it is not taken
 IsReason text NotTaken = Unit {0}

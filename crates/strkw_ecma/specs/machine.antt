@@ -4,6 +4,7 @@ pub mod Shape
 pub mod Walk
 pub mod Machine
 pub mod Sizes
+pub mod Fronts
 pub mod CodeReading
 pub mod PropertyReading
 pub mod CodeParts

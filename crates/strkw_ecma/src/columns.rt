@@ -42,8 +42,8 @@ pub(crate) fn place_of(keys: &[u64], key: u64) -> Option<usize>
     None
 }
 
-/// The classes that are asked about a character, the answers that have a column, in the order of the columns, the columns
-/// of the characters that are one byte, and the pages with the columns of all.
+/// The classes that are asked about a character, the answers that have a column, in the order of the columns, the
+/// columns of the characters that are one byte, and the pages with the columns of all.
 #[derive(Drop)]
 pub(crate) struct Columns {
     pub(crate) classes: Vec<Vec<CharSet>>,

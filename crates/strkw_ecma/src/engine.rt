@@ -1,41 +1,94 @@
 //! The engine, and what builds it.
 
-ghost use Rattle.std.specs.Prelude.{◌≡◌, true, Some, IsOk};
+ghost use Rattle.std.specs.Prelude.{◌≡◌, ◌≤◌, ◌++◌, List, true, IfOk, IsOk};
 ghost use Rattle.std.specs.Str.{chars};
-ghost use Rattle.strkw_ecma.specs.machine.Searches.{IsSearchedBy};
-ghost use Rattle.strkw_ecma.specs.declared.table.Table.{Table};
-ghost use Rattle.strkw_ecma.specs.Glances.{are_told};
-ghost use Rattle.strkw_ecma.specs.machine.Marks.{is_clean};
-ghost use Rattle.strkw_ecma.specs.machine.Machine.{pattern_of};
+ghost use Rattle.strkw_ecma.specs.Front.{Part, parts, steps_of_parts, are_parts_told};
+ghost use Rattle.strkw_ecma.specs.Size.{max_steps};
+ghost use Rattle.strkw_ecma.specs.machine.Engine.{engine_parts, finder_parts, have_tables as spec_have_tables};
+ghost use Rattle.strkw_ecma.specs.machine.Fronts.{parts_view};
 ghost use Rattle.strkw_ecma.specs.machine.Outcomes.{takes_pattern, pattern_outcome};
+ghost use Rattle.strkw_ecma.specs.machine.Search.{are_parts_clean, are_parts_found};
+ghost use Rattle.strkw_ecma.specs.machine.Shape.{is_plain, outlined};
 
-use crate::finding::is_found;
-use crate::making::table_of;
-use crate::program::Program;
-use crate::reader::read;
-use crate::table::Table;
+use crate::finder::{Finder, FrontFinder};
+use crate::front::Front;
+use crate::outline::Outline;
+use crate::reader::outline_of;
 use std::alloc::{AllocError, Global};
 use strkw_pattern::{BuildRefusal, EngineBuilder, EngineFailure, RegexEngine};
 
 /// A pattern that is ready to be matched. `EcmaPatterns` builds it.
 #[derive(Drop)]
 pub struct EcmaMatcher {
-    program: Program,
-    table: Option<Table>,
-    ghost clean: { is_clean (pattern_of program) ≡ true },
-    ghost told: { are_told (pattern_of program) ≡ true },
-    ghost exact: { (t : Table) → table ≡ Some t → IsSearchedBy t (pattern_of program) },
+    rest: Finder,
+    fronts: Vec<FrontFinder>,
 }
 
 impl EcmaMatcher {
     ghost use Rattle.strkw_ecma.specs.machine.Engine.{has_table as spec_has_table};
 
-    /// Whether matches are read off a table.
+    /// Whether matches are read off tables: one for each lookahead that is looked for by itself, and one for the rest.
     pub fn has_table(&self) -> bool
         ensures { result ≡ spec_has_table self.now }
     {
-        self.table.is_some()
+        self.rest.table.is_some() && have_tables(&self.fronts)
     }
+
+    // The engine of what was read.
+    fn of(alloc: Global, outline: Outline) -> Result<EcmaMatcher, AllocError>
+        requires plain { is_plain outline ≡ true }
+        requires clean { are_parts_clean (parts (outlined outline)) ≡ true }
+        requires small { steps_of_parts (parts (outlined outline)) ≤ max_steps }
+        requires told { are_parts_told (parts (outlined outline)) ≡ true }
+        ensures { IfOk result (λ e. engine_parts e ≡ parts (outlined outline)) }
+    {
+        let mut fronts = Vec::new(alloc);
+        let cut = outline.cut(alloc, &mut fronts)?;
+        Ok(EcmaMatcher {
+            rest: Finder::of(alloc, cut.rest)?,
+            fronts: finders_of(alloc, fronts)?,
+        })
+    }
+}
+
+fn have_tables(fronts: &[FrontFinder]) -> bool
+    ensures { result ≡ spec_have_tables fronts.now }
+{
+    for front in fronts {
+        if front.finder.table.is_none() {
+            return false;
+        }
+    }
+    true
+}
+
+// What looks for each of these parts.
+fn finders_of(alloc: Global, parts: Vec<Front>) -> Result<Vec<FrontFinder>, AllocError>
+    requires clean { are_parts_clean (parts_view parts.items) ≡ true }
+    requires small { steps_of_parts (parts_view parts.items) ≤ max_steps }
+    requires told { are_parts_told (parts_view parts.items) ≡ true }
+    ensures { IfOk result (λ made. finder_parts made.items ≡ parts_view parts.items) }
+{
+    let mut left = parts;
+    let mut finders = Vec::new(alloc);
+    'parts: while !left.is_empty() {
+        let Front { negated, pattern } = left.remove(0);
+        let finder = Finder::of(alloc, pattern)?;
+        finders.push(FrontFinder { negated, finder })?;
+    }
+    Ok(finders)
+}
+
+// Whether each part is found in the text, or is not, as it is to be.
+fn are_found(fronts: &[FrontFinder], text: &str) -> bool
+    ensures { result ≡ are_parts_found (finder_parts fronts.now) (chars text.now) }
+{
+    for front in fronts {
+        if front.finder.is_found(text) == front.negated {
+            return false;
+        }
+    }
+    true
 }
 
 impl RegexEngine for EcmaMatcher {
@@ -44,23 +97,22 @@ impl RegexEngine for EcmaMatcher {
 
     ghost outcome = { engine_outcome };
 
-    /// Whether the pattern is found in the text (RegExpBuiltinExec, ECMA-262 2024, section 22.2.7.2), in one pass. It
-    /// takes no memory, and there is no error.
+    /// Whether the pattern is found in the text (RegExpBuiltinExec, ECMA-262 2024, section 22.2.7.2), in one pass, and
+    /// one more for each look-ahead at its front that is looked for by itself. It takes no memory, and there is no
+    /// error.
     fn is_match(&self, _alloc: Global, text: &str) -> Result<bool, EngineFailure>
         ensures answer { IsAnswer (engine_outcome self.now (chars text.now)) result }
         ensures never_fails { IsOk result }
     {
-        match &self.table {
-            Some(table) => Ok(table.is_found(text)),
-            None => Ok(is_found(&self.program, text)),
-        }
+        Ok(self.rest.is_found(text) && are_found(&self.fronts, text))
     }
 }
 
 /// Builds engines of patterns of ECMA-262 2024 in Unicode mode (`Pattern`, section 22.2.1), of this part of its syntax:
 /// - alternatives with `|`, and groups with `( )`, `(?: )` and `(?<name> )`, whose names are read and told nowhere;
 /// - the assertions `^`, `$`, `\b`, `\B`, look-behinds with `(?<= )` and `(?<! )`, and look-aheads with `(?= )` and
-///   `(?! )` for one character of a class, an assertion, nothing, or alternatives of these; no quantifier follows them;
+///   `(?! )` for one character of a class, an assertion, nothing, or alternatives of these; at the front of the whole
+///   pattern, behind `^`, for any pattern whose own look-aheads are such; no quantifier follows them;
 /// - behind an atom `*`, `+`, `?`, `{n}`, `{n,}` or `{n,m}`, and a `?` behind that, which changes no answer;
 /// - `.`; a character that is none of `^ $ \ . * + ? ( ) [ ] { } |`; `\` before one of those or `/`; `\f \n \r \t \v`;
 ///   `\d \D \s \S \w \W`;
@@ -94,10 +146,10 @@ impl EngineBuilder for EcmaPatterns {
     /// `BuildRefusal::Memory` where it is out of memory.
     #[tactic(auto, using(crate::proofs::Exact::clean_of, crate::proofs::Exact::outcome_of_it, crate::proofs::Exact::some_of, crate::proofs::Exact::none_of))]
     fn build(&self, alloc: Global, pattern: &str) -> Result<EcmaMatcher, BuildRefusal> {
-        match read(alloc, pattern) {
-            Ok(Some(program)) => match table_of(alloc, &program) {
-                Ok(table) => Ok(EcmaMatcher { program, table }),
-                Err(_) => Err(BuildRefusal::Memory),
+        match outline_of(alloc, pattern) {
+            Ok(Some(outline)) => match EcmaMatcher::of(alloc, outline) {
+                Ok(engine) => Ok(engine),
+                Err(AllocError) => Err(BuildRefusal::Memory),
             },
             Ok(None) => Err(BuildRefusal::Pattern),
             Err(AllocError) => Err(BuildRefusal::Memory),

@@ -1,9 +1,8 @@
 //! Which lookaheads the next character tells.
 
-ghost use Rattle.std.specs.Prelude.{◌≡◌, option_map};
+ghost use Rattle.std.specs.Prelude.{◌≡◌};
 ghost use Rattle.strkw_ecma.specs.Glances.{is_glance as spec_is_glance, are_told};
 ghost use Rattle.strkw_ecma.specs.machine.Shape.{outlined, quantifier_of, is_never as spec_is_never};
-ghost use Rattle.strkw_ecma.specs.machine.Parts.{told_pattern};
 
 use crate::outline::{Outline, Quantifier};
 
@@ -17,9 +16,9 @@ impl Quantifier {
 }
 
 impl Outline {
-    // Whether the next character tells what a lookahead for it finds.
+    /// Whether the next character tells what a lookahead for it finds.
     #[cycle(is_glance)]
-    fn is_glance(&self) -> bool
+    pub(crate) fn is_glance(&self) -> bool
         ensures { result ≡ spec_is_glance (outlined self.now) }
     {
         match self {
@@ -59,21 +58,5 @@ impl Outline {
             | Outline::Boundary
             | Outline::NoBoundary => true,
         }
-    }
-}
-
-/// The outline, where that is so of it.
-pub(crate) fn if_told(outline: Option<Outline>) -> Option<Outline>
-    ensures { option_map outlined result ≡ told_pattern (option_map outlined outline) }
-{
-    match outline {
-        Some(outline) => {
-            if outline.is_told() {
-                Some(outline)
-            } else {
-                None
-            }
-        }
-        None => None,
     }
 }

@@ -3,11 +3,12 @@
 ghost use Rattle.std.specs.Prelude.{ℕ, ◌*◌, ◌≤◌, ◌↔◌, true, List, length};
 ghost use Rattle.strkw_ecma.specs.Laws.{AreComplements, any_character, IsExact, IsPattern};
 ghost use Rattle.strkw_ecma.specs.Laws.{word_edge, no_word_edge};
-ghost use Rattle.strkw_ecma.specs.Tree.{start, end, boundary, no_boundary, look, lookbehind, lookahead};
-ghost use Rattle.strkw_ecma.specs.Meaning.{Matches};
+ghost use Rattle.strkw_ecma.specs.Tree.{Pattern, start, end, boundary, no_boundary, look, lookbehind, lookahead};
+ghost use Rattle.strkw_ecma.specs.Front.{AreFound, parts};
+ghost use Rattle.strkw_ecma.specs.Meaning.{Found, Matches};
 ghost use Rattle.strkw_ecma.specs.Syntax.{Disjunction};
 ghost use Rattle.strkw_ecma.specs.Size.{max_steps};
-ghost use Rattle.strkw_ecma.specs.machine.Counted.{IsSearchedWithin};
+ghost use Rattle.strkw_ecma.specs.machine.Counted.{AreSearchedWithin};
 ghost use Rattle.strkw_ecma.specs.Patterns.{pattern};
 ghost use Rattle.strkw_ecma.specs.Sets.{digits, non_digits, white_space, non_white_space, word_characters, non_word_characters};
 
@@ -25,12 +26,13 @@ pub fn negative_sets_are_complements()
     ensures words { AreComplements word_characters non_word_characters }
 {}
 
-/// The search by the program of each pattern that is taken, with its steps counted, comes to the answer of the
-/// definition, in at most 5,200 steps for each character of the text and for its end. A step is an instruction that
-/// is asked, backwards or forwards, and of a class one more for each eight ranges and for each property.
+/// The searches by the programs of the parts of each pattern that is taken, with their steps counted, come to the
+/// answers of the definition, in at most 5,200 steps together for each character of the text and for its end. A step is
+/// an instruction that is asked, backwards or forwards, and of a class one more for each eight ranges and for each
+/// property.
 pub fn searches_are_bounded()
     ensures { (source : List ℕ) (d : Disjunction) → IsPattern source d
-        → (text : List ℕ) → IsSearchedWithin (2 * max_steps) (pattern d) text }
+        → (text : List ℕ) → AreSearchedWithin (2 * max_steps) (parts (pattern d)) text }
 {}
 
 /// `^` holds exactly where `(?<![^])` does: at a place before which no character stands.
@@ -51,4 +53,10 @@ pub fn boundaries_are_lookarounds()
         → Matches text (look boundary) i j ↔ Matches text word_edge i j }
     ensures no_boundary { (text : List ℕ) (i j : ℕ)
         → Matches text (look no_boundary) i j ↔ Matches text no_word_edge i j }
+{}
+
+/// A pattern is found exactly where all its parts are, or where one is negated, is not: the lookaheads at its front
+/// that look for more than the next character, each from the beginning of the text on, and the rest.
+pub fn patterns_have_parts()
+    ensures { (p : Pattern) (text : List ℕ) → Found p text ↔ AreFound (parts p) text }
 {}

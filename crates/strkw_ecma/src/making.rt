@@ -6,7 +6,7 @@ ghost use Rattle.strkw_ecma.specs.machine.Columns.{answers as spec_answers};
 ghost use Rattle.strkw_ecma.specs.machine.Marks.{classes as spec_classes, is_clean};
 ghost use Rattle.strkw_ecma.specs.machine.Machine.{pattern_of};
 ghost use Rattle.strkw_ecma.specs.machine.Searches.{IsSearchedBy};
-ghost use Rattle.strkw_ecma.specs.machine.Table.{found, AreEntries, AreRows, IsDraft, IsTable};
+ghost use Rattle.strkw_ecma.specs.machine.Table.{found, AreRows, IsDraft, IsTable};
 
 use crate::columns::{MOST_COLUMNS, answers, tells};
 use crate::program::{Program, Room};
@@ -47,45 +47,8 @@ struct Draft {
 }
 
 impl Draft {
-    // The entries of a state and the characters that stand for the columns. Whether there is a place for the rows that
-    // they lead to.
-    fn add_entries(
-        &mut self,
-        alloc: Global,
-        program: &Program,
-        room: &mut Room,
-        at_hand: &mut [bool],
-        samples: &[char],
-        number: usize,
-    ) -> Result<bool, AllocError>
-        requires fits { spec_classes (pattern_of program.now) ≤ length at_hand.old }
-        requires few { length samples.now < 256 }
-        ensures length { length at_hand.new ≡ length at_hand.old }
-        ensures right { IfOk result (λ are_added. IsTrue are_added
-            → AreEntries (pattern_of program.now) samples.now self.old.entries.items
-            self.new.entries.items self.old.states.items self.new.states.items
-            number (length samples.now)) }
-    {
-        let end = samples.len();
-        for sample in samples {
-            match entry_of(
-                alloc,
-                &mut self.states,
-                program,
-                room,
-                at_hand,
-                number,
-                end,
-                *sample,
-            )? {
-                Some(entry) => self.entries.push(entry)?,
-                None => return Ok(false),
-            }
-        }
-        Ok(true)
-    }
-
-    // The row of a state, behind the rows of those before it. Whether there is a place for the rows that it leads to.
+    // The row of a state, behind the rows of those before it: an entry for each character that stands for a column, and
+    // the entry of the end of a text. Whether there is a place for the rows that it leads to.
     fn add_row(
         &mut self,
         alloc: Global,
@@ -105,8 +68,21 @@ impl Draft {
             → IsDraft (pattern_of program.now) samples.now self.new.entries.items
             self.new.states.items (number + 1)) }
     {
-        if !self.add_entries(alloc, program, room, at_hand, samples, number)? {
-            return Ok(false);
+        let end = samples.len();
+        for sample in samples {
+            match entry_of(
+                alloc,
+                &mut self.states,
+                program,
+                room,
+                at_hand,
+                number,
+                end,
+                *sample,
+            )? {
+                Some(entry) => self.entries.push(entry)?,
+                None => return Ok(false),
+            }
         }
         let Some(state) = self.states.get(number) else {
             return Ok(false);
@@ -162,7 +138,8 @@ impl Draft {
     fn is_table(&self, sampled: &Sampled, program: &Program) -> bool
         requires { AreRows (pattern_of program.now) sampled.now.samples.items
             self.now.entries.items self.now.states.items }
-        ensures { IsTrue result → IsTable sampled.now.columns.classes.items sampled.now.columns.keys.items
+        ensures { IsTrue result
+            → IsTable sampled.now.columns.classes.items sampled.now.columns.keys.items
             sampled.now.samples.items self.now.entries.items self.now.states.items
             (pattern_of program.now) }
     {

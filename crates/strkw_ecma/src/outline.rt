@@ -1,10 +1,10 @@
 //! Patterns as they are read: a term that is repeated stands once, beside its quantifier. A program has its copies.
 
-ghost use Rattle.std.specs.Prelude.{◌≡◌, false, IfOk, MatchOption};
+ghost use Rattle.std.specs.Prelude.{◌≡◌, true, false, IfOk, MatchOption};
 ghost use Rattle.strkw_ecma.specs.Tree.{class as spec_class, cat, alt, lookbehind, lookahead};
 ghost use Rattle.strkw_ecma.specs.Patterns.{quantified_pattern};
 ghost use Rattle.strkw_ecma.specs.Program.{is_class, is_empty};
-ghost use Rattle.strkw_ecma.specs.machine.Shape.{outlined, quantifier_of};
+ghost use Rattle.strkw_ecma.specs.machine.Shape.{is_plain, outlined, quantifier_of};
 
 use crate::tree::CharSet;
 use std::alloc::{AllocError, Global};
@@ -39,13 +39,15 @@ pub(crate) enum Outline {
 
 impl Outline {
     pub(crate) fn then(self, alloc: Global, second: Outline) -> Result<Outline, AllocError>
-        ensures { IfOk result (λ t. outlined t ≡ cat (outlined self) (outlined second)) }
+        ensures pattern { IfOk result (λ t. outlined t ≡ cat (outlined self) (outlined second)) }
+        ensures plain { IfOk result (λ t. is_plain t ≡ is_plain self) }
     {
         Ok(Outline::Then(Box::new(alloc, self)?, Box::new(alloc, second)?))
     }
 
     pub(crate) fn or(self, alloc: Global, other: Outline) -> Result<Outline, AllocError>
-        ensures { IfOk result (λ t. outlined t ≡ alt (outlined self) (outlined other)) }
+        ensures pattern { IfOk result (λ t. outlined t ≡ alt (outlined self) (outlined other)) }
+        ensures plain { IfOk result (λ t. is_plain t ≡ true) }
     {
         Ok(Outline::Or(Box::new(alloc, self)?, Box::new(alloc, other)?))
     }

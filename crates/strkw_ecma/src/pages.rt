@@ -4,6 +4,7 @@
 ghost use Rattle.std.specs.Prelude.{◌≡◌, ◌*◌, ◌+◌, ◌/◌, ◌≤◌, ◌<◌, ℕ, length, get_or, Some, IsTrue, IfOk, IfSome};
 ghost use Rattle.strkw_ecma.specs.machine.Columns.{column_of, cell_of as spec_cell_of, ShareColumn, ArePaged, ArePages};
 ghost use Rattle.strkw_ecma.specs.machine.Table.{IsFront};
+ghost use Rattle.std.specs.Char.{InScalarRange};
 
 use crate::columns::{MOST_COLUMNS, answers, place_of};
 use crate::ends::{Ends, UNICODE_END};
@@ -132,30 +133,31 @@ impl Pages {
         }
     }
 
-    // The cells of a page of several runs, from its first code point on. The run that goes on behind it.
-    fn add_cells(
+    // The cells of a page of several runs, from its first code point on, and the run that goes on behind it.
+    fn cells_of(
         &mut self,
         classes: &[Vec<CharSet>],
         ends: &mut Ends,
         run: Run,
         first: u32,
-    ) -> Result<Option<Run>, AllocError>
+    ) -> Result<Option<([u8; PAGE], Run)>, AllocError>
         requires few { length classes.now ≤ 64 }
         requires few_pages { length self.old.pages.items < 4352 }
+        requires within { first + 256 ≤ 0x110000 }
         requires paged { ArePaged classes.now self.old.keys.items self.old.plain.items
             self.old.pages.items self.old.cells.items }
-        requires first { first ≡ length self.old.pages.items * 256 }
         requires end { run.end ≤ 0x110000 }
         requires shared { ShareColumn classes.now self.old.keys.items first run.end run.column }
-        ensures shared { IfOk result (λ r. IfSome r (λ next.
-            ShareColumn classes.now self.new.keys.items (length self.new.pages.items * 256)
-            next.end next.column)) }
-        ensures end { IfOk result (λ r. IfSome r (λ next. next.end ≤ 0x110000)) }
+        ensures right { IfOk result (λ r. IfSome r (λ made. (j : ℕ) → j < 256
+            → InScalarRange (first + j) → column_of classes.now self.new.keys.items (first + j)
+            ≡ Some (get_or made.0 j 0))) }
+        ensures shared { IfOk result (λ r. IfSome r (λ made.
+            ShareColumn classes.now self.new.keys.items (first + 256) made.1.end made.1.column)) }
+        ensures end { IfOk result (λ r. IfSome r (λ made. made.1.end ≤ 0x110000)) }
         ensures paged { IfOk result (λ r. IfSome r (λ _.
             ArePaged classes.now self.new.keys.items self.new.plain.items
             self.new.pages.items self.new.cells.items)) }
-        ensures pages { IfOk result (λ r. IfSome r (λ _.
-            length self.new.pages.items ≡ length self.old.pages.items + 1)) }
+        ensures pages { self.new.pages ≡ self.old.pages }
     {
         let mut page = [0; PAGE];
         let mut run = run;
@@ -169,9 +171,7 @@ impl Pages {
             place = end;
             run = next;
         }
-        self.pages.push(self.cells.len() as u16)?;
-        self.cells.push(page)?;
-        Ok(Some(run))
+        Ok(Some((page, run)))
     }
 
     // One more page, from its first code point on, and where one run has all of it, each that this run has all of. The
@@ -205,7 +205,13 @@ impl Pages {
             return Ok(None);
         };
         if run.end - first < PAGE as u32 {
-            return self.add_cells(classes, ends, run, first);
+            let Some(made) = self.cells_of(classes, ends, run, first)? else {
+                return Ok(None);
+            };
+            let page = made.0;
+            self.pages.push(self.cells.len() as u16)?;
+            self.cells.push(page)?;
+            return Ok(Some(made.1));
         }
         let Some(cells) = self.plain.get(usize::from(run.column)) else {
             return Ok(None);

@@ -1,10 +1,9 @@
 //! How a pattern is read, character by character.
 
-ghost use Rattle.std.specs.Prelude.{◌≡◌, Some, IfOk, is_some, option_map, ◌==◌};
+ghost use Rattle.std.specs.Prelude.{◌≡◌, true, Some, IfOk, IfSome, is_some, option_map, ◌==◌};
 ghost use Rattle.std.specs.Str.{chars, byte};
 ghost use Rattle.strkw_ecma.specs.Patterns.{pattern};
-ghost use Rattle.strkw_ecma.specs.machine.Shape.{outlined};
-ghost use Rattle.strkw_ecma.specs.machine.Machine.{pattern_of};
+ghost use Rattle.strkw_ecma.specs.machine.Shape.{is_plain, outlined};
 ghost use Rattle.strkw_ecma.specs.Syntax.{token as spec_token};
 ghost use Rattle.strkw_ecma.specs.Names.{extension as spec_extension};
 ghost use Rattle.strkw_ecma.specs.Escapes.{escape as spec_escape};
@@ -15,6 +14,7 @@ ghost use Rattle.strkw_ecma.specs.machine.Parts.{after_escape, after_token, afte
 mod classing;
 mod coding;
 mod counting;
+mod level;
 mod naming;
 mod property;
 mod refusing;
@@ -23,15 +23,14 @@ mod terms;
 use crate::classes::ClassReader;
 use crate::codes::{Coding, Wanted, Width};
 use crate::counts::Count;
-use crate::glances::if_told;
+use crate::front::if_taken;
 use crate::lookahead::is_apart;
 use crate::names::are_distinct;
 use crate::outline::{Outline, Quantifier};
-use crate::program::Program;
 use crate::properties::PropertyPart;
 use crate::sets::{control_char, dot, set};
-use crate::size::if_small;
 use crate::tokens::{Escape, Extension, Token};
+use level::Level;
 pub(crate) use refusing::refusal_of;
 use std::alloc::{AllocError, Global};
 use std::mem;
@@ -48,13 +47,6 @@ enum Last {
     None,
     Atom(Outline),
     Counted(Outline),
-}
-
-// The alternatives before the one that is read, and the terms of that one.
-#[derive(Drop)]
-struct Level {
-    earlier: Option<Outline>,
-    current: Outline,
 }
 
 // What a parenthesis has opened: a group, or a lookbehind or a lookahead, which is negated or not.
@@ -257,9 +249,10 @@ impl Reader {
 
     // The tree, where the pattern may end. It is taken out of this reader.
     fn end(&mut self, alloc: Global) -> Result<Option<Outline>, AllocError>
-        ensures { let s = parts_of self.old in
+        ensures tree { let s = parts_of self.old in
             IfOk result (λ t. option_map outlined t
             ≡ at_close s.outer s.level s.last (is_between s.mode)) }
+        ensures plain { IfOk result (λ o. IfSome o (λ t. is_plain t ≡ true)) }
     {
         if !self.may_end() {
             return Ok(None);
@@ -271,8 +264,9 @@ impl Reader {
     // The tree of a whole text, which this reader, a new one, reads.
     fn read(&mut self, alloc: Global, source: &str) -> Result<Option<Outline>, AllocError>
         requires { parts_of self.old ≡ no_parts }
-        ensures { IfOk result (λ t. option_map outlined t
+        ensures tree { IfOk result (λ t. option_map outlined t
             ≡ option_map pattern (spec_read_short (chars source.now))) }
+        ensures plain { IfOk result (λ o. IfSome o (λ t. is_plain t ≡ true)) }
     {
         let mut count = 0;
         for c in source.chars() {
@@ -292,29 +286,20 @@ impl Reader {
 // large, and which lookaheads look for too much.
 #[tactic(auto, using(crate::proofs::Parts::read_whole, crate::proofs::Parts::not_apart))]
 pub(crate) fn outline_of(alloc: Global, source: &str) -> Result<Option<Outline>, AllocError>
-    ensures { IfOk result (λ t. option_map outlined t
+    ensures tree { IfOk result (λ t. option_map outlined t
         ≡ option_map pattern (read_pattern (chars source.now))) }
+    ensures plain { IfOk result (λ o. IfSome o (λ t. is_plain t ≡ true)) }
 {
     if !is_apart(source) {
         return Ok(None);
     }
-    Ok(if_told(if_small(read_short(alloc, source)?)))
-}
-
-// The program of a pattern.
-pub(crate) fn read(alloc: Global, source: &str) -> Result<Option<Program>, AllocError>
-    ensures { IfOk result (λ t. option_map pattern_of t
-        ≡ option_map pattern (read_pattern (chars source.now))) }
-{
-    match outline_of(alloc, source)? {
-        Some(outline) => Ok(Some(Program::of(alloc, outline)?)),
-        None => Ok(None),
-    }
+    Ok(if_taken(read_short(alloc, source)?))
 }
 
 fn read_short(alloc: Global, source: &str) -> Result<Option<Outline>, AllocError>
-    ensures { IfOk result (λ t. option_map outlined t
+    ensures tree { IfOk result (λ t. option_map outlined t
         ≡ option_map pattern (spec_read_short (chars source.now))) }
+    ensures plain { IfOk result (λ o. IfSome o (λ t. is_plain t ≡ true)) }
 {
     let mut reader = Reader::new(alloc);
     reader.read(alloc, source)

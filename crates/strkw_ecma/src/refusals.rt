@@ -16,10 +16,15 @@ use std::fmt;
 /// Why a pattern is not taken. Each tells of what stands in it; `NotTaken` tells nothing more.
 #[derive(Clone, Copy, Debug, PartialEq, Eq)]
 pub enum PatternRefusal {
-    /// A look-ahead looks for more than one character of a class, an assertion, nothing, or alternatives of these.
+    /// A look-ahead looks for more than one character of a class, an assertion, nothing, or alternatives of these, and
+    /// does not stand at the front of the whole pattern behind `^`.
     LookAhead,
     /// `\` and one of `1` to `9`, or `\k`, stands where a term may.
     BackReference,
+    /// `\` and this character, one of ``!"#%&',-:;<=>@_`~``, stands where a term may. Without the flag `u` it stands for
+    /// the character itself (ECMA-262, 22.2.1 and B.1.2, IdentityEscape); in Unicode mode the character is written
+    /// alone.
+    IdentityEscape(char),
     /// `\p{ }` or `\P{ }` has a property that is not known here.
     Property,
     /// There are more than 2,000 characters.
@@ -44,6 +49,12 @@ impl fmt::Display for PatternRefusal {
                 f.write_str("it has a look-ahead of more than one character")
             }
             PatternRefusal::BackReference => f.write_str("it has a back reference"),
+            PatternRefusal::IdentityEscape(c) => {
+                write!(
+                    f,
+                    "\\{c} is valid only without the flag u: write {c} for it"
+                )
+            }
             PatternRefusal::Property => f.write_str("it has a property that is not known here"),
             PatternRefusal::TooLong => write!(f, "it has more than {MAX_LENGTH} characters"),
             PatternRefusal::TooDeep => write!(f, "its groups are more than {MAX_NESTING} deep"),

@@ -46,17 +46,13 @@ pub(crate) const WORD_CHARACTERS: [CharSet; 4] = [
     CharSet::Range('a', 'z'),
 ];
 
+#[rattlefmt::skip]
 const WHITE_SPACE: [CharSet; 10] = [
-    CharSet::Range('\t', '\r'),
-    CharSet::Range(' ', ' '),
-    CharSet::Range('\u{A0}', '\u{A0}'),
-    CharSet::Range('\u{1680}', '\u{1680}'),
-    CharSet::Range('\u{2000}', '\u{200A}'),
-    CharSet::Range('\u{2028}', '\u{2029}'),
-    CharSet::Range('\u{202F}', '\u{202F}'),
-    CharSet::Range('\u{205F}', '\u{205F}'),
-    CharSet::Range('\u{3000}', '\u{3000}'),
-    CharSet::Range('\u{FEFF}', '\u{FEFF}'),
+    CharSet::Range('\t', '\r'), CharSet::Range(' ', ' '),
+    CharSet::Range('\u{A0}', '\u{A0}'), CharSet::Range('\u{1680}', '\u{1680}'),
+    CharSet::Range('\u{2000}', '\u{200A}'), CharSet::Range('\u{2028}', '\u{2029}'),
+    CharSet::Range('\u{202F}', '\u{202F}'), CharSet::Range('\u{205F}', '\u{205F}'),
+    CharSet::Range('\u{3000}', '\u{3000}'), CharSet::Range('\u{FEFF}', '\u{FEFF}'),
 ];
 
 // The characters outside each set, up to the greatest.
@@ -70,17 +66,13 @@ const NON_WORD_CHARACTERS: [CharSet; 5] = [
     CharSet::Range('{', '\u{10FFFF}'),
 ];
 
+#[rattlefmt::skip]
 const NON_WHITE_SPACE: [CharSet; 11] = [
-    CharSet::Range('\0', '\u{8}'),
-    CharSet::Range('\u{E}', '\u{1F}'),
-    CharSet::Range('!', '\u{9F}'),
-    CharSet::Range('\u{A1}', '\u{167F}'),
-    CharSet::Range('\u{1681}', '\u{1FFF}'),
-    CharSet::Range('\u{200B}', '\u{2027}'),
-    CharSet::Range('\u{202A}', '\u{202E}'),
-    CharSet::Range('\u{2030}', '\u{205E}'),
-    CharSet::Range('\u{2060}', '\u{2FFF}'),
-    CharSet::Range('\u{3001}', '\u{FEFE}'),
+    CharSet::Range('\0', '\u{8}'), CharSet::Range('\u{E}', '\u{1F}'),
+    CharSet::Range('!', '\u{9F}'), CharSet::Range('\u{A1}', '\u{167F}'),
+    CharSet::Range('\u{1681}', '\u{1FFF}'), CharSet::Range('\u{200B}', '\u{2027}'),
+    CharSet::Range('\u{202A}', '\u{202E}'), CharSet::Range('\u{2030}', '\u{205E}'),
+    CharSet::Range('\u{2060}', '\u{2FFF}'), CharSet::Range('\u{3001}', '\u{FEFE}'),
     CharSet::Range('\u{FF00}', '\u{10FFFF}'),
 ];
 

@@ -1,12 +1,11 @@
 //! How many steps a search takes for a character, told of the outline of a pattern before there is a program.
 
-ghost use Rattle.std.specs.Prelude.{◌≡◌, ◌+◌, ◌*◌, nat_le, option_map};
+ghost use Rattle.std.specs.Prelude.{◌≡◌, ◌+◌, ◌*◌, nat_le};
 ghost use Rattle.strkw_ecma.specs.Tree.{empty, alt, star, plus};
 ghost use Rattle.strkw_ecma.specs.Patterns.{quantified_pattern, copies};
 ghost use Rattle.strkw_ecma.specs.Program.{glance, alternatives};
 ghost use Rattle.strkw_ecma.specs.machine.Shape.{outlined, quantifier_of};
 ghost use Rattle.strkw_ecma.specs.Size.{steps, steps_of, max_term_steps, set_cost, class_steps as spec_class_steps};
-ghost use Rattle.strkw_ecma.specs.machine.Parts.{small_pattern};
 ghost use Rattle.strkw_ecma.specs.machine.Sizes.{capped};
 
 use crate::outline::{Outline, Quantifier};
@@ -39,8 +38,8 @@ fn cap(steps: u64) -> u32
     steps.min(u64::from(TOO_MANY)) as u32
 }
 
-// Of both, and a few more.
-fn together(one: u32, other: u32, more: u32) -> u32
+/// Of both, and a few more.
+pub(crate) fn together(one: u32, other: u32, more: u32) -> u32
     ensures { result ≡ capped (one + other + more) }
 {
     cap(u64::from(one) + u64::from(other) + u64::from(more))
@@ -95,9 +94,9 @@ impl Quantifier {
 }
 
 impl Outline {
-    // Of its program.
+    /// Of its program.
     #[cycle(steps)]
-    fn steps(&self) -> u32
+    pub(crate) fn steps(&self) -> u32
         ensures { result ≡ capped (steps (outlined self.now)) }
     {
         match self {
@@ -209,21 +208,4 @@ fn times(count: u32, steps: u32) -> u32
     ensures { result ≡ capped (count * steps) }
 {
     cap(u64::from(count) * u64::from(steps))
-}
-
-// The outline, where a search for it takes no more steps than may be.
-#[tactic(auto, using(crate::proofs::Sizes::small_whole))]
-pub(crate) fn if_small(outline: Option<Outline>) -> Option<Outline>
-    ensures { option_map outlined result ≡ small_pattern (option_map outlined outline) }
-{
-    match outline {
-        Some(outline) => {
-            if outline.steps() <= MAX_STEPS {
-                Some(outline)
-            } else {
-                None
-            }
-        }
-        None => None,
-    }
 }

@@ -112,15 +112,7 @@ impl Outline {
                 | Quantifier::AtLeast(_)
                 | Quantifier::FromTo(..) => self.write(alloc, code),
             },
-            Outline::Empty
-            | Outline::Class { .. }
-            | Outline::Start
-            | Outline::End
-            | Outline::Boundary
-            | Outline::NoBoundary
-            | Outline::Then(..)
-            | Outline::Behind(..)
-            | Outline::Ahead(..) => self.write(alloc, code),
+            _ => self.write(alloc, code),
         }
     }
 

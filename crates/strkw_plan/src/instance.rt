@@ -5,14 +5,13 @@ ghost use Rattle.std.specs.List.{concat};
 ghost use Rattle.serde_json.specs.Data.{Members};
 ghost use Rattle.serde_json.specs.View.{view};
 ghost use Rattle.strkw_plan.specs.Compiled.{Refuses};
-ghost use Rattle.strkw_plan.specs.Messages.{InstanceMessages, InstanceSaid, IsSchema};
+ghost use Rattle.strkw_plan.specs.Messages.{InstanceMessages, IsSchema};
 ghost use Rattle.strkw_plan.specs.Rules.{rules_settings};
 
 use crate::compile::compile_schema;
 use crate::faults::PlanFault;
-use crate::form::MessageForm;
 use crate::kind::PlanKind;
-use crate::messages::{push_messages, push_messages_as};
+use crate::messages::push_messages;
 use crate::rules::Rules;
 use serde_json::Value;
 use std::alloc::Global;
@@ -69,33 +68,4 @@ pub fn check_instance<B: EngineBuilder, N: Node>(
 {
     let keywords = compile_schema(alloc, rules, kind, draft, place, schema)?;
     Ok(push_messages(alloc, &keywords, &rules.checks, &place, instance, out)?)
-}
-
-/// The same, in a form of the caller: appends what it writes of each error, and answers how many errors there are.
-///
-/// Errors: as `require_schema`.
-pub fn check_instance_as<B: EngineBuilder, F: MessageForm, N: Node>(
-    alloc: Global,
-    rules: &Rules<'_, B>,
-    kind: PlanKind,
-    draft: Draft,
-    name: &str,
-    schema: &Value,
-    form: &F,
-    instance: &N,
-    out: &mut String,
-) -> Result<u64, PlanFault>
-    ensures messages { let s =
-        rules_settings B.takes B.outcome admits accepted encoded decoding rules.now draft in
-        IfOk result (λ count. (members : Members) × (messages : List (List ℕ))
-        × IsSchema s (view schema.now) members
-        × InstanceSaid s members (F.said form.now) (N.text instance.now) messages
-        × (count ≡ length messages)
-        × (string_bytes out.new ≡ string_bytes out.old ++ concat messages)) }
-    ensures refused { let s =
-        rules_settings B.takes B.outcome admits accepted encoded decoding rules.now draft in
-        IfErr result (λ fault. Refuses s kind name.now (view schema.now) fault) }
-{
-    let keywords = compile_schema(alloc, rules, kind, draft, name, schema)?;
-    Ok(push_messages_as(alloc, &keywords, &rules.checks, form, instance, out)?)
 }

@@ -22,7 +22,7 @@ pub use compile::compile_schema;
 pub use faults::PlanFault;
 pub use file::{PlanFileFault, read_marked_plan_file, read_plan_file};
 pub use form::{FoundError, InstancePlace, MessageForm, MessageLine};
-pub use instance::{check_instance, check_instance_as, require_schema};
+pub use instance::{check_instance, require_schema};
 pub use kind::PlanKind;
 pub use limits::Limits;
 pub use messages::{push_messages, push_messages_as};

@@ -3,6 +3,7 @@
 use Rattle.std.specs.Prelude.{◌≡◌, ℕ, ◌+◌, ◌*◌, ◌≤◌, Bool, true, false, List, [], ◌∷◌, length}
 use Rattle.std.specs.Prelude.{Option, Some, None, if◌then◌else◌}
 use Rattle.strkw_ecma.specs.Tree.{Pattern}
+use Rattle.strkw_ecma.specs.Front.{Part}
 use Rattle.strkw_ecma.specs.machine.Marks.{marks_of}
 use Rattle.strkw_ecma.specs.machine.Search.{search_from}
 use Rattle.strkw_ecma.specs.Program.{Instruction, program}
@@ -64,3 +65,9 @@ searching is ms last (c ∷ cs) =
 pub record IsSearchedWithin (most : ℕ) (p : Pattern) (text : List ℕ) : Type 0 where
   pub answer : (searching (program p) (marks_of p) None text).result ≡ search_from p None text
   pub steps : (searching (program p) (marks_of p) None text).steps ≤ most * (length text + 1)
+
+-- The same of parts: each within its share of so many steps.
+abbrev pub AreSearchedWithin : ℕ → List Part → List ℕ → Type 0
+AreSearchedWithin most [] text = Unit {0}
+AreSearchedWithin most (x ∷ xs) text = (one : ℕ) × (others : ℕ) × (one + others ≤ most)
+    × IsSearchedWithin one x.pattern text × AreSearchedWithin others xs text

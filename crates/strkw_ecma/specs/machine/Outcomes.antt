@@ -6,12 +6,13 @@ use Rattle.strkw_pattern.specs.declared.engine.Outcome.TheVariants.{NoMatch}
 use Rattle.strkw_ecma.specs.Tree.{Pattern}
 use Rattle.strkw_ecma.specs.Syntax.{Disjunction}
 use Rattle.strkw_ecma.specs.machine.Reading.{read_pattern}
-use Rattle.strkw_ecma.specs.machine.Search.{search_from}
+use Rattle.strkw_ecma.specs.Front.{parts}
+use Rattle.strkw_ecma.specs.machine.Search.{are_parts_found}
 use Rattle.strkw_ecma.specs.Patterns.{pattern}
 
 -- what the search of a pattern comes to
 abbrev pub search_outcome : Pattern → List ℕ → Outcome
-search_outcome p text = outcome_of (search_from p None text)
+search_outcome p text = outcome_of (are_parts_found (parts p) text)
 
 abbrev pub outcome_of_read : Option Disjunction → List ℕ → Outcome
 outcome_of_read None text = NoMatch

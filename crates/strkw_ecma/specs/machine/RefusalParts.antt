@@ -1,6 +1,6 @@
 -- What the code tells of a character, if it refuses it in these parts of a pattern.
 use Rattle.std.specs.Prelude.{ℕ, nat_lt, nat_le, ◌==◌, ◌&&◌, Bool, true, false, List, [], ◌∷◌, Some}
-use Rattle.std.specs.Prelude.{None, length}
+use Rattle.std.specs.Prelude.{None, length, if◌then◌else◌}
 use Rattle.std.specs.Str.{byte}
 use Rattle.strkw_ecma.specs.Syntax.{max_nesting}
 use Rattle.strkw_ecma.specs.Numbers.{CountToken, digit, comma, closing_brace, no_count, count_token}
@@ -14,9 +14,10 @@ use Rattle.strkw_ecma.specs.machine.Parts.{between, escaping, opening, extending
 use Rattle.strkw_ecma.specs.machine.Parts.{counting, coding, in_class, class_escaping, class_coding}
 use Rattle.strkw_ecma.specs.machine.Parts.{in_property, in_class_property, naming, name_escaping}
 use Rattle.strkw_ecma.specs.machine.Parts.{name_coding, Parts}
-use Rattle.strkw_ecma.specs.Refusals.{is_reference, is_unknown}
+use Rattle.strkw_ecma.specs.Refusals.{is_reference, is_needlessly_escaped, is_unknown}
 use Rattle.strkw_ecma.specs.declared.refusals.PatternRefusal.{PatternRefusal}
-use Rattle.strkw_ecma.specs.declared.refusals.PatternRefusal.TheVariants.{BackReference, Property}
+use Rattle.strkw_ecma.specs.declared.refusals.PatternRefusal.TheVariants.{BackReference, IdentityEscape}
+use Rattle.strkw_ecma.specs.declared.refusals.PatternRefusal.TheVariants.{Property}
 use Rattle.strkw_ecma.specs.declared.refusals.PatternRefusal.TheVariants.{TooDeep, CountTooGreat}
 use Rattle.strkw_ecma.specs.declared.refusals.PatternRefusal.TheVariants.{TermTooLarge, NotTaken}
 
@@ -26,7 +27,9 @@ told_if true r = r
 
 -- behind a backslash
 abbrev pub escape_refusal : ℕ → PatternRefusal
-escape_refusal c = told_if (is_reference c) BackReference
+escape_refusal c =
+    if is_reference c then BackReference
+    else told_if (is_needlessly_escaped c) (IdentityEscape c)
 
 -- of one group or lookaround more, where fewer are open than may be
 abbrev pub one_deeper : Bool → PatternRefusal

@@ -52,6 +52,23 @@ outlined_node (Outline-F.Ahead negated body) = lookahead negated body.value
 abbrev pub outlined : Outline → Pattern
 outlined = fold-Outline Pattern outlined_node
 
+-- as a sequence it does not begin with a counted term, whose copies would be one
+abbrev pub plain_node : Outline-F Bool → Bool
+plain_node Outline-F.Empty = true
+plain_node (Outline-F.Class negated sets) = true
+plain_node Outline-F.Start = true
+plain_node Outline-F.End = true
+plain_node Outline-F.Boundary = true
+plain_node Outline-F.NoBoundary = true
+plain_node (Outline-F.Then first second) = first.value
+plain_node (Outline-F.Or first second) = true
+plain_node (Outline-F.Repeated q body) = false
+plain_node (Outline-F.Behind negated body) = true
+plain_node (Outline-F.Ahead negated body) = true
+
+abbrev pub is_plain : Outline → Bool
+is_plain = fold-Outline Bool plain_node
+
 abbrev pub turned : Turn → Instruction
 turned turn.Start = assert start
 turned turn.End = assert end

@@ -24,6 +24,9 @@ fn of_escape(c: char) -> PatternRefusal
 {
     match c {
         '1'..='9' | 'k' => PatternRefusal::BackReference,
+        '!'..='#' | '%'..='\'' | ',' | '-' | ':'..='>' | '@' | '_' | '`' | '~' => {
+            PatternRefusal::IdentityEscape(c)
+        }
         _ => PatternRefusal::NotTaken,
     }
 }
@@ -134,7 +137,7 @@ impl Reader {
         }
         match self.end(alloc)? {
             Some(outline) if is_apart(source) => {
-                if outline.is_told() {
+                if outline.survey().is_told {
                     Ok(PatternRefusal::TooLarge)
                 } else {
                     Ok(PatternRefusal::LookAhead)

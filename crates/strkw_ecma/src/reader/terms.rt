@@ -1,9 +1,9 @@
 //! How terms, alternatives and groups are put together.
 
-ghost use Rattle.std.specs.Prelude.{◌≡◌, Some, IfOk};
+ghost use Rattle.std.specs.Prelude.{◌≡◌, true, Some, IfOk};
 ghost use Rattle.strkw_ecma.specs.Tree.{empty};
 ghost use Rattle.strkw_ecma.specs.Patterns.{one_char as spec_one_char};
-ghost use Rattle.strkw_ecma.specs.machine.Shape.{outlined, quantifier_of};
+ghost use Rattle.strkw_ecma.specs.machine.Shape.{is_plain, outlined, quantifier_of};
 ghost use Rattle.strkw_ecma.specs.machine.Parts.{parts_of, side_of, outer_of, last_of, none, atom, when};
 ghost use Rattle.strkw_ecma.specs.machine.Parts.{level_ended, level_so_far, opened_within, after_closing, after_enclosed};
 ghost use Rattle.strkw_ecma.specs.machine.Parts.{after_atom, after_term, after_bar, after_quantifier, after_question};
@@ -42,6 +42,7 @@ impl Level {
         ensures whole { IfOk result (λ t. outlined t
             ≡ level_ended (side_of self.old) (last_of last)) }
         ensures emptied { IfOk result (λ _. outlined self.new.current ≡ empty) }
+        ensures plain { IfOk result (λ t. is_plain t ≡ true) }
     {
         self.add_last(alloc, last)?;
         let current = mem::replace(&mut self.current, Outline::Empty);

@@ -1,4 +1,5 @@
-use Rattle.std.proofs.Common.{rules, ◌≡◌, suc, ◌+◌, ◌++◌, ◌∷◌, ◌∙◌, [], ap, sym, subst, arith, append_assoc, append-nil, length-append, drop, drop-cons, map, string_bytes}
+use Rattle.std.proofs.Common.{rules, ◌≡◌, ◌+◌, ◌++◌, ◌∷◌, ◌∙◌, suc, [], ap, sym, subst, arith}
+use Rattle.std.proofs.Common.{append_assoc, append-nil, length-append, drop, drop-cons, map, string_bytes}
 use Rattle.std.proofs.lemmas.List.{drop_all}
 use Rattle.strkw_plan.proofs.Gathering.{joined}
 use Rattle.strkw_document.specs.Found.{spot_view}

@@ -8,6 +8,8 @@ pub returns : goal.returns
 returns c =
     let sampled = c.args.sampled in
     let draft = c.args.draft in
-    let right : IsTable sampled.columns.classes.items sampled.columns.keys.items sampled.samples.items draft.entries.items draft.states.items (pattern_of c.args.program.now) =
+    let columns = sampled.columns in
+    let right : IsTable columns.classes.items columns.keys.items sampled.samples.items
+    draft.entries.items draft.states.items (pattern_of c.args.program.now) =
     search rules in
     searches _ _ _ _ _ _ c.requires.clean right

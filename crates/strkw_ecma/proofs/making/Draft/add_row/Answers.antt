@@ -1,16 +1,43 @@
-use Rattle.std.proofs.Common.{rules, ◌≡◌, List, Some, slice_get, refl, subst, ◌∙◌}
+use Rattle.std.proofs.Common.{◌≡◌, ◌<◌, ℕ, List, Option, Some, IfSome, slice_get, length, get_or, refl, subst, ◌∙◌, arith}
+use Rattle.std.proofs.lemmas.List.{get_or_default}
 use Rattle.std.proofs.lemmas.Option.{slice_get_read}
+use Rattle.strkw_ecma.specs.machine.Machine.{pattern_of}
+use Rattle.strkw_ecma.specs.machine.Table.{IsEntry, AreEntries}
 use Rattle.strkw_ecma.specs.declared.states.State.{State}
-use Rattle.strkw_ecma.proofs.Rows.{row_added}
+use Rattle.strkw_ecma.proofs.Rows.{entries_begin, entry_added, row_added}
 use Rattle.strkw_ecma.proofs.making.Draft.add_row.Goals as goal
+
+pub loop-sample-init : goal.loop-sample-init
+loop-sample-init c = entries_begin _ _ _ _ _
+
+pub loop-sample-preserved : goal.loop-sample-preserved
+loop-sample-preserved c =
+    let samples = c.args.samples.now in
+    let k = c.loop-sample.sample-index in
+    let within : k < length samples = omega arith in
+    let sample : c.sample-item.result ≡ get_or samples k 0 = c.sample-item.is ∙ get_or_default samples k c.sample-item.result 0 within in
+    let right : IfSome (Some c.in-Some.entry) (λ (e : ℕ). (s : State) → slice_get c.loop-sample.self.states.items c.args.number ≡ Some s → (row : ℕ)
+    → IsEntry (pattern_of c.args.program.now) (length samples) c.entry_of.new.states.items s row c.sample-item.result e) =
+    subst
+    (λ (o : Option ℕ). IfSome o (λ (e : ℕ). (s : State) → slice_get c.loop-sample.self.states.items c.args.number ≡ Some s → (row : ℕ)
+    → IsEntry (pattern_of c.args.program.now) (length samples) c.entry_of.new.states.items s row c.sample-item.result e))
+    c.in-Some.is c.in_ok-entry.ensures.right in
+    entry_added _ _ _ _ _ _ _ _ _ _ _ _ c.loop-sample.invariant c.in_ok-entry.ensures.grows c.in_ok-push-in-Some.ensures.items sample right
 
 pub returns-clause-right : goal.returns-clause-right
 returns-clause-right c _ =
-    let state = c.in-Some.state.now in
-    let look = c.in-Some.ensures.lookup.3 in
+    let samples = c.args.samples.now in
+    let all : c.loop-sample.sample-index ≡ length samples = omega arith in
+    let entries =
+    subst
+    (λ (n : ℕ). AreEntries (pattern_of c.args.program.now) samples c.args.self.now.entries.items c.loop-sample.self.entries.items
+    c.args.self.now.states.items c.loop-sample.self.states.items c.args.number n)
+    all c.loop-sample.invariant in
+    let state = c.in-Some-get.state.now in
+    let look = c.in-Some-get.ensures.lookup.3 in
     let there : slice_get c.deref.result.now c.args.number ≡ Some state =
     slice_get_read c.deref.result.now _ c.args.number state refl look.0 (look.1 state) in
-    let same : c.deref.result.now ≡ c.add_entries.new.self.states.items = cc in
-    row_added _ _ _ _ _ _ _ _ _ state c.requires.draft (c.in_ok-add_entries.ensures.right (search rules)) c.requires.there
+    let same : c.deref.result.now ≡ c.loop-sample.self.states.items = cc in
+    row_added _ _ _ _ _ _ _ _ _ state c.requires.draft entries c.requires.there
     (subst (λ (l : List State). slice_get l c.args.number ≡ Some state) same there) (c.end_entry.ensures ∙ c.in-Some-step.ensures.found)
     c.in_ok-push.ensures.items

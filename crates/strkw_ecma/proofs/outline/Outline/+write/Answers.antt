@@ -4,7 +4,7 @@ use Rattle.strkw_ecma.specs.Program.{is_empty, program, alternatives}
 use Rattle.strkw_ecma.specs.machine.Shape.{outlined}
 use Rattle.strkw_ecma.proofs.Written.{both_written}
 use Rattle.strkw_ecma.proofs.Shapes.{shapes, outlined-Then, outlined-Or, outlined-Behind, outlined-Ahead}
-use Rattle.strkw_ecma.proofs.Copies.{repeated_beside, repeats_program, program_choice}
+use Rattle.strkw_ecma.proofs.Copies.{repeated_beside, alone_beside, repeats_program, program_choice}
 use Rattle.strkw_ecma.proofs.outline.Outline.+write.Goals as goal
 
 pub write-returns-in_ok-write-in-Then : goal.write-returns-in_ok-write-in-Then
@@ -46,6 +46,10 @@ write_beside-returns-in_ok-turn-in-Or t c =
     (λ x h. both_written _ _ _ _ _ c.in_ok-write_beside-in-Or.ensures
     (both_written _ _ _ _ _ c.in_ok-turn-in-Or.ensures h))
     c.write.ensures)
+
+pub write_beside-returns-in_default : goal.write_beside-returns-in_default
+write_beside-returns-in_default t c =
+    rw (alone_beside c.args.self.now c.in_default.not-Or c.in_default.not-Repeated) c.write-in_default.ensures
 
 pub write_beside-returns-in-ZeroOrMore : goal.write_beside-returns-in-ZeroOrMore
 write_beside-returns-in-ZeroOrMore t c =

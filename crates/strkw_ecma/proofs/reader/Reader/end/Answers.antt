@@ -4,10 +4,13 @@ use Rattle.strkw_ecma.proofs.Parts.{none_closes, closes_with}
 use Rattle.strkw_ecma.proofs.reader.Reader.end.Goals as goal
 
 pub returns-then-not-may_end : goal.returns-then-not-may_end
-returns-then-not-may_end c = none_closes _ (sym c.may_end.ensures ∙ c.if-not-may_end.true)
+returns-then-not-may_end c = record { tree = none_closes _ (sym c.may_end.ensures ∙ c.if-not-may_end.true); plain = tt }
 
 pub returns : goal.returns
 returns c =
     let s = parts_of c.args.self.now in
-    ap Some (c.in_ok-take.ensures.whole ∙ ap (λ l. level_ended (side_of c.args.self.now.level) (last_of l)) c.replace-last.ensures.value)
-    ∙ closes_with s.outer.groups s.level s.last _ (sym c.may_end.ensures ∙ c.if-not-may_end.false)
+    record {
+      tree = ap Some (c.in_ok-take.ensures.whole ∙ ap (λ l. level_ended (side_of c.args.self.now.level) (last_of l)) c.replace-last.ensures.value)
+          ∙ closes_with s.outer.groups s.level s.last _ (sym c.may_end.ensures ∙ c.if-not-may_end.false);
+      plain = c.in_ok-take.ensures.plain;
+    }

@@ -11,14 +11,17 @@ pub returns-then-count-eq-MAX_LENGTH : goal.returns-then-count-eq-MAX_LENGTH
 returns-then-count-eq-MAX_LENGTH c =
     let turn = YieldsList-turn (YieldsList-from_chars c.args.source.now c.utf8.source cc) c.loop-c.yielded _ c.loop-c.yielded_by _ _ c.in-Some.c c.in-Some.is
     c.next.ensures.steps in
-    too_long (chars c.args.source.now) (omega (arith, turn.0, c.loop-c.invariant.counted))
+    record { tree = too_long (chars c.args.source.now) (omega (arith, turn.0, c.loop-c.invariant.counted)); plain = tt }
 
 pub returns-then-not-branch : goal.returns-then-not-branch
 returns-then-not-branch c =
     let turn = YieldsList-turn (YieldsList-from_chars c.args.source.now c.utf8.source cc) c.loop-c.yielded _ c.loop-c.yielded_by _ _ c.in-Some.c c.in-Some.is
     c.next.ensures.steps in
-    stops (parts_of c.loop-c.self) (chars c.args.source.now) (length c.loop-c.yielded) c.in-Some.c turn.0 turn.1 c.loop-c.invariant.way
-    (ap (λ taken. when taken (Some (parts_of c.next-in-loop-c.new.self))) (sym c.if-not-branch.true) ∙ c.in_ok-next.ensures)
+    record {
+      tree = stops (parts_of c.loop-c.self) (chars c.args.source.now) (length c.loop-c.yielded) c.in-Some.c turn.0 turn.1 c.loop-c.invariant.way
+          (ap (λ taken. when taken (Some (parts_of c.next-in-loop-c.new.self))) (sym c.if-not-branch.true) ∙ c.in_ok-next.ensures);
+      plain = tt;
+    }
 
 pub loop-c-preserved : goal.loop-c-preserved
 loop-c-preserved c =
@@ -40,4 +43,4 @@ returns c =
     c.next.ensures.steps in
     let at_end = whole (parts_of c.loop-c.self) (chars c.args.source.now) (length c.loop-c.yielded)
     (omega (arith, end.1)) (omega (arith, end.1, c.loop-c.invariant.short)) c.loop-c.invariant.way in
-    rw at_end at c.end.ensures
+    record { tree = rw at_end at c.end.ensures.tree; plain = c.end.ensures.plain }

@@ -40,14 +40,14 @@ loop-c-init c = record {
   stands = subst (Stands (chars c.args.source.now) 0) (sym c.requires.new) (starts (chars c.args.source.now));
 }
 
-pub returns-then-is_told : goal.returns-then-is_told
-returns-then-is_told c =
+pub returns-then-survey : goal.returns-then-survey
+returns-then-survey c =
     let text = chars c.args.source.now in
     let end = YieldsList-end (YieldsList-from_chars c.args.source.now c.utf8.source cc) c.loop-c.yielded _ c.loop-c.yielded_by _ _
     c.in-None.is c.next.ensures.steps in
     let at_end = whole (parts_of c.loop-c.self) text (length c.loop-c.yielded) (omega (arith, end.1)) c.requires.short c.loop-c.invariant.way in
-    too_large text (outlined c.in-Some-2.outline) c.requires.short (ap (option_map outlined) (sym c.in-Some-2.is) ∙ c.in_ok-outline.ensures ∙ at_end)
-    (sym c.is_apart.ensures ∙ c.if-is_apart.true) (sym c.is_told.ensures ∙ c.if-is_told.true) c.requires.refused
+    too_large text (outlined c.in-Some-2.outline) c.requires.short (ap (option_map outlined) (sym c.in-Some-2.is) ∙ c.in_ok-outline.ensures.tree ∙ at_end)
+    (sym c.is_apart.ensures ∙ c.if-is_apart.true) (sym c.survey.ensures.told ∙ c.if-survey.true) c.requires.refused
 
 pub returns-in-Some-2 : goal.returns-in-Some-2
 returns-in-Some-2 c =
@@ -55,5 +55,5 @@ returns-in-Some-2 c =
     let end = YieldsList-end (YieldsList-from_chars c.args.source.now c.utf8.source cc) c.loop-c.yielded _ c.loop-c.yielded_by _ _
     c.in-None.is c.next.ensures.steps in
     let at_end = whole (parts_of c.loop-c.self) text (length c.loop-c.yielded) (omega (arith, end.1)) c.requires.short c.loop-c.invariant.way in
-    looks_ahead_far text (outlined c.in-Some-2.outline) c.requires.short (ap (option_map outlined) (sym c.in-Some-2.is) ∙ c.in_ok-outline.ensures ∙ at_end)
-    (sym c.is_told.ensures ∙ c.if-is_told.false)
+    looks_ahead_far text (outlined c.in-Some-2.outline) c.requires.short (ap (option_map outlined) (sym c.in-Some-2.is) ∙ c.in_ok-outline.ensures.tree ∙ at_end)
+    (sym c.survey.ensures.told ∙ c.if-survey.false)

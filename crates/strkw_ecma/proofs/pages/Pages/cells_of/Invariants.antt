@@ -1,7 +1,7 @@
 use Rattle.std.proofs.Common.{◌≡◌, ◌+◌, ◌-◌, ◌≤◌, ◌<◌, ℕ, Some, length, get_or}
 use Rattle.std.specs.Char.{InScalarRange}
 use Rattle.strkw_ecma.specs.machine.Columns.{column_of, ShareColumn, ArePaged}
-use Rattle.strkw_ecma.proofs.pages.Pages.add_cells.Given as goal
+use Rattle.strkw_ecma.proofs.pages.Pages.cells_of.Given as goal
 
 -- the cells up to a place are right, and the run goes on behind them
 abbrev pub invariant-runs : goal.invariant-runs

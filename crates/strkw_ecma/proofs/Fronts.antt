@@ -1,0 +1,252 @@
+-- The parts of a pattern: the rest of it, and what lookaheads at its front look for.
+use Rattle.std.proofs.Common.{◌≡◌, ℕ, zero, suc, ◌+◌, Bool, true, false, ◌&&◌, List, [], ◌∷◌, ◌++◌}
+use Rattle.std.proofs.Common.{Box, refl, sym, ap, subst, ◌∙◌, true≢false, arith, if◌then◌else◌}
+use Rattle.std.specs.declared.alloc.Global.{Global}
+use Rattle.std.proofs.lemmas.List.{append-nil, append_assoc}
+use Rattle.strkw_ecma.specs.Tree.{start, Pattern, empty, class, look, cat, alt, star, plus, lookbehind, lookahead}
+use Rattle.strkw_ecma.specs.Patterns.{Times, any_times, some_times, once_at_most, exact_times, least_times, range_times, quantified_pattern}
+use Rattle.strkw_ecma.specs.Program.{is_empty}
+use Rattle.strkw_ecma.specs.Glances.{are_told}
+use Rattle.strkw_ecma.specs.Size.{steps}
+use Rattle.strkw_ecma.specs.Front.{Part, first_lead, lead, lead_behind, reads_nothing, is_far, is_apart_behind, part_of, fronts, rest, parts}
+use Rattle.strkw_ecma.specs.Front.{steps_of_parts, are_parts_told}
+use Rattle.strkw_ecma.specs.machine.Fronts.{Surveys, Cuts, part_view, parts_view}
+use Rattle.strkw_ecma.specs.machine.Shape.{outlined, outlined_node, is_plain, plain_node, quantifier_of}
+use Rattle.strkw_ecma.specs.machine.Sizes.{capped}
+use Rattle.strkw_ecma.specs.declared.outline.Outline.{Outline}
+use Rattle.strkw_ecma.specs.declared.outline.Outline.TheOpen.{Outline-F}
+use Rattle.strkw_ecma.specs.declared.outline.Outline.TheViews.{roll-Outline}
+use Rattle.strkw_ecma.specs.declared.outline.Outline.TheFolds.{fold-roll-Outline, ind-Outline}
+use Rattle.strkw_ecma.specs.declared.outline.Outline.TheVariants.{Then, Ahead, rolls-Then, rolls-Ahead}
+use Rattle.strkw_ecma.specs.declared.front.Cut.{Cut}
+use Rattle.strkw_ecma.specs.declared.front.Front.{Front}
+use Rattle.strkw_ecma.specs.declared.front.Lead.{Lead}
+use Rattle.strkw_ecma.specs.declared.front.Lead.TheVariants.{Nothing, Anchored, Past}
+use Rattle.strkw_ecma.specs.declared.front.Survey.{Survey}
+use Rattle.strkw_ecma.proofs.Sizes.{sum_capped, cat_steps}
+
+-- of what is repeated
+-- where it is nothing, so is the front
+pub lead_of_nothing : (p : Pattern) → is_empty p ≡ true → Nothing ≡ first_lead p
+lead_of_nothing empty e = refl
+lead_of_nothing (class m n rs) e = absurd (true≢false (sym e))
+lead_of_nothing (look l) e = absurd (true≢false (sym e))
+lead_of_nothing (cat p q) e = absurd (true≢false (sym e))
+lead_of_nothing (alt p q) e = absurd (true≢false (sym e))
+lead_of_nothing (star p) e = absurd (true≢false (sym e))
+lead_of_nothing (plus p) e = absurd (true≢false (sym e))
+lead_of_nothing (lookbehind n p) e = absurd (true≢false (sym e))
+lead_of_nothing (lookahead n p) e = absurd (true≢false (sym e))
+
+-- and else it is no front
+pub lead_of_times : (t : Times) (p : Pattern) → is_empty (quantified_pattern t p) ≡ false → Past ≡ first_lead (quantified_pattern t p)
+lead_of_times any_times p e = refl
+lead_of_times some_times p e = refl
+lead_of_times once_at_most p e = refl
+lead_of_times (exact_times zero) p e = absurd (true≢false e)
+lead_of_times (exact_times (suc n)) p e = refl
+lead_of_times (least_times n) p e = refl
+lead_of_times (range_times n m) p e = refl
+
+-- it reads nothing only where it is nothing
+pub reads_of_times : (t : Times) (p : Pattern) → is_empty (quantified_pattern t p) ≡ reads_nothing (quantified_pattern t p)
+reads_of_times any_times p = refl
+reads_of_times some_times p = refl
+reads_of_times once_at_most p = refl
+reads_of_times (exact_times zero) p = refl
+reads_of_times (exact_times (suc n)) p = refl
+reads_of_times (least_times n) p = refl
+reads_of_times (range_times n m) p = refl
+
+-- and it is no lookahead
+pub far_of_times : (t : Times) (p : Pattern) → false ≡ is_far (quantified_pattern t p)
+far_of_times any_times p = refl
+far_of_times some_times p = refl
+far_of_times once_at_most p = refl
+far_of_times (exact_times zero) p = refl
+far_of_times (exact_times (suc n)) p = refl
+far_of_times (least_times n) p = refl
+far_of_times (range_times n m) p = refl
+
+-- the same of a pattern that is what is repeated
+pub lead_of_whole : (t : Times) (p q : Pattern) → q ≡ quantified_pattern t p → is_empty q ≡ false → Past ≡ first_lead q
+lead_of_whole t p q e h = subst (λ w. is_empty w ≡ false → Past ≡ first_lead w) (sym e) (lead_of_times t p) h
+
+-- outlines by their nodes
+-- what is no lookahead is none that looks far
+node_not_far : (x : Outline-F Outline) → ((n : Bool) (b : Box Outline Global) → roll-Outline x ≡ Ahead n b → ⊥)
+    → is_far (outlined (roll-Outline x)) ≡ false
+node_not_far Outline-F.Empty other = ap is_far (fold-roll-Outline Pattern outlined_node Outline-F.Empty)
+node_not_far (Outline-F.Class n s) other = ap is_far (fold-roll-Outline Pattern outlined_node (Outline-F.Class n s))
+node_not_far Outline-F.Start other = ap is_far (fold-roll-Outline Pattern outlined_node Outline-F.Start)
+node_not_far Outline-F.End other = ap is_far (fold-roll-Outline Pattern outlined_node Outline-F.End)
+node_not_far Outline-F.Boundary other = ap is_far (fold-roll-Outline Pattern outlined_node Outline-F.Boundary)
+node_not_far Outline-F.NoBoundary other = ap is_far (fold-roll-Outline Pattern outlined_node Outline-F.NoBoundary)
+node_not_far (Outline-F.Then a b) other = ap is_far (fold-roll-Outline Pattern outlined_node (Outline-F.Then a b))
+node_not_far (Outline-F.Or a b) other = ap is_far (fold-roll-Outline Pattern outlined_node (Outline-F.Or a b))
+node_not_far (Outline-F.Repeated q b) other =
+    ap is_far (fold-roll-Outline Pattern outlined_node (Outline-F.Repeated q b)) ∙ sym (far_of_times (quantifier_of q) (outlined b.value))
+node_not_far (Outline-F.Behind n b) other = ap is_far (fold-roll-Outline Pattern outlined_node (Outline-F.Behind n b))
+node_not_far (Outline-F.Ahead n b) other = absurd (other n b (rolls-Ahead n b))
+
+pub not_far : (o : Outline) → ((n : Bool) (b : Box Outline Global) → o ≡ Ahead n b → ⊥) → is_far (outlined o) ≡ false
+not_far = ind-Outline (λ o. ((n : Bool) (b : Box Outline Global) → o ≡ Ahead n b → ⊥) → is_far (outlined o) ≡ false)
+    (λ x y is. node_not_far x)
+
+-- nothing is cut off a pattern that is one term
+abbrev IsOneTerm : Pattern → Type 0
+IsOneTerm p = (lead p ≡ first_lead p) × (rest p ≡ p) × (fronts p ≡ [])
+
+-- what is plain and no sequence is one term
+node_one_term : (x : Outline-F Outline) → is_plain (roll-Outline x) ≡ true
+    → ((a b : Box Outline Global) → roll-Outline x ≡ Then a b → ⊥) → IsOneTerm (outlined (roll-Outline x))
+node_one_term Outline-F.Empty w other = subst IsOneTerm (sym (fold-roll-Outline Pattern outlined_node Outline-F.Empty)) (refl, refl, refl)
+node_one_term (Outline-F.Class n s) w other = subst IsOneTerm (sym (fold-roll-Outline Pattern outlined_node (Outline-F.Class n s))) (refl, refl, refl)
+node_one_term Outline-F.Start w other = subst IsOneTerm (sym (fold-roll-Outline Pattern outlined_node Outline-F.Start)) (refl, refl, refl)
+node_one_term Outline-F.End w other = subst IsOneTerm (sym (fold-roll-Outline Pattern outlined_node Outline-F.End)) (refl, refl, refl)
+node_one_term Outline-F.Boundary w other = subst IsOneTerm (sym (fold-roll-Outline Pattern outlined_node Outline-F.Boundary)) (refl, refl, refl)
+node_one_term Outline-F.NoBoundary w other = subst IsOneTerm (sym (fold-roll-Outline Pattern outlined_node Outline-F.NoBoundary)) (refl, refl, refl)
+node_one_term (Outline-F.Then a b) w other = absurd (other a b (rolls-Then a b))
+node_one_term (Outline-F.Or a b) w other = subst IsOneTerm (sym (fold-roll-Outline Pattern outlined_node (Outline-F.Or a b))) (refl, refl, refl)
+node_one_term (Outline-F.Repeated q b) w other = absurd (true≢false (sym w ∙ fold-roll-Outline Bool plain_node (Outline-F.Repeated q b)))
+node_one_term (Outline-F.Behind n b) w other = subst IsOneTerm (sym (fold-roll-Outline Pattern outlined_node (Outline-F.Behind n b))) (refl, refl, refl)
+node_one_term (Outline-F.Ahead n b) w other = subst IsOneTerm (sym (fold-roll-Outline Pattern outlined_node (Outline-F.Ahead n b))) (refl, refl, refl)
+
+pub one_term : (o : Outline) → is_plain o ≡ true → ((a b : Box Outline Global) → o ≡ Then a b → ⊥) → IsOneTerm (outlined o)
+one_term = ind-Outline (λ o. is_plain o ≡ true → ((a b : Box Outline Global) → o ≡ Then a b → ⊥) → IsOneTerm (outlined o))
+    (λ x y is. node_one_term x)
+
+-- a term that does not look far is no part of its own
+pub near : (l : Lead) (t : Pattern) → is_far t ≡ false → is_apart_behind l t ≡ false
+near Nothing t e = refl
+near Anchored t e = e
+near Past t e = refl
+
+-- a term that is one looks far
+pub far : (l : Lead) (t : Pattern) → is_apart_behind l t ≡ true → is_far t ≡ true
+far Nothing t e = absurd (true≢false (sym e))
+far Anchored t e = e
+far Past t e = absurd (true≢false (sym e))
+
+-- what a term adds to a pattern
+module _ (p t : Pattern) where
+  -- where it is a part of its own, that part
+  pub fronts_apart : is_apart_behind (lead p) t ≡ true → fronts (cat p t) ≡ fronts p ++ part_of t
+  fronts_apart e = ap (λ (b : Bool). fronts p ++ (if b then part_of t else [])) e
+
+  pub rest_apart : is_apart_behind (lead p) t ≡ true → rest (cat p t) ≡ rest p
+  rest_apart e = ap (λ (b : Bool). if b then rest p else cat (rest p) t) e
+
+  -- and else it stands behind the rest
+  pub fronts_with : is_apart_behind (lead p) t ≡ false → fronts (cat p t) ≡ fronts p
+  fronts_with e = ap (λ (b : Bool). fronts p ++ (if b then part_of t else [])) e ∙ append-nil (fronts p)
+
+  pub rest_with : is_apart_behind (lead p) t ≡ false → rest (cat p t) ≡ cat (rest p) t
+  rest_with e = ap (λ (b : Bool). if b then rest p else cat (rest p) t) e
+
+-- the steps of parts one behind another add up
+steps_append : (xs ys : List Part) → steps_of_parts (xs ++ ys) ≡ steps_of_parts xs + steps_of_parts ys
+steps_append [] ys = omega arith
+steps_append (x ∷ xs) ys = omega (arith, steps_append xs ys)
+
+-- what holds of one and of true holds of the one
+and_right_true : (b : Bool) → (b && true) ≡ b
+and_right_true true = refl
+and_right_true false = refl
+
+and_assoc : (a b c : Bool) → (a && (b && c)) ≡ ((a && b) && c)
+and_assoc true b c = refl
+and_assoc false b c = refl
+
+and_swap : (a b c : Bool) → ((a && b) && c) ≡ ((a && c) && b)
+and_swap false b c = refl
+and_swap true true true = refl
+and_swap true true false = refl
+and_swap true false true = refl
+and_swap true false false = refl
+
+-- the lookaheads of parts with one more are told where those of all are
+told_append : (xs : List Part) (x : Part) → are_parts_told (xs ++ x ∷ []) ≡ (are_parts_told xs && are_told x.pattern)
+told_append [] x = and_right_true (are_told x.pattern)
+told_append (y ∷ xs) x = ap (λ (b : Bool). are_told y.pattern && b) (told_append xs x) ∙ and_assoc (are_told y.pattern) (are_parts_told xs) (are_told x.pattern)
+
+-- behind `^` a lookahead leaves the front as it is
+lead_apart : (l : Lead) (n : Bool) (q : Pattern) → is_apart_behind l (lookahead n q) ≡ true → l ≡ lead_behind l (lookahead n q)
+lead_apart Nothing n q e = absurd (true≢false (sym e))
+lead_apart Anchored n q e = refl
+lead_apart Past n q e = absurd (true≢false (sym e))
+
+-- surveys
+-- a survey of a pattern and of a lookahead behind it that is a part of its own
+pub surveys_apart : (s new : Survey) (p : Pattern) (n : Bool) (q : Pattern) (a : ℕ) → Surveys s p → is_apart_behind s.lead (lookahead n q) ≡ true
+    → new.lead ≡ lead_behind s.lead (lookahead n q) → a ≡ capped (steps q) → new.steps ≡ capped (s.steps + a + 1)
+    → new.is_told ≡ (s.is_told && are_told q) → Surveys new (cat p (lookahead n q))
+surveys_apart s new p n q a w e lead_is a_is steps_are told_is =
+    let t = lookahead n q in
+    let apart : is_apart_behind (lead p) t ≡ true = ap (λ (l : Lead). is_apart_behind l t) (sym w.lead) ∙ e in
+    let more : steps_of_parts (parts (cat p t)) ≡ steps_of_parts (parts p) + steps q + 1 =
+    ap (λ (r : Pattern). steps r + steps_of_parts (fronts (cat p t))) (rest_apart p t apart)
+    ∙ ap (λ (fs : List Part). steps (rest p) + steps_of_parts fs) (fronts_apart p t apart)
+    ∙ omega (arith, steps_append (fronts p) (part_of t), cat_steps (look start) q) in
+    record {
+      lead = lead_is ∙ ap (λ (l : Lead). lead_behind l t) w.lead;
+      steps = steps_are ∙ sum_capped (steps_of_parts (parts p)) (steps q) 1 s.steps a w.steps a_is ∙ ap capped (sym more);
+      told = told_is ∙ ap (λ (b : Bool). b && are_told q) w.told
+          ∙ sym (and_assoc (are_told (rest p)) (are_parts_told (fronts p)) (are_told q))
+          ∙ ap (λ (b : Bool). are_told (rest p) && b) (sym (told_append (fronts p) record { negated = n; pattern = cat (look start) q }))
+          ∙ ap (λ (r : Pattern). are_told r && are_parts_told (fronts p ++ part_of t)) (sym (rest_apart p t apart))
+          ∙ ap (λ (fs : List Part). are_told (rest (cat p t)) && are_parts_told fs) (sym (fronts_apart p t apart));
+    }
+
+-- and of any other term
+pub surveys_with : (s new : Survey) (p t : Pattern) (a : ℕ) → Surveys s p → is_apart_behind s.lead t ≡ false
+    → new.lead ≡ lead_behind s.lead t → a ≡ capped (steps t) → new.steps ≡ capped (s.steps + a + 0)
+    → new.is_told ≡ (s.is_told && are_told t) → Surveys new (cat p t)
+surveys_with s new p t a w e lead_is a_is steps_are told_is =
+    let with : is_apart_behind (lead p) t ≡ false = ap (λ (l : Lead). is_apart_behind l t) (sym w.lead) ∙ e in
+    let more : steps_of_parts (parts (cat p t)) ≡ steps_of_parts (parts p) + steps t + 0 =
+    ap (λ (r : Pattern). steps r + steps_of_parts (fronts (cat p t))) (rest_with p t with)
+    ∙ ap (λ (fs : List Part). steps (cat (rest p) t) + steps_of_parts fs) (fronts_with p t with)
+    ∙ omega (arith, cat_steps (rest p) t) in
+    record {
+      lead = lead_is ∙ ap (λ (l : Lead). lead_behind l t) w.lead;
+      steps = steps_are ∙ sum_capped (steps_of_parts (parts p)) (steps t) 0 s.steps a w.steps a_is ∙ ap capped (sym more);
+      told = told_is ∙ ap (λ (b : Bool). b && are_told t) w.told
+          ∙ and_swap (are_told (rest p)) (are_parts_told (fronts p)) (are_told t)
+          ∙ ap (λ (r : Pattern). are_told r && are_parts_told (fronts p)) (sym (rest_with p t with))
+          ∙ ap (λ (fs : List Part). are_told (rest (cat p t)) && are_parts_told fs) (sym (fronts_with p t with));
+    }
+
+-- cuts
+-- what fronts of the code stand for, one behind another
+view_append : (xs ys : List Front) → parts_view (xs ++ ys) ≡ parts_view xs ++ parts_view ys
+view_append [] ys = refl
+view_append (x ∷ xs) ys = ap (λ (l : List Part). part_view x ∷ l) (view_append xs ys)
+
+-- what is cut off a pattern and a lookahead behind it that is a part of its own
+pub cuts_apart : (c new : Cut) (p : Pattern) (n : Bool) (q : Pattern) (f : Front) (old mid last : List Front) → Cuts c p old mid
+    → is_apart_behind c.lead (lookahead n q) ≡ true → new.lead ≡ c.lead → outlined new.rest ≡ outlined c.rest
+    → f.negated ≡ n → outlined f.pattern ≡ cat (look start) q → last ≡ mid ++ f ∷ [] → Cuts new (cat p (lookahead n q)) old last
+cuts_apart c new p n q f old mid last w e lead_is rest_is negated_is pattern_is last_is =
+    let t = lookahead n q in
+    let apart : is_apart_behind (lead p) t ≡ true = ap (λ (l : Lead). is_apart_behind l t) (sym w.lead) ∙ e in
+    record {
+      lead = lead_is ∙ lead_apart c.lead n q e ∙ ap (λ (l : Lead). lead_behind l t) w.lead;
+      rest = rest_is ∙ w.rest ∙ sym (rest_apart p t apart);
+      fronts = ap parts_view last_is ∙ view_append mid (f ∷ [])
+          ∙ ap (λ (l : List Part). l ++ part_view f ∷ []) w.fronts ∙ append_assoc (parts_view old) (fronts p) (part_view f ∷ [])
+          ∙ ap (λ (b : Bool). parts_view old ++ (fronts p ++ record { negated = b; pattern = outlined f.pattern } ∷ [])) negated_is
+          ∙ ap (λ (r : Pattern). parts_view old ++ (fronts p ++ record { negated = n; pattern = r } ∷ [])) pattern_is
+          ∙ ap (λ (l : List Part). parts_view old ++ l) (sym (fronts_apart p t apart));
+    }
+
+-- and of any other term
+pub cuts_with : (c new : Cut) (p t : Pattern) (old mid : List Front) → Cuts c p old mid → is_apart_behind c.lead t ≡ false
+    → new.lead ≡ lead_behind c.lead t → outlined new.rest ≡ cat (outlined c.rest) t → Cuts new (cat p t) old mid
+cuts_with c new p t old mid w e lead_is rest_is =
+    let with : is_apart_behind (lead p) t ≡ false = ap (λ (l : Lead). is_apart_behind l t) (sym w.lead) ∙ e in
+    record {
+      lead = lead_is ∙ ap (λ (l : Lead). lead_behind l t) w.lead;
+      rest = rest_is ∙ ap (λ (r : Pattern). cat r t) w.rest ∙ sym (rest_with p t with);
+      fronts = w.fronts ∙ ap (λ (l : List Part). parts_view old ++ l) (sym (fronts_with p t with));
+    }

@@ -1,0 +1,135 @@
+-- The lookaheads at the front of a pattern, behind `^`. Where the next character does not tell what
+-- one looks for, it is looked for by itself: it is a part of the pattern, beside the rest.
+use Rattle.std.specs.Prelude.{ℕ, ◌+◌, Bool, true, false, not, ◌&&◌, List, [], ◌∷◌, ◌++◌}
+use Rattle.std.specs.Prelude.{if◌then◌else◌, ⊤}
+use Rattle.strkw_ecma.specs.Tree.{Look, start, end, boundary, no_boundary, Pattern, empty, class}
+use Rattle.strkw_ecma.specs.Tree.{look, cat, alt, star, plus, lookbehind, lookahead}
+use Rattle.strkw_ecma.specs.Glances.{is_glance, are_told}
+use Rattle.strkw_ecma.specs.Meaning.{Found, Unless}
+use Rattle.strkw_ecma.specs.Size.{steps}
+use Rattle.strkw_ecma.specs.declared.front.Lead.{Lead}
+use Rattle.strkw_ecma.specs.declared.front.Lead.TheVariants.{Nothing, Anchored, Past}
+
+-- it reads no character
+abbrev pub reads_nothing : Pattern → Bool
+reads_nothing empty = true
+reads_nothing (class m n rs) = false
+reads_nothing (look l) = true
+reads_nothing (cat p q) = false
+reads_nothing (alt p q) = false
+reads_nothing (star p) = false
+reads_nothing (plus p) = false
+reads_nothing (lookbehind n p) = true
+reads_nothing (lookahead n p) = true
+
+abbrev pub look_lead : Look → Lead
+look_lead start = Anchored
+look_lead end = Past
+look_lead boundary = Past
+look_lead no_boundary = Past
+
+-- of a first term
+abbrev pub first_lead : Pattern → Lead
+first_lead empty = Nothing
+first_lead (class m n rs) = Past
+first_lead (look l) = look_lead l
+first_lead (cat p q) = Past
+first_lead (alt p q) = Past
+first_lead (star p) = Past
+first_lead (plus p) = Past
+first_lead (lookbehind n p) = Past
+first_lead (lookahead n p) = Past
+
+-- of one term more
+abbrev pub lead_behind : Lead → Pattern → Lead
+lead_behind Nothing q = first_lead q
+lead_behind Anchored q = if reads_nothing q then Anchored else Past
+lead_behind Past q = Past
+
+-- what a pattern is as the front of another: nothing; `^`, with terms behind it that read nothing;
+-- or more
+abbrev pub lead : Pattern → Lead
+lead empty = first_lead empty
+lead (class m n rs) = first_lead (class m n rs)
+lead (look l) = first_lead (look l)
+lead (cat p q) = lead_behind (lead p) q
+lead (alt p q) = first_lead (alt p q)
+lead (star p) = first_lead (star p)
+lead (plus p) = first_lead (plus p)
+lead (lookbehind n p) = first_lead (lookbehind n p)
+lead (lookahead n p) = first_lead (lookahead n p)
+
+-- what is to be found, or where the first holds, is not
+pub record Part : Type 0 where
+  pub negated : Bool
+  pub pattern : Pattern
+
+-- a lookahead for what the next character does not tell
+abbrev pub is_far : Pattern → Bool
+is_far empty = false
+is_far (class m n rs) = false
+is_far (look l) = false
+is_far (cat p q) = false
+is_far (alt p q) = false
+is_far (star p) = false
+is_far (plus p) = false
+is_far (lookbehind n p) = false
+is_far (lookahead n p) = not (is_glance p)
+
+-- a term is a part of its own
+abbrev pub is_apart_behind : Lead → Pattern → Bool
+is_apart_behind Nothing q = false
+is_apart_behind Anchored q = is_far q
+is_apart_behind Past q = false
+
+-- what a lookahead looks for, from the beginning of a text on
+abbrev pub part_of : Pattern → List Part
+part_of empty = []
+part_of (class m n rs) = []
+part_of (look l) = []
+part_of (cat p q) = []
+part_of (alt p q) = []
+part_of (star p) = []
+part_of (plus p) = []
+part_of (lookbehind n p) = []
+part_of (lookahead n p) = record { negated = n; pattern = cat (look start) p } ∷ []
+
+-- the parts that lookaheads at the front are
+abbrev pub fronts : Pattern → List Part
+fronts empty = []
+fronts (class m n rs) = []
+fronts (look l) = []
+fronts (cat p q) = fronts p ++ (if is_apart_behind (lead p) q then part_of q else [])
+fronts (alt p q) = []
+fronts (star p) = []
+fronts (plus p) = []
+fronts (lookbehind n p) = []
+fronts (lookahead n p) = []
+
+-- the pattern without them
+abbrev pub rest : Pattern → Pattern
+rest empty = empty
+rest (class m n rs) = class m n rs
+rest (look l) = look l
+rest (cat p q) = if is_apart_behind (lead p) q then rest p else cat (rest p) q
+rest (alt p q) = alt p q
+rest (star p) = star p
+rest (plus p) = plus p
+rest (lookbehind n p) = lookbehind n p
+rest (lookahead n p) = lookahead n p
+
+abbrev pub parts : Pattern → List Part
+parts p = record { negated = false; pattern = rest p } ∷ fronts p
+
+-- each is found, or is not, as it is to be
+abbrev pub AreFound : List Part → List ℕ → Type 0
+AreFound [] text = ⊤
+AreFound (x ∷ xs) text = Unless x.negated (Found x.pattern text) × AreFound xs text
+
+abbrev pub steps_of_parts : List Part → ℕ
+steps_of_parts [] = 0
+steps_of_parts (x ∷ xs) = steps x.pattern + steps_of_parts xs
+
+abbrev pub are_parts_told : List Part → Bool
+are_parts_told [] = true
+are_parts_told (x ∷ xs) = are_told x.pattern && are_parts_told xs
