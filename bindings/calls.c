@@ -167,6 +167,80 @@ static bool checks_ends(size_t first, size_t second, size_t room, uint8_t status
         && is_written(verdicts, room) == (status == STRKW_DONE);
 }
 
+/* The same texts between offsets of 64 bits and of 32, the first text behind a byte that is none of them. */
+static bool checks_between(uint32_t draft, uint32_t options, const char *schema, uint8_t status, const char *verdicts) {
+    static const size_t wide[] = {1, 11, 21, 22, 22, 22};
+    static const uint32_t narrow[] = {1, 11, 21, 22, 22, 22};
+    const void *wide_at_the_end = bytes_of((const char *)wide, sizeof wide);
+    const void *narrow_at_the_end = bytes_of((const char *)narrow, sizeof narrow);
+    const uint8_t *object = text_of(schema), *texts = bytes_of("22024-02-292023-02-29\377", 22);
+    const size_t count = strlen(schema);
+    uint8_t *room = room_of(5), *room32 = room_of(5);
+    if (strkw_check_offsets(draft, options, object, count, texts, 22, wide_at_the_end, 6, room, 5) != status)
+        return false;
+    if (strkw_check_offsets32(draft, options, object, count, texts, 22, narrow_at_the_end, 6, room32, 5) != status)
+        return false;
+    if (verdicts == NULL) return !is_written(room, 5) && !is_written(room32, 5);
+    return memcmp(room, verdicts, 5) == 0 && memcmp(room32, verdicts, 5) == 0;
+}
+
+/* Two calls on the texts of `ab` between three offsets. */
+static bool checks_offsets(uint32_t first, uint32_t second, uint32_t third, size_t room, uint8_t status) {
+    const size_t wide[] = {first, second, third};
+    const uint32_t narrow[] = {first, second, third};
+    uint8_t *verdicts = room_of(room), *verdicts32 = room_of(room);
+    return strkw_check_offsets(7, 0, text_of("{}"), 2, text_of("ab"), 2, wide, 3, verdicts, room) == status
+        && strkw_check_offsets32(7, 0, text_of("{}"), 2, text_of("ab"), 2, narrow, 3, verdicts32, room) == status
+        && is_written(verdicts, room) == (status == STRKW_DONE)
+        && is_written(verdicts32, room) == (status == STRKW_DONE);
+}
+
+/* What both calls answer of these pointers and counts, or 99 where they differ. */
+static uint8_t between(const uint8_t *schema, const uint8_t *texts, size_t count, bool has_offsets, size_t offsets,
+                       uint8_t *verdicts, size_t room) {
+    static const size_t wide[] = {0, 2};
+    static const uint32_t narrow[] = {0, 2};
+    const size_t *of_64 = has_offsets ? wide : NULL;
+    const uint32_t *of_32 = has_offsets ? narrow : NULL;
+    uint8_t answer = strkw_check_offsets(7, 0, schema, 2, texts, count, of_64, offsets, verdicts, room);
+    uint8_t other = strkw_check_offsets32(7, 0, schema, 2, texts, count, of_32, offsets, verdicts, room);
+    return answer == other ? answer : 99;
+}
+
+/* A row of both functions. */
+static void row_between(const char *kind, const char *what, bool holds) {
+    row("check_offsets", kind, what, holds);
+    row("check_offsets32", kind, what, holds);
+}
+
+static void call_check_offsets(void) {
+    static const char *date = "{\"format\":\"date\"}";
+    const uint8_t *object = text_of("{}"), *ab = text_of("ab");
+    uint8_t *out = room_of(1);
+    row_between("right", "dates", checks_between(7, 0, date, STRKW_DONE, "\1\0\2\0\0"));
+    row_between("wrong", "texts that are too short",
+        checks_between(4, 0, "{\"minLength\":11}", STRKW_DONE, "\0\0\2\0\0"));
+    row_between("refused", "draft 5", checks_between(5, 0, date, STRKW_NO_DRAFT, NULL));
+    row_between("refused", "option 8", checks_between(7, 8, date, STRKW_NO_OPTION, NULL));
+    row_between("refused", "no object", checks_between(7, 0, "[]", STRKW_NO_SCHEMA, NULL));
+    row_between("refused", "a limit that is none", checks_between(7, 0, "{\"maxLength\":-1}", STRKW_REFUSED, NULL));
+    row_between("right", "two texts", checks_offsets(0, 1, 2, 2, STRKW_DONE));
+    row_between("right", "two empty texts at the end", checks_offsets(2, 2, 2, 2, STRKW_DONE));
+    row_between("refused", "offsets that fall", checks_offsets(0, 2, 1, 2, STRKW_NO_ROOM));
+    row_between("refused", "a first offset that is more", checks_offsets(1, 0, 2, 2, STRKW_NO_ROOM));
+    row_between("refused", "an offset past the texts", checks_offsets(0, 1, 3, 2, STRKW_NO_ROOM));
+    row_between("refused", "offsets past the texts", checks_offsets(3, 3, 3, 2, STRKW_NO_ROOM));
+    row_between("refused", "a number below 0", checks_offsets(0, (uint32_t)-1, (uint32_t)-1, 2, STRKW_NO_ROOM));
+    row_between("refused", "room for one verdict", checks_offsets(0, 1, 2, 1, STRKW_NO_ROOM));
+    row_between("refused", "room for three verdicts", checks_offsets(0, 1, 2, 3, STRKW_NO_ROOM));
+    row_between("right", "one offset and no text", between(object, ab, 2, true, 1, NULL, 0) == STRKW_DONE);
+    row_between("refused", "no offset", between(object, ab, 2, false, 0, NULL, 0) == STRKW_NO_ROOM);
+    row_between("refused", "no schema", between(NULL, ab, 2, true, 2, out, 1) == STRKW_NULL);
+    row_between("refused", "no texts", between(object, NULL, 2, true, 2, out, 1) == STRKW_NULL);
+    row_between("refused", "no offsets", between(object, ab, 2, false, 2, out, 1) == STRKW_NULL);
+    row_between("refused", "no verdicts", between(object, ab, 2, true, 2, NULL, 1) == STRKW_NULL);
+}
+
 static void call_check(void) {
     static const char *date = "{\"format\":\"date\"}", *other = "{\"format\":\"no-format\"}";
     static const uint32_t as_draft = STRKW_FORMATS_AS_DRAFT, ignored = STRKW_IGNORE_UNKNOWN_FORMATS;
@@ -424,6 +498,7 @@ int main(int count, char **words) {
     call_decisions();
     call_answer();
     call_check();
+    call_check_offsets();
     call_refusal();
     call_errors();
     call_schemas();

@@ -8,6 +8,7 @@
 
 static const uint8_t no_text[1] = {0};
 static const size_t no_ends[1] = {0};
+static const uint32_t no_ends32[1] = {0};
 
 /* Whether a pointer leads to so many items; one to none may be NULL. */
 static bool leads(const void *pointer, size_t count) { return pointer != NULL || count == 0; }
@@ -17,7 +18,8 @@ static const uint8_t *text_at(const uint8_t *text) { return text != NULL ? text 
 #define FORMAT(name)                                                          \
     bool strkw_nonnull_##name(const uint8_t *text, size_t count);             \
     bool strkw_##name(const uint8_t *text, size_t count) {                    \
-        return leads(text, count) && strkw_nonnull_##name(text_at(text), count); \
+        if (text == NULL) return count == 0 && strkw_nonnull_##name(no_text, 0); \
+        return strkw_nonnull_##name(text, count);                             \
     }
 
 FORMAT(is_date)
@@ -74,6 +76,24 @@ uint8_t strkw_check(uint32_t draft, uint32_t options, const uint8_t *schema, siz
                                ends != NULL ? ends : no_ends, ends_count,
                                verdicts != NULL ? verdicts : no_verdicts, room);
 }
+
+#define CHECK_OFFSETS(name, number, none)                                                                            \
+    uint8_t strkw_nonnull_##name(uint32_t draft, uint32_t options, const uint8_t *schema, size_t schema_count,        \
+                                 const uint8_t *texts, size_t texts_count, const number *offsets,                     \
+                                 size_t offsets_count, uint8_t *verdicts, size_t room);                               \
+    uint8_t strkw_##name(uint32_t draft, uint32_t options, const uint8_t *schema, size_t schema_count,                \
+                         const uint8_t *texts, size_t texts_count, const number *offsets, size_t offsets_count,       \
+                         uint8_t *verdicts, size_t room) {                                                            \
+        uint8_t no_verdicts[1] = {0};                                                                                 \
+        if (!leads(schema, schema_count) || !leads(texts, texts_count)) return STRKW_NULL;                            \
+        if (!leads(offsets, offsets_count) || !leads(verdicts, room)) return STRKW_NULL;                              \
+        return strkw_nonnull_##name(draft, options, text_at(schema), schema_count, text_at(texts), texts_count,       \
+                                    offsets != NULL ? offsets : none, offsets_count,                                  \
+                                    verdicts != NULL ? verdicts : no_verdicts, room);                                 \
+    }
+
+CHECK_OFFSETS(check_offsets, size_t, no_ends)
+CHECK_OFFSETS(check_offsets32, uint32_t, no_ends32)
 
 uint8_t strkw_nonnull_refusal(uint32_t draft, uint32_t options, const uint8_t *schema, size_t schema_count,
                               uint8_t *out, size_t room, size_t *written);

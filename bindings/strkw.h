@@ -57,12 +57,12 @@ uint8_t strkw_is_base32hex(const uint8_t *text, size_t count);
 uint8_t strkw_is_base16(const uint8_t *text, size_t count);
 uint8_t strkw_is_json(const uint8_t *text, size_t count);
 
-/* What the functions below answer. Where several hold, strkw_check tells the first of 7, 2, 3, 6, 1, 4, 5,
-   strkw_refusal the first of 7, 3, 6, 1, 4, 2, 5, and strkw_errors the first of 7, 3, 6, 8, 1, 4, 5, 2. */
+/* What the functions below answer. Where several hold, the calls with many texts tell the first of 7, 2, 3, 6, 1, 4,
+   5, strkw_refusal the first of 7, 3, 6, 1, 4, 2, 5, and strkw_errors the first of 7, 3, 6, 8, 1, 4, 5, 2. */
 enum {
     STRKW_DONE = 0,
     STRKW_OUT_OF_MEMORY = 1, /* nothing was written */
-    STRKW_NO_ROOM = 2,       /* too little room; of strkw_check: no texts have these ends, or room is not ends_count */
+    STRKW_NO_ROOM = 2,       /* too little room; with many texts: none lie so, or there is other room than for them */
     STRKW_NO_DRAFT = 3,      /* the draft is none of 4, 6, 7, 201909, 202012 */
     STRKW_NO_SCHEMA = 4,     /* the schema is no JSON object, or not UTF-8 */
     STRKW_REFUSED = 5,       /* the schema object is refused; strkw_refusal tells why */
@@ -94,6 +94,19 @@ uint8_t strkw_answer(const uint8_t *requests, size_t count, uint8_t *out, size_t
    After any but STRKW_DONE, verdicts is as it was. */
 uint8_t strkw_check(uint32_t draft, uint32_t options, const uint8_t *schema, size_t schema_count, const uint8_t *texts,
                     size_t texts_count, const size_t *ends, size_t ends_count, uint8_t *verdicts, size_t room);
+
+/* The same of texts that lie between offsets, as those of an array of Apache Arrow do (Columnar Format, "Variable-size
+   Binary Layout"): text i begins at texts[offsets[i]] and ends before texts[offsets[i + 1]]. The offsets of a `string`
+   have 32 bits, those of a `large_string` 64. Arrow's are signed, and none is below 0. Nothing is copied.
+   verdicts has room for one less than there are offsets.
+   STRKW_NO_ROOM: there is no offset, one is less than the one before it or more than texts_count, or room is not
+   offsets_count - 1. */
+uint8_t strkw_check_offsets(uint32_t draft, uint32_t options, const uint8_t *schema, size_t schema_count,
+                            const uint8_t *texts, size_t texts_count, const size_t *offsets, size_t offsets_count,
+                            uint8_t *verdicts, size_t room);
+uint8_t strkw_check_offsets32(uint32_t draft, uint32_t options, const uint8_t *schema, size_t schema_count,
+                              const uint8_t *texts, size_t texts_count, const uint32_t *offsets, size_t offsets_count,
+                              uint8_t *verdicts, size_t room);
 
 /* Tells why strkw_check refuses a schema object. schema, out and written do not overlap.
    STRKW_REFUSED: the text is at the head of out, and its count of bytes is in *written. It is UTF-8: the JSON pointer

@@ -1,4 +1,5 @@
-"""What `parallel` and `parallel_dask` share: their arguments, the two files, and the count of the answers."""
+"""What `parallel` and `parallel_dask` share: their arguments, the two files, and the count of the answers. `texts_dask`
+has its blocks and its ends from here too."""
 import argparse
 import os
 import re
@@ -86,6 +87,12 @@ def lines_in(file):
         lines, last = lines + piece.count(b"\n"), piece[-1:]
     file.seek(0)
     return lines + (last != b"\n")
+
+
+def blocks(file, size):
+    """Whole lines, some `size` bytes at a time."""
+    while block := file.read(size):
+        yield block + file.readline()
 
 
 def is_standard_output(found):

@@ -38,13 +38,16 @@ from contextlib import suppress
 from dataclasses import dataclass, field, fields
 from pathlib import Path
 from threading import Event, Thread
+from time import sleep
 
 TOP = Path(__file__).resolve().parent.parent
 ROWS = TOP / "tools" / "programs"
 SECONDS_FOR_A_RUN = 20
-# Between two inputs once the output is closed. Until a process that was forked for another row has begun, it holds this
+# Before each input once the output is closed. Until a process that was forked for another row has begun, it holds this
 # output open too, and a write may still go through.
 SECONDS_BEHIND_THE_END = 0.5
+# Between two such inputs, unless the run ends before.
+SECONDS_FOR_AN_END = 10
 
 
 @dataclass
@@ -145,8 +148,10 @@ class Talk:
         with suppress(BrokenPipeError), stream:
             for number, part in enumerate(parts):
                 if number > 0:
-                    self.has_come.wait(SECONDS_BEHIND_THE_END if self.is_closed else None)
+                    self.has_come.wait(SECONDS_FOR_AN_END if self.is_closed else None)
                     self.has_come.clear()
+                    if self.is_closed:
+                        sleep(SECONDS_BEHIND_THE_END)
                 stream.write(part)
                 stream.flush()
 

@@ -5,7 +5,7 @@ _neldrafi_options() {
     case $1 in
     text) echo --draft --output --quiet --help ;;
     formats | requests) echo --output --help ;;
-    csv) echo --color --delimiter --max-errors --no-header --output --progress --quiet --report --summary --help ;;
+    csv) echo --color --delimiter --keep-going --max-errors --no-header --output --progress --quiet --report --summary --help ;;
     json) echo --color --max-errors --output --quiet --help ;;
     check) echo --color --draft --ignore --ignore-unknown-formats --json --max-errors --output --quiet --help ;;
     explain) echo --draft --ignore --output --help ;;

@@ -22,6 +22,7 @@ complete -c neldrafi -n '__fish_seen_subcommand_from csv json check' -x -l max-e
 complete -c neldrafi -n '__fish_seen_subcommand_from text csv json check' -s q -l quiet -d 'No standard output'
 complete -c neldrafi -n '__fish_seen_subcommand_from csv plan' -x -l delimiter -d 'What parts the columns'
 complete -c neldrafi -n '__fish_seen_subcommand_from csv plan' -l no-header -d 'Name the columns by number'
+complete -c neldrafi -n '__fish_seen_subcommand_from csv' -l keep-going -d 'Take fields that are not UTF-8 as errors'
 complete -c neldrafi -n '__fish_seen_subcommand_from csv' -l progress -d 'Tell of every million records'
 complete -c neldrafi -n '__fish_seen_subcommand_from csv' -l summary -d 'Write a table of the errors'
 complete -c neldrafi -n '__fish_seen_subcommand_from csv' -r -l report -d 'Write a page about the errors'

@@ -39,7 +39,7 @@ _neldrafi() {
     requests) _arguments $help $output '*:file:_files' ;;
     csv)
         _arguments $help $quiet $color $most $output $delimiter $headless \
-            '--progress[tell of every million records]' \
+            '--keep-going[take a field that is not UTF-8 as an error]' '--progress[tell of every million records]' \
             '--summary[write a table of the errors]' '--report[write a page about the errors]:page:_files' '*:file:_files'
         ;;
     json) _arguments $help $quiet $color $most $output '*:file:_files' ;;

@@ -14,6 +14,8 @@ Texts by a schema object:
 >>> [error.message for error in schema.iter_errors("Ada")]
 ['"Ada" does not match "^[a-z]+$"']
 
+The strings of an array of Apache Arrow are checked where they lie, by `check_array` of a Schema.
+
 `email`, `idn-email`, `idn-hostname` and `regex` are formats that a schema object does not know. By the argument
 companion_formats=True it knows `email`, and from draft 7 on `idn-email` and `idn-hostname`. `checks` of a Schema
 registers others.

@@ -4,9 +4,11 @@ import json
 from itertools import accumulate
 from typing import Any, Callable, Iterable, Iterator, Literal, Mapping, Optional, Sequence, Union
 
+from strkw._arrays import Array, Buffer, array_of
 from strkw._formats import Text
 from strkw._library import (
-    BUFFER, BYTES, COUNT, DONE, NUMBER, OUT_OF_MEMORY, REFUSED, WRITTEN, BytesLike, bytes_of, function, written)
+    BUFFER, BYTES, COUNT, DONE, NO_ROOM, NUMBER, OUT_OF_MEMORY, REFUSED, WRITTEN, BytesLike, bytes_of, function,
+    written)
 
 SchemaObject = Union[Mapping[str, Any], str, BytesLike]
 Formats = Literal["checked", "as-draft"]
@@ -204,6 +206,47 @@ class Schema:
         kept = texts if isinstance(texts, (str, bytes, bytearray, memoryview)) else list(texts)
         return [verdict and bool(self._check(bytes_of(text).decode()))
                 for verdict, text in zip(_verdicts(self._compiled, kept), kept)]
+
+    def check_array(self, texts: Buffer, offsets: Buffer, validity: Optional[Buffer] = None, *, offset: int = 0,
+                    length: Optional[int] = None, large: bool = False) -> bytearray:
+        """A verdict on each text of an array that Apache Arrow has laid out, in one call, and without a copy of it.
+
+        >>> from array import array
+        >>> list(Schema(7, {"format": "date"}).check_array(b"2024-02-292023-02-29", array("i", [0, 10, 20])))
+        [1, 0]
+
+        A verdict is 1 for a valid text, 0 for one that is not, 2 for bytes that are not UTF-8, and 3 for a null. The
+        texts are bytes, one text behind the other. The offsets are numbers of 32 bits, or with large=True of 64: each
+        text begins at one of them and ends before the next. A text is null where its bit in the bitmap of the validity
+        is not set. From an array of pyarrow, of the type `string`:
+
+            validity, offsets, texts = array.buffers()
+            verdicts = schema.check_array(texts, offsets, validity, offset=array.offset, length=len(array))
+
+        With large=True it is a `large_string`. Without a length all texts are checked from the offset on. No other
+        thread may change the buffers meanwhile.
+
+        ValueError where the offsets are not such numbers, are too few, fall, or lead past the texts, or the validity
+        has too few bits. TypeError where an argument is of another type.
+        """
+        found = array_of(texts, offsets, validity, offset, length, large)
+        verdicts = bytearray(len(found))
+        status = found.check(self._compiled, verdicts)
+        if status == OUT_OF_MEMORY:
+            raise MemoryError
+        if status == NO_ROOM:
+            raise ValueError("the offsets fall, or lead past the texts")
+        assert status == DONE
+        if self._check is not None:
+            self._judge(found, verdicts)
+        return found.marked(verdicts)
+
+    def _judge(self, found: Array, verdicts: bytearray) -> None:
+        """Asks the caller's check of the texts that are valid otherwise, and not null."""
+        for index, verdict in enumerate(verdicts):
+            is_null = found.nulls and found.nulls[index]
+            if verdict == 1 and not is_null and not self._check(found.text(index).decode()):
+                verdicts[index] = 0
 
     def iter_errors(self, text: Text) -> Iterator[ValidationError]:
         """The errors of a text, in the order contentMediaType, contentEncoding, format, minLength, maxLength, pattern.

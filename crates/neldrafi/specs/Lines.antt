@@ -7,6 +7,7 @@ use Rattle.strkw_report.specs.Kinds.{min_length, max_length, pattern, format, fr
 use Rattle.strkw_report.specs.Kinds.{backtrack_limit_exceeded, regex_engine_failure}
 use Rattle.strkw_report.specs.Kinds.{content_encoding, content_media_type}
 use Rattle.strkw_document.specs.Places.{Form}
+use Rattle.strkw_table.specs.Fields.{Form as FieldForm}
 
 -- a value on a line
 abbrev pub line_of : Data → List ℕ
@@ -34,6 +35,21 @@ field_error file line column r =
     (member (codes "kind") (string (kind_name r.kind))
     (member (codes "line") (number (unsigned line))
     (member (codes "message") (string (text_of r)) no_members)))))))
+
+-- a field that is not UTF-8
+abbrev pub field_broken : List ℕ → ℕ → List ℕ → Data
+field_broken file line column =
+    object (member (codes "column") (string column)
+    (member (codes "file") (string file)
+    (member (codes "kind") (string (codes "notUtf8"))
+    (member (codes "line") (number (unsigned line))
+    (member (codes "message") (string (codes "not UTF-8")) no_members)))))
+
+abbrev pub field_form : List ℕ → FieldForm
+field_form file = record {
+  said = λ line column r. line_of (field_error file line column r);
+  broken = λ line column. line_of (field_broken file line column);
+}
 
 -- an error of a line of a file
 abbrev pub line_error : List ℕ → ℕ → Report → Data

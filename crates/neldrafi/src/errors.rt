@@ -12,9 +12,9 @@ use std::io::Write;
 pub(crate) struct FieldError {
     /// The name of the column.
     pub column: String,
-    /// The place of the keyword, as `/format`.
+    /// The place of the keyword, as `/format`; or what is wrong, where that is said of no keyword.
     pub keyword: String,
-    /// The kind of the error, as `format`.
+    /// The kind of the error, as `format`; or what is wrong, where that is said of no keyword.
     pub kind: String,
     /// The line on which the record begins.
     pub line: u64,
@@ -23,9 +23,8 @@ pub(crate) struct FieldError {
 }
 
 // The text of a member of an object, or an empty one.
-fn text_at(alloc: Global, object: &Value, name: &str) -> Result<String, AllocError> {
-    let text = object.get(name).and_then(Value::as_str).unwrap_or("");
-    String::from_str(alloc, text)
+fn text_at<'a>(object: &'a Value, name: &str) -> &'a str {
+    object.get(name).and_then(Value::as_str).unwrap_or("")
 }
 
 impl FieldError {
@@ -35,12 +34,17 @@ impl FieldError {
         let Ok(error) = Value::from_str(alloc, line) else {
             return Err(AllocError);
         };
+        let message = text_at(&error, "message");
+        let (keyword, kind) = match error.get("keyword") {
+            Some(_) => (text_at(&error, "keyword"), text_at(&error, "kind")),
+            None => (message, message),
+        };
         Ok(FieldError {
-            column: text_at(alloc, &error, "column")?,
-            keyword: text_at(alloc, &error, "keyword")?,
-            kind: text_at(alloc, &error, "kind")?,
+            column: String::from_str(alloc, text_at(&error, "column"))?,
+            keyword: String::from_str(alloc, keyword)?,
+            kind: String::from_str(alloc, kind)?,
             line: error.get("line").and_then(Value::as_u64).unwrap_or(0),
-            message: text_at(alloc, &error, "message")?,
+            message: String::from_str(alloc, message)?,
         })
     }
 }

@@ -5,7 +5,7 @@ ghost use Rattle.serde_json.specs.View.{view};
 ghost use Rattle.serde_json.specs.Written.{has_float};
 ghost use Rattle.strkw_report.specs.Failures.{kind_failed};
 ghost use Rattle.strkw_plan.specs.Found.{report_found};
-ghost use Rattle.neldrafi.specs.Lines.{document_form, field_error, kind_name, line_error, line_of, place_error, place_told};
+ghost use Rattle.neldrafi.specs.Lines.{document_form, field_broken, field_error, field_form, kind_name, line_error, line_of, place_error, place_told};
 
 use crate::telling::Subject;
 use serde_json::{Value, json};
@@ -72,6 +72,19 @@ fn field_error(
         "kind": kind_name(&error.failure),
         "line": line,
         "message": message.as_str()
+    })
+}
+
+// The object about a field that is not UTF-8.
+fn field_broken(alloc: Global, file: &str, line: u64, column: &str) -> Result<Value, AllocError>
+    ensures { IfOk result (λ value. view value ≡ field_broken file.now line column.now) }
+{
+    json!(in alloc; {
+        "column": column,
+        "file": file,
+        "kind": "notUtf8",
+        "line": line,
+        "message": "not UTF-8"
     })
 }
 
@@ -155,7 +168,7 @@ impl<'a> JsonLines<'a> {
 }
 
 impl FieldForm for JsonLines<'_> {
-    ghost said = { λ form line column r. line_of (field_error form.file.now line column r) };
+    ghost writes = { λ form. field_form form.file.now };
 
     #[tactic(auto, using(crate::proofs::LineLemmas::line_some))]
     fn push(
@@ -167,6 +180,17 @@ impl FieldForm for JsonLines<'_> {
         out: &mut String,
     ) -> Result<(), AllocError> {
         let value = field_error(alloc, self.file, line, column, error)?;
+        push_line(alloc, &value, out)
+    }
+
+    fn push_broken(
+        &self,
+        alloc: Global,
+        line: u64,
+        column: &str,
+        out: &mut String,
+    ) -> Result<(), AllocError> {
+        let value = field_broken(alloc, self.file, line, column)?;
         push_line(alloc, &value, out)
     }
 }

@@ -8,7 +8,7 @@ use std::env;
 use std::env::VarError;
 use std::io::IsTerminal;
 use strkw_report::Draft;
-use strkw_table::Header;
+use strkw_table::{BrokenField, Header, Reading};
 
 // The option for no output.
 const QUIET: &str = "quiet";
@@ -51,6 +51,9 @@ const DELIMITER: &str = "delimiter";
 
 // The option for a file whose first record names no columns.
 const NO_HEADER: &str = "no-header";
+
+// The option by which a field that is not UTF-8 is an error.
+const KEEP_GOING: &str = "keep-going";
 
 /// The option for keywords that are let pass.
 pub(crate) const IGNORE: &str = "ignore";
@@ -216,6 +219,28 @@ pub(crate) fn header_said(matches: &ArgMatches<'_>) -> Header {
         Header::Absent
     } else {
         Header::First
+    }
+}
+
+/// The option `--keep-going`.
+pub(crate) fn keep_going<'a>(alloc: Global) -> Arg<'a> {
+    Arg::new(alloc, KEEP_GOING)
+        .long(KEEP_GOING)
+        .action(ArgAction::SetTrue)
+        .help("Take a field of a checked column that is not UTF-8 as an error, and go on")
+}
+
+/// How a file is read whose plan says what parts its fields, by the options `--no-header` and `--keep-going`.
+pub(crate) fn reading_said(matches: &ArgMatches<'_>) -> Reading {
+    let broken = if matches.get_flag(KEEP_GOING) {
+        BrokenField::IsError
+    } else {
+        BrokenField::EndsCheck
+    };
+    Reading {
+        delimiter: None,
+        header: header_said(matches),
+        broken,
     }
 }
 

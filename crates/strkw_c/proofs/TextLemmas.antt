@@ -3,7 +3,7 @@ use Rattle.std.proofs.Common.{◌≡◌, ◌≤◌, ℕ, ◌+◌, ◌-◌, List,
 use Rattle.std.proofs.Common.{length-take, length-drop, drop-drop, take-append-drop}
 use Rattle.std.specs.Prelude.{⊤}
 use Rattle.std.specs.List.{concat}
-use Rattle.strkw_c.specs.Texts.{ends_from, AreTexts}
+use Rattle.strkw_c.specs.Texts.{ends_from, AreTextsFrom}
 
 -- no end is less than the one before it, or past the count
 abbrev pub Ascend : ℕ → ℕ → List ℕ → Type 0
@@ -44,9 +44,16 @@ ends_met bytes start (end ∷ ends) (up, within, more) =
     let met : start + length text ≡ end = omega (arith, up, within, length-take (end - start) (drop start bytes), length-drop start bytes) in
     rw met (ap (λ l. end ∷ l) (ends_met bytes end ends more))
 
--- at ends that ascend there are texts
-pub are_texts : (bytes : List ℕ) (ends : List ℕ) → Ascend (length bytes) 0 ends → AreTexts bytes ends (texts_from bytes 0 ends)
-are_texts bytes ends up = (rest_from bytes 0 ends, bytes_joined bytes 0 ends up, ends_met bytes 0 ends up)
+-- at a start within the bytes and ends that ascend there are texts
+pub are_texts : (bytes : List ℕ) (start : ℕ) (ends : List ℕ) → start ≤ length bytes → Ascend (length bytes) start ends
+    → AreTextsFrom start bytes ends (texts_from bytes start ends)
+are_texts bytes start ends within up = (
+  take start bytes,
+  rest_from bytes start ends,
+  omega (arith, within, length-take start bytes),
+  sym (take-append-drop start bytes) ∙ ap (λ l. take start bytes ++ l) (bytes_joined bytes start ends up),
+  ends_met bytes start ends up,
+)
 
 -- the ends of texts that go no further than the count ascend
 ascends_from : (count start : ℕ) (texts : List (List ℕ)) → start + length (concat texts) ≤ count → Ascend count start (ends_from start texts)
@@ -55,9 +62,19 @@ ascends_from count start (text ∷ texts) within =
     let whole : start + length text + length (concat texts) ≤ count = omega (arith, within, length-append text (concat texts)) in
     (omega arith, omega (arith, whole), ascends_from count (start + length text) texts whole)
 
--- and where there are texts, their ends ascend
-pub ascends : (bytes : List ℕ) (ends : List ℕ) (texts : List (List ℕ)) → AreTexts bytes ends texts → Ascend (length bytes) 0 ends
-ascends bytes ends texts (rest, joined, e) =
-    let count : length bytes ≡ length (concat texts) + length rest = ap length joined ∙ length-append (concat texts) rest in
-    let within : 0 + length (concat texts) ≤ length bytes = omega (arith, count) in
-    subst (Ascend (length bytes) 0) (sym e) (ascends_from (length bytes) 0 texts within)
+-- how many bytes there are, where texts stand in them
+count_of : (bytes : List ℕ) (start : ℕ) (ends : List ℕ) (texts : List (List ℕ)) → AreTextsFrom start bytes ends texts
+    → start + length (concat texts) ≤ length bytes
+count_of bytes start ends texts (front, rest, met, joined, e) =
+    let whole : length bytes ≡ length front + length (concat texts ++ rest) = ap length joined ∙ length-append front (concat texts ++ rest) in
+    omega (arith, whole, met, length-append (concat texts) rest)
+
+-- where there are texts, the start is within the bytes
+pub starts_within : (bytes : List ℕ) (start : ℕ) (ends : List ℕ) (texts : List (List ℕ)) → AreTextsFrom start bytes ends texts → start ≤ length bytes
+starts_within bytes start ends texts are = omega (arith, count_of bytes start ends texts are)
+
+-- and their ends ascend
+pub ascends : (bytes : List ℕ) (start : ℕ) (ends : List ℕ) (texts : List (List ℕ)) → AreTextsFrom start bytes ends texts
+    → Ascend (length bytes) start ends
+ascends bytes start ends texts are =
+    subst (Ascend (length bytes) start) (sym are.4) (ascends_from (length bytes) start texts (count_of bytes start ends texts are))

@@ -1,5 +1,6 @@
 pub mod Buffers
 pub mod Errors
+pub mod Judged
 pub mod Refusals
 pub mod Settings
 pub mod Statuses

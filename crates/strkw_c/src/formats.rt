@@ -13,6 +13,7 @@ ghost use Rattle.strkw_uri.specs.Template.{IsUriTemplate};
 ghost use Rattle.strkw_mail.specs.Mailbox.{IsMailbox};
 ghost use Rattle.strkw_uri.specs.Uri.{IsUri, IsUriReference, IsIri, IsIriReference};
 
+use crate::utf8::text_of;
 use strkw_label::is_valid_hostname;
 use strkw_mail::is_valid_email;
 use strkw_net::{is_valid_hostname_rfc1034, is_valid_ipv4, is_valid_ipv6, is_valid_uuid};
@@ -27,9 +28,9 @@ use strkw_uri::{
 pub extern "C" fn strkw_nonnull_is_date(text: &[u8]) -> bool
     ensures { IsTrue result ↔ (IsUtf8 text.now × IsFullDate (chars text.now)) }
 {
-    match str::from_utf8(text) {
-        Ok(text) => is_valid_date(text),
-        Err(_) => false,
+    match text_of(text) {
+        Some(text) => is_valid_date(text),
+        None => false,
     }
 }
 
@@ -38,9 +39,9 @@ pub extern "C" fn strkw_nonnull_is_date(text: &[u8]) -> bool
 pub extern "C" fn strkw_nonnull_is_time(text: &[u8]) -> bool
     ensures { IsTrue result ↔ (IsUtf8 text.now × IsFullTime (chars text.now)) }
 {
-    match str::from_utf8(text) {
-        Ok(text) => is_valid_time(text),
-        Err(_) => false,
+    match text_of(text) {
+        Some(text) => is_valid_time(text),
+        None => false,
     }
 }
 
@@ -49,9 +50,9 @@ pub extern "C" fn strkw_nonnull_is_time(text: &[u8]) -> bool
 pub extern "C" fn strkw_nonnull_is_date_time(text: &[u8]) -> bool
     ensures { IsTrue result ↔ (IsUtf8 text.now × IsDateTime (chars text.now)) }
 {
-    match str::from_utf8(text) {
-        Ok(text) => is_valid_datetime(text),
-        Err(_) => false,
+    match text_of(text) {
+        Some(text) => is_valid_datetime(text),
+        None => false,
     }
 }
 
@@ -60,9 +61,9 @@ pub extern "C" fn strkw_nonnull_is_date_time(text: &[u8]) -> bool
 pub extern "C" fn strkw_nonnull_is_duration(text: &[u8]) -> bool
     ensures { IsTrue result ↔ (IsUtf8 text.now × IsDuration (chars text.now)) }
 {
-    match str::from_utf8(text) {
-        Ok(text) => is_valid_duration(text),
-        Err(_) => false,
+    match text_of(text) {
+        Some(text) => is_valid_duration(text),
+        None => false,
     }
 }
 
@@ -71,9 +72,9 @@ pub extern "C" fn strkw_nonnull_is_duration(text: &[u8]) -> bool
 pub extern "C" fn strkw_nonnull_is_ipv4(text: &[u8]) -> bool
     ensures { IsTrue result ↔ (IsUtf8 text.now × IsIpv4 (chars text.now)) }
 {
-    match str::from_utf8(text) {
-        Ok(text) => is_valid_ipv4(text),
-        Err(_) => false,
+    match text_of(text) {
+        Some(text) => is_valid_ipv4(text),
+        None => false,
     }
 }
 
@@ -82,9 +83,9 @@ pub extern "C" fn strkw_nonnull_is_ipv4(text: &[u8]) -> bool
 pub extern "C" fn strkw_nonnull_is_ipv6(text: &[u8]) -> bool
     ensures { IsTrue result ↔ (IsUtf8 text.now × IsIpv6 (chars text.now)) }
 {
-    match str::from_utf8(text) {
-        Ok(text) => is_valid_ipv6(text),
-        Err(_) => false,
+    match text_of(text) {
+        Some(text) => is_valid_ipv6(text),
+        None => false,
     }
 }
 
@@ -94,9 +95,9 @@ pub extern "C" fn strkw_nonnull_is_ipv6(text: &[u8]) -> bool
 pub extern "C" fn strkw_nonnull_is_hostname(text: &[u8]) -> bool
     ensures { IsTrue result ↔ (IsUtf8 text.now × IsHostName (chars text.now)) }
 {
-    match str::from_utf8(text) {
-        Ok(text) => is_valid_hostname(text),
-        Err(_) => false,
+    match text_of(text) {
+        Some(text) => is_valid_hostname(text),
+        None => false,
     }
 }
 
@@ -105,9 +106,9 @@ pub extern "C" fn strkw_nonnull_is_hostname(text: &[u8]) -> bool
 pub extern "C" fn strkw_nonnull_is_hostname_draft4(text: &[u8]) -> bool
     ensures { IsTrue result ↔ (IsUtf8 text.now × IsAsciiHostName (chars text.now)) }
 {
-    match str::from_utf8(text) {
-        Ok(text) => is_valid_hostname_rfc1034(text),
-        Err(_) => false,
+    match text_of(text) {
+        Some(text) => is_valid_hostname_rfc1034(text),
+        None => false,
     }
 }
 
@@ -116,9 +117,9 @@ pub extern "C" fn strkw_nonnull_is_hostname_draft4(text: &[u8]) -> bool
 pub extern "C" fn strkw_nonnull_is_uri(text: &[u8]) -> bool
     ensures { IsTrue result ↔ (IsUtf8 text.now × IsUri (chars text.now)) }
 {
-    match str::from_utf8(text) {
-        Ok(text) => is_valid_uri(text),
-        Err(_) => false,
+    match text_of(text) {
+        Some(text) => is_valid_uri(text),
+        None => false,
     }
 }
 
@@ -127,9 +128,9 @@ pub extern "C" fn strkw_nonnull_is_uri(text: &[u8]) -> bool
 pub extern "C" fn strkw_nonnull_is_uri_reference(text: &[u8]) -> bool
     ensures { IsTrue result ↔ (IsUtf8 text.now × IsUriReference (chars text.now)) }
 {
-    match str::from_utf8(text) {
-        Ok(text) => is_valid_uri_reference(text),
-        Err(_) => false,
+    match text_of(text) {
+        Some(text) => is_valid_uri_reference(text),
+        None => false,
     }
 }
 
@@ -138,9 +139,9 @@ pub extern "C" fn strkw_nonnull_is_uri_reference(text: &[u8]) -> bool
 pub extern "C" fn strkw_nonnull_is_iri(text: &[u8]) -> bool
     ensures { IsTrue result ↔ (IsUtf8 text.now × IsIri (chars text.now)) }
 {
-    match str::from_utf8(text) {
-        Ok(text) => is_valid_iri(text),
-        Err(_) => false,
+    match text_of(text) {
+        Some(text) => is_valid_iri(text),
+        None => false,
     }
 }
 
@@ -149,9 +150,9 @@ pub extern "C" fn strkw_nonnull_is_iri(text: &[u8]) -> bool
 pub extern "C" fn strkw_nonnull_is_iri_reference(text: &[u8]) -> bool
     ensures { IsTrue result ↔ (IsUtf8 text.now × IsIriReference (chars text.now)) }
 {
-    match str::from_utf8(text) {
-        Ok(text) => is_valid_iri_reference(text),
-        Err(_) => false,
+    match text_of(text) {
+        Some(text) => is_valid_iri_reference(text),
+        None => false,
     }
 }
 
@@ -160,9 +161,9 @@ pub extern "C" fn strkw_nonnull_is_iri_reference(text: &[u8]) -> bool
 pub extern "C" fn strkw_nonnull_is_uri_template(text: &[u8]) -> bool
     ensures { IsTrue result ↔ (IsUtf8 text.now × IsUriTemplate (chars text.now)) }
 {
-    match str::from_utf8(text) {
-        Ok(text) => is_valid_uri_template(text),
-        Err(_) => false,
+    match text_of(text) {
+        Some(text) => is_valid_uri_template(text),
+        None => false,
     }
 }
 
@@ -171,9 +172,9 @@ pub extern "C" fn strkw_nonnull_is_uri_template(text: &[u8]) -> bool
 pub extern "C" fn strkw_nonnull_is_json_pointer(text: &[u8]) -> bool
     ensures { IsTrue result ↔ (IsUtf8 text.now × IsJsonPointer (chars text.now)) }
 {
-    match str::from_utf8(text) {
-        Ok(text) => is_valid_json_pointer(text),
-        Err(_) => false,
+    match text_of(text) {
+        Some(text) => is_valid_json_pointer(text),
+        None => false,
     }
 }
 
@@ -182,9 +183,9 @@ pub extern "C" fn strkw_nonnull_is_json_pointer(text: &[u8]) -> bool
 pub extern "C" fn strkw_nonnull_is_relative_json_pointer(text: &[u8]) -> bool
     ensures { IsTrue result ↔ (IsUtf8 text.now × IsRelativeJsonPointer (chars text.now)) }
 {
-    match str::from_utf8(text) {
-        Ok(text) => is_valid_relative_json_pointer(text),
-        Err(_) => false,
+    match text_of(text) {
+        Some(text) => is_valid_relative_json_pointer(text),
+        None => false,
     }
 }
 
@@ -193,9 +194,9 @@ pub extern "C" fn strkw_nonnull_is_relative_json_pointer(text: &[u8]) -> bool
 pub extern "C" fn strkw_nonnull_is_uuid(text: &[u8]) -> bool
     ensures { IsTrue result ↔ (IsUtf8 text.now × IsUuid (chars text.now)) }
 {
-    match str::from_utf8(text) {
-        Ok(text) => is_valid_uuid(text),
-        Err(_) => false,
+    match text_of(text) {
+        Some(text) => is_valid_uuid(text),
+        None => false,
     }
 }
 
@@ -204,8 +205,8 @@ pub extern "C" fn strkw_nonnull_is_uuid(text: &[u8]) -> bool
 pub extern "C" fn strkw_nonnull_is_email(text: &[u8]) -> bool
     ensures { IsTrue result ↔ (IsUtf8 text.now × IsMailbox (chars text.now)) }
 {
-    match str::from_utf8(text) {
-        Ok(text) => is_valid_email(text),
-        Err(_) => false,
+    match text_of(text) {
+        Some(text) => is_valid_email(text),
+        None => false,
     }
 }

@@ -10,6 +10,7 @@ mod errors;
 mod formats;
 mod internationalised;
 mod lines;
+mod offsets;
 mod questions;
 mod refusals;
 mod schemas;
@@ -18,6 +19,7 @@ mod statuses;
 #[cfg(test)]
 mod tests;
 mod texts;
+mod utf8;
 mod verdicts;
 
 pub use answers::strkw_nonnull_answer;
@@ -35,5 +37,6 @@ pub use formats::{
     strkw_nonnull_is_uri_reference, strkw_nonnull_is_uri_template, strkw_nonnull_is_uuid,
 };
 pub use internationalised::{strkw_nonnull_is_idn_email, strkw_nonnull_is_idn_hostname};
+pub use offsets::{strkw_nonnull_check_offsets, strkw_nonnull_check_offsets32};
 pub use refusals::strkw_nonnull_refusal;
 pub use verdicts::strkw_nonnull_check;

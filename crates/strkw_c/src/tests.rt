@@ -1,7 +1,10 @@
 //! The calls on a schema object with each growth refused. With ample memory a row has to pass. `tools/refusals.py`
 //! runs it with each growth refused in turn too: then it ends as out of memory.
 
-use crate::{strkw_nonnull_check, strkw_nonnull_errors, strkw_nonnull_refusal};
+use crate::{
+    strkw_nonnull_check, strkw_nonnull_check_offsets, strkw_nonnull_check_offsets32,
+    strkw_nonnull_errors, strkw_nonnull_refusal,
+};
 use std::alloc::{AllocError, Global};
 use std::test::Fail;
 
@@ -85,6 +88,34 @@ fn verdicts_under_refusal(rt: HostRuntime) -> Result<(), Fail> {
     ] {
         if !are_judged_so(rt.alloc(), options, schema, want)? {
             return Err(Fail::new(schema));
+        }
+    }
+    Ok(())
+}
+
+// Whether a date and the byte 255, behind a byte that is of neither, have the verdicts 1 and 2 between offsets of 32
+// bits, or else of 64. Out of memory, the verdicts are as they were.
+fn are_judged_between(alloc: Global, of_32: bool) -> Result<bool, AllocError> {
+    let schema = b"{\"format\":\"date\"}";
+    let texts = b"-2024-02-29\xFF";
+    let mut verdicts = [7u8; 2];
+    let status = if of_32 {
+        strkw_nonnull_check_offsets32(alloc, 7, 0, schema, texts, &[1, 11, 12], &mut verdicts)
+    } else {
+        strkw_nonnull_check_offsets(alloc, 7, 0, schema, texts, &[1, 11, 12], &mut verdicts)
+    };
+    match status {
+        0 => Ok(verdicts == [1, 2]),
+        1 if verdicts == [7u8; 2] => Err(AllocError),
+        _ => Ok(false),
+    }
+}
+
+#[test]
+fn verdicts_between_under_refusal(rt: HostRuntime) -> Result<(), Fail> {
+    for of_32 in [true, false] {
+        if !are_judged_between(rt.alloc(), of_32)? {
+            return Err(Fail::new("texts between offsets"));
         }
     }
     Ok(())

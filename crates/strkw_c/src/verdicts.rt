@@ -9,7 +9,7 @@ ghost use Rattle.strkw_keywords.specs.Object.{Settings, FirstRefusal};
 ghost use Rattle.strkw_report.specs.Drafts.{draft_numbered};
 ghost use Rattle.strkw_object.specs.Compiled.{keywords_demands};
 ghost use Rattle.strkw_c.specs.Settings.{choices_of, settings_of};
-ghost use Rattle.strkw_c.specs.Texts.{AreTexts, HaveRoom};
+ghost use Rattle.strkw_c.specs.Texts.{AreTexts, AreTextsFrom, HaveRoom, HaveRoomFrom, numbers};
 ghost use Rattle.strkw_c.specs.Verdicts.{IsSchema, HasFirstRefusal, IsValid, Passes, IsVerdict, AreVerdicts};
 ghost use Rattle.strkw_c.specs.declared.statuses.TheConstants.{DONE, NO_DRAFT, NO_OPTION, NO_SCHEMA, NO_TEXTS, REFUSED};
 
@@ -17,7 +17,8 @@ use crate::questions::{Question, answer_to};
 use crate::schemas::Failure;
 use crate::settings::choices_of;
 use crate::statuses::{DONE, NO_DRAFT, NO_OPTION, NO_SCHEMA, NO_TEXTS, OUT_OF_MEMORY, REFUSED};
-use crate::texts::are_ends;
+use crate::texts::{Ends, are_ends};
+use crate::utf8::text_of;
 use std::alloc::{AllocError, Global};
 use strkw_ecma::EcmaMatcher;
 use strkw_keywords::Checks;
@@ -70,7 +71,41 @@ pub extern "C" fn strkw_nonnull_check(
         × IsSchema schema.now (Some object) × FirstRefusal s object None
         × AreTexts texts.now ends.now list × AreVerdicts (IsValid s object) list verdicts.new }
 {
-    if ends.len() != verdicts.len() || !are_ends(texts, ends) {
+    let ends = Ends::Wide(ends);
+    check_from(alloc, draft, options, schema, texts, 0, &ends, verdicts)
+}
+
+/// The same of texts from a start on, with these ends.
+pub(crate) fn check_from(
+    alloc: Global,
+    draft: u32,
+    options: u32,
+    schema: &[u8],
+    texts: &[u8],
+    start: usize,
+    ends: &Ends,
+    verdicts: &mut [u8],
+) -> u8
+    ensures status { result ≤ NO_OPTION }
+    ensures kept { result ≢ DONE → verdicts.new ≡ verdicts.old }
+    ensures no_texts { (result ≡ NO_TEXTS)
+        ↔ (HaveRoomFrom start texts.now (numbers ends.now) (length verdicts.old) → ⊥) }
+    ensures no_draft { (result ≡ NO_DRAFT)
+        ↔ (HaveRoomFrom start texts.now (numbers ends.now) (length verdicts.old)
+        × (draft_numbered draft ≡ None)) }
+    ensures no_option { (result ≡ NO_OPTION)
+        ↔ (HaveRoomFrom start texts.now (numbers ends.now) (length verdicts.old)
+        × IsSome (draft_numbered draft) × (choices_of options ≡ None)) }
+    ensures no_schema { result ≡ NO_SCHEMA → IsSchema schema.now None }
+    ensures refused { result ≡ REFUSED → (s : Settings) × (why : Refusal)
+        × (settings_of draft options ≡ Some s) × HasFirstRefusal s schema.now (Some why) }
+    ensures done { result ≡ DONE → (s : Settings) × (object : Members) × (list : List (List ℕ))
+        × (settings_of draft options ≡ Some s)
+        × IsSchema schema.now (Some object) × FirstRefusal s object None
+        × AreTextsFrom start texts.now (numbers ends.now) list
+        × AreVerdicts (IsValid s object) list verdicts.new }
+{
+    if ends.len() != verdicts.len() || !are_ends(texts, start, ends) {
         return NO_TEXTS;
     }
     let Some(draft) = draft_numbered(u64::from(draft)) else {
@@ -79,7 +114,8 @@ pub extern "C" fn strkw_nonnull_check(
     let Some(choices) = choices_of(options) else {
         return NO_OPTION;
     };
-    match answer_to(alloc, draft, choices, schema, &VerdictsOn { texts, ends }) {
+    let asked = VerdictsOn { texts, start, ends };
+    match answer_to(alloc, draft, choices, schema, &asked) {
         Ok(made) => {
             verdicts.copy_from_slice(&made);
             DONE
@@ -90,21 +126,24 @@ pub extern "C" fn strkw_nonnull_check(
     }
 }
 
-// What is asked: a verdict on each of the texts that have these ends.
+// What is asked: a verdict on each of the texts from a start on that have these ends.
 #[derive(Clone, Copy)]
 struct VerdictsOn<'a> {
     texts: &'a [u8],
-    ends: &'a [usize],
+    start: usize,
+    ends: &'a Ends<'a>,
 }
 
 impl Question for VerdictsOn<'_> {
-    ghost use Rattle.strkw_c.specs.Texts.{AreTexts};
+    ghost use Rattle.strkw_c.specs.Texts.{AreTextsFrom, numbers};
     ghost use Rattle.strkw_c.specs.Verdicts.{AreVerdicts, IsValid};
 
-    ghost askable = { λ asked. (list : List (List ℕ)) × AreTexts asked.texts.now asked.ends.now list };
+    ghost askable = { λ asked. (list : List (List ℕ))
+        × AreTextsFrom asked.start asked.texts.now (numbers asked.ends.now) list };
 
-    ghost answered = { λ asked s object made. (length made ≡ length asked.ends.now)
-        × ((list : List (List ℕ)) × AreTexts asked.texts.now asked.ends.now list
+    ghost answered = { λ asked s object made. (length made ≡ length (numbers asked.ends.now))
+        × ((list : List (List ℕ))
+        × AreTextsFrom asked.start asked.texts.now (numbers asked.ends.now) list
         × AreVerdicts (IsValid s object) list made) };
 
     fn ask(
@@ -114,7 +153,7 @@ impl Question for VerdictsOn<'_> {
         checks: &Checks,
     ) -> Result<Vec<u8>, AllocError> {
         compiled_errors_are_those_of_the_object::<EcmaMatcher>();
-        verdicts_on(alloc, keywords, checks, self.texts, self.ends)
+        verdicts_on(alloc, keywords, checks, self.texts, self.start, self.ends)
     }
 }
 
@@ -124,22 +163,25 @@ fn verdicts_on<E: RegexEngine>(
     keywords: &StringKeywords<E>,
     checks: &Checks,
     texts: &[u8],
-    ends: &[usize],
+    start: usize,
+    ends: &Ends,
 ) -> Result<Vec<u8>, AllocError>
     requires in_use { IsInUse (keywords_demands E.outcome keywords.now)
         (lists_of admits accepted encoded decoding checks.now) }
-    requires texts { (list : List (List ℕ)) × AreTexts texts.now ends.now list }
-    ensures count { IfOk result (λ made. length made.items ≡ length ends.now) }
+    requires texts { (list : List (List ℕ))
+        × AreTextsFrom start texts.now (numbers ends.now) list }
+    ensures count { IfOk result (λ made. length made.items ≡ length (numbers ends.now)) }
     ensures verdicts { IfOk result (λ made. (list : List (List ℕ))
-        × AreTexts texts.now ends.now list
+        × AreTextsFrom start texts.now (numbers ends.now) list
         × AreVerdicts (Passes E.outcome keywords.now
         (lists_of admits accepted encoded decoding checks.now)) list made.items) }
 {
     let mut made = Vec::with_capacity(alloc, ends.len())?;
-    let mut start = 0;
-    for end in ends {
-        made.push(verdict_on(alloc, keywords, checks, &texts[start..*end])?)?;
-        start = *end;
+    let mut from = start;
+    for place in 0..ends.len() {
+        let end = ends.at(place);
+        made.push(verdict_on(alloc, keywords, checks, &texts[from..end])?)?;
+        from = end;
     }
     Ok(made)
 }
@@ -156,7 +198,7 @@ fn verdict_on<E: RegexEngine>(
     ensures { IfOk result (λ verdict. IsVerdict (Passes E.outcome keywords.now
         (lists_of admits accepted encoded decoding checks.now)) text.now verdict) }
 {
-    let Ok(text) = str::from_utf8(text) else {
+    let Some(text) = text_of(text) else {
         return Ok(NOT_UTF8);
     };
     if keywords.is_valid(alloc, &text, checks)? {

@@ -32,14 +32,12 @@ pub struct RecordReader<R> {
 }
 
 impl<R: Read> RecordReader<R> {
-    ghost use Rattle.std.specs.Prelude.{◌≡◌, ◌↔◌, ℕ, List, [], true, Some, None, option_map, IfOk, IfErr, OnOk, OnErr};
-    ghost use Rattle.csv.specs.Machine.{next_record};
-    ghost use Rattle.csv.specs.Reading.{strip_bom};
-    ghost use Rattle.csv.specs.declared.parser.State.TheVariants as st;
-    ghost use Rattle.strkw_records.specs.Delimiters.{comma, table_config};
-    ghost use Rattle.strkw_records.specs.Lines.{HasNoLineByte, behind_blank, first_place};
-    ghost use Rattle.strkw_records.specs.Limits.{AreWithin, no_limits};
-    ghost use Rattle.strkw_records.specs.Reading.{Explains, Takes, at_hand, delimiter_of, limits_of, place_of, unread_of};
+    ghost use Rattle.std.specs.Prelude.{◌≡◌, ◌↔◌, ℕ, List, true, Some, IfOk, IfErr, OnOk};
+    ghost use Rattle.strkw_records.specs.Delimiters.{comma};
+    ghost use Rattle.strkw_records.specs.Lines.{HasNoLineByte, behind_blank};
+    ghost use Rattle.strkw_records.specs.Limits.{no_limits};
+    ghost use Rattle.strkw_records.specs.Reading.{Explains, ExplainsText, IsAtStart, Reads};
+    ghost use Rattle.strkw_records.specs.Reading.{at_hand, delimiter_of, limits_of, place_of, unread_of};
 
     /// A reader of the records of a source, from its start, however long they are: their fields are parted by commas. A
     /// byte order mark at the start is dropped.
@@ -48,11 +46,7 @@ impl<R: Read> RecordReader<R> {
     pub fn new(alloc: Global, source: R) -> Result<RecordReader<R>, AllocError>
     where
         R: Drop,
-        ensures text { IfOk result (λ reader. unread_of R.remaining reader
-            ≡ option_map strip_bom (R.remaining source)) }
-        ensures place { IfOk result (λ reader. place_of reader ≡ first_place) }
-        ensures limits { IfOk result (λ reader. limits_of reader ≡ no_limits) }
-        ensures delimiter { IfOk result (λ reader. delimiter_of reader ≡ comma) }
+        ensures { IfOk result (IsAtStart R.remaining source no_limits comma) }
     {
         RecordReader::with_limits(alloc, source, Limits::none())
     }
@@ -67,11 +61,7 @@ impl<R: Read> RecordReader<R> {
     ) -> Result<RecordReader<R>, AllocError>
     where
         R: Drop,
-        ensures text { IfOk result (λ reader. unread_of R.remaining reader
-            ≡ option_map strip_bom (R.remaining source)) }
-        ensures place { IfOk result (λ reader. place_of reader ≡ first_place) }
-        ensures limits { IfOk result (λ reader. limits_of reader ≡ limits) }
-        ensures delimiter { IfOk result (λ reader. delimiter_of reader ≡ comma) }
+        ensures { IfOk result (IsAtStart R.remaining source limits comma) }
     {
         RecordReader::with_delimiter(alloc, source, limits, Delimiter::comma())
     }
@@ -87,11 +77,7 @@ impl<R: Read> RecordReader<R> {
     ) -> Result<RecordReader<R>, AllocError>
     where
         R: Drop,
-        ensures text { IfOk result (λ reader. unread_of R.remaining reader
-            ≡ option_map strip_bom (R.remaining source)) }
-        ensures place { IfOk result (λ reader. place_of reader ≡ first_place) }
-        ensures limits { IfOk result (λ reader. limits_of reader ≡ limits) }
-        ensures delimiter { IfOk result (λ reader. delimiter_of reader ≡ delimiter.byte) }
+        ensures { IfOk result (IsAtStart R.remaining source limits delimiter.byte) }
     {
         Ok(RecordReader {
             alloc,
@@ -121,45 +107,15 @@ impl<R: Read> RecordReader<R> {
         Ok(())
     }
 
-    // Gives the fields that were gathered to a row; or the number of the first that is not UTF-8.
-    fn give(&mut self, row: &mut StringRecord) -> Result<(), usize>
-        ensures ok { OnOk result (fields_of row.new ≡ fields_of self.old.gathered.fields) }
-        ensures bad { IfErr result (IsFirstNotUtf8 (fields_of self.old.gathered.fields)) }
-        ensures kept { OnErr result (row.new ≡ row.old) }
-        ensures input { self.new.input ≡ self.old.input }
-        ensures limits { limits_of self.new ≡ limits_of self.old }
-        ensures delimiter { delimiter_of self.new ≡ delimiter_of self.old }
-        ensures begun { self.new.has_begun ≡ self.old.has_begun }
-    {
-        if let Some(number) = first_not_utf8(&self.gathered.fields) {
-            return Err(number);
-        }
-        let spare = ByteRecord::new(self.alloc);
-        let fields = mem::replace(&mut self.gathered.fields, spare);
-        if let Ok(text) = StringRecord::from_byte_record(fields) {
-            self.gathered.fields = mem::replace(row, text).into_byte_record();
-        }
-        Ok(())
-    }
-
-    /// Reads the fields of the next record into a row, and answers the line, from 1, on which the record begins; none
-    /// behind the last record. Blank lines before a record are counted, and so are line ends in quotes.
+    /// Reads the fields of the next record into a row, whatever bytes they are, and answers the line, from 1, on which
+    /// the record begins; none behind the last record. Blank lines before a record are counted, and so are line ends in
+    /// quotes.
     ///
-    /// Errors: each `ReadFault`, `LongRecord` and `LongField` by the limits of the reader. The row is then as it was.
-    pub fn read(&mut self, row: &mut StringRecord) -> Result<Option<u64>, ReadFault>
-        ensures record { (text : List ℕ) → unread_of R.remaining self.old ≡ Some text
-            → IfOk result (λ o. IfSome o (λ line.
-            Takes R.remaining self.old self.new text line (fields_of row.new))) }
-        ensures within { IfOk result (λ o. IfSome o (λ line.
-            AreWithin (limits_of self.old) (fields_of row.new))) }
-        ensures end { (text : List ℕ) → unread_of R.remaining self.old ≡ Some text
-            → IfOk result (λ o. o ≡ None
-            → next_record (table_config (delimiter_of self.old)) st.StartRecord [] [] text ≡ None) }
-        ensures fault { (text : List ℕ) → unread_of R.remaining self.old ≡ Some text
-            → IfErr result (Explains R.remaining self.old self.new text) }
-        ensures kept { OnErr result (row.new ≡ row.old) }
-        ensures limits { limits_of self.new ≡ limits_of self.old }
-        ensures delimiter { delimiter_of self.new ≡ delimiter_of self.old }
+    /// Errors: each `ReadFault` but `NotUtf8`, `LongRecord` and `LongField` by the limits of the reader. The row is
+    /// then as it was.
+    pub fn read_bytes(&mut self, row: &mut ByteRecord) -> Result<Option<u64>, ReadFault>
+        ensures { Reads R.remaining self.old self.new row.old row.new
+            (Explains R.remaining self.old self.new) result }
     {
         self.begin()?;
         let has_more = self.input.skip_blank_lines()?;
@@ -169,10 +125,28 @@ impl<R: Read> RecordReader<R> {
         let line = self.input.place.line;
         self.gathered.begin(line, self.limits);
         self.gathered.take_record(self.delimiter, &mut self.input)?;
-        match self.give(row) {
-            Ok(()) => Ok(Some(line)),
-            Err(field) => Err(ReadFault::NotUtf8 { line, field }),
+        mem::swap(&mut self.gathered.fields, row);
+        Ok(Some(line))
+    }
+
+    /// The same for a record of text, whose fields are UTF-8.
+    ///
+    /// Errors: each `ReadFault`, `LongRecord` and `LongField` by the limits of the reader. The row is then as it was.
+    pub fn read(&mut self, row: &mut StringRecord) -> Result<Option<u64>, ReadFault>
+        ensures { Reads R.remaining self.old self.new row.old row.new
+            (ExplainsText R.remaining self.old self.new) result }
+    {
+        let mut fields = ByteRecord::new(self.alloc);
+        let Some(line) = self.read_bytes(&mut fields)? else {
+            return Ok(None);
+        };
+        if let Some(field) = first_not_utf8(&fields) {
+            return Err(ReadFault::NotUtf8 { line, field });
         }
+        if let Ok(text) = StringRecord::from_byte_record(fields) {
+            self.gathered.fields = mem::replace(row, text).into_byte_record();
+        }
+        Ok(Some(line))
     }
 
     /// Whether the end of the next record has to be waited for: behind the ends of blank lines, no line ends in the bytes

@@ -9,7 +9,7 @@ use std::process::ExitCode;
 use std::{env, io};
 use strkw_document::PlaceLines;
 use strkw_plan::read_plan_file;
-use strkw_table::{Checked, FieldLines, Header, Watch};
+use strkw_table::{Checked, FieldLines, Reading, Watch};
 
 // The status after a fault.
 const FAULT: u8 = 2;
@@ -88,7 +88,7 @@ impl FileProgram {
         let checked = check_csv(
             rt.alloc(),
             &plan,
-            Header::First,
+            Reading::plainly(),
             rt.reader(),
             &mut out,
             &mut progress,

@@ -9,7 +9,8 @@ ghost use Rattle.strkw_plan.specs.Plan.{plan_problem};
 ghost use Rattle.strkw_shells.specs.Refusals.{IsWhyRefused};
 ghost use Rattle.strkw_plan.specs.Rules.{rules_settings};
 ghost use Rattle.strkw_ecma.specs.machine.Outcomes.{takes_pattern, pattern_outcome};
-ghost use Rattle.strkw_shells.specs.Tables.{IsChecked, IsWhyUnchecked};
+ghost use Rattle.strkw_table.specs.Checks.{IsChecked};
+ghost use Rattle.strkw_shells.specs.Tables.{IsWhyUnchecked};
 
 use crate::checks::checks_of;
 use crate::faults::FileFault;
@@ -21,16 +22,16 @@ use strkw_companions::companions_of;
 use strkw_ecma::EcmaPatterns;
 use strkw_keywords::NamedFormat;
 use strkw_plan::{PlanKind, Rules};
-use strkw_table::{Checked, FieldForm, Header, Reading, TableFault, Watch, check_table_with};
+use strkw_table::{Checked, FieldForm, Reading, TableFault, Watch, check_table_with};
 
-/// Checks a CSV file, whose columns a header names or none, by a plan, as `check_table_with` does by the patterns of
-/// `strkw_ecma` and the formats of `strkw_companions`.
+/// Checks a CSV file, read as the caller says, by a plan, as `check_table_with` does by the patterns of `strkw_ecma`
+/// and the formats of `strkw_companions`.
 ///
 /// Errors: as `check_csv_by`.
 pub fn check_csv<R: Read + Drop, W: Write, P: Watch, F: FieldForm>(
     alloc: Global,
     plan: &Value,
-    header: Header,
+    reading: Reading,
     file: R,
     writer: &mut W,
     watch: &mut P,
@@ -45,7 +46,7 @@ pub fn check_csv<R: Read + Drop, W: Write, P: Watch, F: FieldForm>(
     }
     let mut rules = Rules::new(&EcmaPatterns);
     rules.checks = checks_of(&formats);
-    check_csv_by(alloc, &rules, plan, header, file, writer, watch, form)
+    check_csv_by(alloc, &rules, plan, reading, file, writer, watch, form)
 }
 
 /// The same under these rules.
@@ -55,7 +56,7 @@ pub fn check_csv_by<R: Read + Drop, W: Write, P: Watch, F: FieldForm>(
     alloc: Global,
     rules: &Rules<'_, EcmaPatterns>,
     plan: &Value,
-    header: Header,
+    reading: Reading,
     file: R,
     writer: &mut W,
     watch: &mut P,
@@ -65,21 +66,17 @@ pub fn check_csv_by<R: Read + Drop, W: Write, P: Watch, F: FieldForm>(
     ensures messages { let settings = rules_settings (λ _. takes_pattern) (λ _. pattern_outcome)
         admits accepted encoded decoding rules.now in
         (text : List ℕ) → R.remaining file ≡ Some text
-        → IfOk result (IsChecked header settings (F.said form.now) (view plan.now) (strip_bom text)
-        (Appends (W.contents writer.old) (W.contents writer.new))) }
+        → IfOk result (IsChecked reading (F.writes form.now) settings (view plan.now)
+        (strip_bom text) (Appends (W.contents writer.old) (W.contents writer.new))) }
     ensures why { let settings = rules_settings (λ _. takes_pattern) (λ _. pattern_outcome)
         admits accepted encoded decoding rules.now in
         IfErr result (IsWhyRefused settings Columns (view plan.now)) }
     ensures fault { let settings = rules_settings (λ _. takes_pattern) (λ _. pattern_outcome)
         admits accepted encoded decoding rules.now in
         (text : List ℕ) → R.remaining file ≡ Some text
-        → IfErr result (IsWhyUnchecked header settings (F.said form.now) (view plan.now)
+        → IfErr result (IsWhyUnchecked reading (F.writes form.now) settings (view plan.now)
         (strip_bom text) (Appends (W.contents writer.old) (W.contents writer.new))) }
 {
-    let reading = Reading {
-        delimiter: None,
-        header,
-    };
     match check_table_with(alloc, rules, plan, reading, file, writer, watch, form) {
         Ok(checked) => Ok(checked),
         Err(TableFault::Write) => Err(FileFault::Write),

@@ -1,6 +1,6 @@
 -- Columns, one more at a time; and that what compiled columns say is what their schema objects mean.
-use Rattle.std.proofs.Common.{◌≡◌, ◌++◌, ◌+◌, ◌∷◌, ◌∙◌, ℕ, List, [], length, take, refl, sym, ap, subst, arith, slice_get, map, take_all}
-use Rattle.std.specs.Prelude.{zero, suc, Bool, true, false, Option, Some, None, IfSome}
+use Rattle.std.proofs.Common.{◌≡◌, ◌++◌, ◌+◌, ◌∷◌, ◌∙◌, ℕ, List, [], length, take, refl, sym, ap, subst, arith, slice_get, map, take_all, inl, inr}
+use Rattle.std.specs.Prelude.{zero, suc, Bool, true, false, Option, Some, None, IfSome, is_some}
 use Rattle.serde_json.specs.Data.{Members}
 use Rattle.csv.specs.Records.{field_at}
 use Rattle.strkw_report.specs.Kinds.{Report}
@@ -17,8 +17,9 @@ use Rattle.strkw_records.specs.Records.{LinedRecord}
 use Rattle.strkw_plan.specs.Compiled.{IsCompiledFor}
 use Rattle.strkw_plan.specs.Own.{object_says, skips_empty}
 use Rattle.strkw_table.specs.declared.compiled_object.CompiledObject.{CompiledObject}
-use Rattle.strkw_table.specs.Fields.{ErrorsUnless, FieldErrors, Form, MessagesOf, is_passed_over, schema_named}
-use Rattle.strkw_table.specs.Columns.{AreColumns, ColumnMessages, CompiledErrors, IsObjectFor, IsUsable, object_of}
+use Rattle.strkw_table.specs.Fields.{ErrorsUnless, FieldErrors, Form, MessagesOf, are_checked, is_checked, is_passed_over, schema_named}
+use Rattle.strkw_table.specs.Broken.{IsBroken}
+use Rattle.strkw_table.specs.Columns.{AreColumns, ColumnMessages, CompiledErrors, IsObjectFor, IsUsable, checked_of, object_of}
 
 -- the names up to a place, and the name at it
 take-next : (names : List (List ℕ)) (n : ℕ) (name : List ℕ) → field_at names n ≡ Some name → take (suc n) names ≡ take n names ++ name ∷ []
@@ -147,17 +148,39 @@ module _ {E : Type 0} (outcome : E → List ℕ → Outcome) (s : Settings) (sch
   compiled_usable law (Some schema) None p = absurd p
   compiled_usable law (Some schema) (Some o) p = law schema o.keywords p.0
 
+  -- something is compiled where there is a schema object
+  compiled_some : (schema : Option Members) (object : Option (CompiledObject E)) → IsObjectFor outcome s schema object → is_some object ≡ is_some schema
+  compiled_some None None p = refl
+  compiled_some None (Some o) p = absurd p
+  compiled_some (Some schema) None p = absurd p
+  compiled_some (Some schema) (Some o) p = refl
+
+  -- so a column is checked where its name is one of a column that is
+  column_checked : (name : List ℕ) (column : SchemaColumn E) → object_of column ≡ find name → is_some (object_of column) ≡ is_checked schemas name
+  column_checked name column found = ap is_some found ∙ compiled_some (schema_named schemas name) (find name) (compiled name)
+
+  -- and so with each column
+  pub columns_checked : (names : List (List ℕ)) (columns : List (SchemaColumn E)) → AreColumns find names columns
+      → checked_of columns ≡ are_checked schemas names
+  unfolding AreColumns
+  columns_checked [] [] p = refl
+  columns_checked [] (c ∷ cs) p = absurd p
+  columns_checked (x ∷ xs) [] p = absurd p
+  columns_checked (x ∷ xs) (c ∷ cs) p =
+      ap (λ b. b ∷ checked_of cs) (column_checked x c p.1) ∙ ap (λ l. is_checked schemas x ∷ l) (columns_checked xs cs p.2)
+
   -- the messages of a column about a field are those that its name means
   column_messages : (form : Form) (name : List ℕ) (column : SchemaColumn E) (line : ℕ) (field : List ℕ) (messages : List (List ℕ)) → column.name.now ≡ name
       → object_of column ≡ find name
       → ColumnMessages form outcome s.lists column line field messages → MessagesOf form s schemas name line field messages
-  column_messages form name column line field messages named found q =
-      let (reports, errors, e) = q in (
-        reports,
-        compiled_errors (schema_named schemas name) (find name) field reports (compiled name) (rw found at errors),
-        e ∙ ap
-            (λ n. map (form line n) reports) named,
-      )
+  column_messages form name column line field messages named found (inl (broken, e)) =
+      inl (subst (λ b. IsBroken b field) (column_checked name column found) broken, e ∙ ap (λ n. form.broken line n ∷ []) named)
+  column_messages form name column line field messages named found (inr (whole, reports, errors, e)) = inr (
+    (λ broken. whole (subst (λ b. IsBroken b field) (sym (column_checked name column found)) broken)),
+    reports,
+    compiled_errors (schema_named schemas name) (find name) field reports (compiled name) (rw found at errors),
+    e ∙ ap (λ n. map (form.said line n) reports) named,
+  )
 
   -- each of the columns may be asked, since it was compiled where no check is registered
   pub columns_usable : ((schema : Members) (k : StringKeywords E) → IsCompiledFrom outcome s schema k → IsInUse (keywords_demands outcome k) s.lists)

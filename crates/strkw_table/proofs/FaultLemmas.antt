@@ -1,9 +1,10 @@
 -- Why a file is not checked to its end.
-use Rattle.std.proofs.Common.{◌≡◌, ◌⊎◌, ℕ, List, [], length, sym, subst, Option, Some, None, inl, inr}
-use Rattle.std.specs.Prelude.{Result, Ok, Err, IfErr, IfOk, OnOk}
+use Rattle.std.proofs.Common.{◌≡◌, ◌⊎◌, ℕ, List, [], refl, sym, subst, Option, Some, None, inl, inr}
+use Rattle.std.specs.Prelude.{Bool, Result, Ok, Err, IfErr, IfOk, OnOk}
 use Rattle.std.specs.Result.{result_and}
 use Rattle.std.specs.List.{concat}
 use Rattle.serde_json.specs.Data.{Data}
+use Rattle.csv.specs.Reading.{strip_bom}
 use Rattle.strkw_report.specs.declared.draft.Draft.{Draft}
 use Rattle.strkw_keywords.specs.Object.{Settings}
 use Rattle.strkw_plan.specs.declared.faults.PlanFault.{PlanFault}
@@ -18,14 +19,18 @@ use Rattle.strkw_records.specs.declared.place.Place.{Place}
 use Rattle.strkw_records.specs.declared.reader.RecordReader.{RecordReader}
 use Rattle.strkw_records.specs.Lines.{first_place}
 use Rattle.strkw_records.specs.declared.limits.Limits.{Limits}
-use Rattle.strkw_records.specs.Reading.{Explains, delimiter_of, limits_of, place_of}
-use Rattle.strkw_records.specs.Records.{LinedRecord}
+use Rattle.strkw_records.specs.Reading.{Explains, ExplainsText, delimiter_of, limits_of, place_of}
+use Rattle.strkw_records.specs.Records.{LinedRecord, TakesRecord}
 use Rattle.strkw_table.specs.declared.faults.TableFault.{TableFault}
 use Rattle.strkw_table.specs.declared.faults.TableFault.TheVariants as fault
+use Rattle.strkw_table.specs.declared.reading.BrokenField.{BrokenField}
 use Rattle.strkw_table.specs.declared.reading.Header.{Header}
-use Rattle.strkw_table.specs.Faults.{IsNoPlanFault, IsUnexplained, IsWhy, IsWhyOfNames, IsWhyOfNext, IsWhyOfRows, IsWhyOfText}
-use Rattle.strkw_table.specs.Faults.{IsWhyOfHeading, IsWhyUnread, delimiter_by}
-use Rattle.strkw_table.specs.Fields.{Form, MessagesOf}
+use Rattle.strkw_table.specs.declared.reading.Header.TheVariants as header
+use Rattle.strkw_table.specs.declared.reading.Reading.{Reading}
+use Rattle.strkw_table.specs.Checks.{ComesTo}
+use Rattle.strkw_table.specs.Faults.{IsNoPlanFault, IsUnexplained, IsWhy, IsWhyOfNames, IsWhyOfNext, IsWhyOfRows, IsWhyOfText, StopsAt}
+use Rattle.strkw_table.specs.Faults.{IsWhyBroken, IsWhyOfHeading, IsWhyUnheaded, IsWhyUnread, delimiter_by}
+use Rattle.strkw_table.specs.Fields.{Form, MessagesOf, are_checked}
 use Rattle.strkw_table.specs.Gives.{GivesOfPlan, GivesOfReading}
 use Rattle.strkw_table.specs.Headers.{HasColumns, Heads, record_limits}
 use Rattle.strkw_table.specs.Rows.{AreFirstRecords, HaveShape, OfRecords}
@@ -146,44 +151,80 @@ pub unread : {R : Type 0} (rem : R → Option (List ℕ)) (old new : RecordReade
     → IsWhyUnread (delimiter_of old) (limits_of old) (place_of old) text e
 unread rem old new text (read.Read e) p = tt
 unread rem old new text (read.OpenQuote line) p = p.0
-unread rem old new text (read.NotUtf8 line number) p =
-    let (fields, takes, first, within) = p in
-    let (rest, at, taken) = takes in
-    (fields, place_of new, rest, taken, first)
+unread rem old new text (read.NotUtf8 line number) p = p
 unread rem old new text (read.LongRecord line most) p = p
 unread rem old new text (read.LongField line number most) p = p
 unread rem old new text read.Memory p = tt
 unread rem old new text read.TooLong p = tt
 
--- why the next record is not read is why it is not checked
-pub why_of_read : (delimiter : ℕ) (limits : Limits) (width : ℕ) (place : Place) (text : List ℕ) (e : ReadFault) (why : TableFault)
-    → IsWhyUnread delimiter limits place text e → GivesOfReading e why → IsWhyOfNext delimiter limits width place text why
-why_of_read delimiter limits width place text (read.Read e) why p gives = rw gives tt
-why_of_read delimiter limits width place text (read.OpenQuote line) why p gives = rw gives p
-why_of_read delimiter limits width place text (read.LongRecord line most) why p gives = rw gives p
-why_of_read delimiter limits width place text (read.LongField line number most) why p gives = rw gives p
-why_of_read delimiter limits width place text (read.NotUtf8 line number) why p gives = rw gives p
-why_of_read delimiter limits width place text read.Memory why p gives = rw gives tt
-why_of_read delimiter limits width place text read.TooLong why p gives = rw gives tt
+-- why a first record is not read, be it a header or not
+pub unheaded : (by : Header) (delimiter : ℕ) (limits : Limits) (place : Place) (text : List ℕ) (e : ReadFault) → place ≡ first_place
+    → IsWhyUnread delimiter limits place text e → IsWhyUnheaded by delimiter limits text e
+unheaded by delimiter limits place text (read.Read e) at p = tt
+unheaded by delimiter limits place text (read.OpenQuote line) at p = subst (λ q. IsWhyUnread delimiter limits q text (read.OpenQuote line)) at p
+unheaded by delimiter limits place text (read.NotUtf8 line number) at p = absurd p
+unheaded by delimiter limits place text (read.LongRecord line most) at p =
+    subst (λ q. IsWhyUnread delimiter limits q text (read.LongRecord line most)) at p
+unheaded by delimiter limits place text (read.LongField line number most) at p =
+    subst (λ q. IsWhyUnread delimiter limits q text (read.LongField line number most)) at p
+unheaded by delimiter limits place text read.Memory at p = tt
+unheaded by delimiter limits place text read.TooLong at p = tt
 
--- a fault that needs no reason has one at any record
-pub why_of_next : (delimiter : ℕ) (limits : Limits) (width : ℕ) (place : Place) (text : List ℕ) (why : TableFault) → IsUnexplained why
-    → IsWhyOfNext delimiter limits width place text why
-why_of_next delimiter limits width place text (fault.Plan why) p = absurd p
-why_of_next delimiter limits width place text (fault.Columns most found) p = absurd p
-why_of_next delimiter limits width place text (fault.Missing name) p = absurd p
-why_of_next delimiter limits width place text (fault.Twice name first second) p = absurd p
-why_of_next delimiter limits width place text fault.NoHeader p = absurd p
-why_of_next delimiter limits width place text (fault.Fields line expected found) p = absurd p
-why_of_next delimiter limits width place text (fault.Record why) p = absurd p
-why_of_next delimiter limits width place text fault.Write p = tt
-why_of_next delimiter limits width place text fault.Memory p = tt
-why_of_next delimiter limits width place text fault.TooLong p = tt
+-- what a reader explains of a text whose first record is a header is why that is not read
+pub unnamed : {R : Type 0} (rem : R → Option (List ℕ)) (old new : RecordReader R) (text : List ℕ) (e : ReadFault) → place_of old ≡ first_place
+    → ExplainsText rem old new text e → IsWhyUnheaded header.First (delimiter_of old) (limits_of old) text e
+unnamed rem old new text (read.Read e) at p = tt
+unnamed rem old new text (read.OpenQuote line) at p =
+    unheaded header.First (delimiter_of old) (limits_of old) (place_of old) text (read.OpenQuote line) at p.0
+unnamed rem old new text (read.NotUtf8 line number) at (fields, (rest, left, taken), first, within) =
+    (refl, (fields, place_of new, rest, subst (λ q. TakesRecord (delimiter_of old) q text line fields (place_of new) rest) at taken, first))
+unnamed rem old new text (read.LongRecord line most) at p =
+    unheaded header.First (delimiter_of old) (limits_of old) (place_of old) text (read.LongRecord line most) at p
+unnamed rem old new text (read.LongField line number most) at p =
+    unheaded header.First (delimiter_of old) (limits_of old) (place_of old) text (read.LongField line number most) at p
+unnamed rem old new text read.Memory at p = tt
+unnamed rem old new text read.TooLong at p = tt
 
-module _ {C : Type 0} (says : C → ℕ → List ℕ → List (List ℕ) → Type 0) (delimiter : ℕ) (limits : Limits) (columns : List C) (place : Place) (text : List ℕ)
-    (wrote : List ℕ → Type 0) where
+-- a fault of a broken field is none of the plan
+pub no_plan_of_broken : (broken : BrokenField) (checked : List Bool) (line : ℕ) (fields : List (List ℕ)) (why : TableFault)
+    → IsWhyBroken broken checked line fields why → IsNoPlanFault why
+no_plan_of_broken broken checked line fields why (number, is, ends, first) = rw is tt
+
+module _ (broken : BrokenField) (delimiter : ℕ) (limits : Limits) (checked : List Bool) (place : Place) (text : List ℕ) where
+  -- why the next record is not read is why it is not checked
+  pub why_of_read : (e : ReadFault) (why : TableFault) → IsWhyUnread delimiter limits place text e → GivesOfReading e why
+      → IsWhyOfNext broken delimiter limits checked place text why
+  why_of_read (read.Read e) why p gives = rw gives tt
+  why_of_read (read.OpenQuote line) why p gives = rw gives p
+  why_of_read (read.LongRecord line most) why p gives = rw gives p
+  why_of_read (read.LongField line number most) why p gives = rw gives p
+  why_of_read (read.NotUtf8 line number) why p gives = absurd p
+  why_of_read read.Memory why p gives = rw gives tt
+  why_of_read read.TooLong why p gives = rw gives tt
+
+  -- so is why its fields are not let pass
+  pub why_of_broken : (line : ℕ) (fields : List (List ℕ)) (behind : Place) (rest : List ℕ) (why : TableFault)
+      → TakesRecord delimiter place text line fields behind rest
+      → IsWhyBroken broken checked line fields why → IsWhyOfNext broken delimiter limits checked place text why
+  why_of_broken line fields behind rest why takes (number, is, ends, first) = rw is (ends, (fields, behind, rest, takes, first))
+
+  -- a fault that needs no reason has one at any record
+  pub why_of_next : (why : TableFault) → IsUnexplained why → IsWhyOfNext broken delimiter limits checked place text why
+  why_of_next (fault.Plan why) p = absurd p
+  why_of_next (fault.Columns most found) p = absurd p
+  why_of_next (fault.Missing name) p = absurd p
+  why_of_next (fault.Twice name first second) p = absurd p
+  why_of_next fault.NoHeader p = absurd p
+  why_of_next (fault.Fields line expected found) p = absurd p
+  why_of_next (fault.Record why) p = absurd p
+  why_of_next fault.Write p = tt
+  why_of_next fault.Memory p = tt
+  why_of_next fault.TooLong p = tt
+
+module _ {C : Type 0} (says : C → ℕ → List ℕ → List (List ℕ) → Type 0) (broken : BrokenField) (delimiter : ℕ) (limits : Limits) (columns : List C)
+    (checked : List Bool) (place : Place) (text : List ℕ) (wrote : List ℕ → Type 0) where
   -- and so it has one among any records
-  pub why_of_rows : (why : TableFault) → IsUnexplained why → IsWhyOfRows says delimiter limits columns place text wrote why
+  pub why_of_rows : (why : TableFault) → IsUnexplained why → IsWhyOfRows says broken delimiter limits columns checked place text wrote why
   why_of_rows (fault.Plan why) p = absurd p
   why_of_rows (fault.Columns most found) p = absurd p
   why_of_rows (fault.Missing name) p = absurd p
@@ -197,44 +238,44 @@ module _ {C : Type 0} (says : C → ℕ → List ℕ → List (List ℕ) → Typ
 
   -- why the next record is not checked, behind those that are, is why one of the records is not
   pub why_behind : (earlier : List LinedRecord) (messages : List (List ℕ)) (behind : Place) (rest : List ℕ) (why : TableFault)
-      → AreFirstRecords delimiter place text earlier behind rest → HaveShape limits (length columns) earlier → OfRecords says columns earlier messages
-      → ((IsUnexplained why → ⊥) → wrote (concat messages)) → IsWhyOfNext delimiter limits (length columns) behind rest why
-      → IsWhyOfRows says delimiter limits columns place text wrote why
-  why_behind earlier messages behind rest (fault.Plan why) first width said written p = p
-  why_behind earlier messages behind rest (fault.Columns most found) first width said written p = p
-  why_behind earlier messages behind rest (fault.Missing name) first width said written p = p
-  why_behind earlier messages behind rest (fault.Twice name one other) first width said written p = p
-  why_behind earlier messages behind rest fault.NoHeader first width said written p = p
-  why_behind earlier messages behind rest (fault.Fields line expected found) first width said written p =
-      (earlier, messages, behind, rest, first, width, said, written (λ q. q), p)
-  why_behind earlier messages behind rest (fault.Record why) first width said written p =
-      (earlier, messages, behind, rest, first, width, said, written (λ q. q), p)
-  why_behind earlier messages behind rest fault.Write first width said written p = tt
-  why_behind earlier messages behind rest fault.Memory first width said written p = tt
-  why_behind earlier messages behind rest fault.TooLong first width said written p = tt
+      → AreFirstRecords delimiter place text earlier behind rest → HaveShape broken limits checked earlier → OfRecords says columns earlier messages
+      → ((IsUnexplained why → ⊥) → wrote (concat messages)) → IsWhyOfNext broken delimiter limits checked behind rest why
+      → IsWhyOfRows says broken delimiter limits columns checked place text wrote why
+  why_behind earlier messages behind rest (fault.Plan why) first shape said written p = p
+  why_behind earlier messages behind rest (fault.Columns most found) first shape said written p = p
+  why_behind earlier messages behind rest (fault.Missing name) first shape said written p = p
+  why_behind earlier messages behind rest (fault.Twice name one other) first shape said written p = p
+  why_behind earlier messages behind rest fault.NoHeader first shape said written p = p
+  why_behind earlier messages behind rest (fault.Fields line expected found) first shape said written p =
+      (earlier, messages, behind, rest, first, shape, said, written (λ q. q), p)
+  why_behind earlier messages behind rest (fault.Record why) first shape said written p =
+      (earlier, messages, behind, rest, first, shape, said, written (λ q. q), p)
+  why_behind earlier messages behind rest fault.Write first shape said written p = tt
+  why_behind earlier messages behind rest fault.Memory first shape said written p = tt
+  why_behind earlier messages behind rest fault.TooLong first shape said written p = tt
 
   -- what was written may be said otherwise
   pub why_written : (other : List ℕ → Type 0) → ((lines : List ℕ) → wrote lines → other lines) → (why : TableFault)
-      → IsWhyOfRows says delimiter limits columns place text wrote why
-      → IsWhyOfRows says delimiter limits columns place text other why
+      → IsWhyOfRows says broken delimiter limits columns checked place text wrote why
+      → IsWhyOfRows says broken delimiter limits columns checked place text other why
   why_written other put (fault.Plan why) p = p
   why_written other put (fault.Columns most found) p = p
   why_written other put (fault.Missing name) p = p
   why_written other put (fault.Twice name first second) p = p
   why_written other put fault.NoHeader p = p
   why_written other put (fault.Fields line expected found) p =
-      let (earlier, messages, behind, rest, first, width, said, written, is) = p in
-      (earlier, messages, behind, rest, first, width, said, put (concat messages) written, is)
+      let (earlier, messages, behind, rest, first, shape, said, written, is) = p in
+      (earlier, messages, behind, rest, first, shape, said, put (concat messages) written, is)
   why_written other put (fault.Record why) p =
-      let (earlier, messages, behind, rest, first, width, said, written, is) = p in
-      (earlier, messages, behind, rest, first, width, said, put (concat messages) written, is)
+      let (earlier, messages, behind, rest, first, shape, said, written, is) = p in
+      (earlier, messages, behind, rest, first, shape, said, put (concat messages) written, is)
   why_written other put fault.Write p = p
   why_written other put fault.Memory p = p
   why_written other put fault.TooLong p = p
 
 module _ (by : Header) (delimiter : ℕ) (p : Plan) (text : List ℕ) where
   -- why the first record is not read is why a text does not have the columns
-  pub why_of_record : (e : ReadFault) (why : TableFault) → IsWhyUnread delimiter (record_limits p.limits) first_place text e → GivesOfReading e why
+  pub why_of_record : (e : ReadFault) (why : TableFault) → IsWhyUnheaded by delimiter (record_limits p.limits) text e → GivesOfReading e why
       → IsWhyOfHeading by delimiter p text why
   why_of_record (read.Read e) why q gives = rw gives q
   why_of_record (read.OpenQuote line) why q gives = rw gives q
@@ -258,21 +299,19 @@ module _ (by : Header) (delimiter : ℕ) (p : Plan) (text : List ℕ) where
   why_of_names names place left fault.Memory has named = tt
   why_of_names names place left fault.TooLong has named = tt
 
--- what a reader explains of the first record is why a text does not have the columns
-pub why_of_first : {R : Type 0} (by : Header) (old : RecordReader R) (p : Plan) (text : List ℕ) (e : ReadFault)
-    (why : TableFault) → place_of old ≡ first_place → limits_of old ≡ record_limits p.limits → IsWhyUnread (delimiter_of old) (limits_of old) (place_of old) text e
-    → GivesOfReading e why → IsWhyOfHeading by (delimiter_of old) p text why
-why_of_first by old p text e why at keeps is gives =
-    why_of_record by (delimiter_of old) p text e why (subst (λ limits. IsWhyUnread (delimiter_of old) limits first_place text e) keeps
-    (subst (λ place. IsWhyUnread (delimiter_of old) (limits_of old) place text e) at is)) gives
+-- the same by the limits of a reader that are those of the plan
+pub why_of_first : (by : Header) (delimiter : ℕ) (limits : Limits) (p : Plan) (text : List ℕ) (e : ReadFault) (why : TableFault)
+    → limits ≡ record_limits p.limits → IsWhyUnheaded by delimiter limits text e → GivesOfReading e why → IsWhyOfHeading by delimiter p text why
+why_of_first by delimiter limits p text e why keeps is gives =
+    why_of_record by delimiter p text e why (subst (λ l. IsWhyUnheaded by delimiter l text e) keeps is) gives
 
-module _ (by : Header) (given : Option ℕ) (form : Form) (settings : Draft → Settings) (plan : Data) (text : List ℕ) (wrote : List ℕ → Type 0) where
+module _ (reading : Reading) (form : Form) (settings : Draft → Settings) (plan : Data) (text : List ℕ) (wrote : List ℕ → Type 0) where
   -- out of memory needs no reason
-  pub why_of_memory : (why : TableFault) → why ≡ fault.Memory → IsWhyOfText by given form settings plan text wrote why
+  pub why_of_memory : (why : TableFault) → why ≡ fault.Memory → IsWhyOfText reading form settings plan text wrote why
   why_of_memory why e = rw e tt
 
   -- a fault of the plan comes before anything is written
-  pub why_of_plan : (e : PlanFault) (why : TableFault) → GivesOfPlan e why → wrote [] → IsWhyOfText by given form settings plan text wrote why
+  pub why_of_plan : (e : PlanFault) (why : TableFault) → GivesOfPlan e why → wrote [] → IsWhyOfText reading form settings plan text wrote why
   why_of_plan (refused.NoPlan kind) why gives written = rw gives written
   why_of_plan (refused.UnknownMember kind name nearest) why gives written = rw gives written
   why_of_plan refused.NoNames why gives written = rw gives written
@@ -290,14 +329,14 @@ module _ (by : Header) (given : Option ℕ) (form : Form) (settings : Draft → 
   why_of_plan refused.Memory why gives written = rw gives tt
 
   -- so does a text that does not have the columns
-  pub why_of_heading : (p : Plan) (why : TableFault) → plan_of Columns plan ≡ Some p → IsWhyOfHeading by (delimiter_by given p) p text why
+  pub why_of_heading : (p : Plan) (why : TableFault) → plan_of Columns plan ≡ Some p → IsWhyOfHeading reading.header (delimiter_by reading p) p text why
       → wrote []
-      → IsWhyOfText by given form settings plan text wrote why
+      → IsWhyOfText reading form settings plan text wrote why
   why_of_heading p (fault.Plan why) is q written = written
-  why_of_heading p (fault.Columns most found) is q written = (written, (p, is, q))
-  why_of_heading p (fault.Missing name) is q written = (written, (p, is, q))
-  why_of_heading p (fault.Twice name first second) is q written = (written, (p, is, q))
-  why_of_heading p fault.NoHeader is q written = (written, (p, is, q))
+  why_of_heading p (fault.Columns most found) is q written = (p, is, written, q)
+  why_of_heading p (fault.Missing name) is q written = (p, is, written, q)
+  why_of_heading p (fault.Twice name first second) is q written = (p, is, written, q)
+  why_of_heading p fault.NoHeader is q written = (p, is, written, q)
   why_of_heading p (fault.Fields line expected found) is (names, place, left, has, named) written = cc named
   why_of_heading p (fault.Record why) is q written = inl (p, is, written, q)
   why_of_heading p fault.Write is q written = tt
@@ -306,9 +345,10 @@ module _ (by : Header) (given : Option ℕ) (form : Form) (settings : Draft → 
 
   -- why one of the records with data is not checked
   pub why_of_data : (p : Plan) (names : List (List ℕ)) (place : Place) (left : List ℕ) (why : TableFault) → plan_of Columns plan ≡ Some p
-      → Heads by (delimiter_by given p) p text names place left
-      → IsWhyOfRows (MessagesOf form (settings p.draft) p.schemas) (delimiter_by given p) (record_limits p.limits) names place left wrote why
-      → IsWhyOfText by given form settings plan text wrote why
+      → Heads reading.header (delimiter_by reading p) p text names place left
+      → IsWhyOfRows (MessagesOf form (settings p.draft) p.schemas) reading.broken (delimiter_by reading p) (record_limits p.limits) names
+      (are_checked p.schemas names) place left wrote why
+      → IsWhyOfText reading form settings plan text wrote why
   why_of_data p names place left (fault.Plan why) is heads q = absurd q
   why_of_data p names place left (fault.Columns most found) is heads q = absurd q
   why_of_data p names place left (fault.Missing name) is heads q = absurd q
@@ -320,35 +360,52 @@ module _ (by : Header) (given : Option ℕ) (form : Form) (settings : Draft → 
   why_of_data p names place left fault.Memory is heads q = tt
   why_of_data p names place left fault.TooLong is heads q = tt
 
+-- a fault for which there are reasons, by the plan and by each text, is what a check comes to
+pub comes_to_fault : (reading : Reading) (form : Form) (settings : Draft → Settings) (plan : Data) (wrote : List ℕ → Type 0) (told : Option (List ℕ))
+    (why : TableFault) → IsWhy settings plan why → ((text : List ℕ) → IsWhyOfText reading form settings plan text wrote why)
+    → ComesTo reading form settings plan told wrote (Err why)
+comes_to_fault reading form settings plan wrote told why refuses explains = record {
+  good = tt;
+  messages = λ text source. tt;
+  why = refuses;
+  fault = λ text source. explains (strip_bom text);
+}
+
+-- what holds anyway holds where there is no fault
+pub on_ok : {T E : Type 0} (r : Result T E) (P : Type 0) → P → OnOk r P
+on_ok (Ok x) P p = p
+on_ok (Err e) P p = tt
+
 -- why one of the records is not checked by columns is why it is not by what they stand for
-module _ {C D : Type 0} (delimiter : ℕ) (limits : Limits) (says : C → ℕ → List ℕ → List (List ℕ) → Type 0) (tells : D → ℕ → List ℕ → List (List ℕ)
-    → Type 0) (columns : List C)
-    (names : List D)
-    (same : length columns ≡ length names)
+module _ {C D : Type 0} (broken : BrokenField) (delimiter : ℕ) (limits : Limits) (says : C → ℕ → List ℕ → List (List ℕ) → Type 0)
+    (tells : D → ℕ → List ℕ → List (List ℕ) → Type 0) (columns : List C) (names : List D) (checked named : List Bool) (same : checked ≡ named)
     (along : (records : List LinedRecord) (messages : List (List ℕ)) → OfRecords says columns records messages → OfRecords tells names records messages) where
+  -- so are the records before the one that is not checked
+  stops-along : (place : Place) (text : List ℕ) (wrote : List ℕ → Type 0) (why : TableFault)
+      → StopsAt says broken delimiter limits columns checked place text wrote why → StopsAt tells broken delimiter limits names named place text wrote why
+  stops-along place text wrote why (earlier, messages, behind, rest, first, shape, said, written, is) = (
+    earlier,
+    messages,
+    behind,
+    rest,
+    first,
+    subst (λ l. HaveShape broken limits l earlier) same shape,
+    along earlier messages said,
+    written,
+    subst (λ l. IsWhyOfNext broken delimiter limits l behind rest why) same is,
+  )
+
   -- a reason by the columns is one by what they stand for, whatever was written
-  pub why_along : (place : Place) (text : List ℕ) (wrote : List ℕ → Type 0) (why : TableFault) → IsWhyOfRows says delimiter limits columns place text wrote why
-      → IsWhyOfRows tells delimiter limits names place text wrote why
+  pub why_along : (place : Place) (text : List ℕ) (wrote : List ℕ → Type 0) (why : TableFault)
+      → IsWhyOfRows says broken delimiter limits columns checked place text wrote why
+      → IsWhyOfRows tells broken delimiter limits names named place text wrote why
   why_along place text wrote (fault.Plan why) p = p
   why_along place text wrote (fault.Columns most found) p = p
   why_along place text wrote (fault.Missing name) p = p
   why_along place text wrote (fault.Twice name first second) p = p
   why_along place text wrote fault.NoHeader p = p
-  why_along place text wrote (fault.Fields line expected found) p =
-      let (earlier, messages, behind, rest, first, width, said, written, is) = p in (
-        earlier,
-        messages,
-        behind,
-        rest,
-        first,
-        subst (λ n. HaveShape limits n earlier) same width,
-        along earlier messages said,
-        written,
-        subst (λ n. IsWhyOfNext delimiter limits n behind rest (fault.Fields line expected found)) same is,
-      )
-  why_along place text wrote (fault.Record why) p =
-      let (earlier, messages, behind, rest, first, width, said, written, is) = p in
-      (earlier, messages, behind, rest, first, subst (λ n. HaveShape limits n earlier) same width, along earlier messages said, written, is)
+  why_along place text wrote (fault.Fields line expected found) p = stops-along place text wrote (fault.Fields line expected found) p
+  why_along place text wrote (fault.Record why) p = stops-along place text wrote (fault.Record why) p
   why_along place text wrote fault.Write p = p
   why_along place text wrote fault.Memory p = p
   why_along place text wrote fault.TooLong p = p

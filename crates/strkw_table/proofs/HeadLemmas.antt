@@ -1,20 +1,18 @@
 -- What names the columns of a text.
-use Rattle.std.proofs.Common.{◌≡◌, ◌∷◌, ℕ, List, length, inl, inr, refl, subst, sym}
+use Rattle.std.proofs.Common.{◌≡◌, ℕ, List, length, inl, refl, subst, sym}
 use Rattle.std.specs.Prelude.{Option, Some, None, IfSome, Result, Ok, Err, OnOk}
 use Rattle.strkw_plan.specs.Plan.{Plan}
 use Rattle.strkw_records.specs.declared.limits.Limits.{Limits}
 use Rattle.strkw_records.specs.declared.place.Place.{Place}
 use Rattle.strkw_records.specs.Limits.{AreWithin}
 use Rattle.strkw_records.specs.Lines.{first_place}
-use Rattle.strkw_records.specs.Records.{AreLinedRecords, LinedRecord, TakesRecord}
+use Rattle.strkw_records.specs.Records.{TakesRecord}
 use Rattle.strkw_records.specs.declared.reader.RecordReader.{RecordReader}
 use Rattle.strkw_records.specs.Reading.{Takes, delimiter_of, place_of}
 use Rattle.strkw_table.specs.Ahead.{IsLeftBy}
 use Rattle.strkw_table.specs.declared.reading.Header.{Header}
 use Rattle.strkw_table.specs.declared.reading.Header.TheVariants as header
 use Rattle.strkw_table.specs.Headers.{AreWanted, HasColumns, Heads, numbers, record_limits}
-use Rattle.strkw_table.specs.Rows.{HaveShape}
-use Rattle.strkw_table.proofs.RowLemmas.{have_shape-front, under_header}
 
 -- three things that hold where there is no fault hold together
 pub on_ok-three : {T E : Type 0} (r : Result T E) (A B C : Type 0) → OnOk r A → OnOk r B → OnOk r C → OnOk r (A × B × C)
@@ -86,26 +84,3 @@ pub heads_by_numbers : {T E : Type 0} (delimiter : ℕ) (p : Plan) (text : List 
 heads_by_numbers delimiter p text names (Err e) by IsThere is heads left = tt
 heads_by_numbers delimiter p text names (Ok x) by IsThere is heads left =
     (first_place, text, subst (λ b. Heads b delimiter p text names first_place text) (sym is) heads, left)
-
--- a record that begins on a line and has these fields
-abbrev pub lined : ℕ → List (List ℕ) → LinedRecord
-lined line fields = record { line = line; fields = fields }
-
--- with a header all records of a text are the header and those behind it
-pub headed : (delimiter : ℕ) (p : Plan) (text left : List ℕ) (names : List (List ℕ)) (place : Place) (records : List LinedRecord)
-    → Heads header.First delimiter p text names place left
-    → AreLinedRecords delimiter place left records → HaveShape (record_limits p.limits) (length names) records
-    → (line : ℕ) × AreLinedRecords delimiter first_place text (lined line names ∷ records)
-    × HaveShape (record_limits p.limits) (length names) (lined line names ∷ records) × AreWanted p names
-headed delimiter p text left names place records (inr none) are shape = absurd none
-headed delimiter p text left names place records (inl (has, wanted)) are shape =
-    let (line, fields, behind, rest, takes, within, named, begins) = has in
-    let (at, is) = begins in
-    let takes_names = subst (λ f. TakesRecord delimiter first_place text line f behind rest) (sym named) takes in
-    let within_names = subst (λ f. AreWithin (record_limits p.limits) f) (sym named) within in
-    let behind_it = subst (λ q. AreLinedRecords delimiter q rest records) at (subst (λ l. AreLinedRecords delimiter place l records) is are) in (
-      line,
-      under_header delimiter first_place behind text rest (lined line names) records takes_names behind_it,
-      have_shape-front (record_limits p.limits) (length names) (lined line names) records refl within_names shape,
-      wanted,
-    )

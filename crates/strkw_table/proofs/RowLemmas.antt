@@ -1,6 +1,9 @@
 -- The messages about records, one record or one field more at a time.
-use Rattle.std.proofs.Common.{◌≡◌, ◌++◌, ◌+◌, ◌∷◌, ◌∙◌, ℕ, List, [], length, refl, sym, ap, append_assoc, append-nil, slice_get, subst, arith}
-use Rattle.std.specs.Prelude.{suc, Option, Some, None, IfSome}
+use Rattle.std.proofs.Common.{◌≡◌, ◌<◌, ◌++◌, ◌+◌, ◌∷◌, ◌∙◌, ℕ, List, [], length, refl, sym, ap, append_assoc, append-nil, length-append}
+use Rattle.std.proofs.Common.{slice_get, subst, arith}
+use native.Mathlib.Decide.{dec_lt}
+use Rattle.std.proofs.Common.{true, false, true≢false}
+use Rattle.std.specs.Prelude.{◌↔◌, suc, Bool, Option, Some, None, IfSome}
 use Rattle.std.specs.List.{concat}
 use Rattle.std.proofs.lemmas.List.Folds.{concat-append}
 use Rattle.csv.specs.Machine.{next_record}
@@ -8,10 +11,11 @@ use Rattle.csv.specs.Records.{field_at}
 use Rattle.csv.specs.declared.parser.State.TheVariants as st
 use Rattle.strkw_records.specs.declared.place.Place.{Place}
 use Rattle.strkw_records.specs.Delimiters.{table_config}
-use Rattle.strkw_records.specs.Limits.{AreWithin}
 use Rattle.strkw_records.specs.declared.limits.Limits.{Limits}
 use Rattle.strkw_records.specs.Records.{AreLinedRecords, LinedRecord, TakesRecord}
-use Rattle.strkw_table.specs.Rows.{AreFirstRecords, HaveShape, OfField, OfFirst, OfRecord, OfRecords}
+use Rattle.strkw_table.specs.declared.reading.BrokenField.{BrokenField}
+use Rattle.strkw_table.specs.Broken.{IsBrokenAt}
+use Rattle.strkw_table.specs.Rows.{AreFirstRecords, HasShape, HaveShape, OfField, OfFirst, OfRecord, OfRecords}
 
 -- what is written and what is left, of what was gathered and more
 pub gathered : (messages more : List (List ℕ)) (written old mid put new : List ℕ) → concat messages ≡ written ++ old → mid ≡ old ++ concat more
@@ -20,6 +24,16 @@ pub gathered : (messages more : List (List ℕ)) (written old mid put new : List
 gathered messages more written old mid put new p q r =
     concat-append messages more ∙ ap (λ l. l ++ concat more) p ∙ append_assoc written old (concat more) ∙ ap (λ l. written ++ l) (sym q ∙ r) ∙ sym
     (append_assoc written put new)
+
+-- as many records as there were, and one
+pub one_more : (records : List LinedRecord) (r : LinedRecord) (n : ℕ) → n ≡ length records → n + 1 ≡ length (records ++ r ∷ [])
+one_more records r n is = ap (λ k. k + 1) is ∙ sym (length-append records (r ∷ []))
+
+-- as many messages as there were and are added
+pub count_more : (messages more : List (List ℕ)) (total before count : ℕ) → total ≡ before + count → before ≡ length messages → count ≡ length more
+    → total ≡ length (messages ++ more)
+count_more messages more total before count sum first next =
+    sum ∙ ap (λ n. n + count) first ∙ ap (λ n. length messages + n) next ∙ sym (length-append messages more)
 
 -- at the start no record is taken
 pub first_records-none : (delimiter : ℕ) (place : Place) (text : List ℕ) → AreFirstRecords delimiter place text [] place text
@@ -50,30 +64,30 @@ all_records delimiter place behind text rest [] (same, is) none = rw is none
 all_records delimiter place behind text rest (r ∷ records) (next, mid, one, others) none =
     (next, mid, one, all_records delimiter next behind mid rest records others none)
 
--- the header, and all records behind it
-pub under_header : (delimiter : ℕ) (place behind : Place) (text rest : List ℕ) (header : LinedRecord) (records : List LinedRecord)
-    → TakesRecord delimiter place text header.line header.fields behind rest
-    → AreLinedRecords delimiter behind rest records → AreLinedRecords delimiter place text (header ∷ records)
-unfolding AreLinedRecords
-under_header delimiter place behind text rest header records one others = (behind, rest, one, others)
+module _ (broken : BrokenField) (limits : Limits) (checked : List Bool) where
+  -- an empty list of records has any shape
+  pub have_shape-none : HaveShape broken limits checked []
+  unfolding HaveShape
+  have_shape-none = tt
 
--- one record more has the shape
-pub have_shape-more : (limits : Limits) (width : ℕ) (records : List LinedRecord) (r : LinedRecord) → HaveShape limits width records → length r.fields ≡ width
-    → AreWithin limits r.fields → HaveShape limits width (records ++ r ∷ [])
-unfolding HaveShape
-have_shape-more limits width [] r have one within = (one, within, tt)
-have_shape-more limits width (first ∷ records) r have one within = (have.0, have.1, have_shape-more limits width records r have.2 one within)
+  -- one record more has the shape
+  pub have_shape-more : (records : List LinedRecord) (r : LinedRecord) → HaveShape broken limits checked records
+      → HasShape broken limits checked r.fields → HaveShape broken limits checked (records ++ r ∷ [])
+  unfolding HaveShape
+  have_shape-more [] r have one = (one, tt)
+  have_shape-more (first ∷ records) r have one = (have.0, have_shape-more records r have.1 one)
 
--- and one at the front
-pub have_shape-front : (limits : Limits) (width : ℕ) (r : LinedRecord) (records : List LinedRecord) → length r.fields ≡ width → AreWithin limits r.fields
-    → HaveShape limits width records → HaveShape limits width (r ∷ records)
-unfolding HaveShape
-have_shape-front limits width r records one within have = (one, within, have)
-
--- an empty list of records has any shape
-pub have_shape-none : (limits : Limits) (width : ℕ) → HaveShape limits width []
-unfolding HaveShape
-have_shape-none limits width = tt
+-- one field more is not broken
+pub none_broken-more : (checked : List Bool) (fields : List (List ℕ)) (n : ℕ) (found : Bool) → found ≡ false
+    → ((found ≡ true) ↔ IsBrokenAt checked fields n) → ((other : ℕ) → other < n → IsBrokenAt checked fields other → ⊥)
+    → (other : ℕ) → other < n + 1 → IsBrokenAt checked fields other → ⊥
+none_broken-more checked fields n found not is before other less broken =
+    elim (dec_lt other n) [
+      | yes earlier ↦ before other earlier broken
+      | no later ↦
+          let same : other ≡ n = omega arith in
+          true≢false (sym (is.1 (subst (IsBrokenAt checked fields) same broken)) ∙ not)
+    ]
 
 -- a value that is not missing is there
 pub if_some : {T : Type 0} (o : Option T) (P : T → Type 0) → IfSome o P → (o ≡ None → ⊥) → (x : T) × P x

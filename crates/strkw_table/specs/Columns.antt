@@ -1,6 +1,6 @@
 -- What stands for the columns of a file, once the schema objects of its plan are compiled.
 use Rattle.std.specs.Prelude.{◌≡◌, ℕ, List, [], ◌∷◌, Option, Some, None, map, option_map, slice_get}
-use Rattle.std.specs.Prelude.{IfSome, ⊤}
+use Rattle.std.specs.Prelude.{Bool, is_some, IfSome, ⊤}
 use Rattle.serde_json.specs.Data.{Members}
 use Rattle.strkw_report.specs.Kinds.{Report}
 use Rattle.strkw_pattern.specs.declared.engine.Outcome.{Outcome}
@@ -13,7 +13,7 @@ use Rattle.strkw_report.specs.Standings.{root_site}
 use Rattle.strkw_plan.specs.Own.{skips_empty}
 use Rattle.strkw_table.specs.declared.compiled_object.CompiledObject.{CompiledObject}
 use Rattle.strkw_table.specs.declared.schema_column.SchemaColumn.{SchemaColumn}
-use Rattle.strkw_table.specs.Fields.{ErrorsUnless, Form, is_passed_over}
+use Rattle.strkw_table.specs.Fields.{ErrorsUnless, Form, MessagesBy, is_passed_over}
 use Rattle.strkw_table.specs.Rows.{Says}
 
 -- what was compiled stands for a schema object, or for none
@@ -37,12 +37,16 @@ CompiledErrors outcome lists (Some o) field reports =
 abbrev pub object_of : {E : Type 0} → SchemaColumn E → Option (CompiledObject E)
 object_of column = option_map (λ o. o.now) column.object
 
+-- which columns are checked: those for which something was compiled
+abbrev pub checked_of : {E : Type 0} → List (SchemaColumn E) → List Bool
+checked_of columns = map (λ column. is_some (object_of column)) columns
+
 -- the messages about a field of a column in a form, by what was compiled for it
 abbrev pub ColumnMessages : {E : Type 0} → Form → (E → List ℕ → Outcome) → Lists
     → Says (SchemaColumn E)
-ColumnMessages form outcome lists column line field messages = (reports : List Report)
-    × CompiledErrors outcome lists (object_of column) field reports
-    × (messages ≡ map (form line column.name.now) reports)
+ColumnMessages form outcome lists column line field messages =
+    MessagesBy form (is_some (object_of column)) column.name.now line field
+    (CompiledErrors outcome lists (object_of column) field) messages
 
 -- a column may be asked with these lists: they are in use in what was compiled for it
 abbrev pub IsUsable : {E : Type 0} → (E → List ℕ → Outcome) → Lists → SchemaColumn E → Type 0

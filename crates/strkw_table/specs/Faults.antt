@@ -1,6 +1,6 @@
 -- Why a file is not checked to its end.
-use Rattle.std.specs.Prelude.{◌≡◌, ◌≢◌, ◌⊎◌, ◌<◌, ℕ, List, [], false, length, Some, None}
-use Rattle.std.specs.Prelude.{string_bytes, Option, ⊤}
+use Rattle.std.specs.Prelude.{◌≡◌, ◌≢◌, ◌⊎◌, ◌<◌, ℕ, List, [], Bool, false, length, Some, None}
+use Rattle.std.specs.Prelude.{string_bytes, option_map, ⊤}
 use Rattle.std.specs.Option.{unwrap_or}
 use Rattle.std.specs.List.{concat}
 use Rattle.serde_json.specs.Data.{Data, Members}
@@ -22,9 +22,13 @@ use Rattle.strkw_records.specs.Reading.{BeginsAt}
 use Rattle.strkw_records.specs.Records.{IsFirstNotUtf8, IsOpenAt, LinedRecord, TakesRecord}
 use Rattle.strkw_table.specs.declared.faults.TableFault.{TableFault}
 use Rattle.strkw_table.specs.declared.faults.TableFault.TheVariants as fault
+use Rattle.strkw_table.specs.declared.reading.BrokenField.{BrokenField}
+use Rattle.strkw_table.specs.declared.reading.BrokenField.TheVariants as on_broken
 use Rattle.strkw_table.specs.declared.reading.Header.{Header}
 use Rattle.strkw_table.specs.declared.reading.Header.TheVariants as header
-use Rattle.strkw_table.specs.Fields.{Form, IsNamed, IsTwice, MessagesOf}
+use Rattle.strkw_table.specs.declared.reading.Reading.{Reading}
+use Rattle.strkw_table.specs.Broken.{IsFirstBroken}
+use Rattle.strkw_table.specs.Fields.{Form, IsNamed, IsTwice, MessagesOf, are_checked}
 use Rattle.strkw_table.specs.Headers.{HasColumns, Heads, record_limits}
 use Rattle.strkw_table.specs.Rows.{AreFirstRecords, HaveShape, OfRecords, Says}
 
@@ -51,68 +55,96 @@ IsUnexplained fault.TooLong = ⊤
 IsUnexplained _ = ⊥
 
 -- Why the next record of a text, which stands at a place, is not read, where this byte parts
--- fields: a quote that opened on the line is open at the end of the text; a field is not UTF-8; the
--- record, or a field of it, passes a limit. Of the other faults nothing is said.
+-- fields: a quote that opened on the line is open at the end of the text; the record, or a field of
+-- it, passes a limit. Of the other faults nothing is said. What bytes its fields are is not asked.
 abbrev pub IsWhyUnread : ℕ → Limits → Place → List ℕ → ReadFault → Type 0
+IsWhyUnread delimiter limits place text (read.Read e) = ⊤
 IsWhyUnread delimiter limits place text (read.OpenQuote line) = IsOpenAt delimiter place text line
-IsWhyUnread delimiter limits place text (read.NotUtf8 line number) = (fields : List (List ℕ))
-    × (behind : Place) × (rest : List ℕ)
-    × TakesRecord delimiter place text line fields behind rest
-    × IsFirstNotUtf8 fields number
+IsWhyUnread delimiter limits place text (read.NotUtf8 line number) = ⊥
 IsWhyUnread delimiter limits place text (read.LongRecord line most) = BeginsAt place text line
     × IsLongRecord (fields_so_far delimiter) limits text most
 IsWhyUnread delimiter limits place text (read.LongField line number most) =
     BeginsAt place text line × IsLongField (fields_so_far delimiter) limits text number most
-IsWhyUnread delimiter limits place text _ = ⊤
+IsWhyUnread delimiter limits place text read.Memory = ⊤
+IsWhyUnread delimiter limits place text read.TooLong = ⊤
+
+-- the next record begins on this line, and of its fields, which this says, that of this number is
+-- the one to blame
+abbrev pub IsBlamed : ℕ → Place → List ℕ → ℕ → (List (List ℕ) → ℕ → Type 0) → ℕ → Type 0
+IsBlamed delimiter place text line IsSaid number = (fields : List (List ℕ))
+    × (behind : Place) × (rest : List ℕ)
+    × TakesRecord delimiter place text line fields behind rest
+    × IsSaid fields number
+
+-- Why the first record is not read. Where it is a header, its fields are names, and so texts.
+abbrev pub IsWhyUnheaded : Header → ℕ → Limits → List ℕ → ReadFault → Type 0
+IsWhyUnheaded by delimiter limits text (read.NotUtf8 line number) = (by ≡ header.First)
+    × IsBlamed delimiter first_place text line IsFirstNotUtf8 number
+IsWhyUnheaded by delimiter limits text why = IsWhyUnread delimiter limits first_place text why
+
+-- Why the next record of data is not read, or not let pass: where a broken field ends the check,
+-- that field is its first. The list says which columns are checked.
+abbrev pub IsWhyUnpassed : BrokenField → ℕ → Limits → List Bool → Place → List ℕ → ReadFault
+    → Type 0
+IsWhyUnpassed broken delimiter limits checked place text (read.NotUtf8 line number) =
+    (broken ≡ on_broken.EndsCheck)
+    × IsBlamed delimiter place text line (IsFirstBroken checked) number
+IsWhyUnpassed broken delimiter limits checked place text why =
+    IsWhyUnread delimiter limits place text why
+
+-- why the fields of a record that begins on this line are not let pass
+abbrev pub IsWhyBroken : BrokenField → List Bool → ℕ → List (List ℕ) → TableFault → Type 0
+IsWhyBroken broken checked line fields why = (number : ℕ)
+    × (why ≡ fault.Record (read.NotUtf8 line number)) × (broken ≡ on_broken.EndsCheck)
+    × IsFirstBroken checked fields number
 
 -- the next record begins on this line, and has so many fields, which are not as many as are
 -- expected
 abbrev pub HasOtherWidth : ℕ → Place → List ℕ → ℕ → ℕ → ℕ → Type 0
-HasOtherWidth delimiter place text line expected found = (fields : List (List ℕ))
-    × (behind : Place) × (rest : List ℕ)
-    × TakesRecord delimiter place text line fields behind rest
-    × (found ≡ length fields) × (found ≢ expected)
+HasOtherWidth delimiter place text line expected found =
+    IsBlamed delimiter place text line (λ fields n. (n ≡ length fields) × (n ≢ expected)) found
 
--- why the next record is not checked, where each is to have so many fields and to be within the
--- limits
-abbrev pub IsWhyOfNext : ℕ → Limits → ℕ → Place → List ℕ → TableFault → Type 0
-IsWhyOfNext delimiter limits width place text (fault.Fields line expected found) =
-    (expected ≡ width) × HasOtherWidth delimiter place text line expected found
-IsWhyOfNext delimiter limits width place text (fault.Record why) =
-    IsWhyUnread delimiter limits place text why
-IsWhyOfNext delimiter limits width place text why = IsUnexplained why
+-- why the next record is not checked, where each is to have this shape
+abbrev pub IsWhyOfNext : BrokenField → ℕ → Limits → List Bool → Place → List ℕ → TableFault
+    → Type 0
+IsWhyOfNext broken delimiter limits checked place text (fault.Fields line expected found) =
+    (expected ≡ length checked) × HasOtherWidth delimiter place text line expected found
+IsWhyOfNext broken delimiter limits checked place text (fault.Record why) =
+    IsWhyUnpassed broken delimiter limits checked place text why
+IsWhyOfNext broken delimiter limits checked place text why = IsUnexplained why
 
 -- ---- by the records
 
--- The records of a text, which stands at a place, were checked up to one of which this is said:
--- those before it have as many fields as there are columns and are within the limits, and the
--- messages about them are what was written.
-abbrev pub StopsAt : {C : Type 0} → Says C → ℕ → Limits → List C → Place → List ℕ
-    → (List ℕ → Type 0) → (Place → List ℕ → Type 0) → Type 0
-StopsAt says delimiter limits columns place text wrote IsSaid = (earlier : List LinedRecord)
+-- The records of a text, which stands at a place, were checked up to one that is not, for this
+-- reason: those before it have the shape that they are to have, and the messages about them are
+-- what was written.
+abbrev pub StopsAt : {C : Type 0} → Says C → BrokenField → ℕ → Limits → List C → List Bool → Place
+    → List ℕ → (List ℕ → Type 0) → TableFault → Type 0
+StopsAt says broken delimiter limits columns checked place text wrote why =
+    (earlier : List LinedRecord)
     × (messages : List (List ℕ)) × (behind : Place) × (rest : List ℕ)
     × AreFirstRecords delimiter place text earlier behind rest
-    × HaveShape limits (length columns) earlier
+    × HaveShape broken limits checked earlier
     × OfRecords says columns earlier messages
     × wrote (concat messages)
-    × IsSaid behind rest
+    × IsWhyOfNext broken delimiter limits checked behind rest why
 
 -- why one of the records is not checked
-abbrev pub IsWhyOfRows : {C : Type 0} → Says C → ℕ → Limits → List C → Place → List ℕ
-    → (List ℕ → Type 0) → TableFault → Type 0
-IsWhyOfRows says delimiter limits columns place text wrote (fault.Fields line expected found) =
-    StopsAt says delimiter limits columns place text wrote (λ behind rest.
-    IsWhyOfNext delimiter limits (length columns) behind rest (fault.Fields line expected found))
-IsWhyOfRows says delimiter limits columns place text wrote (fault.Record why) =
-    StopsAt says delimiter limits columns place text wrote (λ behind rest.
-    IsWhyUnread delimiter limits behind rest why)
-IsWhyOfRows says delimiter limits columns place text wrote why = IsUnexplained why
+abbrev pub IsWhyOfRows : {C : Type 0} → Says C → BrokenField → ℕ → Limits → List C → List Bool
+    → Place → List ℕ → (List ℕ → Type 0) → TableFault → Type 0
+IsWhyOfRows says broken delimiter limits columns checked place text wrote
+    (fault.Fields line expected found) =
+    StopsAt says broken delimiter limits columns checked place text wrote
+    (fault.Fields line expected found)
+IsWhyOfRows says broken delimiter limits columns checked place text wrote (fault.Record why) =
+    StopsAt says broken delimiter limits columns checked place text wrote (fault.Record why)
+IsWhyOfRows says broken delimiter limits columns checked place text wrote why = IsUnexplained why
 
 -- ---- by the file
 
 -- the byte that parts fields: the caller's, or else the plan's
-abbrev pub delimiter_by : Option ℕ → Plan → ℕ
-delimiter_by given p = unwrap_or given p.delimiter
+abbrev pub delimiter_by : Reading → Plan → ℕ
+delimiter_by reading p = unwrap_or (option_map (λ d. d.byte) reading.delimiter) p.delimiter
 
 -- why the names of schemas do not all stand among names: this one does not
 abbrev pub IsWhyUnnamed : Members → List (List ℕ) → TableFault → Type 0
@@ -146,59 +178,47 @@ LacksHeader by delimiter text = (by ≡ header.First)
 -- not read, there is to be one and there is none, or the columns are not those of the plan
 abbrev pub IsWhyOfHeading : Header → ℕ → Plan → List ℕ → TableFault → Type 0
 IsWhyOfHeading by delimiter p text (fault.Record why) =
-    IsWhyUnread delimiter (record_limits p.limits) first_place text why
+    IsWhyUnheaded by delimiter (record_limits p.limits) text why
 IsWhyOfHeading by delimiter p text fault.NoHeader = LacksHeader by delimiter text
 IsWhyOfHeading by delimiter p text fault.Memory = ⊤
 IsWhyOfHeading by delimiter p text fault.TooLong = ⊤
 IsWhyOfHeading by delimiter p text why = IsWhyUnwanted by delimiter p text why
 
--- a text was checked by a plan, and a delimiter of the caller if there is one, up to a record of
--- which this is said, its columns named by the header
-abbrev pub IsCheckedTo : Header → Option ℕ → Form → (Draft → Settings) → Data → List ℕ
-    → (List ℕ → Type 0) → (ℕ → Limits → List (List ℕ) → Place → List ℕ → Type 0) → Type 0
-IsCheckedTo by given form settings plan text wrote IsSaid = (p : Plan) × (names : List (List ℕ))
+-- a text, read as the caller says, was checked by a plan up to a record that is not, for this
+-- reason
+abbrev pub IsCheckedTo : Reading → Form → (Draft → Settings) → Data → List ℕ → (List ℕ → Type 0)
+    → TableFault → Type 0
+IsCheckedTo reading form settings plan text wrote why = (p : Plan) × (names : List (List ℕ))
     × (place : Place) × (left : List ℕ)
     × (plan_of Columns plan ≡ Some p)
-    × Heads by (delimiter_by given p) p text names place left
-    × StopsAt (MessagesOf form (settings p.draft) p.schemas) (delimiter_by given p)
-    (record_limits p.limits) names
-    place left wrote (IsSaid (delimiter_by given p) (record_limits p.limits) names)
+    × Heads reading.header (delimiter_by reading p) p text names place left
+    × StopsAt (MessagesOf form (settings p.draft) p.schemas) reading.broken
+    (delimiter_by reading p) (record_limits p.limits) names (are_checked p.schemas names)
+    place left wrote why
 
--- its columns are not those of the plan, for this reason
-abbrev pub IsWhyOfHeader : Header → Option ℕ → Data → List ℕ → TableFault → Type 0
-IsWhyOfHeader by given plan text why = (p : Plan)
-    × (plan_of Columns plan ≡ Some p) × IsWhyUnwanted by (delimiter_by given p) p text why
+-- it does not have the columns of the plan, for this reason, and nothing was written
+abbrev pub IsUnheaded : Reading → Data → List ℕ → (List ℕ → Type 0) → TableFault → Type 0
+IsUnheaded reading plan text wrote why = (p : Plan) × (plan_of Columns plan ≡ Some p) × wrote []
+    × IsWhyOfHeading reading.header (delimiter_by reading p) p text why
 
--- it has no header, and is to have one
-abbrev pub HasNoHeader : Header → Option ℕ → Data → List ℕ → Type 0
-HasNoHeader by given plan text = (p : Plan)
-    × (plan_of Columns plan ≡ Some p) × LacksHeader by (delimiter_by given p) text
-
--- why its first record is not read, and nothing was written
-abbrev pub IsWhyOfFirst : Option ℕ → Data → List ℕ → (List ℕ → Type 0) → ReadFault → Type 0
-IsWhyOfFirst given plan text wrote why = (p : Plan) × (plan_of Columns plan ≡ Some p) × wrote []
-    × IsWhyUnread (delimiter_by given p) (record_limits p.limits) first_place text why
-
--- Why a file with this text is not checked by its plan, and what was written then: nothing but the
--- messages in a form about the records before the one that is to blame. The header is the caller's,
--- and a delimiter that it gives counts in place of the plan's. A fault of the plan is told by
--- `IsWhy`; of writing, memory and too many records nothing is said.
-abbrev pub IsWhyOfText : Header → Option ℕ → Form → (Draft → Settings) → Data → List ℕ
-    → (List ℕ → Type 0) → TableFault → Type 0
-IsWhyOfText by given form settings plan text wrote (fault.Plan why) = wrote []
-IsWhyOfText by given form settings plan text wrote (fault.Missing name) =
-    wrote [] × IsWhyOfHeader by given plan text (fault.Missing name)
-IsWhyOfText by given form settings plan text wrote (fault.Columns most found) =
-    wrote [] × IsWhyOfHeader by given plan text (fault.Columns most found)
-IsWhyOfText by given form settings plan text wrote (fault.Twice name first second) =
-    wrote [] × IsWhyOfHeader by given plan text (fault.Twice name first second)
-IsWhyOfText by given form settings plan text wrote fault.NoHeader =
-    wrote [] × HasNoHeader by given plan text
-IsWhyOfText by given form settings plan text wrote (fault.Fields line expected found) =
-    IsCheckedTo by given form settings plan text wrote (λ delimiter limits names behind rest.
-    IsWhyOfNext delimiter limits (length names) behind rest (fault.Fields line expected found))
-IsWhyOfText by given form settings plan text wrote (fault.Record why) =
-    IsWhyOfFirst given plan text wrote why
-    ⊎ IsCheckedTo by given form settings plan text wrote (λ delimiter limits names behind rest.
-    IsWhyUnread delimiter limits behind rest why)
-IsWhyOfText by given form settings plan text wrote why = ⊤
+-- Why a file with this text, read as the caller says, is not checked by its plan, and what was
+-- written then: nothing but the messages in a form about the records before the one that is to
+-- blame. A fault of the plan is told by `IsWhy`; of writing, memory and too many records nothing is
+-- said.
+abbrev pub IsWhyOfText : Reading → Form → (Draft → Settings) → Data → List ℕ → (List ℕ → Type 0)
+    → TableFault → Type 0
+IsWhyOfText reading form settings plan text wrote (fault.Plan why) = wrote []
+IsWhyOfText reading form settings plan text wrote (fault.Missing name) =
+    IsUnheaded reading plan text wrote (fault.Missing name)
+IsWhyOfText reading form settings plan text wrote (fault.Columns most found) =
+    IsUnheaded reading plan text wrote (fault.Columns most found)
+IsWhyOfText reading form settings plan text wrote (fault.Twice name first second) =
+    IsUnheaded reading plan text wrote (fault.Twice name first second)
+IsWhyOfText reading form settings plan text wrote fault.NoHeader =
+    IsUnheaded reading plan text wrote fault.NoHeader
+IsWhyOfText reading form settings plan text wrote (fault.Fields line expected found) =
+    IsCheckedTo reading form settings plan text wrote (fault.Fields line expected found)
+IsWhyOfText reading form settings plan text wrote (fault.Record why) =
+    IsUnheaded reading plan text wrote (fault.Record why)
+    ⊎ IsCheckedTo reading form settings plan text wrote (fault.Record why)
+IsWhyOfText reading form settings plan text wrote why = ⊤

@@ -1,3 +1,4 @@
+pub mod Broken
 pub mod Rows
 pub mod Fields
 pub mod Headers
@@ -5,3 +6,4 @@ pub mod Ahead
 pub mod Columns
 pub mod Faults
 pub mod Gives
+pub mod Checks

@@ -1,11 +1,14 @@
--- The messages about the records of a file. A field is its UTF-8 bytes.
+-- The messages about the records of a file. A field is its bytes.
 use Rattle.std.specs.Prelude.{◌≡◌, ℕ, zero, suc, List, [], ◌∷◌, ◌++◌, length, Option, Some, None}
-use Rattle.std.specs.Prelude.{slice_get, ⊤}
+use Rattle.std.specs.Prelude.{Bool, slice_get, ⊤}
+use Rattle.std.specs.List.{concat}
 use Rattle.csv.specs.Records.{field_at}
 use Rattle.strkw_records.specs.declared.place.Place.{Place}
 use Rattle.strkw_records.specs.Limits.{AreWithin}
 use Rattle.strkw_records.specs.declared.limits.Limits.{Limits}
 use Rattle.strkw_records.specs.Records.{LinedRecord, TakesRecord}
+use Rattle.strkw_table.specs.declared.reading.BrokenField.{BrokenField}
+use Rattle.strkw_table.specs.Broken.{AreWhole}
 
 -- What is said of columns. says column line field messages: these are the messages about a field of
 -- the column, in a record that begins on the line.
@@ -42,11 +45,22 @@ OfRecords says columns (r ∷ more) messages = (first : List (List ℕ)) × (res
     × OfRecords says columns more rest
     × (messages ≡ first ++ rest)
 
--- each record has so many fields, and is within the limits
-unfoldable pub HaveShape : Limits → ℕ → List LinedRecord → Type 0
-HaveShape limits width [] = ⊤
-HaveShape limits width (r ∷ more) = (length r.fields ≡ width) × AreWithin limits r.fields
-    × HaveShape limits width more
+-- the fields of a record: one for each column, of which this says whether it is checked, and within
+-- the limits; where a broken field ends the check, none is
+abbrev pub HasShape : BrokenField → Limits → List Bool → List (List ℕ) → Type 0
+HasShape broken limits checked fields = (length fields ≡ length checked) × AreWithin limits fields
+    × AreWhole broken checked fields
+
+-- so it is with those of each record
+unfoldable pub HaveShape : BrokenField → Limits → List Bool → List LinedRecord → Type 0
+HaveShape broken limits checked [] = ⊤
+HaveShape broken limits checked (r ∷ more) = HasShape broken limits checked r.fields
+    × HaveShape broken limits checked more
+
+-- messages of which this is said were appended, and so many
+abbrev pub Appended : (List (List ℕ) → Type 0) → ℕ → List ℕ → List ℕ → Type 0
+Appended AreSaid count old new = (messages : List (List ℕ)) × AreSaid messages
+    × (count ≡ length messages) × (new ≡ old ++ concat messages)
 
 -- these are the first records of a text, which stands at a place, where this byte parts fields;
 -- behind them are another place and the rest

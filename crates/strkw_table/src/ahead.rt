@@ -2,7 +2,7 @@
 
 ghost use Rattle.csv.specs.Records.{fields_of};
 
-use csv::StringRecord;
+use csv::ByteRecord;
 use std::alloc::Global;
 use std::io::Read;
 use strkw_records::{ReadFault, RecordReader};
@@ -11,8 +11,8 @@ use strkw_records::{ReadFault, RecordReader};
 #[derive(Drop)]
 pub(crate) struct Records<R> {
     pub reader: RecordReader<R>,
-    /// The fields of the record that was taken last, or that was looked at.
-    pub row: StringRecord,
+    /// The fields of the record that was taken last, or that was looked at, whatever bytes they are.
+    pub row: ByteRecord,
     // The line of the next record, or that there is none, where that was looked at.
     ahead: Option<Option<u64>>,
 }
@@ -36,7 +36,7 @@ impl<R: Read> Records<R> {
     {
         Records {
             reader,
-            row: StringRecord::new(alloc),
+            row: ByteRecord::new(alloc),
             ahead: None,
         }
     }
@@ -44,7 +44,7 @@ impl<R: Read> Records<R> {
     /// Looks at the next record, which stays the next one: puts its fields into `row`, and answers the line on which it
     /// begins; `None` where there is no record.
     ///
-    /// Errors: as `RecordReader::read`.
+    /// Errors: as `RecordReader::read_bytes`.
     pub fn look(&mut self) -> Result<Option<u64>, ReadFault>
         requires { self.old.ahead ≡ None }
         ensures record { (text : List ℕ) → unread_of R.remaining self.old.reader ≡ Some text
@@ -65,14 +65,14 @@ impl<R: Read> Records<R> {
         ensures limits { limits_of self.new.reader ≡ limits_of self.old.reader }
         ensures delimiter { delimiter_of self.new.reader ≡ delimiter_of self.old.reader }
     {
-        let line = self.reader.read(&mut self.row)?;
+        let line = self.reader.read_bytes(&mut self.row)?;
         self.ahead = Some(line);
         Ok(line)
     }
 
     /// Takes the next record, and answers the line on which it begins; `None` where there is no record.
     ///
-    /// Errors: as `RecordReader::read`.
+    /// Errors: as `RecordReader::read_bytes`.
     pub fn take(&mut self) -> Result<Option<u64>, ReadFault>
         ensures record { (place : Place) (text : List ℕ) → IsLeft R.remaining self.old place text
             → IfOk result (λ o. IfSome o (λ line. (behind : Place) × (rest : List ℕ)
@@ -91,7 +91,7 @@ impl<R: Read> Records<R> {
         ensures delimiter { delimiter_of self.new.reader ≡ delimiter_of self.old.reader }
     {
         let Some(line) = self.ahead else {
-            return self.reader.read(&mut self.row);
+            return self.reader.read_bytes(&mut self.row);
         };
         self.ahead = None;
         Ok(line)

@@ -1,9 +1,9 @@
 //! How the errors of fields are written: as lines of text, or in a form of the caller.
 
-ghost use Rattle.std.specs.Prelude.{◌≡◌, ◌<◌, ◌++◌, ℕ, List, OnOk, length, string_bytes};
-ghost use Rattle.strkw_report.specs.Kinds.{Report};
+ghost use Rattle.std.specs.Prelude.{◌≡◌, ◌<◌, ◌++◌, OnOk, length, string_bytes};
 ghost use Rattle.strkw_plan.specs.Found.{report_found};
-ghost use Rattle.strkw_table.specs.Fields.{field_message, field_place};
+ghost use Rattle.strkw_plan.specs.Shown.{shown};
+ghost use Rattle.strkw_table.specs.Fields.{Form, field_place, text_form};
 
 use itoa::Buffer;
 use std::alloc::{AllocError, Global};
@@ -11,8 +11,8 @@ use strkw_plan::{FoundError, InstancePlace, MessageForm, MessageLine, push_shown
 
 /// How an error of a field is written. It is asked only where there is one.
 pub trait FieldForm {
-    // what is written of an error, by the line of the record and the name of the column
-    ghost said: { Self → ℕ → List ℕ → Report → List ℕ };
+    // what is written of an error, and of a broken field, by the line of the record and the name of the column
+    ghost writes: { Self → Form };
 
     /// Appends what is written of an error of a field in a column, in a record that begins on this line. It is not
     /// empty. The only error is out of memory; a beginning of it may then have been appended.
@@ -24,19 +24,31 @@ pub trait FieldForm {
         error: &FoundError<'_>,
         out: &mut String,
     ) -> Result<(), AllocError>
-        ensures said { OnOk result (string_bytes out.new
-            ≡ string_bytes out.old ++ said self.now line column.now (report_found error.now)) }
-        ensures some { OnOk result
-            (0 < length (said self.now line column.now (report_found error.now))) };
+        ensures said { let said = (writes self.now).said line column.now (report_found error.now) in
+            OnOk result (string_bytes out.new ≡ string_bytes out.old ++ said) }
+        ensures some { let said = (writes self.now).said line column.now (report_found error.now) in
+            OnOk result (0 < length said) };
+
+    /// Appends what is written of a field in a column that is not UTF-8, in a record that begins on this line. The only
+    /// error is out of memory; a beginning of it may then have been appended.
+    fn push_broken(
+        &self,
+        alloc: Global,
+        line: u64,
+        column: &str,
+        out: &mut String,
+    ) -> Result<(), AllocError>
+        ensures { OnOk result (string_bytes out.new
+            ≡ string_bytes out.old ++ (writes self.now).broken line column.now) };
 }
 
 /// The form of text, a line `LINE: COLUMN: KEYWORD: TEXT`: KEYWORD is the place of the keyword in the schema object, as
-/// `/format`, and TEXT what is wrong; texts are shown as by `Shown`.
+/// `/format`, and TEXT what is wrong; or `LINE: COLUMN: not UTF-8`. Texts are shown as by `Shown`.
 #[derive(Clone, Copy)]
 pub struct FieldLines;
 
 impl FieldForm for FieldLines {
-    ghost said = { λ _. field_message };
+    ghost writes = { λ _. text_form };
 
     fn push(
         &self,
@@ -48,6 +60,17 @@ impl FieldForm for FieldLines {
     ) -> Result<(), AllocError> {
         let place = FieldPlace { line, column };
         MessageLine { place: &place }.push(alloc, error, out)
+    }
+
+    fn push_broken(
+        &self,
+        _alloc: Global,
+        line: u64,
+        column: &str,
+        out: &mut String,
+    ) -> Result<(), AllocError> {
+        FieldPlace { line, column }.push_shown(out)?;
+        out.push_str(": not UTF-8\n")
     }
 }
 
@@ -78,7 +101,7 @@ pub(crate) struct AtField<'a, F> {
 }
 
 impl<F: FieldForm> MessageForm for AtField<'_, F> {
-    ghost said = { λ at. F.said at.form.now at.line at.column.now };
+    ghost said = { λ at. (F.writes at.form.now).said at.line at.column.now };
 
     fn push(
         &self,

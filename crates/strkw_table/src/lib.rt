@@ -16,6 +16,6 @@ mod table;
 pub use faults::TableFault;
 pub use form::{FieldForm, FieldLines};
 pub use header::push_numbers;
-pub use reading::{Header, Reading};
+pub use reading::{BrokenField, Header, Reading};
 pub use rows::{Checked, Watch};
 pub use table::{check_table, check_table_as, check_table_with};

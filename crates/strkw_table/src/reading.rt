@@ -1,5 +1,8 @@
 //! How the text of a file is read, where the caller says so.
 
+ghost use Rattle.std.specs.Prelude.{◌≡◌};
+ghost use Rattle.strkw_table.specs.Checks.{read_plainly};
+
 use strkw_records::Delimiter;
 
 /// What names the columns of a file.
@@ -12,6 +15,15 @@ pub enum Header {
     Absent,
 }
 
+/// What comes of a broken field: one of a column that is checked, which is not UTF-8.
+#[derive(Clone, Copy, Debug, PartialEq, Eq)]
+pub enum BrokenField {
+    /// It ends the check: the fault tells of the first in its record.
+    EndsCheck,
+    /// It is an error as others are, with one message, and the other fields of its record are checked.
+    IsError,
+}
+
 /// How the text of a file is read.
 #[derive(Clone, Copy, Debug, PartialEq, Eq)]
 pub struct Reading {
@@ -19,4 +31,20 @@ pub struct Reading {
     pub delimiter: Option<Delimiter>,
     /// What names the columns.
     pub header: Header,
+    /// What comes of a field of a checked column that is not UTF-8.
+    pub broken: BrokenField,
+}
+
+impl Reading {
+    /// As a file is read of which a caller says no more: the plan says what parts the fields, the first record names
+    /// the columns, and a broken field ends the check.
+    pub fn plainly() -> Reading
+        ensures { result ≡ read_plainly }
+    {
+        Reading {
+            delimiter: None,
+            header: Header::First,
+            broken: BrokenField::EndsCheck,
+        }
+    }
 }

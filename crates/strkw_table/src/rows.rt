@@ -1,6 +1,6 @@
 //! The records of a file, one after the other.
 
-ghost use Rattle.std.specs.Prelude.{◌≡◌, ◌++◌, ℕ, List, [], Some, None, length, slice_get, IfErr, IfOk, IfSome, OnOk, string_bytes};
+ghost use Rattle.std.specs.Prelude.{◌≡◌, ◌↔◌, ◌++◌, ℕ, List, [], Some, None, length, slice_get, true, IfErr, IfNone, IfOk, IfSome, OnOk, string_bytes};
 ghost use Rattle.std.specs.List.{concat};
 ghost use Rattle.std.specs.Io.KnownBytes.{Appends};
 ghost use Rattle.csv.specs.Machine.{next_record};
@@ -9,24 +9,25 @@ ghost use Rattle.csv.specs.declared.parser.State.TheVariants as st;
 ghost use Rattle.strkw_keywords.specs.Handed.{lists_of};
 ghost use Rattle.strkw_records.specs.declared.place.Place.{Place};
 ghost use Rattle.strkw_records.specs.Delimiters.{table_config};
-ghost use Rattle.strkw_records.specs.Limits.{AreWithin};
 ghost use Rattle.strkw_records.specs.Reading.{delimiter_of, limits_of};
 ghost use Rattle.strkw_records.specs.Records.{AreLinedRecords, LinedRecord, TakesRecord};
 ghost use Rattle.strkw_table.specs.Ahead.{IsLeft};
-ghost use Rattle.strkw_table.specs.Columns.{AreUsable, ColumnMessages};
-ghost use Rattle.strkw_table.specs.Faults.{IsNoPlanFault, IsUnexplained, IsWhyOfNext, IsWhyOfRows};
-ghost use Rattle.strkw_table.specs.Rows.{AreFirstRecords, HaveShape, OfField, OfRecord, OfRecords};
+ghost use Rattle.strkw_table.specs.Broken.{AreWhole, IsBrokenAt, IsFirstBroken};
+ghost use Rattle.strkw_table.specs.Columns.{AreUsable, ColumnMessages, checked_of};
+ghost use Rattle.strkw_table.specs.Faults.{IsNoPlanFault, IsUnexplained, IsWhyBroken, IsWhyOfNext, IsWhyOfRows};
+ghost use Rattle.strkw_table.specs.Rows.{AreFirstRecords, Appended, HasShape, HaveShape, OfField, OfRecord, OfRecords};
 
 use crate::ahead::Records;
 use crate::faults::TableFault;
 use crate::form::FieldForm;
+use crate::reading::BrokenField;
 use crate::schema_column::SchemaColumn;
-use csv::StringRecord;
+use csv::{ByteRecord, StringRecord};
 use std::alloc::{AllocError, Global};
 use std::io::{Read, Write};
 use strkw_keywords::Checks;
 use strkw_pattern::RegexEngine;
-use strkw_records::RecordReader;
+use strkw_records::{ReadFault, RecordReader};
 
 // So many bytes of messages are gathered before they are written.
 const GATHERED: usize = 65536;
@@ -56,19 +57,17 @@ fn check_field<E: RegexEngine, F: FieldForm>(
     checks: &Checks<'_>,
     form: &F,
     line: u64,
-    row: &StringRecord,
+    row: &ByteRecord,
     at: usize,
     out: &mut String,
 ) -> Result<u64, AllocError>
     requires { let lists = lists_of admits accepted encoded decoding checks.now in
         AreUsable E.outcome lists columns.now }
     ensures { let lists = lists_of admits accepted encoded decoding checks.now in
-        IfOk result (λ count. (messages : List (List ℕ))
-        × OfField (ColumnMessages (F.said form.now) E.outcome lists) line
-        (field_at (fields_of row.now) at)
-        (slice_get columns.now at) messages
-        × (count ≡ length messages)
-        × (string_bytes out.new ≡ string_bytes out.old ++ concat messages)) }
+        IfOk result (λ count. Appended
+        (OfField (ColumnMessages (F.writes form.now) E.outcome lists) line
+        (field_at (fields_of row.now) at) (slice_get columns.now at))
+        count (string_bytes out.old) (string_bytes out.new)) }
 {
     let Some(field) = row.get(at) else {
         return Ok(0);
@@ -86,18 +85,17 @@ fn check_record<E: RegexEngine, F: FieldForm>(
     checks: &Checks<'_>,
     form: &F,
     line: u64,
-    row: &StringRecord,
+    row: &ByteRecord,
     out: &mut String,
 ) -> Result<u64, TableFault>
     requires { let lists = lists_of admits accepted encoded decoding checks.now in
         AreUsable E.outcome lists columns.now }
     ensures why { IfErr result IsUnexplained }
     ensures messages { let lists = lists_of admits accepted encoded decoding checks.now in
-        IfOk result (λ count. (messages : List (List ℕ))
-        × OfRecord (ColumnMessages (F.said form.now) E.outcome lists) columns.now line
-        (fields_of row.now) messages
-        × (count ≡ length messages)
-        × (string_bytes out.new ≡ string_bytes out.old ++ concat messages)) }
+        IfOk result (λ count. Appended
+        (OfRecord (ColumnMessages (F.writes form.now) E.outcome lists) columns.now line
+        (fields_of row.now))
+        count (string_bytes out.old) (string_bytes out.new)) }
 {
     let mut count = 0u64;
     for at in 0..columns.len() {
@@ -107,6 +105,57 @@ fn check_record<E: RegexEngine, F: FieldForm>(
     Ok(count)
 }
 
+// Whether the field at a place is broken.
+fn is_broken_at<E>(columns: &[SchemaColumn<'_, E>], row: &ByteRecord, at: usize) -> bool
+    ensures { (result ≡ true) ↔ IsBrokenAt (checked_of columns.now) (fields_of row.now) at }
+{
+    let Some(field) = row.get(at) else {
+        return false;
+    };
+    let Some(column) = columns.get(at) else {
+        return false;
+    };
+    column.breaks(field)
+}
+
+// The number, from 1, of the first field that is broken.
+fn first_broken<E>(columns: &[SchemaColumn<'_, E>], row: &ByteRecord) -> Option<usize>
+    ensures some { IfSome result (IsFirstBroken (checked_of columns.now) (fields_of row.now)) }
+    ensures none { IfNone result ((at : ℕ)
+        → IsBrokenAt (checked_of columns.now) (fields_of row.now) at → ⊥) }
+{
+    if row.as_slice().is_ascii() {
+        return None;
+    }
+    for at in 0..columns.len() {
+        if is_broken_at(columns, row, at) {
+            return Some(at + 1);
+        }
+    }
+    None
+}
+
+// Refuses a record with a broken field, where such a field ends the check.
+fn require_whole<E>(
+    columns: &[SchemaColumn<'_, E>],
+    broken: BrokenField,
+    line: u64,
+    row: &ByteRecord,
+) -> Result<(), TableFault>
+    ensures whole { OnOk result
+        (AreWhole broken (checked_of columns.now) (fields_of row.now)) }
+    ensures why { IfErr result
+        (IsWhyBroken broken (checked_of columns.now) line (fields_of row.now)) }
+{
+    if broken == BrokenField::IsError {
+        return Ok(());
+    }
+    match first_broken(columns, row) {
+        Some(field) => Err(TableFault::Record(ReadFault::NotUtf8 { line, field })),
+        None => Ok(()),
+    }
+}
+
 // Takes the next record, which has as many fields as there are columns, appends the messages about it, and answers how
 // many they are; `None` where there is no record.
 fn check_next<E: RegexEngine, R: Read, F: FieldForm>(
@@ -114,6 +163,7 @@ fn check_next<E: RegexEngine, R: Read, F: FieldForm>(
     columns: &[SchemaColumn<'_, E>],
     checks: &Checks<'_>,
     form: &F,
+    broken: BrokenField,
     records: &mut Records<R>,
     out: &mut String,
 ) -> Result<Option<u64>, TableFault>
@@ -121,8 +171,9 @@ fn check_next<E: RegexEngine, R: Read, F: FieldForm>(
         AreUsable E.outcome lists columns.now }
     ensures why { IfErr result IsNoPlanFault }
     ensures fault { (place : Place) (text : List ℕ) → IsLeft R.remaining records.old place text
-        → IfErr result (IsWhyOfNext (delimiter_of records.old.reader) (limits_of records.old.reader)
-        (length columns.now) place text) }
+        → IfErr result (IsWhyOfNext broken (delimiter_of records.old.reader)
+        (limits_of records.old.reader)
+        (checked_of columns.now) place text) }
     ensures limits { limits_of records.new.reader ≡ limits_of records.old.reader }
     ensures delimiter { delimiter_of records.new.reader ≡ delimiter_of records.old.reader }
     ensures end { (place : Place) (text : List ℕ) → IsLeft R.remaining records.old place text
@@ -134,17 +185,14 @@ fn check_next<E: RegexEngine, R: Read, F: FieldForm>(
         → string_bytes out.new ≡ string_bytes out.old) }
     ensures record { let lists = lists_of admits accepted encoded decoding checks.now in
         (place : Place) (text : List ℕ) → IsLeft R.remaining records.old place text
-        → IfOk result (λ o. IfSome o (λ count. (line : ℕ) × (messages : List (List ℕ))
-        × (behind : Place) × (rest : List ℕ)
+        → IfOk result (λ o. IfSome o (λ count. (line : ℕ) × (behind : Place) × (rest : List ℕ)
         × TakesRecord (delimiter_of records.old.reader) place text line (fields_of records.new.row)
         behind rest
         × IsLeft R.remaining records.new behind rest
-        × (length (fields_of records.new.row) ≡ length columns.now)
-        × AreWithin (limits_of records.old.reader) (fields_of records.new.row)
-        × OfRecord (ColumnMessages (F.said form.now) E.outcome lists) columns.now line
-        (fields_of records.new.row) messages
-        × (count ≡ length messages)
-        × (string_bytes out.new ≡ string_bytes out.old ++ concat messages))) }
+        × HasShape broken (limits_of records.old.reader) (checked_of columns.now)
+        (fields_of records.new.row)
+        × Appended (OfRecord (ColumnMessages (F.writes form.now) E.outcome lists) columns.now line
+        (fields_of records.new.row)) count (string_bytes out.old) (string_bytes out.new))) }
 {
     let Some(line) = records.take()? else {
         return Ok(None);
@@ -157,6 +205,7 @@ fn check_next<E: RegexEngine, R: Read, F: FieldForm>(
             found: row.len(),
         });
     }
+    require_whole(columns, broken, line, row)?;
     let count = check_record(alloc, columns, checks, form, line, row, out)?;
     Ok(Some(count))
 }
@@ -197,6 +246,7 @@ pub(crate) fn check_rows<E: RegexEngine, R: Read, W: Write, P: Watch, F: FieldFo
     columns: &[SchemaColumn<'_, E>],
     checks: &Checks<'_>,
     form: &F,
+    broken: BrokenField,
     records: &mut Records<R>,
     writer: &mut W,
     watch: &mut P,
@@ -206,21 +256,22 @@ pub(crate) fn check_rows<E: RegexEngine, R: Read, W: Write, P: Watch, F: FieldFo
     ensures why { IfErr result IsNoPlanFault }
     ensures fault { let lists = lists_of admits accepted encoded decoding checks.now in
         (place : Place) (text : List ℕ) → IsLeft R.remaining records.old place text
-        → IfErr result (IsWhyOfRows (ColumnMessages (F.said form.now) E.outcome lists)
-        (delimiter_of records.old.reader) (limits_of records.old.reader) columns.now place text
+        → IfErr result (IsWhyOfRows (ColumnMessages (F.writes form.now) E.outcome lists) broken
+        (delimiter_of records.old.reader) (limits_of records.old.reader) columns.now
+        (checked_of columns.now) place text
         (Appends (W.contents writer.old) (W.contents writer.new))) }
     ensures messages { let lists = lists_of admits accepted encoded decoding checks.now in
         (place : Place) (text : List ℕ) → IsLeft R.remaining records.old place text
         → IfOk result (λ c. (rows : List LinedRecord) × (messages : List (List ℕ))
         × AreLinedRecords (delimiter_of records.old.reader) place text rows
-        × HaveShape (limits_of records.old.reader) (length columns.now) rows
-        × OfRecords (ColumnMessages (F.said form.now) E.outcome lists) columns.now rows messages
+        × HaveShape broken (limits_of records.old.reader) (checked_of columns.now) rows
+        × OfRecords (ColumnMessages (F.writes form.now) E.outcome lists) columns.now rows messages
         × Appends (W.contents writer.old) (W.contents writer.new) (concat messages)
         × (c.records ≡ length rows) × (c.errors ≡ length messages)) }
 {
     let mut out = String::new(alloc);
     let checked = gather_rows(
-        alloc, columns, checks, form, records, &mut out, writer, watch,
+        alloc, columns, checks, form, broken, records, &mut out, writer, watch,
     );
     write_rest(&out, writer).and(checked)
 }
@@ -243,6 +294,7 @@ fn gather_rows<E: RegexEngine, R: Read, W: Write, P: Watch, F: FieldForm>(
     columns: &[SchemaColumn<'_, E>],
     checks: &Checks<'_>,
     form: &F,
+    broken: BrokenField,
     records: &mut Records<R>,
     out: &mut String,
     writer: &mut W,
@@ -254,8 +306,9 @@ fn gather_rows<E: RegexEngine, R: Read, W: Write, P: Watch, F: FieldForm>(
     ensures why { IfErr result IsNoPlanFault }
     ensures fault { let lists = lists_of admits accepted encoded decoding checks.now in
         (place : Place) (text : List ℕ) → IsLeft R.remaining records.old place text
-        → IfErr result (IsWhyOfRows (ColumnMessages (F.said form.now) E.outcome lists)
-        (delimiter_of records.old.reader) (limits_of records.old.reader) columns.now place text
+        → IfErr result (IsWhyOfRows (ColumnMessages (F.writes form.now) E.outcome lists) broken
+        (delimiter_of records.old.reader) (limits_of records.old.reader) columns.now
+        (checked_of columns.now) place text
         (λ lines. (written : List ℕ)
         × Appends (W.contents writer.old) (W.contents writer.new) written
         × (lines ≡ written ++ string_bytes out.new))) }
@@ -264,8 +317,8 @@ fn gather_rows<E: RegexEngine, R: Read, W: Write, P: Watch, F: FieldForm>(
         → IfOk result (λ c. (rows : List LinedRecord) × (messages : List (List ℕ))
         × (written : List ℕ)
         × AreLinedRecords (delimiter_of records.old.reader) place text rows
-        × HaveShape (limits_of records.old.reader) (length columns.now) rows
-        × OfRecords (ColumnMessages (F.said form.now) E.outcome lists) columns.now rows messages
+        × HaveShape broken (limits_of records.old.reader) (checked_of columns.now) rows
+        × OfRecords (ColumnMessages (F.writes form.now) E.outcome lists) columns.now rows messages
         × Appends (W.contents writer.old) (W.contents writer.new) written
         × (concat messages ≡ written ++ string_bytes out.new)
         × (c.records ≡ length rows) × (c.errors ≡ length messages)) }
@@ -275,7 +328,7 @@ fn gather_rows<E: RegexEngine, R: Read, W: Write, P: Watch, F: FieldForm>(
         errors: 0,
     };
     for turn in 0..u64::MAX {
-        let Some(more) = check_next(alloc, columns, checks, form, records, out)? else {
+        let Some(more) = check_next(alloc, columns, checks, form, broken, records, out)? else {
             return Ok(checked);
         };
         checked.errors = checked.errors.checked_add(more).ok_or(TableFault::TooLong)?;

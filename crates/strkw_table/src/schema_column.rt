@@ -1,9 +1,10 @@
 //! A column whose fields are checked by a schema object.
 
-ghost use Rattle.std.specs.Prelude.{◌≡◌, ◌++◌, ℕ, List, length, IfOk, string_bytes};
-ghost use Rattle.std.specs.List.{concat};
+ghost use Rattle.std.specs.Prelude.{◌≡◌, ◌↔◌, IfOk, is_some, string_bytes, true};
 ghost use Rattle.strkw_keywords.specs.Handed.{lists_of};
-ghost use Rattle.strkw_table.specs.Columns.{ColumnMessages, IsUsable};
+ghost use Rattle.strkw_table.specs.Broken.{IsBroken};
+ghost use Rattle.strkw_table.specs.Columns.{ColumnMessages, IsUsable, object_of};
+ghost use Rattle.strkw_table.specs.Rows.{Appended};
 
 use crate::compiled_object::CompiledObject;
 use crate::form::{AtField, FieldForm};
@@ -19,30 +20,42 @@ pub(crate) struct SchemaColumn<'a, E> {
     pub object: Option<&'a CompiledObject<E>>,
 }
 
+impl<E> SchemaColumn<'_, E> {
+    /// Whether a field of the column is broken: the column is checked, and the field is not UTF-8.
+    pub fn breaks(&self, field: &[u8]) -> bool
+        ensures { (result ≡ true) ↔ IsBroken (is_some (object_of self.now)) field.now }
+    {
+        self.object.is_some() && str::from_utf8(field).is_err()
+    }
+}
+
 impl<E: RegexEngine> SchemaColumn<'_, E> {
     /// Appends the messages in a form about a field of the column, in a record that begins on this line, and answers
-    /// how many they are. The only error is out of memory.
+    /// how many they are. Where the column is checked the field is to be UTF-8. The only error is out of memory.
     pub fn push_messages<F: FieldForm>(
         &self,
         alloc: Global,
         checks: &Checks<'_>,
         form: &F,
         line: u64,
-        field: &str,
+        field: &[u8],
         out: &mut String,
     ) -> Result<u64, AllocError>
         requires { let lists = lists_of admits accepted encoded decoding checks.now in
             IsUsable E.outcome lists self.now }
         ensures { let lists = lists_of admits accepted encoded decoding checks.now in
-            IfOk result (λ count. (messages : List (List ℕ))
-            × ColumnMessages (F.said form.now) E.outcome lists self.now line field.now messages
-            × (count ≡ length messages)
-            × (string_bytes out.new ≡ string_bytes out.old ++ concat messages)) }
+            IfOk result (λ count. Appended
+            (ColumnMessages (F.writes form.now) E.outcome lists self.now line field.now)
+            count (string_bytes out.old) (string_bytes out.new)) }
     {
         let Some(object) = self.object else {
             return Ok(0);
         };
-        if object.passes_over(field) {
+        let Ok(text) = str::from_utf8(field) else {
+            form.push_broken(alloc, line, self.name, out)?;
+            return Ok(1);
+        };
+        if object.passes_over(text) {
             return Ok(0);
         }
         let at = AtField {
@@ -50,6 +63,6 @@ impl<E: RegexEngine> SchemaColumn<'_, E> {
             line,
             column: self.name,
         };
-        push_messages_as(alloc, &object.keywords, checks, &at, &field, out)
+        push_messages_as(alloc, &object.keywords, checks, &at, &text, out)
     }
 }

@@ -1,30 +1,26 @@
 //! A whole file.
 
-ghost use Rattle.std.specs.Prelude.{◌≡◌, ◌∷◌, ◌⊎◌, ℕ, List, Option, Some, None, [], true, length, option_map, IfOk, IfErr, OnOk};
+ghost use Rattle.std.specs.Prelude.{◌≡◌, ◌⊎◌, ℕ, List, Some, None, [], true, IfErr, IfOk, OnOk};
 ghost use Rattle.std.specs.BTreeMap.{get_by_text};
-ghost use Rattle.std.specs.List.{concat};
 ghost use Rattle.std.specs.Io.KnownBytes.{Appends};
 ghost use Rattle.serde_json.specs.Data.{Data};
 ghost use Rattle.serde_json.specs.View.{members_view, view};
 ghost use Rattle.csv.specs.Records.{fields_of};
-ghost use Rattle.csv.specs.Reading.{strip_bom};
 ghost use Rattle.strkw_records.specs.declared.place.Place.{Place};
 ghost use Rattle.strkw_records.specs.Limits.{AreWithin};
 ghost use Rattle.strkw_records.specs.Lines.{first_place};
 ghost use Rattle.strkw_records.specs.Reading.{Takes, delimiter_of, limits_of, place_of, unread_of};
-ghost use Rattle.strkw_records.specs.Records.{AreLinedRecords, LinedRecord};
 ghost use Rattle.strkw_plan.specs.Borrowed.{plan_view};
 ghost use Rattle.strkw_plan.specs.Rules.{rules_settings};
-ghost use Rattle.strkw_plan.specs.Plan as written;
-ghost use Rattle.strkw_plan.specs.Plan.{plan_of, plan_problem};
+ghost use Rattle.strkw_plan.specs.Plan.{plan_of};
 ghost use Rattle.strkw_plan.specs.declared.kind.PlanKind.TheVariants.{Columns};
 ghost use Rattle.strkw_table.specs.declared.reading.Header.TheVariants.{Absent, First};
 ghost use Rattle.strkw_table.specs.Ahead.{IsLeft};
+ghost use Rattle.strkw_table.specs.Checks.{ComesTo, IsChecked, read_plainly};
 ghost use Rattle.strkw_table.specs.Columns.{IsObjectFor};
-ghost use Rattle.strkw_table.specs.Faults.{IsNoPlanFault, IsWhy, IsWhyOfHeading, IsWhyOfNames, IsWhyOfText, delimiter_by};
-ghost use Rattle.strkw_table.specs.Fields.{AreDistinct, AreNamed, MessagesOf, field_message, schema_named};
+ghost use Rattle.strkw_table.specs.Faults.{IsNoPlanFault, IsWhyOfHeading, IsWhyOfNames, IsWhyOfText, delimiter_by};
+ghost use Rattle.strkw_table.specs.Fields.{AreDistinct, AreNamed, schema_named, text_form};
 ghost use Rattle.strkw_table.specs.Headers.{AreWanted, HaveColumns, Heads, record_limits};
-ghost use Rattle.strkw_table.specs.Rows.{HaveShape, OfRecords};
 
 use crate::ahead::Records;
 use crate::faults::TableFault;
@@ -49,7 +45,8 @@ use strkw_records::{Delimiter, Limits, RecordReader};
 /// counted from 1 as an editor counts lines, KEYWORD the place of the keyword in the schema object, as `/format`, and
 /// TEXT what is wrong; texts are shown as by `Shown`. They come record by record, in each from the first field to the
 /// last, and in each field in the order of the keywords. The schema objects are compiled, and the fields checked,
-/// under the caller's rules. A column that the plan does not name is not checked.
+/// under the caller's rules. A column that the plan does not name is not checked, and its fields may be any bytes. A
+/// field that is checked, and a name in the first record, is to be UTF-8.
 ///
 /// The plan's limits bound the columns, and the bytes of a record and of a field; where they do not bound these,
 /// memory does. The plan's delimiter parts the fields: a comma, where it does not say it.
@@ -64,30 +61,10 @@ pub fn check_table<B: EngineBuilder, R: Read + Drop, W: Write, P: Watch>(
     writer: &mut W,
     watch: &mut P,
 ) -> Result<Checked, TableFault>
-    ensures plan { OnOk result (plan_problem Columns (view plan.now) ≡ None) }
-    ensures messages { let settings =
+    ensures { let settings =
         rules_settings B.takes B.outcome admits accepted encoded decoding rules.now in
-        (text : List ℕ) → R.remaining file ≡ Some text
-        → IfOk result (λ c. (p : written.Plan) × (names : LinedRecord)
-        × (records : List LinedRecord) × (messages : List (List ℕ))
-        × (plan_of Columns (view plan.now) ≡ Some p)
-        × HaveColumns p names.fields
-        × AreNamed names.fields p.schemas
-        × ((p.checks_each ≡ true) ⊎ AreDistinct names.fields)
-        × AreLinedRecords p.delimiter first_place (strip_bom text) (names ∷ records)
-        × HaveShape (record_limits p.limits) (length names.fields) (names ∷ records)
-        × OfRecords (MessagesOf field_message (settings p.draft) p.schemas) names.fields records
-        messages
-        × Appends (W.contents writer.old) (W.contents writer.new) (concat messages)
-        × (c.records ≡ length records) × (c.errors ≡ length messages)) }
-    ensures why { let settings =
-        rules_settings B.takes B.outcome admits accepted encoded decoding rules.now in
-        IfErr result (IsWhy settings (view plan.now)) }
-    ensures fault { let settings =
-        rules_settings B.takes B.outcome admits accepted encoded decoding rules.now in
-        (text : List ℕ) → R.remaining file ≡ Some text
-        → IfErr result (IsWhyOfText First None field_message settings (view plan.now)
-        (strip_bom text) (Appends (W.contents writer.old) (W.contents writer.new))) }
+        ComesTo read_plainly text_form settings (view plan.now) (R.remaining file)
+        (Appends (W.contents writer.old) (W.contents writer.new)) result }
 {
     check_table_as(alloc, rules, plan, file, writer, watch, &FieldLines)
 }
@@ -104,45 +81,25 @@ pub fn check_table_as<B: EngineBuilder, R: Read + Drop, W: Write, P: Watch, F: F
     watch: &mut P,
     form: &F,
 ) -> Result<Checked, TableFault>
-    ensures plan { OnOk result (plan_problem Columns (view plan.now) ≡ None) }
-    ensures messages { let settings =
+    ensures { let settings =
         rules_settings B.takes B.outcome admits accepted encoded decoding rules.now in
-        (text : List ℕ) → R.remaining file ≡ Some text
-        → IfOk result (λ c. (p : written.Plan) × (names : LinedRecord)
-        × (records : List LinedRecord) × (messages : List (List ℕ))
-        × (plan_of Columns (view plan.now) ≡ Some p)
-        × HaveColumns p names.fields
-        × AreNamed names.fields p.schemas
-        × ((p.checks_each ≡ true) ⊎ AreDistinct names.fields)
-        × AreLinedRecords p.delimiter first_place (strip_bom text) (names ∷ records)
-        × HaveShape (record_limits p.limits) (length names.fields) (names ∷ records)
-        × OfRecords (MessagesOf (F.said form.now) (settings p.draft) p.schemas) names.fields
-        records messages
-        × Appends (W.contents writer.old) (W.contents writer.new) (concat messages)
-        × (c.records ≡ length records) × (c.errors ≡ length messages)) }
-    ensures why { let settings =
-        rules_settings B.takes B.outcome admits accepted encoded decoding rules.now in
-        IfErr result (IsWhy settings (view plan.now)) }
-    ensures fault { let settings =
-        rules_settings B.takes B.outcome admits accepted encoded decoding rules.now in
-        (text : List ℕ) → R.remaining file ≡ Some text
-        → IfErr result (IsWhyOfText First None (F.said form.now) settings (view plan.now)
-        (strip_bom text) (Appends (W.contents writer.old) (W.contents writer.new))) }
+        ComesTo read_plainly (F.writes form.now) settings (view plan.now) (R.remaining file)
+        (Appends (W.contents writer.old) (W.contents writer.new)) result }
 {
-    let reading = Reading {
-        delimiter: None,
-        header: Header::First,
-    };
+    let reading = Reading::plainly();
     check_table_with(alloc, rules, plan, reading, file, writer, watch, form)
 }
 
-/// The same, where the caller says how the text is read: what parts the fields, in place of the plan's delimiter, and
-/// what names the columns.
+/// The same, where the caller says how the text is read: what parts the fields, in place of the plan's delimiter, what
+/// names the columns, and what comes of a field that is not UTF-8.
 ///
 /// Without a header the columns are named by their numbers from 1, `1`, `2`, `3` and so on, as many as the first record
 /// has fields, and each record is checked. Then a file that has no record has no errors, whatever the plan names.
 ///
-/// Errors: as `check_table`. Without a header there is no `NoHeader`.
+/// A field of a checked column that is not UTF-8 ends the check, or is an error with one message, as the caller says.
+///
+/// Errors: as `check_table`. Without a header there is no `NoHeader`. `ReadFault::NotUtf8` tells of the first field of
+/// a checked column that is not UTF-8, where such a field ends the check, or of a name in a header.
 pub fn check_table_with<B: EngineBuilder, R: Read + Drop, W: Write, P: Watch, F: FieldForm>(
     alloc: Global,
     rules: &Rules<'_, B>,
@@ -153,36 +110,15 @@ pub fn check_table_with<B: EngineBuilder, R: Read + Drop, W: Write, P: Watch, F:
     watch: &mut P,
     form: &F,
 ) -> Result<Checked, TableFault>
-    ensures plan { OnOk result (plan_problem Columns (view plan.now) ≡ None) }
-    ensures messages { let given = option_map (λ d. d.byte) reading.delimiter in
-        let settings =
+    ensures { let settings =
         rules_settings B.takes B.outcome admits accepted encoded decoding rules.now in
-        (text : List ℕ) → R.remaining file ≡ Some text
-        → IfOk result (λ c. (p : written.Plan) × (names : List (List ℕ))
-        × (place : Place) × (left : List ℕ)
-        × (records : List LinedRecord) × (messages : List (List ℕ))
-        × (plan_of Columns (view plan.now) ≡ Some p)
-        × Heads reading.header (delimiter_by given p) p (strip_bom text) names place left
-        × AreLinedRecords (delimiter_by given p) place left records
-        × HaveShape (record_limits p.limits) (length names) records
-        × OfRecords (MessagesOf (F.said form.now) (settings p.draft) p.schemas) names records
-        messages
-        × Appends (W.contents writer.old) (W.contents writer.new) (concat messages)
-        × (c.records ≡ length records) × (c.errors ≡ length messages)) }
-    ensures why { let settings =
-        rules_settings B.takes B.outcome admits accepted encoded decoding rules.now in
-        IfErr result (IsWhy settings (view plan.now)) }
-    ensures fault { let given = option_map (λ d. d.byte) reading.delimiter in
-        let settings =
-        rules_settings B.takes B.outcome admits accepted encoded decoding rules.now in
-        (text : List ℕ) → R.remaining file ≡ Some text
-        → IfErr result (IsWhyOfText reading.header given (F.said form.now) settings (view plan.now)
-        (strip_bom text) (Appends (W.contents writer.old) (W.contents writer.new))) }
+        ComesTo reading (F.writes form.now) settings (view plan.now) (R.remaining file)
+        (Appends (W.contents writer.old) (W.contents writer.new)) result }
 {
     let plan = plan_in(alloc, PlanKind::Columns, plan)?;
     let objects = compile_objects(alloc, rules, &plan)?;
     let limits = record_limits(plan.limits);
-    let delimiter = delimiter_by(reading.delimiter, &plan);
+    let delimiter = delimiter_by(reading, &plan);
     let reader = RecordReader::with_delimiter(alloc, file, limits, delimiter)?;
     let mut records = Records::new(alloc, reader);
     check_records(
@@ -190,7 +126,7 @@ pub fn check_table_with<B: EngineBuilder, R: Read + Drop, W: Write, P: Watch, F:
         rules,
         &plan,
         &objects,
-        reading.header,
+        reading,
         form,
         &mut records,
         writer,
@@ -198,14 +134,14 @@ pub fn check_table_with<B: EngineBuilder, R: Read + Drop, W: Write, P: Watch, F:
     )
 }
 
-// Checks the records of a file, of which none was read: the columns by the plan, and the fields by what was compiled for
-// the columns.
+// Checks the records of a file, of which none was read: the columns by the plan, and the fields by what was compiled
+// for the columns.
 fn check_records<B: EngineBuilder, R: Read, W: Write, P: Watch, F: FieldForm>(
     alloc: Global,
     rules: &Rules<'_, B>,
     plan: &Plan<'_>,
     objects: &Objects<B::Engine>,
-    header: Header,
+    reading: Reading,
     form: &F,
     records: &mut Records<R>,
     writer: &mut W,
@@ -221,34 +157,37 @@ fn check_records<B: EngineBuilder, R: Read, W: Write, P: Watch, F: FieldForm>(
     requires ahead { records.old.ahead ≡ None }
     requires place { place_of records.old.reader ≡ first_place }
     requires limits { limits_of records.old.reader ≡ record_limits plan.now.limits }
-    ensures messages { let p = plan_view plan.now in
-        let delimiter = delimiter_of records.old.reader in
-        let settings =
+    requires parted { delimiter_of records.old.reader ≡ delimiter_by reading (plan_view plan.now) }
+    ensures messages { let settings =
         rules_settings B.takes B.outcome admits accepted encoded decoding rules.now in
-        (text : List ℕ) → unread_of R.remaining records.old.reader ≡ Some text
-        → IfOk result (λ c. (names : List (List ℕ)) × (place : Place) × (left : List ℕ)
-        × (rows : List LinedRecord) × (messages : List (List ℕ))
-        × Heads header delimiter p text names place left
-        × AreLinedRecords delimiter place left rows
-        × HaveShape (record_limits p.limits) (length names) rows
-        × OfRecords (MessagesOf (F.said form.now) (settings p.draft) p.schemas) names rows messages
-        × Appends (W.contents writer.old) (W.contents writer.new) (concat messages)
-        × (c.records ≡ length rows) × (c.errors ≡ length messages)) }
+        (written : Data) (text : List ℕ)
+        → plan_of Columns written ≡ Some (plan_view plan.now)
+        → unread_of R.remaining records.old.reader ≡ Some text
+        → IfOk result (IsChecked reading (F.writes form.now) settings written text
+        (Appends (W.contents writer.old) (W.contents writer.new))) }
     ensures why { IfErr result IsNoPlanFault }
     ensures fault { let settings =
         rules_settings B.takes B.outcome admits accepted encoded decoding rules.now in
-        (given : Option ℕ) (written : Data) (text : List ℕ)
+        (written : Data) (text : List ℕ)
         → plan_of Columns written ≡ Some (plan_view plan.now)
-        → delimiter_of records.old.reader ≡ delimiter_by given (plan_view plan.now)
         → unread_of R.remaining records.old.reader ≡ Some text
-        → IfErr result (IsWhyOfText header given (F.said form.now) settings written text
+        → IfErr result (IsWhyOfText reading (F.writes form.now) settings written text
         (Appends (W.contents writer.old) (W.contents writer.new))) }
 {
     lists_of_compile_are_in_use::<B::Engine>();
     let mut names = StringRecord::new(alloc);
-    read_names(alloc, plan, header, records, &mut names, watch)?;
+    read_names(alloc, plan, reading.header, records, &mut names, watch)?;
     let columns = columns_of(alloc, objects, &names)?;
-    check_rows(alloc, &columns, &rules.checks, form, records, writer, watch)
+    check_rows(
+        alloc,
+        &columns,
+        &rules.checks,
+        form,
+        reading.broken,
+        records,
+        writer,
+        watch,
+    )
 }
 
 // Puts the names of the columns into `names`, and refuses those that are not as the plan wants them.
@@ -344,11 +283,10 @@ fn read_header<R: Read, P: Watch>(
 }
 
 // The delimiter of the caller, or else of the plan.
-fn delimiter_by(given: Option<Delimiter>, plan: &Plan<'_>) -> Delimiter
-    ensures { let byte = option_map (λ d. d.byte) given in
-        result.byte ≡ delimiter_by byte (plan_view plan.now) }
+fn delimiter_by(reading: Reading, plan: &Plan<'_>) -> Delimiter
+    ensures { result.byte ≡ delimiter_by reading (plan_view plan.now) }
 {
-    given.unwrap_or(plan.delimiter)
+    reading.delimiter.unwrap_or(plan.delimiter)
 }
 
 // How long a record may be by a plan.

@@ -1,6 +1,7 @@
-//! Reads rows, one a line of JSON: a `plan`, and what is checked by it, the text of a CSV file (`file`), which may have a
-//! `delimiter` of the caller and no `header`, or a JSON document (`document`). Prints each row, and under it the messages
-//! and how the check ended: what it counted, or why it could not be done. A line that begins with `#` is copied.
+//! Reads rows, one a line of JSON: a `plan`, and what is checked by it, the text of a CSV file (`file`), or its bytes
+//! (`bytes`), each as the character of its number, or a JSON document (`document`). A CSV file may have a `delimiter` of
+//! the caller and no `header`, and the check may be to `keep_going`. Prints each row, and under it the messages and how
+//! the check ended: what it counted, or why it could not be done. A line that begins with `#` is copied.
 #![tactic(auto)]
 
 #[cfg(test)]
@@ -25,7 +26,7 @@ use strkw_document::check_document;
 use strkw_pattern::NoPatterns;
 use strkw_plan::Rules;
 use strkw_records::Delimiter;
-use strkw_table::{Checked, FieldLines, Header, Reading, Watch, check_table_with};
+use strkw_table::{BrokenField, Checked, FieldLines, Header, Reading, Watch, check_table_with};
 
 #[derive(Drop)]
 struct Unwatched;
@@ -64,11 +65,30 @@ fn check_row(alloc: Global, row: &Value, messages: &mut Vec<u8>) -> Result<Strin
     let Some(plan) = row.get("plan") else {
         return String::from_str(alloc, "no plan");
     };
-    match (row.get("file").and_then(Value::as_str), row.get("document")) {
-        (Some(file), None) => of_file(alloc, plan, reading_in(row), file, messages),
-        (None, Some(document)) => of_document(alloc, plan, document, messages),
-        _ => String::from_str(alloc, "no file, or no document"),
+    if let Some(document) = row.get("document") {
+        return of_document(alloc, plan, document, messages);
     }
+    if let Some(file) = row.get("file").and_then(Value::as_str) {
+        return of_file(alloc, plan, reading_in(row), file.as_bytes(), messages);
+    }
+    match row.get("bytes").and_then(Value::as_str) {
+        Some(text) => {
+            let file = bytes_of(alloc, text)?;
+            of_file(alloc, plan, reading_in(row), &file, messages)
+        }
+        None => String::from_str(alloc, "no file, or no document"),
+    }
+}
+
+// The bytes for which the characters of a text stand. One past U+00FF stands for none.
+fn bytes_of(alloc: Global, text: &str) -> Result<Vec<u8>, AllocError> {
+    let mut bytes = Vec::new(alloc);
+    for character in text.chars() {
+        if let Ok(byte) = u8::try_from(u32::from(character)) {
+            bytes.push(byte)?;
+        }
+    }
+    Ok(bytes)
 }
 
 // How a caller of this row has its file read.
@@ -77,9 +97,14 @@ fn reading_in(row: &Value) -> Reading {
         Some(false) => Header::Absent,
         _ => Header::First,
     };
+    let broken = match row.get("keep_going").and_then(Value::as_bool) {
+        Some(true) => BrokenField::IsError,
+        _ => BrokenField::EndsCheck,
+    };
     Reading {
         delimiter: delimiter_in(row),
         header,
+        broken,
     }
 }
 
@@ -93,17 +118,17 @@ fn of_file(
     alloc: Global,
     plan: &Value,
     reading: Reading,
-    file: &str,
+    file: &[u8],
     messages: &mut Vec<u8>,
 ) -> Result<String, AllocError> {
-    let (mut watch, bytes) = (Unwatched, file.as_bytes());
+    let mut watch = Unwatched;
     let rules = Rules::new(&NoPatterns);
     match check_table_with(
         alloc,
         &rules,
         plan,
         reading,
-        bytes,
+        file,
         messages,
         &mut watch,
         &FieldLines,

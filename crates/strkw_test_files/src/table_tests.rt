@@ -8,13 +8,13 @@ use std::test::Fail;
 use strkw_keywords::{Checks, NamedFormat};
 use strkw_pattern::NoPatterns;
 use strkw_plan::Rules;
-use strkw_table::{Checked, TableFault, check_table};
+use strkw_table::{BrokenField, Checked, FieldLines, Reading, TableFault, check_table_with};
 
-const FILE: &str = "a,b\nxxx,xxxx\nxxxx,xxx\n";
+const FILE: &[u8] = b"a,b,c\nxxx,xxxx,\xff\nxxxx,xxx,c\n";
 
 // A plan, what is set, and the messages, or the text of the fault. The format `even` is registered, for texts of an
 // even number of characters.
-fn cases() -> [(&'static str, Set, &'static str); 5] {
+fn cases() -> [(&'static str, Set, &'static str); 6] {
     [
         (
             r#"{"draft":7,"columns":{"a":{"format":"even"},"b":{"format":"even"}}}"#,
@@ -41,15 +41,32 @@ fn cases() -> [(&'static str, Set, &'static str); 5] {
             UNCHECKED,
             "3: a: /maxLength: \"xxxx\" is longer than 3 characters\n",
         ),
+        (
+            r#"{"draft":7,"columns":{"c":{"format":"even"}}}"#,
+            PLAIN,
+            "2: c: not UTF-8\n3: c: /format: \"c\" is not a \"even\"\n",
+        ),
     ]
 }
 
-// What is told of the file.
+// What is told of the file, where a field that is not UTF-8 is an error.
 fn describe(alloc: Global, rules: &Rules<'_, NoPatterns>, plan: &str) -> Result<String, Fail> {
     let plan = json(alloc, plan)?;
     let mut out = Vec::with_capacity(alloc, 200)?;
-    let file = FILE.as_bytes();
-    let checked = check_table(alloc, rules, &plan, file, &mut out, &mut Unwatched);
+    let reading = Reading {
+        broken: BrokenField::IsError,
+        ..Reading::plainly()
+    };
+    let checked = check_table_with(
+        alloc,
+        rules,
+        &plan,
+        reading,
+        FILE,
+        &mut out,
+        &mut Unwatched,
+        &FieldLines,
+    );
     told(alloc, &checked, &out)
 }
 

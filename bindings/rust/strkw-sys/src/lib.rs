@@ -58,6 +58,30 @@ extern "C" {
         verdicts: *mut u8,
         room: usize,
     ) -> u8;
+    pub fn strkw_check_offsets(
+        draft: u32,
+        options: u32,
+        schema: *const u8,
+        schema_count: usize,
+        texts: *const u8,
+        texts_count: usize,
+        offsets: *const usize,
+        offsets_count: usize,
+        verdicts: *mut u8,
+        room: usize,
+    ) -> u8;
+    pub fn strkw_check_offsets32(
+        draft: u32,
+        options: u32,
+        schema: *const u8,
+        schema_count: usize,
+        texts: *const u8,
+        texts_count: usize,
+        offsets: *const u32,
+        offsets_count: usize,
+        verdicts: *mut u8,
+        room: usize,
+    ) -> u8;
     pub fn strkw_refusal(
         draft: u32,
         options: u32,

@@ -8,8 +8,8 @@ use crate::files::{FileCheck, check_files};
 use crate::inputs::{InputFile, STANDARD_INPUT};
 use crate::lines::JsonLines;
 use crate::options::{
-    FILE, MAX_ERRORS, OutputForm, Wanted, color, delimiter, delimiter_said, files, header_said,
-    max_errors, no_header, output as output_form, quiet, required,
+    FILE, MAX_ERRORS, OutputForm, Wanted, color, delimiter, delimiter_said, files, keep_going,
+    max_errors, no_header, output as output_form, quiet, reading_said, required,
 };
 use crate::outcome::Outcome;
 use crate::output::{FaultyWrite, Output};
@@ -22,7 +22,7 @@ use clap::{Arg, ArgAction, ArgMatches, Command};
 use serde_json::Value;
 use std::alloc::{AllocError, Global};
 use strkw_shells::{FileFault, check_csv};
-use strkw_table::{Checked, FieldForm, FieldLines, Header, TableFault};
+use strkw_table::{Checked, FieldForm, FieldLines, Reading, TableFault};
 
 /// The name of the subcommand.
 pub(crate) const NAME: &str = "csv";
@@ -53,12 +53,15 @@ first twenty of each kind.
 An empty field of a column for which the plan has `\"empty\": \"skip\"` has no errors.
 With `--no-header` the first record is data too, and the plan names the columns `1`, `2`,
 `3` and so on.
+A column that the plan does not name may have any bytes. A field of another that is not
+UTF-8 ends the check. With `--keep-going` it is an error, a line `LINE: COLUMN: not UTF-8`.
 
 Examples:
   neldrafi csv plan.json people.csv
   neldrafi csv --max-errors 10 plan.json 2023.csv 2024.csv
   neldrafi csv --delimiter ';' plan.json people.csv
   neldrafi csv --no-header plan.json rows.csv
+  neldrafi csv --keep-going plan.json old.csv
   neldrafi csv --output json plan.json people.csv
   neldrafi csv --summary plan.json people.csv
   neldrafi csv --report errors.html plan.json people.csv
@@ -79,6 +82,7 @@ pub(crate) fn command<'a>(alloc: Global) -> Result<Command<'a>, AllocError> {
         .with(files(alloc))
         .with(color(alloc))
         .with(delimiter(alloc, DELIMITER_HELP))
+        .with(keep_going(alloc))
         .with(max_errors(alloc))
         .with(no_header(alloc, NO_HEADER_HELP))
         .with(output_form(alloc))
@@ -123,7 +127,7 @@ fn report<'a>(alloc: Global) -> Result<Arg<'a>, AllocError> {
 #[derive(Drop)]
 struct TableCheck<'a> {
     plan: &'a Value,
-    header: Header,
+    reading: Reading,
     form: OutputForm,
     asks_progress: bool,
     asks_summary: bool,
@@ -197,7 +201,7 @@ impl TableCheck<'_> {
         let checked = check_csv(
             alloc,
             self.plan,
-            self.header,
+            self.reading,
             file,
             output,
             &mut progress,
@@ -224,7 +228,7 @@ impl TableCheck<'_> {
         match fault {
             FileFault::Write => output.fault(),
             FileFault::Table(TableFault::Missing(_)) => match names {
-                Some(names) => fault_of_missing(alloc, self.plan, self.header, names),
+                Some(names) => fault_of_missing(alloc, self.plan, self.reading.header, names),
                 None => Fault::Memory,
             },
             fault => Fault::from(fault),
@@ -285,7 +289,7 @@ pub(crate) fn run(rt: &HostRuntime, matches: &ArgMatches<'_>) -> Result<Outcome,
     let plan = read_plan_by(rt, path, delimiter_said(matches))?;
     let mut check = TableCheck {
         plan: &plan,
-        header: header_said(matches),
+        reading: reading_said(matches),
         form: OutputForm::of(matches),
         asks_progress: matches.get_flag(PROGRESS),
         asks_summary: matches.get_flag(SUMMARY),

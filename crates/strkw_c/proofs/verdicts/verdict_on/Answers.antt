@@ -19,5 +19,5 @@ pub returns-else-branch : goal.returns-else-branch
 returns-else-branch g c =
     let utf8 : IsUtf8 c.args.text.now = search rules in
     let exact = c.in_ok-is_valid.ensures.exact root_site in
-    let same : c.in-Ok.text.now ≡ c.args.text.now = search rules in
+    let same : c.in-Some.text.now ≡ c.args.text.now = search rules in
     inr (inl (refl, utf8, λ passes. let valid : IsTrue c.in_ok-is_valid.field-0 = exact.1 (rw same passes) in cc (valid, c.if-branch.false)))

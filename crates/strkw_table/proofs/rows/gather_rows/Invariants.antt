@@ -2,7 +2,7 @@ use Rattle.std.proofs.Common.{◌≡◌, ◌++◌, ℕ, List, length, string_byt
 use Rattle.std.specs.List.{concat}
 use Rattle.std.specs.Io.KnownBytes.{Appends}
 use Rattle.strkw_keywords.specs.Handed.{lists_of}
-use Rattle.strkw_table.specs.Columns.{ColumnMessages}
+use Rattle.strkw_table.specs.Columns.{ColumnMessages, checked_of}
 use Rattle.strkw_records.specs.declared.place.Place.{Place}
 use Rattle.strkw_records.specs.Reading.{delimiter_of, limits_of}
 use Rattle.strkw_records.specs.Records.{LinedRecord}
@@ -22,8 +22,8 @@ invariant-loop-turn g l =
     → (rows : List LinedRecord) × (messages : List (List ℕ)) × (written : List ℕ) × (here : Place) × (left : List ℕ)
     × IsLeft g.R.Read.remaining l.records here left
     × AreFirstRecords (delimiter_of l.fn.records.reader) place text rows here left
-    × HaveShape (limits_of l.fn.records.reader) (length l.fn.columns) rows
-    × OfRecords (ColumnMessages (g.F.FieldForm.said l.fn.form) g.E.RegexEngine.outcome lists) l.fn.columns rows messages
+    × HaveShape l.fn.broken (limits_of l.fn.records.reader) (checked_of l.fn.columns) rows
+    × OfRecords (ColumnMessages (g.F.FieldForm.writes l.fn.form) g.E.RegexEngine.outcome lists) l.fn.columns rows messages
     × Appends (g.W.Write.contents l.fn.writer) (g.W.Write.contents l.writer) written
     × (concat messages ≡ written ++ string_bytes l.out)
     × (l.turn ≡ length rows) × (l.checked.errors ≡ length messages))

@@ -1,4 +1,4 @@
-use Rattle.std.proofs.Common.{rules, ◌≡◌, ◌∙◌, Err, length, subst}
+use Rattle.std.proofs.Common.{rules, ◌≡◌, ◌∙◌, Err, subst}
 use Rattle.std.specs.Prelude.{IfErr}
 use Rattle.std.specs.BTreeMap.{get_by_text}
 use Rattle.std.specs.Io.KnownBytes.{Appends}
@@ -10,12 +10,12 @@ use Rattle.strkw_plan.specs.Borrowed.{plan_view}
 use Rattle.strkw_plan.specs.Rules.{rules_settings}
 use Rattle.strkw_records.specs.Reading.{delimiter_of, limits_of}
 use Rattle.strkw_records.specs.Records.{AreLinedRecords}
-use Rattle.strkw_table.specs.Columns.{ColumnMessages}
-use Rattle.strkw_table.specs.Fields.{MessagesOf}
+use Rattle.strkw_table.specs.Columns.{ColumnMessages, checked_of}
+use Rattle.strkw_table.specs.Fields.{MessagesOf, are_checked}
 use Rattle.strkw_table.specs.Faults.{IsWhyOfHeading, IsWhyOfRows, delimiter_by}
 use Rattle.strkw_table.specs.Headers.{Heads, record_limits}
 use Rattle.strkw_table.specs.Rows.{HaveShape}
-use Rattle.strkw_table.proofs.ColumnLemmas.{are_columns-length, column_fields, columns_usable, of_records-along}
+use Rattle.strkw_table.proofs.ColumnLemmas.{are_columns-length, column_fields, columns_checked, columns_usable, of_records-along}
 use Rattle.strkw_table.proofs.FaultLemmas.{why_along, why_of_data, why_of_heading}
 use Rattle.strkw_table.proofs.table.check_records.Goals as goal
 
@@ -33,8 +33,8 @@ check_rows-requires g c =
     }
 
 pub returns-in_err-read_names-clause-fault : goal.returns-in_err-read_names-clause-fault
-returns-in_err-read_names-clause-fault g c given written text is parted source =
-    let form = g.F.FieldForm.said c.args.form.now in
+returns-in_err-read_names-clause-fault g c written text is source =
+    let form = g.F.FieldForm.writes c.args.form.now in
     let settings = rules_settings g.B.EngineBuilder.takes g.B.EngineBuilder.outcome (λ b. (goal.Format-dyn g b).admits b.1)
     (λ b. (goal.MediaTypeCheck-dyn g b).accepted b.1)
     (λ b. (goal.ContentCodec-dyn g b).encoded b.1) (λ b. (goal.ContentCodec-dyn g b).decoding b.1) c.args.rules.now in
@@ -42,66 +42,80 @@ returns-in_err-read_names-clause-fault g c given written text is parted source =
     let why = c.in_err-read_names.field-0.0 in
     let wrote = Appends (g.W.Write.contents c.args.writer.now) (g.W.Write.contents c.args.writer.now) in
     let told : c.from_residual.result ≡ Err why = search rules in
-    rw told (why_of_heading c.args.header given form settings written text wrote plan why is
-    (subst (λ d. IsWhyOfHeading c.args.header d plan text why) parted (c.in_err-read_names.ensures.fault text source)) (Appends-nil _))
+    rw told (why_of_heading c.args.reading form settings written text wrote plan why is
+    (subst (λ d. IsWhyOfHeading c.args.reading.header d plan text why) c.requires.parted (c.in_err-read_names.ensures.fault text source)) (Appends-nil _))
 
 pub returns-clause-messages : goal.returns-clause-messages
-returns-clause-messages g c text source =
-    let form = g.F.FieldForm.said c.args.form.now in
-    let outcome = g.B.Engine.RegexEngine.outcome in
-    let plan = plan_view c.args.plan.now in
-    let s = rules_settings g.B.EngineBuilder.takes g.B.EngineBuilder.outcome (λ b. (goal.Format-dyn g b).admits b.1)
-    (λ b. (goal.MediaTypeCheck-dyn g b).accepted b.1)
-    (λ b. (goal.ContentCodec-dyn g b).encoded b.1) (λ b. (goal.ContentCodec-dyn g b).decoding b.1) c.args.rules.now plan.draft in
-    let fields = fields_of c.read_names.new.names in
-    let columns = c.in_ok-columns.columns.items in
-    let same = are_columns-length (get_by_text c.args.objects.now) fields columns c.in_ok-columns.ensures in
-    let (place, left, heads, at_left) = c.in_ok-read_names.ensures.heads text source in
-    let limits = record_limits plan.limits in
-    let keeps : limits_of c.read_names.new.records.reader ≡ limits = c.in_ok-read_names.ensures.limits ∙ c.requires.limits in
-    IfOk-weaker c.check_rows.result _ _ (λ x h.
-    let (rows, messages, are, width, said, appends, count, errors) = h in (
-      fields,
-      place,
-      left,
-      rows,
-      messages,
-      heads,
-      subst (λ d. AreLinedRecords d place left rows) c.in_ok-read_names.ensures.delimiter are,
-      subst (λ n. HaveShape limits n rows) same (subst (λ l. HaveShape l (length columns) rows) keeps (rw c.deref.ensures.value at width)),
-      of_records-along (ColumnMessages form outcome s.lists) (MessagesOf form s plan.schemas) columns fields
-          (λ n at field m q. column_fields outcome s plan.schemas (get_by_text c.args.objects.now) c.requires.compiled form fields columns
-          c.in_ok-columns.ensures n at field m q) same rows messages (rw c.deref.ensures.value at said),
-      appends,
-      count,
-      errors,
-    )) (c.check_rows.ensures.messages place left at_left)
-
-pub returns-clause-fault : goal.returns-clause-fault
-returns-clause-fault g c given written text is parted source =
-    let form = g.F.FieldForm.said c.args.form.now in
+returns-clause-messages g c written text is source =
+    let form = g.F.FieldForm.writes c.args.form.now in
     let settings = rules_settings g.B.EngineBuilder.takes g.B.EngineBuilder.outcome (λ b. (goal.Format-dyn g b).admits b.1)
     (λ b. (goal.MediaTypeCheck-dyn g b).accepted b.1)
     (λ b. (goal.ContentCodec-dyn g b).encoded b.1) (λ b. (goal.ContentCodec-dyn g b).decoding b.1) c.args.rules.now in
     let outcome = g.B.Engine.RegexEngine.outcome in
     let plan = plan_view c.args.plan.now in
     let s = settings plan.draft in
-    let fields = fields_of c.read_names.new.names in
+    let find = get_by_text c.args.objects.now in
+    let names = fields_of c.read_names.new.names in
     let columns = c.in_ok-columns.columns.items in
-    let same = are_columns-length (get_by_text c.args.objects.now) fields columns c.in_ok-columns.ensures in
-    let wrote = Appends (g.W.Write.contents c.args.writer.now) (g.W.Write.contents c.check_rows.new.writer) in
-    let (place, left, heads, at_left) = c.in_ok-read_names.ensures.heads text source in
-    let delimiter = delimiter_by given plan in
+    let delimiter = delimiter_by c.args.reading plan in
     let limits = record_limits plan.limits in
+    let checked = columns_checked outcome s plan.schemas find c.requires.compiled names columns c.in_ok-columns.ensures in
+    let (place, left, heads, at_left) = c.in_ok-read_names.ensures.heads text source in
     let keeps : limits_of c.read_names.new.records.reader ≡ limits = c.in_ok-read_names.ensures.limits ∙ c.requires.limits in
-    let parts : delimiter_of c.read_names.new.records.reader ≡ delimiter = c.in_ok-read_names.ensures.delimiter ∙ parted in
-    let headed = subst (λ d. Heads c.args.header d plan text fields place left) parted heads in
+    let parts : delimiter_of c.read_names.new.records.reader ≡ delimiter = c.in_ok-read_names.ensures.delimiter ∙ c.requires.parted in
+    let headed = subst (λ d. Heads c.args.reading.header d plan text names place left) c.requires.parted heads in
     let says = ColumnMessages form outcome s.lists in
-    let messages = of_records-along says (MessagesOf form s plan.schemas) columns fields
-    (λ n at field m q. column_fields outcome s plan.schemas (get_by_text c.args.objects.now) c.requires.compiled form fields columns
-    c.in_ok-columns.ensures n at field m q) same in
-    IfErr-weaker c.check_rows.result _ _ (λ why h. why_of_data c.args.header given form settings written text wrote plan fields place left why is headed
-    (why_along delimiter limits says (MessagesOf form s plan.schemas) columns fields same messages place left wrote why h))
-    (subst (λ d. IfErr c.check_rows.result (IsWhyOfRows says d limits columns place left wrote)) parts
-    (subst (λ l. IfErr c.check_rows.result (IsWhyOfRows says (delimiter_of c.read_names.new.records.reader) l columns place left wrote)) keeps
+    let messages = of_records-along says (MessagesOf form s plan.schemas) columns names
+    (λ n at field m q. column_fields outcome s plan.schemas find c.requires.compiled form names columns c.in_ok-columns.ensures n at field m q)
+    (are_columns-length find names columns c.in_ok-columns.ensures) in
+    IfOk-weaker c.check_rows.result _ _ (λ x h.
+    let (records, lines, are, shape, said, appends, count, errors) = h in record {
+      p = plan;
+      names = names;
+      place = place;
+      left = left;
+      records = records;
+      messages = lines;
+      is_plan = is;
+      heads = headed;
+      are = subst (λ d. AreLinedRecords d place left records) parts are;
+      shape = subst (λ l. HaveShape c.args.reading.broken limits l records) checked
+          (subst (λ l. HaveShape c.args.reading.broken l (checked_of columns) records) keeps (rw c.deref.ensures.value at shape));
+      said = messages records lines (rw c.deref.ensures.value at said);
+      written = appends;
+      counts_records = count;
+      counts_errors = errors;
+    }) (c.check_rows.ensures.messages place left at_left)
+
+pub returns-clause-fault : goal.returns-clause-fault
+returns-clause-fault g c written text is source =
+    let form = g.F.FieldForm.writes c.args.form.now in
+    let settings = rules_settings g.B.EngineBuilder.takes g.B.EngineBuilder.outcome (λ b. (goal.Format-dyn g b).admits b.1)
+    (λ b. (goal.MediaTypeCheck-dyn g b).accepted b.1)
+    (λ b. (goal.ContentCodec-dyn g b).encoded b.1) (λ b. (goal.ContentCodec-dyn g b).decoding b.1) c.args.rules.now in
+    let outcome = g.B.Engine.RegexEngine.outcome in
+    let plan = plan_view c.args.plan.now in
+    let s = settings plan.draft in
+    let find = get_by_text c.args.objects.now in
+    let names = fields_of c.read_names.new.names in
+    let columns = c.in_ok-columns.columns.items in
+    let delimiter = delimiter_by c.args.reading plan in
+    let limits = record_limits plan.limits in
+    let checked = columns_checked outcome s plan.schemas find c.requires.compiled names columns c.in_ok-columns.ensures in
+    let (place, left, heads, at_left) = c.in_ok-read_names.ensures.heads text source in
+    let keeps : limits_of c.read_names.new.records.reader ≡ limits = c.in_ok-read_names.ensures.limits ∙ c.requires.limits in
+    let parts : delimiter_of c.read_names.new.records.reader ≡ delimiter = c.in_ok-read_names.ensures.delimiter ∙ c.requires.parted in
+    let headed = subst (λ d. Heads c.args.reading.header d plan text names place left) c.requires.parted heads in
+    let says = ColumnMessages form outcome s.lists in
+    let messages = of_records-along says (MessagesOf form s plan.schemas) columns names
+    (λ n at field m q. column_fields outcome s plan.schemas find c.requires.compiled form names columns c.in_ok-columns.ensures n at field m q)
+    (are_columns-length find names columns c.in_ok-columns.ensures) in
+    let wrote = Appends (g.W.Write.contents c.args.writer.now) (g.W.Write.contents c.check_rows.new.writer) in
+    let broken = c.args.reading.broken in
+    IfErr-weaker c.check_rows.result _ _ (λ why h. why_of_data c.args.reading form settings written text wrote plan names place left why is headed
+    (why_along broken delimiter limits says (MessagesOf form s plan.schemas) columns names (checked_of columns) (are_checked plan.schemas names) checked
+    messages place left wrote why h))
+    (subst (λ d. IfErr c.check_rows.result (IsWhyOfRows says broken d limits columns (checked_of columns) place left wrote)) parts
+    (subst (λ l. IfErr c.check_rows.result (IsWhyOfRows says broken (delimiter_of c.read_names.new.records.reader) l columns (checked_of columns) place left
+    wrote)) keeps
     (rw c.deref.ensures.value at (c.check_rows.ensures.fault place left at_left))))

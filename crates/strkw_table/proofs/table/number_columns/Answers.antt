@@ -9,7 +9,7 @@ use Rattle.strkw_table.specs.declared.reading.Header.TheVariants as header
 use Rattle.strkw_table.specs.Ahead.{IsLeft}
 use Rattle.strkw_table.specs.Gives.{GivesOfReading}
 use Rattle.strkw_table.specs.Headers.{numbers, record_limits}
-use Rattle.strkw_table.proofs.FaultLemmas.{no_plan_of_names, why_of_first, why_of_names}
+use Rattle.strkw_table.proofs.FaultLemmas.{no_plan_of_names, unheaded, why_of_first, why_of_names}
 use Rattle.strkw_table.proofs.HeadLemmas.{numbered_columns, on_ok-three}
 use Rattle.strkw_table.proofs.table.number_columns.Goals as goal
 
@@ -17,8 +17,11 @@ pub returns-in_err-look-clause-fault : goal.returns-in_err-look-clause-fault
 returns-in_err-look-clause-fault g c text source =
     let e = c.in_err-look.field-0.0 in
     let gives : IfErr c.from_residual.result (GivesOfReading e) = search rules in
-    IfErr-weaker c.from_residual.result _ _ (λ why given. why_of_first header.Absent c.args.records.now.reader (plan_view c.args.plan.now) text e why
-    c.requires.place c.requires.limits (c.in_err-look.ensures.fault text source) given) gives
+    let reader = c.args.records.now.reader in
+    IfErr-weaker c.from_residual.result _ _
+    (λ why given. why_of_first header.Absent (delimiter_of reader) (limits_of reader) (plan_view c.args.plan.now) text e why c.requires.limits
+    (unheaded header.Absent (delimiter_of reader) (limits_of reader) (place_of reader) text e c.requires.place
+    (c.in_err-look.ensures.fault text source)) given) gives
 
 pub returns-then-is_none-clause-heads : goal.returns-then-is_none-clause-heads
 returns-then-is_none-clause-heads g c text source =
@@ -59,5 +62,6 @@ returns-clause-fault g c text source =
     let has = numbered_columns (delimiter_of reader) (record_limits c.args.plan.now.limits) (limits_of reader) (place_of reader) text fields
     c.requires.place c.requires.limits c.in_ok-look.field-0 names (c.in_ok-look.ensures.record text source)
     c.in_ok-look.ensures.within (search rules) named in
-    IfErr-weaker c.require_header.result _ _ (λ why. why_of_names header.Absent (delimiter_of reader) (plan_view c.args.plan.now) text names first_place text why has)
+    IfErr-weaker c.require_header.result _ _
+    (λ why. why_of_names header.Absent (delimiter_of reader) (plan_view c.args.plan.now) text names first_place text why has)
     c.require_header.ensures.why

@@ -1,78 +1,34 @@
-use Rattle.std.proofs.Common.{◌≡◌, sym, ◌∙◌, refl, ap, true, false}
-use Rattle.std.proofs.lemmas.Result.{err_from_is_err_and}
-use Rattle.strkw_records.specs.declared.place.Place.{Place}
-use Rattle.strkw_records.specs.Lines.{blank_front, place_after}
-use Rattle.strkw_records.specs.Outcomes.{rest_of, whole_fields}
-use Rattle.strkw_records.proofs.ReaderLemmas.{explains-begun, no_record, place-of, takes-record, takes-same, unread-begun}
+use Rattle.std.proofs.Common.{◌≡◌, sym, ◌∙◌, refl, ap}
+use Rattle.csv.specs.Records.{fields_of}
+use Rattle.strkw_records.proofs.ReaderLemmas.{takes-same}
 use Rattle.strkw_records.proofs.reader.RecordReader.read.Goals as goal
 
-pub returns-in_err-begin-clause-fault : goal.returns-in_err-begin-clause-fault
-returns-in_err-begin-clause-fault g c text e =
-    let (x, is, same) = err_from_is_err_and c.from_residual.result c.from_residual.ensures.1 in
-    rw (is, same) (c.in_err-begin.ensures.fails text)
+pub returns-in-Some-first_not_utf8 : goal.returns-in-Some-first_not_utf8
+returns-in-Some-first_not_utf8 g c = record {
+  «record» = λ text e. tt;
+  within = tt;
+  end = λ text e. tt;
+  fault = λ text e. (
+    fields_of c.read_bytes.new.row,
+    (rw c.in-Some.is at (c.in_ok-line.ensures.«record» text e)),
+    c.in-Some-first_not_utf8.ensures.some,
+    (rw c.in-Some.is at c.in_ok-line.ensures.within),
+  );
+  kept = refl;
+  limits = c.read_bytes.ensures.limits;
+  delimiter = c.read_bytes.ensures.delimiter;
+}
 
-pub returns-then-not-has_more-clause-end : goal.returns-then-not-has_more-clause-end
-returns-then-not-has_more-clause-end g c text e _ =
-    let start = sym (unread-begun g.R.Read.remaining c.begin.new.self c.in_ok-begin.ensures.begun) ∙ c.in_ok-begin.ensures.text text e in
-    let (rest, passed, more) = c.in_ok-has_more.ensures.passes text start in
-    no_record c.args.self.now.delimiter.byte text rest passed.splits (λ some. let no : false ≡ true = sym c.if-not-has_more.true ∙ more.1 some in cc no)
-
-pub returns-in_err-take_record-clause-fault : goal.returns-in_err-take_record-clause-fault
-returns-in_err-take_record-clause-fault g c text e =
-    let (x, is, same) = err_from_is_err_and c.from_residual-in_err-take_record.result c.from_residual-in_err-take_record.ensures.1 in
-    let start = sym (unread-begun g.R.Read.remaining c.begin.new.self c.in_ok-begin.ensures.begun) ∙ c.in_ok-begin.ensures.text text e in
-    let (rest, passed, more) = c.in_ok-has_more.ensures.passes text start in
-    let at = passed.place ∙ ap (λ (z : Place). place_after z (blank_front text)) c.begin.ensures.place in
-    rw (is, same) (explains-begun c.begin.new.self.delimiter.byte g.R.Read.remaining c.args.self.now (record {
-      alloc = c.begin.new.self.alloc;
-      input = c.take_record.new.input;
-      gathered = c.take_record.new.self;
-      limits = c.begin.new.self.limits;
-      delimiter = c.begin.new.self.delimiter;
-      has_begun = c.begin.new.self.has_begun;
-    })
-    c.skip_blank_lines.new.self.place c.begin-2.new.self text rest _ c.begin.ensures.delimiter passed.splits at c.begin-2.ensures.fields c.begin-2.ensures.front
-    (c.begin-2.ensures.limits ∙ c.begin.ensures.limits) c.begin-2.ensures.line (c.in_err-take_record.ensures.fails rest passed.left))
-
-pub returns-in-Ok-clause-record : goal.returns-in-Ok-clause-record
-returns-in-Ok-clause-record g c text e =
-    let start = sym (unread-begun g.R.Read.remaining c.begin.new.self c.in_ok-begin.ensures.begun) ∙ c.in_ok-begin.ensures.text text e in
-    let (rest, passed, more) = c.in_ok-has_more.ensures.passes text start in
-    let k = c.in_ok-take_record.ensures.ok rest passed.left in
-    let taken = takes-record c.begin.new.self.delimiter.byte g.R.Read.remaining c.begin.new.self.input c.skip_blank_lines.new.self c.take_record.new.input
-    text rest c.begin-2.new.self
-    c.take_record.new.self
-    c.skip_blank_lines.new.self.place.line passed (more.0 c.if-not-has_more.false) c.begin-2.ensures.fields c.begin-2.ensures.front refl k
-    in
-    let begun = c.give.ensures.begun ∙ c.in_ok-begin.ensures.begun in
-    let unread = unread-begun g.R.Read.remaining c.give.new.self begun ∙ ap (rest_of g.R.Read.remaining) c.give.ensures.input ∙ k.passes.left in (
-      k.rest,
-      unread,
-      takes-same _ _ _ _ text _ _ _ _ _ _ c.begin.ensures.delimiter c.begin.ensures.place (sym c.in-Ok.ensures.ok) (sym (place-of c.give.ensures.input)) taken,
-    )
-
-pub returns-in-Err-clause-fault : goal.returns-in-Err-clause-fault
-returns-in-Err-clause-fault g c text e =
-    let start = sym (unread-begun g.R.Read.remaining c.begin.new.self c.in_ok-begin.ensures.begun) ∙ c.in_ok-begin.ensures.text text e in
-    let (rest, passed, more) = c.in_ok-has_more.ensures.passes text start in
-    let k = c.in_ok-take_record.ensures.ok rest passed.left in
-    let taken = takes-record c.begin.new.self.delimiter.byte g.R.Read.remaining c.begin.new.self.input c.skip_blank_lines.new.self c.take_record.new.input
-    text rest c.begin-2.new.self
-    c.take_record.new.self
-    c.skip_blank_lines.new.self.place.line passed (more.0 c.if-not-has_more.false) c.begin-2.ensures.fields c.begin-2.ensures.front refl k
-    in
-    let begun = c.give.ensures.begun ∙ c.in_ok-begin.ensures.begun in
-    let unread = unread-begun g.R.Read.remaining c.give.new.self begun ∙ ap (rest_of g.R.Read.remaining) c.give.ensures.input ∙ k.passes.left in (
-      whole_fields c.take_record.new.self,
-      (
-        k.rest,
-        unread,
-        takes-same _ _ _ _ text _ _ _ _ _ _ c.begin.ensures.delimiter c.begin.ensures.place refl (sym (place-of c.give.ensures.input)) taken,
-      ),
-      c.in-Err.ensures.bad,
-      rw (c.begin-2.ensures.limits, c.begin.ensures.limits) at c.in_ok-take_record.ensures.within,
-    )
-
-pub returns-in-Ok-clause-within : goal.returns-in-Ok-clause-within
-returns-in-Ok-clause-within g c =
-    rw (c.begin-2.ensures.limits, c.begin.ensures.limits, ← c.in-Ok.ensures.ok) at c.in_ok-take_record.ensures.within
+pub returns-in-Ok : goal.returns-in-Ok
+returns-in-Ok g c =
+    let given : fields_of c.replace.new.dest ≡ fields_of c.read_bytes.new.row = ap fields_of c.replace.ensures.after ∙ c.in-Ok.ensures.same in record {
+      «record» = λ text e.
+          let (rest, unread, taken) = rw c.in-Some.is at (c.in_ok-line.ensures.«record» text e) in
+          (rest, unread, takes-same _ _ _ _ text _ _ _ _ _ _ refl refl (sym given) refl taken);
+      within = rw (c.in-Some.is, ← given) at c.in_ok-line.ensures.within;
+      end = λ text e none. cc none;
+      fault = λ text e. tt;
+      kept = tt;
+      limits = c.read_bytes.ensures.limits;
+      delimiter = c.read_bytes.ensures.delimiter;
+    }

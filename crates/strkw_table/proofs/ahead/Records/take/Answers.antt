@@ -13,23 +13,23 @@ returns-in_default-clause-record g c place text left =
     let old = c.args.self.now in
     let none : old.ahead ≡ None = search rules in
     let (at, source) = subst (λ ahead. IsLeftBy g.R.Read.remaining old.reader (fields_of old.row) ahead place text) none left in
-    rw none (taken_now g.R.Read.remaining old.reader c.read.new.self (fields_of c.read.new.row) c.read.result place text at
-    (c.read.ensures.record text source) c.read.ensures.within)
+    rw none (taken_now g.R.Read.remaining old.reader c.read_bytes.new.self (fields_of c.read_bytes.new.row) c.read_bytes.result place text at
+    (c.read_bytes.ensures.«record» text source) c.read_bytes.ensures.within)
 
 pub returns-in_default-clause-end : goal.returns-in_default-clause-end
 returns-in_default-clause-end g c place text left =
     let old = c.args.self.now in
     let none : old.ahead ≡ None = search rules in
     let (at, source) = subst (λ ahead. IsLeftBy g.R.Read.remaining old.reader (fields_of old.row) ahead place text) none left in
-    c.read.ensures.end text source
+    c.read_bytes.ensures.end text source
 
 pub returns-in_default-clause-fault : goal.returns-in_default-clause-fault
 returns-in_default-clause-fault g c place text left =
     let old = c.args.self.now in
     let none : old.ahead ≡ None = search rules in
     let (at, source) = subst (λ ahead. IsLeftBy g.R.Read.remaining old.reader (fields_of old.row) ahead place text) none left in
-    IfErr-weaker c.read.result _ _ (λ e p. subst (λ place. IsWhyUnread (delimiter_of old.reader) (limits_of old.reader) place text e) at
-    (unread g.R.Read.remaining old.reader c.read.new.self text e p)) (c.read.ensures.fault text source)
+    IfErr-weaker c.read_bytes.result _ _ (λ e p. subst (λ place. IsWhyUnread (delimiter_of old.reader) (limits_of old.reader) place text e) at
+    (unread g.R.Read.remaining old.reader c.read_bytes.new.self text e p)) (c.read_bytes.ensures.fault text source)
 
 pub returns-clause-record : goal.returns-clause-record
 returns-clause-record g c place text left =

@@ -1,7 +1,7 @@
 use Rattle.std.proofs.Common.{rules}
 use Rattle.strkw_report.specs.Refusals.{refusal_of}
 use Rattle.strkw_c.proofs.VerdictLemmas.{refused_under}
-use Rattle.strkw_c.proofs.verdicts.strkw_nonnull_check.Goals as goal
+use Rattle.strkw_c.proofs.verdicts.check_from.Goals as goal
 
 pub returns-clause-refused : goal.returns-clause-refused
 returns-clause-refused c =
