@@ -288,8 +288,8 @@ static bool tells(uint32_t draft, uint32_t options, const char *schema, size_t r
 }
 
 static void call_refusal(void) {
-    static const char *pattern = "{\"pattern\":\"(?=ab)\"}";
-    static const char *why = "/pattern: the pattern \"(?=ab)\" is not taken: "
+    static const char *pattern = "{\"pattern\":\"(?<=ab)(?=cd)\"}";
+    static const char *why = "/pattern: the pattern \"(?<=ab)(?=cd)\" is not taken: "
                              "it has a look-ahead of more than one character";
     const size_t count = strlen(why);
     const uint8_t *object = text_of("{}");

@@ -83,7 +83,7 @@ uint8_t strkw_answer(const uint8_t *requests, size_t count, uint8_t *out, size_t
 #define STRKW_COMPANION_FORMATS ((uint32_t)4)      /* email is known, from draft 7 on idn-email and idn-hostname too */
 
 /* Checks many texts by one schema object, which is compiled once: JSON, of a draft.
-   A pattern is one of ECMA-262 in Unicode mode, of a part of its syntax: no look-ahead of more than one character and
+   A pattern is one of ECMA-262 in Unicode mode, of a part of its syntax: no look-arounds that look far both ways and
    no back reference, 2,000 characters, groups 250 deep, counts of 1,000 and 2,600 steps at most. To compile it takes up
    to some 12 milliseconds; a search then takes a bounded number of steps for each character of a text.
    The texts stand one after the other: text i begins at texts[ends[i - 1]], the first at texts[0], and ends before
@@ -111,7 +111,7 @@ uint8_t strkw_check_offsets32(uint32_t draft, uint32_t options, const uint8_t *s
 /* Tells why strkw_check refuses a schema object. schema, out and written do not overlap.
    STRKW_REFUSED: the text is at the head of out, and its count of bytes is in *written. It is UTF-8: the JSON pointer
    of the keyword, a colon, a space and the reason, as
-       /pattern: the pattern "(?=ab)" is not taken: it has a look-ahead of more than one character
+       /pattern: the pattern "(?<=ab)(?=cd)" is not taken: it has a look-ahead of more than one character
    The name of an unknown format stands in it as it is, with a zero byte or a line feed if it has one.
    STRKW_DONE: the schema object is not refused; *written is 0.
    STRKW_NO_ROOM: it is refused, and out is as it was; *written is the room that is needed.

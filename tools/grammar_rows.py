@@ -1454,6 +1454,72 @@ SCRIPTS = (
     "Wara/Warang_Citi:118A0 Wcho/Wancho:1E2C0 Xpeo/Old_Persian:103A0 Xsux/Cuneiform:12000 Yezi/Yezidi:10E80 "
     "Yi/Yiii:A000 Zanb/Zanabazar_Square:11A00 Qaai/Zinh/Inherited:300 Zyyy/Common:0 Zzzz/Unknown:378 "
 )
+# The names of each binary property (ECMA-262 2024, the table of section 22.2.2.9.1), and those of these characters that
+# have it in Unicode 17, as Node says. No two properties have the same. Changes_When_NFKC_Casefolded is not taken.
+BINARY_CHARACTERS = (
+    "\t,-0Ai\u00a0\u00ab\u00b7\u01c4\u01c5\u0345\u03d2\u0589\u061c\u0a71\u0e40\u0f3a\u13a0\u1715\u180a\u180b\u1885"
+    "\u1abe\u200c\u200d\u200e\u203c\u2061\u2065\u206a\u207b\u2118\u2148\u2329\u24b6\u24d0\u261d\u2e80\u2ff0\u2ff2"
+    "\u309b\u3400\ufdd0\ufe0f\ufe41\uff10\U00016fe4\U0001f1e6\U0001f385\U0001f3fb")
+BINARIES = {
+    "ASCII": "\t,-0Ai",
+    "ASCII_Hex_Digit/AHex": "0A",
+    "Alphabetic/Alpha": "Ai\u01c4\u01c5\u0345\u03d2\u0a71\u0e40\u13a0\u1885\u2148\u24b6\u24d0\u3400",
+    "Any": BINARY_CHARACTERS,
+    "Assigned": BINARY_CHARACTERS.replace("\u2065", "").replace("\ufdd0", ""),
+    "Bidi_Control/Bidi_C": "\u061c\u200e",
+    "Bidi_Mirrored/Bidi_M": "\u00ab\u0f3a\u2329",
+    "Case_Ignorable/CI": (
+        "\u00b7\u0345\u061c\u0a71\u180b\u1885\u1abe\u200c\u200d\u200e\u2061\u206a\u309b\ufe0f\U00016fe4\U0001f3fb"),
+    "Cased": "Ai\u01c4\u01c5\u0345\u03d2\u13a0\u2148\u24b6\u24d0",
+    "Changes_When_Casefolded/CWCF": "A\u01c4\u01c5\u0345\u24b6",
+    "Changes_When_Casemapped/CWCM": "Ai\u01c4\u01c5\u0345\u13a0\u24b6\u24d0",
+    "Changes_When_Lowercased/CWL": "A\u01c4\u01c5\u13a0\u24b6",
+    "Changes_When_Titlecased/CWT": "i\u01c4\u0345\u24d0",
+    "Changes_When_Uppercased/CWU": "i\u01c5\u0345\u24d0",
+    "Dash": "-\u207b",
+    "Default_Ignorable_Code_Point/DI": "\u061c\u180b\u200c\u200d\u200e\u2061\u2065\u206a\ufe0f",
+    "Deprecated/Dep": "\u206a\u2329",
+    "Diacritic/Dia": "\u00b7\u0345\u1715\u1abe\u309b",
+    "Emoji": "0\u203c\u261d\U0001f1e6\U0001f385\U0001f3fb",
+    "Emoji_Component/EComp": "0\u200d\ufe0f\U0001f1e6\U0001f3fb",
+    "Emoji_Modifier/EMod": "\U0001f3fb",
+    "Emoji_Modifier_Base/EBase": "\u261d\U0001f385",
+    "Emoji_Presentation/EPres": "\U0001f1e6\U0001f385\U0001f3fb",
+    "Extended_Pictographic/ExtPict": "\u203c\u261d\U0001f385",
+    "Extender/Ext": "\u00b7\u0a71\u180a",
+    "Grapheme_Base/Gr_Base": (
+        ",-0Ai\u00a0\u00ab\u00b7\u01c4\u01c5\u03d2\u0589\u0e40\u0f3a\u13a0\u180a\u203c\u207b\u2118\u2148\u2329\u24b6"
+        "\u24d0\u261d\u2e80\u2ff0\u2ff2\u309b\u3400\ufe41\uff10\U0001f1e6\U0001f385\U0001f3fb"),
+    "Grapheme_Extend/Gr_Ext": "\u0345\u0a71\u1715\u180b\u1885\u1abe\u200c\ufe0f\U00016fe4",
+    "Hex_Digit/Hex": "0A\uff10",
+    "IDS_Binary_Operator/IDSB": "\u2ff0",
+    "IDS_Trinary_Operator/IDST": "\u2ff2",
+    "ID_Continue/IDC": (
+        "0Ai\u00b7\u01c4\u01c5\u0345\u03d2\u0a71\u0e40\u13a0\u1715\u180b\u1885\u200c\u200d\u2118\u2148\u309b\u3400"
+        "\ufe0f\uff10\U00016fe4"),
+    "ID_Start/IDS": "Ai\u01c4\u01c5\u03d2\u0e40\u13a0\u1885\u2118\u2148\u309b\u3400",
+    "Ideographic/Ideo": "\u3400\U00016fe4",
+    "Join_Control/Join_C": "\u200c\u200d",
+    "Logical_Order_Exception/LOE": "\u0e40",
+    "Lowercase/Lower": "i\u0345\u2148\u24d0",
+    "Math": "\u03d2\u2061\u207b\u2118\u2148",
+    "Noncharacter_Code_Point/NChar": "\ufdd0",
+    "Pattern_Syntax/Pat_Syn": ",-\u00ab\u203c\u2329\u261d",
+    "Pattern_White_Space/Pat_WS": "\t\u200e",
+    "Quotation_Mark/QMark": "\u00ab\ufe41",
+    "Radical": "\u2e80",
+    "Regional_Indicator/RI": "\U0001f1e6",
+    "Sentence_Terminal/STerm": "\u0589\u203c",
+    "Soft_Dotted/SD": "i\u2148",
+    "Terminal_Punctuation/Term": ",\u0589\u203c",
+    "Unified_Ideograph/UIdeo": "\u3400",
+    "Uppercase/Upper": "A\u01c4\u03d2\u13a0\u24b6",
+    "Variation_Selector/VS": "\u180b\ufe0f",
+    "White_Space/space": "\t\u00a0",
+    "XID_Continue/XIDC": (
+        "0Ai\u00b7\u01c4\u01c5\u0345\u03d2\u0a71\u0e40\u13a0\u1715\u180b\u1885\u200c\u200d\u2118\u2148\u3400\ufe0f"
+        "\uff10\U00016fe4"),
+    "XID_Start/XIDS": "Ai\u01c4\u01c5\u03d2\u0e40\u13a0\u1885\u2118\u2148\u3400"}
 # Characters that may and may not be first in a name (ID_Start), and behind (ID_Continue, U+200C and U+200D).
 NAME_CHARACTERS = (
     "\u200b\u200c\u200d\u200e\u2118\u212e\u309b\u309c\u1885\u1886\u00b7\u0387\u1369\u1371\u19da\u30fb\uff65\u2e2f"
@@ -1497,6 +1563,35 @@ def property_searches(table, prefixes):
     return searches(rows)
 
 
+def binary_searches():
+    """Each binary property by each of its names, alone and in classes, with all that have it and all that do not."""
+    properties = [(names.split("/"), having) for names, having in BINARIES.items()]
+    rows = []
+    for (names, having), (others, also) in zip(properties, properties[1:] + properties[:1]):
+        forms = [(f"\\p{{{name}}}", f"\\P{{{name}}}", having) for name in names]
+        forms += [(f"[\\p{{{name}}}]", f"[^\\p{{{name}}}]", having) for name in names[:1]]
+        forms += [(f"[^\\P{{{name}}}]", f"[\\P{{{name}}}]", having) for name in names[:1]]
+        either = f"\\p{{{names[-1]}}}\\p{{{others[-1]}}}"
+        forms.append((f"[{either}]", f"[^{either}]", having + also))
+        for has, has_not, inside in forms:
+            outside = "".join(character for character in BINARY_CHARACTERS if character not in inside)
+            rows += [[f"^{has}+$", inside, True], [has, outside, False]]
+            rows += [[f"^{has_not}+$", outside, bool(outside)], [has_not, inside, False]]
+    return searches(rows)
+
+
+def binary_names_off(categories):
+    """What is no name of a binary property: one letter off, with a value, or where a value stands."""
+    names = [name for names in BINARIES for name in names.split("/")]
+    off = sorted({spoilt for name in names for spoilt in one_letter_off(name)} - {*names, *categories})
+    valued = [f"{name}{value}" for name in names for value in ("=", "=Y", "=Yes", "=True", f"={name}")]
+    valued += [f"{prefix}{name}" for name in names for prefix in ("=", "gc=", "sc=", "Script=", "General_Category=")]
+    unknown = ["Changes_When_NFKC_Casefolded", "CWKCF", "Hyphen", "Grapheme_Link", "Gr_Link", "IDSU", "Other_Math",
+               "IDS_Unary_Operator", "OMath", "Composition_Exclusion", "CE", "Expands_On_NFC", "Bidi_Class", "Block",
+               "ID_Compat_Math_Start", "Modifier_Combining_Mark", "Prepended_Concatenation_Mark", "RGI_Emoji"]
+    return off + valued + unknown
+
+
 def property_rows():
     """The rows of `\\p{..}` and `\\P{..}`."""
     yield ("each value of both properties by each of its names, with a character that has it and one that has not; and "
@@ -1513,6 +1608,10 @@ def property_rows():
     others = [f"{prefix}={value}" for prefix in properties for value in ("Latn", "Latin", "Lu")]
     others += ["gc=Latn", "sc=Zsye", "sc=Zsym", "sc=Jpan", "sc=Kore", "sc=Hans", "sc=Xxxx"]
     yield texts(PATTERNS, [f"\\p{{{name}}}" for name in exchanged + others], never)
+    yield ("each binary property by each of its names, with all of some characters that have it and all that have not; "
+           "one letter off, with a value, and as a value")
+    yield binary_searches()
+    yield texts(PATTERNS, [f"\\p{{{name}}}" for name in binary_names_off(known[CATEGORIES])], never)
 
 
 def escape_rows():
@@ -1749,6 +1848,16 @@ LOOKS = [
 ]
 
 
+def one_character_rows(looking, text, edge):
+    """Rows of a look-around by its sign and body, in texts with one character on the side that it looks at."""
+    far = list(itertools.product(["\u00e9", "\u0800", "\uffff", "\U0001f600"], repeat=2))
+    rows = [[looking("=", one), text(other), one == other] for one, other in far]
+    yield searches(rows + [[looking("!", one), text(other), one != other] for one, other in far])
+    rows = [[looking("=", "\\n"), text(end), end == "\n"] for end in LINE_ENDS]
+    rows += [[looking("=", "."), text(end), False] for end in LINE_ENDS]
+    yield searches(rows + [[looking("=", edge), text(end), False] for end in LINE_ENDS])
+
+
 def look_rows():
     """The rows of lookbehinds."""
     yield ("lookbehinds: `(?<= )` and `(?<! )` with each body, behind each text of a and b; within groups and loops, "
@@ -1760,12 +1869,7 @@ def look_rows():
     yield searches(rows)
     for pattern, found in LOOKS:
         yield searches([[pattern, text, bool(found(text))] for text in words("ab", range(5))])
-    far = list(itertools.product(["\u00e9", "\u0800", "\uffff", "\U0001f600"], repeat=2))
-    rows = [[f"(?<={one})a", f"{other}a", one == other] for one, other in far]
-    yield searches(rows + [[f"(?<!{one})a", f"{other}a", one != other] for one, other in far])
-    rows = [["(?<=\\n)a", f"{end}a", end == "\n"] for end in LINE_ENDS]
-    rows += [["(?<=.)a", f"{end}a", False] for end in LINE_ENDS]
-    yield searches(rows + [["(?<=^)a", f"{end}a", False] for end in LINE_ENDS])
+    yield from one_character_rows(lambda sign, body: f"(?<{sign}{body})a", lambda beside: f"{beside}a", "^")
     yield from look_syntax_rows()
 
 
@@ -1874,8 +1978,13 @@ PASSWORDS = [
 # Patterns with a lookahead that looks far, and is not at the front behind `^`, or within another.
 NO_FRONTS = [
     "(?=ab)^", "a^(?=ab)", "^a(?=ab)", "^a?(?=ab)", "^a{0,2}(?=ab)", "^(?:a|)(?=ab)", "(?:^)(?=ab)", "(^)(?=ab)",
-    "(^(?=ab))", "(?:^(?=ab))a", "^(?=ab)|a", "a|^(?=ab)", "(?<=^(?=ab))a", "^(?=(?=ab))", "^(?!(?!ab))",
-    "^(?=a(?=ab))", "^(?=ab)a(?=ab)", "$(?=ab)", "\\b(?=ab)", "(?<!a)(?=ab)", "^(?:(?=ab))", "^(?=a|^(?=ab))"]
+    "(^(?=ab))", "(?:^(?=ab))a", "^(?=ab)|a", "a|^(?=ab)", "^(?=(?=ab))", "^(?!(?!ab))", "^(?=a(?=ab))",
+    "^(?=ab)a(?=ab)", "$(?=ab)", "\\b(?=ab)", "(?<!a)(?=ab)", "^(?:(?=ab))"]
+
+# Patterns that look far both ways, outside what is looked for by itself at the front.
+BOTH_WAYS = [
+    "(?<=ab)(?=cd)", "(?=ab)(?<=cd)", "(?<=ab)c(?!de)", "(?<!ab)(?!ab)", "(?=(?<=ab))", "(?<=(?=ab))", "(?=a(?<!bc))",
+    "(?<=a(?=bc))", "(?<=^(?=ab))a", "(?=ab)|(?<=ab)", "((?=ab)(?<=ab))*", "^(?:(?=ab)(?<!ab))"]
 
 
 def front_rows():
@@ -1891,9 +2000,61 @@ def front_rows():
     for pattern, found in FRONT_LOOKS:
         yield searches([[pattern, text, bool(found(text))] for text in words("ab", range(5))])
     yield searches([[pattern, text, bool(found)] for pattern, told in PASSWORDS for text, found in told.items()])
-    yield refusals("it has a look-ahead of more than one character", NO_FRONTS)
+    yield refusals("taken", NO_FRONTS)
     yield refusals("taken", ["^(?=.{1000}.{300})(?=.{1000}.{297})", "^(?=.{1000}.{1000}.{597})a"])
     yield refusals("it takes more than 2600 steps", ["^(?=.{1000}.{300})(?=.{1000}.{298})", "^(?=.{1000}.{1000}.{598})a"])
+
+
+def is_bb_free(text):
+    """Whether no two `b` stand together."""
+    return "bb" not in text
+
+
+# Patterns with lookaheads that look far, elsewhere than at the front, and in which texts of a and b each is found.
+FAR_LOOKS = [
+    ("^(?:(?!bb)[ab])*$", is_bb_free),
+    ("^((?!aba).)*$", lambda text: "aba" not in text),
+    ("a(?=b*$)", lambda text: re.search("ab*$", text)),
+    ("a(?!b*$)", lambda text: text.count("a") > 1),
+    ("b(?!.*a)", lambda text: text.endswith("b")),
+    ("(?=ab)^", lambda text: text.startswith("ab")),
+    ("$(?=ab)", never),
+    ("a^(?=ab)", never),
+    ("^a(?=ab)", lambda text: text.startswith("aab")),
+    ("(?=ba)b|(?=ab)a", lambda text: "ab" in text or "ba" in text),
+    ("(?:(?=ab)[ab]){2}", never),
+    ("(?:(?=aa)a|b)+$", lambda text: text.endswith("b")),
+    ("(?<=a)(?=ab)", lambda text: "aab" in text),
+    ("(?<!a)(?=aab)", lambda text: re.search("(?:^|b)aab", text)),
+    ("\\b(?=.b)a", lambda text: text.startswith("ab")),
+    ("(?=a(?=b(?!a)))", lambda text: re.search("ab(?:b|$)", text)),
+    ("(?!(?!.*bb))a", lambda text: re.search("a.*bb", text)),
+    ("^(?=.*a)(?:(?!bb).)*$", lambda text: "a" in text and "bb" not in text),
+    ("a{0,2}(?=b{2})b", lambda text: "bb" in text),
+    ("a{2,}(?=bb)", lambda text: "aabb" in text),
+    ("(?:(?:ab)?(?!ab)){2}$", lambda text: True),
+]
+
+
+def far_rows():
+    """The rows of lookaheads for more than one character, anywhere."""
+    yield ("lookaheads for more than one character: with each body, before each text of a and b; within groups, loops "
+           "and one another; beside others at the front; and what looks far both ways")
+    rows = []
+    for body, word in itertools.product(FAR, words("ab", range(4))):
+        stands = stands_ahead(body, "c" + word, 1)
+        rows += [[f"c(?={body})", "c" + word, stands], [f"c(?!{body})", "c" + word, not stands]]
+    yield searches(rows)
+    for pattern, found in FAR_LOOKS:
+        yield searches([[pattern, text, bool(found(text))] for text in words("ab", range(6))])
+    far = list(itertools.product(["\u00e9", "\u0800", "\uffff", "\U0001f600"], repeat=2))
+    rows = [[f"a(?={one}b)", f"{other}a{other}b{one}", one == other] for one, other in far]
+    yield searches(rows + [[f"a(?!{one}b)", f"{other}a{other}b{one}", one != other] for one, other in far])
+    yield searches([["a(?=\\nb)", f"a{end}b", end == "\n"] for end in LINE_ENDS])
+    yield long_searches([
+        ([["^((?!bb).)*$", 1]], [["ab", 50_000]], True), ([["^((?!bb).)*$", 1]], [["ab", 50_000], ["b", 1]], False),
+        ([["a(?=.*c)", 1]], [["a", 100_000], ["c", 1]], True), ([["a(?=.*c)", 1]], [["c", 1], ["a", 100_000]], False)])
+    yield refusals("it has a look-ahead of more than one character", BOTH_WAYS)
 
 
 def ahead_rows():
@@ -1912,16 +2073,12 @@ def ahead_rows():
     yield searches(rows)
     for pattern, found in LOOKS_AHEAD:
         yield searches([[pattern, text, bool(found(text))] for text in words("ab", range(5))])
-    far = list(itertools.product(["\u00e9", "\u0800", "\uffff", "\U0001f600"], repeat=2))
-    rows = [[f"a(?={one})", f"a{other}", one == other] for one, other in far]
-    yield searches(rows + [[f"a(?!{one})", f"a{other}", one != other] for one, other in far])
-    rows = [["a(?=\\n)", f"a{end}", end == "\n"] for end in LINE_ENDS]
-    rows += [["a(?=.)", f"a{end}", False] for end in LINE_ENDS]
-    yield searches(rows + [["a(?=$)", f"a{end}", False] for end in LINE_ENDS])
+    yield from one_character_rows(lambda sign, body: f"a(?{sign}{body})", lambda beside: f"a{beside}", "$")
     texts_of_letters = ("", "Ab", "aB", "\u00c9a", "\u00e9A", "A")
     yield searches([["^(?=\\p{Lu})\\p{L}+$", text, text[:1] in ("A", "\u00c9")] for text in texts_of_letters])
     yield from ahead_syntax_rows()
     yield from front_rows()
+    yield from far_rows()
 
 
 # Patterns that begin as a lookahead does, and whether they are taken.
@@ -1929,13 +2086,13 @@ LIKE_LOOKS_AHEAD = {
     "(?=": 0, "(?!": 0, "(?=a": 0, "(?!a": 0, "(?=*)": 0, "(?=a|*)": 0, "(?=a)(": 0, "(?==)": 1, "(?!!)": 1, "(?=!)": 1,
     "(?!=)": 1, "(? =a)": 0, "(?>a)": 0, "(?=\\1)": 0, "(?=[)": 0, "(?=[)])": 1, "(?=\\))": 1, "(?=a)b)": 0,
     "((?=a)": 0, "(?=(?<n>a))(?<n>b)": 0, "(?=(?<n>a))(?<m>b)": 1, "(?=^)": 1, "(?=$)": 1, "(?=a{0})": 1,
-    "(?=(?:){3})": 1, "(?=(?:ab){0,0})": 1, "(?:(?=ab)){0}": 1, "(?:(?=ab)){0,0}": 1, "(?:(?=ab)){1}": 0,
-    "(?:(?=ab)){0,1}": 0, "(?=)": 1, "(?!)": 1}
+    "(?=(?:){3})": 1, "(?=(?:ab){0,0})": 1, "(?:(?=ab)){0}": 1, "(?:(?=ab)){0,0}": 1, "(?:(?=ab)){1}": 1,
+    "(?:(?=ab)){0,1}": 1, "(?=)": 1, "(?!)": 1}
 
 
 def ahead_syntax_rows():
     """Where a lookahead may stand, and what looks too far."""
-    yield "no quantifier follows a lookahead, and what looks further is not taken"
+    yield "no quantifier follows a lookahead, and what looks further is not taken in a lookbehind"
     expected = {}
     bodies = ["a", "", "a|b", "(?<n>a)", "(?=a)", "[^]", "$", "\\p{L}"]
     for sign, body in itertools.product("=!", bodies):
@@ -1944,9 +2101,10 @@ def ahead_syntax_rows():
             expected[pattern] = is_right is not False and pattern.count("<n>") < 2
     yield texts(PATTERNS, expected, expected.get)
     yield texts(PATTERNS, LIKE_LOOKS_AHEAD, LIKE_LOOKS_AHEAD.get)
-    forms = ("(?{}{})", "a|(?{}{})b", "(?:(?{}{}))*", "(?<=(?{}{}))", "(?=(?{}{}))")
-    far = [form.format(sign, body) for body, sign, form in itertools.product(FAR, "=!", forms)]
-    yield refusals("it has a look-ahead of more than one character", far)
+    forms = ("(?{}{})", "a|(?{}{})b", "(?:(?{}{}))*", "(?=(?{}{}))")
+    yield refusals("taken", [form.format(sign, body) for body, sign, form in itertools.product(FAR, "=!", forms)])
+    behind = [f"(?<=(?{sign}{body}))" for body, sign in itertools.product(FAR, "=!")]
+    yield refusals("it has a look-ahead of more than one character", behind)
 
 
 # Atoms, and how many steps each takes: one for a class, and one more for each eight ranges and for each property; one
@@ -2024,7 +2182,8 @@ def refusal_rows():
     above = [f"{atom}{{{count + 1}}}" for atom, count in most.items() if count < MOST_TIMES]
     yield refusals("a counted term takes more than 2000 steps", above)
     yield refusals("taken", [f"{atom}{{{min(MOST_TIMES, count)}}}" for atom, count in most.items()])
-    names = ("Any", "ASCII", "Alphabetic", "lu", "gc=lu", "sc=latn", "scx=Latn", "Latin", "x", "_", "gc=x")
+    names = ("any", "ascii", "Alphabetic=Yes", "gc=Alphabetic", "CWKCF", "lu", "gc=lu", "sc=latn", "scx=Latn", "Latin",
+             "x", "_", "gc=x")
     forms = ("\\p{{{}}}", "\\P{{{}}}", "[\\p{{{}}}]", "a\\p{{{}}}b")
     yield refusals("it has a property that is not known here", in_forms(forms, names))
 

@@ -1,10 +1,11 @@
 -- What a check of many texts by one schema object comes to, by its status.
-use Rattle.std.specs.Prelude.{◌≡◌, ◌≢◌, ◌↔◌, ◌≤◌, ℕ, List, Some, None, IsSome}
+use Rattle.std.specs.Prelude.{◌≡◌, ◌≢◌, ◌↔◌, ◌≤◌, ℕ, List, Some, None, IsSome, length}
 use Rattle.serde_json.specs.Data.{Members}
 use Rattle.strkw_report.specs.Drafts.{draft_numbered}
 use Rattle.strkw_report.specs.Refusals.{Refusal}
 use Rattle.strkw_keywords.specs.Object.{Settings, FirstRefusal}
 use Rattle.strkw_c.specs.Settings.{choices_of, settings_of}
+use Rattle.strkw_c.specs.Texts.{AreTextsBetween, HaveRoomBetween}
 use Rattle.strkw_c.specs.Verdicts.{IsSchema, HasFirstRefusal, IsValid, AreVerdicts}
 use Rattle.strkw_c.specs.declared.statuses.TheConstants.{DONE, NO_DRAFT, NO_OPTION, NO_SCHEMA}
 use Rattle.strkw_c.specs.declared.statuses.TheConstants.{NO_TEXTS, REFUSED}
@@ -26,3 +27,9 @@ pub record IsJudged (draft options : ℕ) (schema : List ℕ) (HaveRoom : Type 0
       × (settings_of draft options ≡ Some s)
       × IsSchema schema (Some object) × FirstRefusal s object None
       × AreTexts list × AreVerdicts (IsValid s object) list after
+
+-- the same of texts between these offsets
+abbrev pub IsJudgedBetween : ℕ → ℕ → List ℕ → List ℕ → List ℕ → List ℕ → List ℕ → ℕ → Type 0
+IsJudgedBetween draft options schema bytes offsets before after status =
+    IsJudged draft options schema (HaveRoomBetween bytes offsets (length before))
+    (AreTextsBetween bytes offsets) before after status

@@ -1,8 +1,7 @@
 //! One schema object, asked of many texts that lie between offsets, as those of Apache Arrow do.
 
-ghost use Rattle.std.specs.Prelude.{length};
-ghost use Rattle.strkw_c.specs.Judged.{IsJudged};
-ghost use Rattle.strkw_c.specs.Texts.{AreTextsBetween, HaveRoomBetween};
+ghost use Rattle.strkw_c.specs.Judged.{IsJudgedBetween};
+ghost use Rattle.strkw_c.specs.Texts.{numbers};
 
 use crate::statuses::NO_TEXTS;
 use crate::texts::Ends;
@@ -22,16 +21,11 @@ pub extern "C" fn strkw_nonnull_check_offsets(
     offsets: &[usize],
     verdicts: &mut [u8],
 ) -> u8
-    ensures { IsJudged draft options schema.now
-        (HaveRoomBetween texts.now offsets.now (length verdicts.old))
-        (AreTextsBetween texts.now offsets.now) verdicts.old verdicts.new result }
+    ensures { IsJudgedBetween draft options schema.now texts.now offsets.now verdicts.old verdicts.new
+        result }
 {
-    let Some((start, ends)) = offsets.split_first() else {
-        return NO_TEXTS;
-    };
-    let start = *start;
-    let ends = Ends::Wide(ends);
-    check_from(alloc, draft, options, schema, texts, start, &ends, verdicts)
+    let offsets = Ends::Wide(offsets);
+    check_between(alloc, draft, options, schema, texts, &offsets, verdicts)
 }
 
 /// `strkw_nonnull_check_offsets` with offsets of 32 bits.
@@ -45,14 +39,28 @@ pub extern "C" fn strkw_nonnull_check_offsets32(
     offsets: &[u32],
     verdicts: &mut [u8],
 ) -> u8
-    ensures { IsJudged draft options schema.now
-        (HaveRoomBetween texts.now offsets.now (length verdicts.old))
-        (AreTextsBetween texts.now offsets.now) verdicts.old verdicts.new result }
+    ensures { IsJudgedBetween draft options schema.now texts.now offsets.now verdicts.old verdicts.new
+        result }
+{
+    let offsets = Ends::Narrow(offsets);
+    check_between(alloc, draft, options, schema, texts, &offsets, verdicts)
+}
+
+// The same of offsets of either width.
+fn check_between(
+    alloc: Global,
+    draft: u32,
+    options: u32,
+    schema: &[u8],
+    texts: &[u8],
+    offsets: &Ends,
+    verdicts: &mut [u8],
+) -> u8
+    ensures { IsJudgedBetween draft options schema.now texts.now (numbers offsets.now) verdicts.old
+        verdicts.new result }
 {
     let Some((start, ends)) = offsets.split_first() else {
         return NO_TEXTS;
     };
-    let start = *start as usize;
-    let ends = Ends::Narrow(ends);
     check_from(alloc, draft, options, schema, texts, start, &ends, verdicts)
 }

@@ -19,8 +19,8 @@ const REFUSED: [(&str, &str); 4] = [
         "/maxLength: the limit is not a non-negative whole number of 64 bits",
     ),
     (
-        "{\"pattern\":\"(?=ab)\"}",
-        "/pattern: the pattern \"(?=ab)\" is not taken: it has a look-ahead of more than one character",
+        "{\"pattern\":\"(?<=ab)(?=cd)\"}",
+        "/pattern: the pattern \"(?<=ab)(?=cd)\" is not taken: it has a look-ahead of more than one character",
     ),
     (
         "{\"contentEncoding\":[5]}",

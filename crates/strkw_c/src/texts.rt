@@ -1,6 +1,7 @@
 //! Texts that stand one after the other in one run of bytes, each with its end.
 
-ghost use Rattle.std.specs.Prelude.{◌≡◌, ◌<◌, ◌↔◌, ℕ, List, IsTrue, length, slice_index};
+ghost use Rattle.std.specs.Prelude.{◌≡◌, ◌<◌, ◌↔◌, ℕ, List, [], ◌∷◌, IsTrue, length, slice_index};
+ghost use Rattle.std.specs.Option.{MatchOption};
 ghost use Rattle.strkw_c.specs.Texts.{AreTextsFrom, numbers};
 
 /// Where texts end, by numbers of 64 bits or of 32.
@@ -10,7 +11,24 @@ pub(crate) enum Ends<'a> {
     Narrow(&'a [u32]),
 }
 
-impl Ends<'_> {
+impl<'a> Ends<'a> {
+    /// The first of them, and the others.
+    pub(crate) fn split_first(&self) -> Option<(usize, Ends<'a>)>
+        ensures { MatchOption result (numbers self.now ≡ [])
+            (λ split. numbers self.now ≡ split.0 ∷ numbers split.1) }
+    {
+        match self {
+            Ends::Wide(ends) => {
+                let (first, rest) = ends.split_first()?;
+                Some((*first, Ends::Wide(rest)))
+            }
+            Ends::Narrow(ends) => {
+                let (first, rest) = ends.split_first()?;
+                Some((*first as usize, Ends::Narrow(rest)))
+            }
+        }
+    }
+
     /// How many there are.
     pub(crate) fn len(&self) -> usize
         ensures { result ≡ length (numbers self.now) }

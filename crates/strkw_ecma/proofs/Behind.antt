@@ -9,6 +9,18 @@ use Rattle.strkw_ecma.specs.Glances.{is_glance, are_told}
 use Rattle.strkw_ecma.proofs.Steps.{same_meaning, and_left, and_right, or_case, or_left, or_right, forwards, rest_forwards, unless_differs, left, stepped}
 use Rattle.strkw_ecma.proofs.Steps.{seen_from, reads_some, Says, Goes, Went, goes_on, goes_back}
 
+-- the empty pattern is the one that is nothing
+pub nothing_is : (p : Pattern) → is_empty p ≡ true → p ≡ empty
+nothing_is empty h = refl
+nothing_is (class m n rs) h = absurd (true≢false (sym h))
+nothing_is (look l) h = absurd (true≢false (sym h))
+nothing_is (cat p q) h = absurd (true≢false (sym h))
+nothing_is (alt p q) h = absurd (true≢false (sym h))
+nothing_is (star p) h = absurd (true≢false (sym h))
+nothing_is (plus p) h = absurd (true≢false (sym h))
+nothing_is (lookbehind n p) h = absurd (true≢false (sym h))
+nothing_is (lookahead n p) h = absurd (true≢false (sym h))
+
 module _ (text : List ℕ) (i : ℕ) where
   -- what is not behind a place stands before it, or there
   before_or_there : (k : ℕ) → k ≤ i → (k < i) ⊎ (k ≡ i)
@@ -62,18 +74,6 @@ module _ (text : List ℕ) (i : ℕ) where
           ends_later j c.2 (goes_on text i p says true j
           (goes_from c.0 j (omega (arith, c.2)) (subst (λ (A : Type 0). A) (same_step c.0 j) c.3) (before_or_there c.0 (omega (arith, c.1))))),
     )
-
-  -- the empty pattern is the one that is nothing
-  nothing_is : (p : Pattern) → is_empty p ≡ true → p ≡ empty
-  nothing_is empty h = refl
-  nothing_is (class m n rs) h = absurd (true≢false (sym h))
-  nothing_is (look l) h = absurd (true≢false (sym h))
-  nothing_is (cat p q) h = absurd (true≢false (sym h))
-  nothing_is (alt p q) h = absurd (true≢false (sym h))
-  nothing_is (star p) h = absurd (true≢false (sym h))
-  nothing_is (plus p) h = absurd (true≢false (sym h))
-  nothing_is (lookbehind n p) h = absurd (true≢false (sym h))
-  nothing_is (lookahead n p) h = absurd (true≢false (sym h))
 
   -- a glance says whether the pattern matches from here on
   pub glanced : (p : Pattern) → is_glance p ≡ true → (seen_from text i p ≡ true) ↔ ((k : ℕ) × Matches text p i k)

@@ -9,6 +9,7 @@ use Rattle.strkw_ecma.specs.Program.{Instruction, program}
 use Rattle.strkw_ecma.specs.Size.{instruction_steps, steps_of, steps}
 use Rattle.strkw_ecma.specs.machine.Walk.{top, Asked, Walked, Following, begun, back_over, over, left_by, marks_behind, asked, followed, walked}
 use Rattle.strkw_ecma.specs.Front.{Part, steps_of_parts}
+use Rattle.strkw_ecma.specs.Mirror.{sought, sought_in}
 use Rattle.strkw_ecma.specs.machine.Counted.{Counted, after, asking, following, walking, searching, IsSearchedWithin, AreSearchedWithin}
 use Rattle.strkw_ecma.proofs.Programs.{walked_is}
 use Rattle.strkw_ecma.proofs.Marked.{step_program}
@@ -104,9 +105,9 @@ searched_within most p text h = record {
 pub parts_searched_within : (xs : List Part) (most : ℕ) (text : List ℕ) → 2 * steps_of_parts xs ≤ most → AreSearchedWithin most xs text
 parts_searched_within [] most text h = tt
 parts_searched_within (x ∷ xs) most text h = (
-  2 * steps x.pattern,
+  2 * steps (sought x.pattern),
   2 * steps_of_parts xs,
   omega (arith, h),
-  searched_within (2 * steps x.pattern) x.pattern text (omega arith),
+  searched_within (2 * steps (sought x.pattern)) (sought x.pattern) (sought_in x.pattern text) (omega arith),
   parts_searched_within xs (2 * steps_of_parts xs) text (omega arith),
 )

@@ -9,12 +9,14 @@ use Rattle.strkw_ecma.specs.Front.{Part, first_lead, lead, lead_behind, reads_no
 use Rattle.strkw_ecma.specs.Front.{AreFound, are_parts_told}
 use Rattle.strkw_ecma.specs.Glances.{are_told}
 use Rattle.strkw_ecma.specs.machine.Marks.{is_clean}
-use Rattle.strkw_ecma.specs.machine.Search.{search_from, are_parts_found, are_parts_clean}
+use Rattle.strkw_ecma.specs.Mirror.{sought, sought_in}
+use Rattle.strkw_ecma.specs.machine.Search.{search, are_parts_found, are_parts_clean}
 use Rattle.strkw_ecma.specs.declared.front.Lead.{Lead}
 use Rattle.strkw_ecma.specs.declared.front.Lead.TheVariants.{Nothing, Anchored, Past}
 use Rattle.strkw_ecma.proofs.Anchors.{told_unless}
 use Rattle.strkw_ecma.proofs.Answers.{search_is_exact}
 use Rattle.strkw_ecma.proofs.Fronts.{rest_apart, rest_with, fronts_apart, fronts_with, far}
+use Rattle.strkw_ecma.proofs.Mirrors.{unless_same, found_sought}
 use Rattle.strkw_ecma.proofs.Search.{before_next}
 use Rattle.strkw_ecma.proofs.Steps.{and_left, and_right}
 
@@ -44,11 +46,6 @@ anchors : (l : Lead) (t : Pattern) → is_apart_behind l t ≡ true → is_ancho
 anchors Nothing t e = absurd (true≢false (sym e))
 anchors Anchored t e = refl
 anchors Past t e = absurd (true≢false (sym e))
-
--- what holds or not by a condition holds or not by one that holds exactly then
-unless_same : (n : Bool) (A B : Type 0) → A ↔ B → Unless n A → Unless n B
-unless_same false A B e a = e.0 a
-unless_same true A B e none = λ b. none (e.1 b)
 
 module _ (text : List ℕ) where
   -- each part matches from a place on, or does not, as it is to be
@@ -368,7 +365,12 @@ module _ (text : List ℕ) where
   pub parts_are_exact : (xs : List Part) → are_parts_clean xs ≡ true → are_parts_told xs ≡ true → IsTrue (are_parts_found xs text) ↔ AreFound xs text
   parts_are_exact [] c w = (λ h. tt, λ h. refl)
   parts_are_exact (x ∷ xs) c w =
-      both_true (differ x.negated (search_from x.pattern None text)) (are_parts_found xs text) _ _
-      (told_unless x.negated (search_from x.pattern None text) (Found x.pattern text)
-      (search_is_exact x.pattern text (and_left (is_clean x.pattern) _ c) (and_left (are_told x.pattern) _ w)))
-      (parts_are_exact xs (and_right (is_clean x.pattern) _ c) (and_right (are_told x.pattern) _ w))
+      both_true (differ x.negated (search x.pattern text)) (are_parts_found xs text) _ _
+      (told_unless x.negated (search x.pattern text) (Found x.pattern text)
+      (both (search_is_exact (sought x.pattern) (sought_in x.pattern text) (and_left (is_clean (sought x.pattern)) _ c)
+      (and_left (are_told (sought x.pattern)) _ w)) (found_sought x.pattern text)))
+      (parts_are_exact xs (and_right (is_clean (sought x.pattern)) _ c) (and_right (are_told (sought x.pattern)) _ w))
+    where
+      -- two equivalences, one behind the other, are one
+      both : {A B C : Type 0} → A ↔ B → B ↔ C → A ↔ C
+      both e f = (λ a. f.0 (e.0 a), λ c. e.1 (f.1 c))

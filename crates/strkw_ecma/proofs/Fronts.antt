@@ -1,18 +1,14 @@
 -- The parts of a pattern: the rest of it, and what lookaheads at its front look for.
-use Rattle.std.proofs.Common.{◌≡◌, ℕ, zero, suc, ◌+◌, Bool, true, false, ◌&&◌, List, [], ◌∷◌, ◌++◌}
-use Rattle.std.proofs.Common.{Box, refl, sym, ap, subst, ◌∙◌, true≢false, arith, if◌then◌else◌}
+use Rattle.std.proofs.Common.{◌≡◌, ℕ, zero, suc, Bool, true, false, List, [], ◌∷◌, ◌++◌}
+use Rattle.std.proofs.Common.{Box, refl, sym, ap, subst, ◌∙◌, true≢false, if◌then◌else◌}
 use Rattle.std.specs.declared.alloc.Global.{Global}
 use Rattle.std.proofs.lemmas.List.{append-nil, append_assoc}
 use Rattle.strkw_ecma.specs.Tree.{start, Pattern, empty, class, look, cat, alt, star, plus, lookbehind, lookahead}
 use Rattle.strkw_ecma.specs.Patterns.{Times, any_times, some_times, once_at_most, exact_times, least_times, range_times, quantified_pattern}
 use Rattle.strkw_ecma.specs.Program.{is_empty}
-use Rattle.strkw_ecma.specs.Glances.{are_told}
-use Rattle.strkw_ecma.specs.Size.{steps}
-use Rattle.strkw_ecma.specs.Front.{Part, first_lead, lead, lead_behind, reads_nothing, is_far, is_apart_behind, part_of, fronts, rest, parts}
-use Rattle.strkw_ecma.specs.Front.{steps_of_parts, are_parts_told}
-use Rattle.strkw_ecma.specs.machine.Fronts.{Surveys, Cuts, part_view, parts_view}
+use Rattle.strkw_ecma.specs.Front.{Part, first_lead, lead, lead_behind, reads_nothing, is_far, is_apart_behind, part_of, fronts, rest}
+use Rattle.strkw_ecma.specs.machine.Fronts.{Cuts, part_view, parts_view}
 use Rattle.strkw_ecma.specs.machine.Shape.{outlined, outlined_node, is_plain, plain_node, quantifier_of}
-use Rattle.strkw_ecma.specs.machine.Sizes.{capped}
 use Rattle.strkw_ecma.specs.declared.outline.Outline.{Outline}
 use Rattle.strkw_ecma.specs.declared.outline.Outline.TheOpen.{Outline-F}
 use Rattle.strkw_ecma.specs.declared.outline.Outline.TheViews.{roll-Outline}
@@ -22,8 +18,6 @@ use Rattle.strkw_ecma.specs.declared.front.Cut.{Cut}
 use Rattle.strkw_ecma.specs.declared.front.Front.{Front}
 use Rattle.strkw_ecma.specs.declared.front.Lead.{Lead}
 use Rattle.strkw_ecma.specs.declared.front.Lead.TheVariants.{Nothing, Anchored, Past}
-use Rattle.strkw_ecma.specs.declared.front.Survey.{Survey}
-use Rattle.strkw_ecma.proofs.Sizes.{sum_capped, cat_steps}
 
 -- of what is repeated
 -- where it is nothing, so is the front
@@ -144,78 +138,11 @@ module _ (p t : Pattern) where
   pub rest_with : is_apart_behind (lead p) t ≡ false → rest (cat p t) ≡ cat (rest p) t
   rest_with e = ap (λ (b : Bool). if b then rest p else cat (rest p) t) e
 
--- the steps of parts one behind another add up
-steps_append : (xs ys : List Part) → steps_of_parts (xs ++ ys) ≡ steps_of_parts xs + steps_of_parts ys
-steps_append [] ys = omega arith
-steps_append (x ∷ xs) ys = omega (arith, steps_append xs ys)
-
--- what holds of one and of true holds of the one
-and_right_true : (b : Bool) → (b && true) ≡ b
-and_right_true true = refl
-and_right_true false = refl
-
-and_assoc : (a b c : Bool) → (a && (b && c)) ≡ ((a && b) && c)
-and_assoc true b c = refl
-and_assoc false b c = refl
-
-and_swap : (a b c : Bool) → ((a && b) && c) ≡ ((a && c) && b)
-and_swap false b c = refl
-and_swap true true true = refl
-and_swap true true false = refl
-and_swap true false true = refl
-and_swap true false false = refl
-
--- the lookaheads of parts with one more are told where those of all are
-told_append : (xs : List Part) (x : Part) → are_parts_told (xs ++ x ∷ []) ≡ (are_parts_told xs && are_told x.pattern)
-told_append [] x = and_right_true (are_told x.pattern)
-told_append (y ∷ xs) x = ap (λ (b : Bool). are_told y.pattern && b) (told_append xs x) ∙ and_assoc (are_told y.pattern) (are_parts_told xs) (are_told x.pattern)
-
 -- behind `^` a lookahead leaves the front as it is
 lead_apart : (l : Lead) (n : Bool) (q : Pattern) → is_apart_behind l (lookahead n q) ≡ true → l ≡ lead_behind l (lookahead n q)
 lead_apart Nothing n q e = absurd (true≢false (sym e))
 lead_apart Anchored n q e = refl
 lead_apart Past n q e = absurd (true≢false (sym e))
-
--- surveys
--- a survey of a pattern and of a lookahead behind it that is a part of its own
-pub surveys_apart : (s new : Survey) (p : Pattern) (n : Bool) (q : Pattern) (a : ℕ) → Surveys s p → is_apart_behind s.lead (lookahead n q) ≡ true
-    → new.lead ≡ lead_behind s.lead (lookahead n q) → a ≡ capped (steps q) → new.steps ≡ capped (s.steps + a + 1)
-    → new.is_told ≡ (s.is_told && are_told q) → Surveys new (cat p (lookahead n q))
-surveys_apart s new p n q a w e lead_is a_is steps_are told_is =
-    let t = lookahead n q in
-    let apart : is_apart_behind (lead p) t ≡ true = ap (λ (l : Lead). is_apart_behind l t) (sym w.lead) ∙ e in
-    let more : steps_of_parts (parts (cat p t)) ≡ steps_of_parts (parts p) + steps q + 1 =
-    ap (λ (r : Pattern). steps r + steps_of_parts (fronts (cat p t))) (rest_apart p t apart)
-    ∙ ap (λ (fs : List Part). steps (rest p) + steps_of_parts fs) (fronts_apart p t apart)
-    ∙ omega (arith, steps_append (fronts p) (part_of t), cat_steps (look start) q) in
-    record {
-      lead = lead_is ∙ ap (λ (l : Lead). lead_behind l t) w.lead;
-      steps = steps_are ∙ sum_capped (steps_of_parts (parts p)) (steps q) 1 s.steps a w.steps a_is ∙ ap capped (sym more);
-      told = told_is ∙ ap (λ (b : Bool). b && are_told q) w.told
-          ∙ sym (and_assoc (are_told (rest p)) (are_parts_told (fronts p)) (are_told q))
-          ∙ ap (λ (b : Bool). are_told (rest p) && b) (sym (told_append (fronts p) record { negated = n; pattern = cat (look start) q }))
-          ∙ ap (λ (r : Pattern). are_told r && are_parts_told (fronts p ++ part_of t)) (sym (rest_apart p t apart))
-          ∙ ap (λ (fs : List Part). are_told (rest (cat p t)) && are_parts_told fs) (sym (fronts_apart p t apart));
-    }
-
--- and of any other term
-pub surveys_with : (s new : Survey) (p t : Pattern) (a : ℕ) → Surveys s p → is_apart_behind s.lead t ≡ false
-    → new.lead ≡ lead_behind s.lead t → a ≡ capped (steps t) → new.steps ≡ capped (s.steps + a + 0)
-    → new.is_told ≡ (s.is_told && are_told t) → Surveys new (cat p t)
-surveys_with s new p t a w e lead_is a_is steps_are told_is =
-    let with : is_apart_behind (lead p) t ≡ false = ap (λ (l : Lead). is_apart_behind l t) (sym w.lead) ∙ e in
-    let more : steps_of_parts (parts (cat p t)) ≡ steps_of_parts (parts p) + steps t + 0 =
-    ap (λ (r : Pattern). steps r + steps_of_parts (fronts (cat p t))) (rest_with p t with)
-    ∙ ap (λ (fs : List Part). steps (cat (rest p) t) + steps_of_parts fs) (fronts_with p t with)
-    ∙ omega (arith, cat_steps (rest p) t) in
-    record {
-      lead = lead_is ∙ ap (λ (l : Lead). lead_behind l t) w.lead;
-      steps = steps_are ∙ sum_capped (steps_of_parts (parts p)) (steps t) 0 s.steps a w.steps a_is ∙ ap capped (sym more);
-      told = told_is ∙ ap (λ (b : Bool). b && are_told t) w.told
-          ∙ and_swap (are_told (rest p)) (are_parts_told (fronts p)) (are_told t)
-          ∙ ap (λ (r : Pattern). are_told r && are_parts_told (fronts p)) (sym (rest_with p t with))
-          ∙ ap (λ (fs : List Part). are_told (rest (cat p t)) && are_parts_told fs) (sym (fronts_with p t with));
-    }
 
 -- cuts
 -- what fronts of the code stand for, one behind another

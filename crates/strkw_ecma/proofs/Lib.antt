@@ -22,10 +22,14 @@ pub mod ClassSpelled
 pub mod Spelled
 pub mod Formed
 pub mod Fronts
+pub mod Mirrors
+pub mod TextEnds
+pub mod Counterparts
 pub mod FrontMeaning
 pub mod Unmarked
 pub mod Finders
 pub mod Exact
+pub mod Taken
 pub mod Parts
 pub mod Refused
 pub mod Alike

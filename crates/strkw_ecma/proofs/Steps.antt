@@ -25,13 +25,13 @@ same_meaning text b a (lookbehind n p) x =
     ap (λ (R : ℕ → ℕ → Type 0). λ (i j : ℕ). Unless n ((k : ℕ) × R k i) × (i ≡ j)) (same_meaning text b a p true)
 same_meaning text b a (lookahead n p) x = refl
 
+-- rounds of what never ends before it begins do not either
+pub rounds_forwards : (R : ℕ → ℕ → Type 0) → ((i j : ℕ) → R i j → i ≤ j) → (j i : ℕ) → Rounds R j i → i ≤ j
+rounds_forwards R f j i (no_round _ e) = omega (arith, e)
+rounds_forwards R f j i (a_round _ l m s) = omega (arith, f i l m, rounds_forwards R f j l s)
+
 -- no match ends before it begins
 module _ (text : List ℕ) where
-  -- nor do rounds of what does not
-  rounds_forwards : (R : ℕ → ℕ → Type 0) → ((i j : ℕ) → R i j → i ≤ j) → (j i : ℕ) → Rounds R j i → i ≤ j
-  rounds_forwards R f j i (no_round _ e) = omega (arith, e)
-  rounds_forwards R f j i (a_round _ l m s) = omega (arith, f i l m, rounds_forwards R f j l s)
-
   -- no match of a pattern does
   pub forwards : (p : Pattern) (i j : ℕ) → Matches text p i j → i ≤ j
   forwards empty i j m = omega (arith, m)

@@ -1,12 +1,14 @@
 -- The pattern of a tree has no marks, nor have its parts.
-use Rattle.std.proofs.Common.{◌≡◌, ℕ, zero, suc, Bool, true, false, not, ◌&&◌, List, [], ◌∷◌, ◌++◌, refl, if◌then◌else◌}
-use Rattle.strkw_ecma.specs.Tree.{Pattern, empty, class, look, cat, alt, star, plus, lookbehind, lookahead}
+use Rattle.std.proofs.Common.{◌≡◌, ℕ, zero, suc, Bool, true, false, not, ◌&&◌, ◌||◌, List, [], ◌∷◌, ◌++◌, refl, if◌then◌else◌}
+use Rattle.strkw_ecma.specs.Tree.{start, Pattern, empty, class, look, cat, alt, star, plus, lookbehind, lookahead}
 use Rattle.strkw_ecma.specs.Syntax.{Disjunction, only, either, Alternative, nothing, more, Term, at_start, at_end, at_boundary, at_no_boundary}
 use Rattle.strkw_ecma.specs.Syntax.{looks_behind, looks_ahead, once}
 use Rattle.strkw_ecma.specs.Syntax.{quantified, Atom, plain, escaped, control_escape, set_escape, coded, property_escape, dot, bracketed, group}
 use Rattle.strkw_ecma.specs.Patterns.{pattern, alternative_pattern, term_pattern, atom_pattern, Times, any_times, some_times, once_at_most, exact_times}
 use Rattle.strkw_ecma.specs.Patterns.{least_times, range_times, times, repeated, quantified_pattern}
 use Rattle.strkw_ecma.specs.Front.{Part, lead, is_apart_behind, part_of, fronts, rest, parts}
+use Rattle.strkw_ecma.specs.Program.{is_empty}
+use Rattle.strkw_ecma.specs.Mirror.{mirror, facing, is_backward, sought}
 use Rattle.strkw_ecma.specs.machine.Marks.{is_clean}
 use Rattle.strkw_ecma.specs.machine.Search.{are_parts_clean}
 use Rattle.strkw_ecma.proofs.Steps.{and_true, and_left, and_right}
@@ -101,10 +103,38 @@ rest_unmarked (plus p) h = h
 rest_unmarked (lookbehind n p) h = h
 rest_unmarked (lookahead n p) h = h
 
+-- nor has its mirror
+mirror_unmarked : (p : Pattern) → unmarked p ≡ true → unmarked (mirror p) ≡ true
+mirror_unmarked empty h = refl
+mirror_unmarked (class m n rs) h = h
+mirror_unmarked (look l) h = refl
+mirror_unmarked (cat p q) h =
+    by_test (is_empty p || is_empty q) (mirror_unmarked p (and_left _ _ h)) (mirror_unmarked q (and_right (unmarked p) _ h))
+  where
+    -- by whether one of the two is nothing
+    by_test : (b : Bool) → unmarked (mirror p) ≡ true → unmarked (mirror q) ≡ true
+        → unmarked (if b then cat (mirror p) (mirror q) else cat (mirror q) (mirror p)) ≡ true
+    by_test true first second = and_true _ _ first second
+    by_test false first second = and_true _ _ second first
+mirror_unmarked (alt p q) h = and_true _ _ (mirror_unmarked p (and_left _ _ h)) (mirror_unmarked q (and_right (unmarked p) _ h))
+mirror_unmarked (star p) h = mirror_unmarked p h
+mirror_unmarked (plus p) h = mirror_unmarked p h
+mirror_unmarked (lookbehind n p) h = mirror_unmarked p h
+mirror_unmarked (lookahead n p) h = mirror_unmarked p h
+
+-- so what is looked for of it has none outside lookaheads
+sought_clean : (p : Pattern) → unmarked p ≡ true → is_clean (sought p) ≡ true
+sought_clean p h = by_test (is_backward p)
+  where
+    -- by whether the search goes from the end on
+    by_test : (b : Bool) → is_clean (facing b p) ≡ true
+    by_test false = clean_unmarked p h
+    by_test true = clean_unmarked (mirror p) (mirror_unmarked p h)
+
 -- parts one behind another have none where none of them has
 clean_append : (xs ys : List Part) → are_parts_clean xs ≡ true → are_parts_clean ys ≡ true → are_parts_clean (xs ++ ys) ≡ true
 clean_append [] ys h g = g
-clean_append (x ∷ xs) ys h g = and_true _ _ (and_left _ _ h) (clean_append xs ys (and_right (is_clean x.pattern) _ h) g)
+clean_append (x ∷ xs) ys h g = and_true _ _ (and_left _ _ h) (clean_append xs ys (and_right (is_clean (sought x.pattern)) _ h) g)
 
 -- the part of a lookahead has none
 part_clean : (q : Pattern) → unmarked q ≡ true → are_parts_clean (part_of q) ≡ true
@@ -116,7 +146,7 @@ part_clean (alt p q) h = refl
 part_clean (star p) h = refl
 part_clean (plus p) h = refl
 part_clean (lookbehind n p) h = refl
-part_clean (lookahead n p) h = and_true _ _ (clean_unmarked p h) refl
+part_clean (lookahead n p) h = and_true _ _ (sought_clean (cat (look start) p) h) refl
 
 -- nor have those at the front
 fronts_clean : (p : Pattern) → unmarked p ≡ true → are_parts_clean (fronts p) ≡ true
@@ -137,4 +167,4 @@ fronts_clean (lookahead n p) h = refl
 
 -- the parts of what has no marks have none
 pub parts_clean : (p : Pattern) → unmarked p ≡ true → are_parts_clean (parts p) ≡ true
-parts_clean p h = and_true _ _ (clean_unmarked (rest p) (rest_unmarked p h)) (fronts_clean p h)
+parts_clean p h = and_true _ _ (sought_clean (rest p) (rest_unmarked p h)) (fronts_clean p h)

@@ -48,7 +48,8 @@ pub record IsPattern (source : List ℕ) (d : Disjunction) : Type 0 where
   -- no two groups have the same name
   pub distinct : are_distinct (names d) ≡ true
   pub small : steps_of_parts (parts (pattern d)) ≤ max_steps
-  -- what each lookahead looks for is told by the next character, but at the front behind `^`
+  -- in each part, what each lookahead looks for is told by the next character, or else what each
+  -- lookbehind does by the one before
   pub told : are_parts_told (parts (pattern d)) ≡ true
 
 -- what is taken is a pattern, each pattern is taken, it has one tree, and it comes to a match

@@ -1,5 +1,6 @@
 -- What a pattern is and what it means: the grammar of its text, its meaning, which patterns are
 -- taken and why one is not.
+pub mod BinaryNames
 pub mod Properties
 pub mod Tree
 pub mod Sets
@@ -16,6 +17,7 @@ pub mod Names
 pub mod Syntax
 pub mod Patterns
 pub mod WellFormed
+pub mod Mirror
 pub mod Front
 pub mod Laws
 pub mod Refusals

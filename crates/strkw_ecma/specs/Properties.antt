@@ -1,29 +1,38 @@
 -- Properties of characters in a pattern: `p{ }` and `P{ }` of CharacterClassEscape (ECMA-262 2024,
--- section 22.2.1), for the properties General_Category and Script.
-use Rattle.std.specs.Prelude.{◌≡◌, ℕ, Bool, true, false, ◌&&◌, ◌||◌, ◌==◌, List, [], ◌∷◌, ◌++◌, map}
-use Rattle.std.specs.Prelude.{filter_map, bytes_eq, codes, Option, Some, None, option_map, is_some}
-use Rattle.std.specs.Prelude.{if◌then◌else◌}
+-- section 22.2.1), for the properties General_Category and Script, and for binary properties.
+use Rattle.std.specs.Prelude.{◌≡◌, ℕ, Bool, true, false, not, ◌&&◌, ◌||◌, ◌==◌, nat_le, List, [], ◌∷◌}
+use Rattle.std.specs.Prelude.{◌++◌, map, filter_map, bytes_eq, codes, Option, Some, None, option_map}
+use Rattle.std.specs.Prelude.{is_some, if◌then◌else◌}
+use Rattle.std.specs.Option.{option_or}
 use Rattle.std.specs.Char.{is_ascii_alphanumeric}
 use Rattle.std.specs.Str.{byte}
 use Prim.Native.String.{String}
 use Rattle.ucd_category.specs.GeneralCategory.{general_category, general_category_eq}
 use Rattle.ucd_category.specs.GeneralCategoryGroup.{in_group}
+use Rattle.ucd_category.specs.declared.GeneralCategory.TheVariants.{Unassigned}
 use Rattle.ucd_script.specs.Script.{script, script_eq}
 use Rattle.ucd_script.specs.declared.Script.{Script as ScriptValue}
 use Rattle.ucd_sets.specs.Loose.{value_named}
 use Rattle.ucd_sets.specs.Names.{category_names, script_names}
+use Rattle.ucd_sets.specs.Property.{has_property as has_binary_property}
 use Rattle.ucd_sets.specs.declared.set.Set.{Set}
 use Rattle.ucd_sets.specs.declared.set.Set.TheVariants as set
+use Rattle.strkw_ecma.specs.BinaryNames.{binary_names}
 use Rattle.strkw_ecma.specs.declared.properties.Property.{Property}
+use Rattle.strkw_ecma.specs.declared.properties.Property.TheVariants.{Any, Ascii, Assigned, Binary}
 use Rattle.strkw_ecma.specs.declared.properties.Property.TheVariants.{Category, Group, Script}
 
 -- the character has it
 abbrev pub has_property : Property → ℕ → Bool
+has_property Any c = true
+has_property Ascii c = nat_le c 0x7F
+has_property Assigned c = not (general_category_eq (general_category c) Unassigned)
+has_property (Binary p) c = has_binary_property p c
 has_property (Category v) c = general_category_eq (general_category c) v
 has_property (Group g) c = in_group g (general_category c)
 has_property (Script s) c = script_eq (script c) s
 
--- of the sets that have a name beside the categories, `Any`, `ASCII` and `Assigned` are none
+-- of the sets that the kit names beside the categories, `Any`, `ASCII` and `Assigned` are none
 abbrev pub category_of : Set → Option Property
 category_of (set.Category v) = Some (Category v)
 category_of (set.CategoryGroup g) = Some (Group g)
@@ -43,7 +52,15 @@ category_named = value_named (filter_map category_row category_names)
 unfoldable pub script_value_named : List ℕ → Option ScriptValue
 script_value_named = value_named (map script_row script_names)
 
--- UnicodeMatchProperty (section 22.2.2.9.1), of the two properties: by their names in
+abbrev pub binary_row : String × Property → List ℕ × Property
+binary_row row = (codes row.0, row.1)
+
+-- UnicodeMatchProperty (section 22.2.2.9.1), of the binary properties: the one with exactly this
+-- name
+unfoldable pub binary_named : List ℕ → Option Property
+binary_named = value_named (map binary_row binary_names)
+
+-- UnicodeMatchProperty, of the two properties that have values: by their names in
 -- PropertyAliases.txt
 abbrev pub value_of : List ℕ → List ℕ → Option Property
 value_of name value =
@@ -62,9 +79,9 @@ abbrev pub expression_spelling : Expression → List ℕ
 expression_spelling (alone v) = v
 expression_spelling (valued n v) = n ++ byte "=" ∷ v
 
--- alone stands a category and no script
+-- alone stands a category or a binary property, and no script
 abbrev pub property_of : Expression → Option Property
-property_of (alone v) = category_named v
+property_of (alone v) = option_or (category_named v) (binary_named v)
 property_of (valued n v) = value_of n v
 
 -- UnicodePropertyValueCharacter, which each UnicodePropertyNameCharacter is too

@@ -77,8 +77,8 @@ IsTooLong text = max_length < length text
 
 -- what a refusal says of the text of a pattern that is not taken
 abbrev pub IsReason : List ℕ → PatternRefusal → Type 0
--- the whole is well formed, and a lookahead in it, but at the front behind `^`, looks for more than
--- the next character tells
+-- the whole is well formed. In one of its parts some lookahead looks for more than the next
+-- character tells, and some lookbehind for more than the one before
 IsReason text LookAhead =
     (d : Disjunction) × IsWellFormed 0 d × (spelling d ≡ text)
     × (are_parts_told (parts (pattern d)) ≡ false)

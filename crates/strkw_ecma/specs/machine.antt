@@ -12,6 +12,8 @@ pub mod Reading
 pub mod Search
 pub mod Counted
 pub mod Outcomes
+pub mod Along
+pub mod Passes
 pub mod Engine
 pub mod Parts
 pub mod RefusalParts

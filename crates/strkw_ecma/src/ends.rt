@@ -3,6 +3,7 @@
 ghost use Rattle.std.specs.Prelude.{◌≡◌, ◌≤◌, ◌<◌, ℕ, drop};
 ghost use Rattle.ucd_table.specs.Steps.{run_value, IsPartition};
 ghost use Rattle.ucd_category.specs.GeneralCategory.{general_category};
+ghost use Rattle.ucd_sets.specs.Property.{has_property as has_binary_property};
 ghost use Rattle.strkw_ecma.specs.Properties.{has_property};
 ghost use Rattle.strkw_ecma.specs.Tree.{in_set, in_sets};
 ghost use Rattle.strkw_ecma.specs.machine.Columns.{answers as spec_answers};
@@ -12,6 +13,7 @@ use crate::properties::Property;
 use crate::tree::CharSet;
 use ucd_category::GeneralCategory;
 use ucd_script::Script;
+use ucd_sets::BinaryProperty;
 
 /// Behind the last code point.
 pub(crate) const UNICODE_END: u32 = 0x11_0000;
@@ -65,6 +67,19 @@ fn range_end(low: char, high: char, c: u32) -> u32
     }
 }
 
+// Where the code points end that have a binary property, or lack it, as this one does. Its runs are searched by halves,
+// since a pattern may ask for many such properties in turn.
+fn binary_end(property: BinaryProperty, c: u32) -> u32
+    requires { c < 0x110000 }
+    ensures beyond { c < result }
+    ensures alike { (d : ℕ) → c ≤ d → d < result → d < 0x110000
+        → has_binary_property property d ≡ has_binary_property property c }
+{
+    let runs = property.runs();
+    let mut place = runs.partition_point(|run| *run / PLACES_OF_VALUES <= c);
+    value_end(runs, &mut place, c)
+}
+
 /// The places of the runs of Unicode's tables that were asked for last. Where code points are asked about in order,
 /// each run is passed once.
 #[derive(Drop)]
@@ -99,7 +114,10 @@ impl Ends {
             → has_property property d ≡ has_property property c }
     {
         match property {
-            Property::Category(_) | Property::Group(_) => self.category_end(c),
+            Property::Any => UNICODE_END,
+            Property::Ascii => range_end('\0', '\x7F', c),
+            Property::Binary(binary) => binary_end(binary, c),
+            Property::Assigned | Property::Category(_) | Property::Group(_) => self.category_end(c),
             Property::Script(_) => value_end(Script::runs(), &mut self.script, c),
         }
     }

@@ -1,27 +1,22 @@
 //! The engine, and what builds it.
 
-ghost use Rattle.std.specs.Prelude.{◌≡◌, ◌≤◌, ◌++◌, List, true, IfOk, IsOk};
+ghost use Rattle.std.specs.Prelude.{◌≡◌, ◌≤◌, true, IfOk, IsOk};
 ghost use Rattle.std.specs.Str.{chars};
-ghost use Rattle.strkw_ecma.specs.Front.{Part, parts, steps_of_parts, are_parts_told};
 ghost use Rattle.strkw_ecma.specs.Size.{max_steps};
-ghost use Rattle.strkw_ecma.specs.machine.Engine.{engine_parts, finder_parts, have_tables as spec_have_tables};
-ghost use Rattle.strkw_ecma.specs.machine.Fronts.{parts_view};
+ghost use Rattle.strkw_ecma.specs.machine.Engine.{finder_passes, have_tables as spec_have_tables};
 ghost use Rattle.strkw_ecma.specs.machine.Outcomes.{takes_pattern, pattern_outcome};
-ghost use Rattle.strkw_ecma.specs.machine.Search.{are_parts_clean, are_parts_found};
-ghost use Rattle.strkw_ecma.specs.machine.Shape.{is_plain, outlined};
+ghost use Rattle.strkw_ecma.specs.machine.Passes.{are_passes_clean, are_passes_found, are_passes_told, passes_of, steps_of_passes};
 
-use crate::finder::{Finder, FrontFinder};
-use crate::front::Front;
-use crate::outline::Outline;
-use crate::reader::outline_of;
+use crate::finder::{Finder, PartFinder};
+use crate::passes::Pass;
+use crate::reader::read_passes;
 use std::alloc::{AllocError, Global};
 use strkw_pattern::{BuildRefusal, EngineBuilder, EngineFailure, RegexEngine};
 
 /// A pattern that is ready to be matched. `EcmaPatterns` builds it.
 #[derive(Drop)]
 pub struct EcmaMatcher {
-    rest: Finder,
-    fronts: Vec<FrontFinder>,
+    parts: Vec<PartFinder>,
 }
 
 impl EcmaMatcher {
@@ -31,31 +26,27 @@ impl EcmaMatcher {
     pub fn has_table(&self) -> bool
         ensures { result ≡ spec_has_table self.now }
     {
-        self.rest.table.is_some() && have_tables(&self.fronts)
+        have_tables(&self.parts)
     }
 
     // The engine of what was read.
-    fn of(alloc: Global, outline: Outline) -> Result<EcmaMatcher, AllocError>
-        requires plain { is_plain outline ≡ true }
-        requires clean { are_parts_clean (parts (outlined outline)) ≡ true }
-        requires small { steps_of_parts (parts (outlined outline)) ≤ max_steps }
-        requires told { are_parts_told (parts (outlined outline)) ≡ true }
-        ensures { IfOk result (λ e. engine_parts e ≡ parts (outlined outline)) }
+    fn of(alloc: Global, passes: Vec<Pass>) -> Result<EcmaMatcher, AllocError>
+        requires clean { are_passes_clean (passes_of passes.items) ≡ true }
+        requires small { steps_of_passes (passes_of passes.items) ≤ max_steps }
+        requires told { are_passes_told (passes_of passes.items) ≡ true }
+        ensures { IfOk result (λ e. finder_passes e.parts.items ≡ passes_of passes.items) }
     {
-        let mut fronts = Vec::new(alloc);
-        let cut = outline.cut(alloc, &mut fronts)?;
         Ok(EcmaMatcher {
-            rest: Finder::of(alloc, cut.rest)?,
-            fronts: finders_of(alloc, fronts)?,
+            parts: finders_of(alloc, passes)?,
         })
     }
 }
 
-fn have_tables(fronts: &[FrontFinder]) -> bool
-    ensures { result ≡ spec_have_tables fronts.now }
+fn have_tables(parts: &[PartFinder]) -> bool
+    ensures { result ≡ spec_have_tables parts.now }
 {
-    for front in fronts {
-        if front.finder.table.is_none() {
+    for part in parts {
+        if part.finder.table.is_none() {
             return false;
         }
     }
@@ -63,28 +54,36 @@ fn have_tables(fronts: &[FrontFinder]) -> bool
 }
 
 // What looks for each of these parts.
-fn finders_of(alloc: Global, parts: Vec<Front>) -> Result<Vec<FrontFinder>, AllocError>
-    requires clean { are_parts_clean (parts_view parts.items) ≡ true }
-    requires small { steps_of_parts (parts_view parts.items) ≤ max_steps }
-    requires told { are_parts_told (parts_view parts.items) ≡ true }
-    ensures { IfOk result (λ made. finder_parts made.items ≡ parts_view parts.items) }
+fn finders_of(alloc: Global, passes: Vec<Pass>) -> Result<Vec<PartFinder>, AllocError>
+    requires clean { are_passes_clean (passes_of passes.items) ≡ true }
+    requires small { steps_of_passes (passes_of passes.items) ≤ max_steps }
+    requires told { are_passes_told (passes_of passes.items) ≡ true }
+    ensures { IfOk result (λ made. finder_passes made.items ≡ passes_of passes.items) }
 {
-    let mut left = parts;
+    let mut left = passes;
     let mut finders = Vec::new(alloc);
-    'parts: while !left.is_empty() {
-        let Front { negated, pattern } = left.remove(0);
+    'passes: while !left.is_empty() {
+        let Pass {
+            negated,
+            is_backward,
+            pattern,
+        } = left.remove(0);
         let finder = Finder::of(alloc, pattern)?;
-        finders.push(FrontFinder { negated, finder })?;
+        finders.push(PartFinder {
+            negated,
+            is_backward,
+            finder,
+        })?;
     }
     Ok(finders)
 }
 
 // Whether each part is found in the text, or is not, as it is to be.
-fn are_found(fronts: &[FrontFinder], text: &str) -> bool
-    ensures { result ≡ are_parts_found (finder_parts fronts.now) (chars text.now) }
+fn are_found(parts: &[PartFinder], text: &str) -> bool
+    ensures { result ≡ are_passes_found (finder_passes parts.now) (chars text.now) }
 {
-    for front in fronts {
-        if front.finder.is_found(text) == front.negated {
+    for part in parts {
+        if part.finder.is_found(text, part.is_backward) == part.negated {
             return false;
         }
     }
@@ -98,28 +97,30 @@ impl RegexEngine for EcmaMatcher {
     ghost outcome = { engine_outcome };
 
     /// Whether the pattern is found in the text (RegExpBuiltinExec, ECMA-262 2024, section 22.2.7.2), in one pass, and
-    /// one more for each look-ahead at its front that is looked for by itself. It takes no memory, and there is no
-    /// error.
+    /// one more for each look-ahead at its front that is looked for by itself. Where look-aheads look far, a pass goes
+    /// from the end of the text on. It takes no memory, and there is no error.
     fn is_match(&self, _alloc: Global, text: &str) -> Result<bool, EngineFailure>
         ensures answer { IsAnswer (engine_outcome self.now (chars text.now)) result }
         ensures never_fails { IsOk result }
     {
-        Ok(self.rest.is_found(text) && are_found(&self.fronts, text))
+        Ok(are_found(&self.parts, text))
     }
 }
 
 /// Builds engines of patterns of ECMA-262 2024 in Unicode mode (`Pattern`, section 22.2.1), of this part of its syntax:
 /// - alternatives with `|`, and groups with `( )`, `(?: )` and `(?<name> )`, whose names are read and told nowhere;
 /// - the assertions `^`, `$`, `\b`, `\B`, look-behinds with `(?<= )` and `(?<! )`, and look-aheads with `(?= )` and
-///   `(?! )` for one character of a class, an assertion, nothing, or alternatives of these; at the front of the whole
-///   pattern, behind `^`, for any pattern whose own look-aheads are such; no quantifier follows them;
+///   `(?! )`, for any pattern, where they do not look far both ways: each look-ahead, or else each look-behind, is for
+///   one character of a class, an assertion, nothing, another such, or alternatives of these. That holds by itself of
+///   each look-ahead at the front of the whole pattern, behind `^`. No quantifier follows them;
 /// - behind an atom `*`, `+`, `?`, `{n}`, `{n,}` or `{n,m}`, and a `?` behind that, which changes no answer;
 /// - `.`; a character that is none of `^ $ \ . * + ? ( ) [ ] { } |`; `\` before one of those or `/`; `\f \n \r \t \v`;
 ///   `\d \D \s \S \w \W`;
 /// - `\0` where no decimal digit follows; `\c` and a letter; `\x` and two digits of base 16; `\u` and four, or two of
 ///   these for a leading and a trailing surrogate; `\u{ }` with digits up to 10FFFF, of no surrogate;
-/// - `\p{ }` and `\P{ }` with a value of General_Category, alone or behind `General_Category=` or `gc=`, or of
-///   Script, behind `Script=` or `sc=`, each named as in Unicode's tables of aliases, letter case and `_` included;
+/// - `\p{ }` and `\P{ }` with a value of General_Category, alone or behind `General_Category=` or `gc=`, of Script,
+///   behind `Script=` or `sc=`, or a binary property of the standard's table, alone, but for
+///   Changes_When_NFKC_Casefolded; each named as there or in Unicode's tables of aliases, letter case and `_` included;
 /// - classes with `[ ]` and `[^ ]`, of characters, ranges and those escapes, with `\-`, and `\b` for the backspace.
 ///
 /// Any other text is not taken, nor is a pattern with groups and look-arounds more than 250 deep, with more than 2,000
@@ -144,10 +145,9 @@ impl EngineBuilder for EcmaPatterns {
 
     /// The engine of a pattern, `BuildRefusal::Pattern` exactly where the text is not taken, and
     /// `BuildRefusal::Memory` where it is out of memory.
-    #[tactic(auto, using(crate::proofs::Exact::clean_of, crate::proofs::Exact::outcome_of_it, crate::proofs::Exact::some_of, crate::proofs::Exact::none_of))]
     fn build(&self, alloc: Global, pattern: &str) -> Result<EcmaMatcher, BuildRefusal> {
-        match outline_of(alloc, pattern) {
-            Ok(Some(outline)) => match EcmaMatcher::of(alloc, outline) {
+        match read_passes(alloc, pattern) {
+            Ok(Some(passes)) => match EcmaMatcher::of(alloc, passes) {
                 Ok(engine) => Ok(engine),
                 Err(AllocError) => Err(BuildRefusal::Memory),
             },

@@ -3,6 +3,7 @@
 ghost use Rattle.std.specs.Prelude.{◌≡◌, ◌↔◌, ◌≤◌, true, IsTrue, IfOk, None, Some};
 ghost use Rattle.std.specs.Str.{chars};
 ghost use Rattle.strkw_ecma.specs.Glances.{are_told};
+ghost use Rattle.strkw_ecma.specs.Mirror.{along};
 ghost use Rattle.strkw_ecma.specs.Size.{steps, max_steps};
 ghost use Rattle.strkw_ecma.specs.machine.Machine.{pattern_of};
 ghost use Rattle.strkw_ecma.specs.machine.Marks.{is_clean};
@@ -40,20 +41,23 @@ impl Finder {
         Ok(Finder { program, table })
     }
 
-    /// Whether the pattern is found in the text, in one pass.
-    pub(crate) fn is_found(&self, text: &str) -> bool
-        ensures { result ≡ search_from (pattern_of self.now.program) None (chars text.now) }
+    /// Whether the pattern is found in the text, or where it is looked for backward, in the text turned round.
+    pub(crate) fn is_found(&self, text: &str, is_backward: bool) -> bool
+        ensures { result
+            ≡ search_from (pattern_of self.now.program) None (along is_backward (chars text.now)) }
     {
         match &self.table {
-            Some(table) => table.is_found(text),
-            None => is_found(&self.program, text),
+            Some(table) => table.is_found_along(text, is_backward),
+            None => is_found(&self.program, text, is_backward),
         }
     }
 }
 
-/// What looks for a part of a pattern, which is to be found, or where it is negated, is not.
+/// What looks for a part of a pattern, along the text or backward. The part is to be found, or where it is negated, is
+/// not.
 #[derive(Drop)]
-pub(crate) struct FrontFinder {
+pub(crate) struct PartFinder {
     pub(crate) negated: bool,
+    pub(crate) is_backward: bool,
     pub(crate) finder: Finder,
 }

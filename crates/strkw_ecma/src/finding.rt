@@ -3,24 +3,30 @@
 ghost use Rattle.std.specs.Prelude.{◌≡◌, ◌↔◌, true, IsTrue, None};
 ghost use Rattle.std.specs.Str.{chars};
 ghost use Rattle.strkw_ecma.specs.Meaning.{Found};
+ghost use Rattle.strkw_ecma.specs.Mirror.{along};
 ghost use Rattle.strkw_ecma.specs.Glances.{are_told};
 ghost use Rattle.strkw_ecma.specs.machine.Marks.{is_clean};
 ghost use Rattle.strkw_ecma.specs.machine.Search.{search_from};
 ghost use Rattle.strkw_ecma.specs.machine.Machine.{pattern_of};
 
+use crate::along::Along;
 use crate::program::{MOST_INSTRUCTIONS, Program, Room};
 
-/// Whether the pattern is found in the text. No memory is taken.
-pub(crate) fn is_found(program: &Program, text: &str) -> bool
+/// Whether the pattern is found in the text, or where it is looked for backward, in the text turned round. No memory is
+/// taken.
+pub(crate) fn is_found(program: &Program, text: &str, is_backward: bool) -> bool
     requires clean { is_clean (pattern_of program.now) ≡ true }
     requires told { are_told (pattern_of program.now) ≡ true }
-    ensures meaning { IsTrue result ↔ Found (pattern_of program.now) (chars text.now) }
-    ensures search { result ≡ search_from (pattern_of program.now) None (chars text.now) }
+    ensures meaning { IsTrue result
+        ↔ Found (pattern_of program.now) (along is_backward (chars text.now)) }
+    ensures search { result
+        ≡ search_from (pattern_of program.now) None (along is_backward (chars text.now)) }
 {
     let mut room = Room::new();
     let mut marks = [false; MOST_INSTRUCTIONS];
     let mut last = None;
-    for c in text.chars() {
+    let mut left = Along::new(text, is_backward);
+    'characters: while let Some(c) = left.next() {
         if program.step(&mut room, &mut marks, last, Some(c)) {
             return true;
         }

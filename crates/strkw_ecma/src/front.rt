@@ -1,15 +1,13 @@
 //! The lookaheads at the front of a pattern, behind `^`: one that looks for more than the next character is looked for
 //! by itself.
 
-ghost use Rattle.std.specs.Prelude.{◌≡◌, true, IfOk, IfSome, List, option_map};
+ghost use Rattle.std.specs.Prelude.{◌≡◌, true, IfOk, List};
 ghost use Rattle.strkw_ecma.specs.Tree.{Pattern, cat};
 ghost use Rattle.strkw_ecma.specs.Front.{first_lead as spec_first_lead, lead_behind, reads_nothing as spec_reads_nothing, is_far as spec_is_far, is_apart_behind};
-ghost use Rattle.strkw_ecma.specs.machine.Fronts.{Cuts, Surveys};
-ghost use Rattle.strkw_ecma.specs.machine.Parts.{small_pattern, told_pattern};
+ghost use Rattle.strkw_ecma.specs.machine.Fronts.{Cuts};
 ghost use Rattle.strkw_ecma.specs.machine.Shape.{is_plain, outlined};
 
 use crate::outline::Outline;
-use crate::size::{MAX_STEPS, together};
 use std::alloc::{AllocError, Global};
 
 /// What a pattern is as the front of another: nothing; `^`, with terms behind it that read nothing; or more.
@@ -43,41 +41,6 @@ impl Lead {
         ensures { result ≡ is_apart_behind self (outlined term.now) }
     {
         matches!(self, Lead::Anchored) && term.is_far()
-    }
-}
-
-/// What is told of a pattern by its terms: what it is as the front of another, how many steps its parts take together,
-/// and whether the next character tells what their lookaheads look for.
-#[derive(Clone, Copy)]
-pub(crate) struct Survey {
-    pub(crate) lead: Lead,
-    pub(crate) steps: u32,
-    pub(crate) is_told: bool,
-}
-
-// What a lookahead behind `^` comes to beside what it looks for.
-const STEPS_OF_A_START: u32 = 1;
-
-impl Survey {
-    // Of one term more.
-    fn behind(self, term: &Outline) -> Survey
-        ensures { (p : Pattern) → Surveys self p → Surveys result (cat p (outlined term.now)) }
-    {
-        let lead = self.lead.behind(term);
-        if let Outline::Ahead(_, body) = term {
-            if self.lead.parts_off(term) {
-                return Survey {
-                    lead,
-                    steps: together(self.steps, body.steps(), STEPS_OF_A_START),
-                    is_told: self.is_told & body.is_told(),
-                };
-            }
-        }
-        Survey {
-            lead,
-            steps: together(self.steps, term.steps(), 0),
-            is_told: self.is_told & term.is_told(),
-        }
     }
 }
 
@@ -197,31 +160,6 @@ impl Outline {
         }
     }
 
-    /// The survey of a pattern that is read.
-    #[cycle(survey)]
-    pub(crate) fn survey(&self) -> Survey
-        requires { is_plain self.now ≡ true }
-        ensures { Surveys result (outlined self.now) }
-    {
-        match self {
-            Outline::Then(first, second) => first.survey().behind(second),
-            Outline::Empty
-            | Outline::Class { .. }
-            | Outline::Start
-            | Outline::End
-            | Outline::Boundary
-            | Outline::NoBoundary
-            | Outline::Or(..)
-            | Outline::Repeated(..)
-            | Outline::Behind(..)
-            | Outline::Ahead(..) => Survey {
-                lead: self.first_lead(),
-                steps: self.steps(),
-                is_told: self.is_told(),
-            },
-        }
-    }
-
     /// The pattern without the parts that lookaheads at its front are. These are appended to the fronts.
     #[cycle(cut)]
     pub(crate) fn cut(self, alloc: Global, fronts: &mut Vec<Front>) -> Result<Cut, AllocError>
@@ -238,26 +176,5 @@ impl Outline {
                 rest: term,
             }),
         }
-    }
-}
-
-/// The outline, where a search for its parts takes no more steps than may be, and the next character tells what their
-/// lookaheads look for.
-pub(crate) fn if_taken(outline: Option<Outline>) -> Option<Outline>
-    requires { IfSome outline (λ o. is_plain o ≡ true) }
-    ensures pattern { option_map outlined result
-        ≡ told_pattern (small_pattern (option_map outlined outline)) }
-    ensures plain { IfSome result (λ o. is_plain o ≡ true) }
-{
-    match outline {
-        Some(outline) => {
-            let survey = outline.survey();
-            if survey.steps <= MAX_STEPS && survey.is_told {
-                Some(outline)
-            } else {
-                None
-            }
-        }
-        None => None,
     }
 }

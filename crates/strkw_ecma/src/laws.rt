@@ -1,11 +1,12 @@
 //! Laws of the definitions, as functions with empty bodies.
 
-ghost use Rattle.std.specs.Prelude.{ℕ, ◌*◌, ◌≤◌, ◌↔◌, true, List, length};
+ghost use Rattle.std.specs.Prelude.{ℕ, ◌*◌, ◌≤◌, ◌↔◌, true, List, length, reverse};
 ghost use Rattle.strkw_ecma.specs.Laws.{AreComplements, any_character, IsExact, IsPattern};
 ghost use Rattle.strkw_ecma.specs.Laws.{word_edge, no_word_edge};
 ghost use Rattle.strkw_ecma.specs.Tree.{Pattern, start, end, boundary, no_boundary, look, lookbehind, lookahead};
 ghost use Rattle.strkw_ecma.specs.Front.{AreFound, parts};
 ghost use Rattle.strkw_ecma.specs.Meaning.{Found, Matches};
+ghost use Rattle.strkw_ecma.specs.Mirror.{mirror};
 ghost use Rattle.strkw_ecma.specs.Syntax.{Disjunction};
 ghost use Rattle.strkw_ecma.specs.Size.{max_steps};
 ghost use Rattle.strkw_ecma.specs.machine.Counted.{AreSearchedWithin};
@@ -59,4 +60,9 @@ pub fn boundaries_are_lookarounds()
 /// that look for more than the next character, each from the beginning of the text on, and the rest.
 pub fn patterns_have_parts()
     ensures { (p : Pattern) (text : List ℕ) → Found p text ↔ AreFound (parts p) text }
+{}
+
+/// A pattern is found in a text exactly where its mirror is found in the text turned round.
+pub fn mirrors_are_found()
+    ensures { (p : Pattern) (text : List ℕ) → Found p text ↔ Found (mirror p) (reverse text) }
 {}

@@ -3,6 +3,7 @@
 //! the text.
 #![tactic(auto)]
 
+mod along;
 mod classes;
 mod code;
 mod codes;
@@ -18,9 +19,11 @@ pub mod laws;
 mod lookahead;
 mod making;
 mod marks;
+mod mirror;
 mod names;
 mod outline;
 mod pages;
+mod passes;
 mod program;
 mod properties;
 mod reader;

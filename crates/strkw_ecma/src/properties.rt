@@ -3,19 +3,28 @@
 ghost use Rattle.std.specs.Prelude.{◌≡◌, true, map, IfOk};
 ghost use Rattle.std.specs.List.{zip};
 ghost use Rattle.ucd_sets.specs.Loose.{value_named as spec_value_named};
-ghost use Rattle.strkw_ecma.specs.Properties.{has_property, category_named as spec_category_named, script_value_named, value_of as spec_value_of, property_of, is_property_char as spec_is_property_char};
+ghost use Rattle.strkw_ecma.specs.Properties.{has_property, category_named as spec_category_named, binary_named as spec_binary_named, script_value_named, value_of as spec_value_of, property_of, is_property_char as spec_is_property_char};
 ghost use Rattle.strkw_ecma.specs.machine.PropertyReading.{property_next, on_equals, with_char};
 ghost use Rattle.strkw_ecma.specs.Refusals.{is_written as spec_is_written, is_unknown as spec_is_unknown};
 ghost use Rattle.strkw_ecma.specs.machine.Parts.{expression_of, part_of, property_read_of};
 
-use crate::values::{CATEGORIES, CATEGORY_NAMES, SCRIPT_NAMES, SCRIPTS};
+use crate::values::{
+    BINARY_NAMES, BINARY_PROPERTIES, CATEGORIES, CATEGORY_NAMES, SCRIPT_NAMES, SCRIPTS,
+};
 use std::alloc::{AllocError, Global};
 use ucd_category::{GeneralCategory, GeneralCategoryGroup};
 use ucd_script::Script;
+use ucd_sets::BinaryProperty;
+use ucd_table::contains;
 
-/// A value of the property General_Category, a group of these, or a value of the property Script.
+/// A binary property, a value of the property General_Category, a group of these, or a value of the property Script.
+/// Of the binary ones all code points have `Any`, those below U+0080 `Ascii`, and those with a category `Assigned`.
 #[derive(Clone, Copy)]
 pub enum Property {
+    Any,
+    Ascii,
+    Assigned,
+    Binary(BinaryProperty),
     Category(GeneralCategory),
     Group(GeneralCategoryGroup),
     Script(Script),
@@ -29,6 +38,11 @@ impl Property {
         ensures { result ≡ has_property self c }
     {
         match self {
+            Property::Any => true,
+            Property::Ascii => c <= '\x7F',
+            Property::Assigned => GeneralCategory::for_char(c).number()
+                != GeneralCategory::Unassigned.number(),
+            Property::Binary(binary) => contains(binary.runs(), c),
             Property::Category(category) => GeneralCategory::for_char(c).number()
                 == category.number(),
             Property::Group(group) => group.contains(GeneralCategory::for_char(c)),
@@ -54,6 +68,12 @@ fn category_named(name: &[u8]) -> Option<Property>
     ensures { result ≡ spec_category_named name.now }
 {
     value_named(&CATEGORY_NAMES, &CATEGORIES, name)
+}
+
+fn binary_named(name: &[u8]) -> Option<Property>
+    ensures { result ≡ spec_binary_named name.now }
+{
+    value_named(&BINARY_NAMES, &BINARY_PROPERTIES, name)
 }
 
 fn script_named(name: &[u8]) -> Option<Script>
@@ -83,12 +103,12 @@ pub(crate) enum Expression {
 }
 
 impl Expression {
-    // The property, where there is one: alone stands a category and no script.
+    // The property, where there is one: alone stands a category or a binary property, and no script.
     pub(crate) fn property(&self) -> Option<Property>
         ensures { result ≡ property_of (expression_of self.now) }
     {
         match self {
-            Expression::Alone(value) => category_named(value),
+            Expression::Alone(value) => category_named(value).or(binary_named(value)),
             Expression::Valued(name, value) => value_of(name, value),
         }
     }

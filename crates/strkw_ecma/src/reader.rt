@@ -8,6 +8,7 @@ ghost use Rattle.strkw_ecma.specs.Syntax.{token as spec_token};
 ghost use Rattle.strkw_ecma.specs.Names.{extension as spec_extension};
 ghost use Rattle.strkw_ecma.specs.Escapes.{escape as spec_escape};
 ghost use Rattle.strkw_ecma.specs.machine.Reading.{read_pattern, read_short as spec_read_short};
+ghost use Rattle.strkw_ecma.specs.machine.Passes.{ComesTo};
 ghost use Rattle.strkw_ecma.specs.machine.Parts.{parts_of, mode_of, no_parts, when, with_mode, at_close, is_between};
 ghost use Rattle.strkw_ecma.specs.machine.Parts.{after_escape, after_token, after_group, after_extension, after_char};
 
@@ -23,10 +24,10 @@ mod terms;
 use crate::classes::ClassReader;
 use crate::codes::{Coding, Wanted, Width};
 use crate::counts::Count;
-use crate::front::if_taken;
 use crate::lookahead::is_apart;
 use crate::names::are_distinct;
 use crate::outline::{Outline, Quantifier};
+use crate::passes::{Pass, passes_if_taken};
 use crate::properties::PropertyPart;
 use crate::sets::{control_char, dot, set};
 use crate::tokens::{Escape, Extension, Token};
@@ -282,18 +283,16 @@ impl Reader {
     }
 }
 
-// The outline of a pattern, and `None` where the text is none. No term is copied, so it is known here what is too
-// large, and which lookaheads look for too much.
-#[tactic(auto, using(crate::proofs::Parts::read_whole, crate::proofs::Parts::not_apart))]
-pub(crate) fn outline_of(alloc: Global, source: &str) -> Result<Option<Outline>, AllocError>
-    ensures tree { IfOk result (λ t. option_map outlined t
-        ≡ option_map pattern (read_pattern (chars source.now))) }
-    ensures plain { IfOk result (λ o. IfSome o (λ t. is_plain t ≡ true)) }
+// What is looked for of a pattern, and `None` where the text is none. No term is copied, so it is known here what is
+// too large, and which lookaheads look for too much.
+pub(crate) fn read_passes(alloc: Global, source: &str) -> Result<Option<Vec<Pass>>, AllocError>
+    ensures { IfOk result (λ made.
+        ComesTo made (option_map pattern (read_pattern (chars source.now)))) }
 {
     if !is_apart(source) {
         return Ok(None);
     }
-    Ok(if_taken(read_short(alloc, source)?))
+    passes_if_taken(alloc, read_short(alloc, source)?)
 }
 
 fn read_short(alloc: Global, source: &str) -> Result<Option<Outline>, AllocError>

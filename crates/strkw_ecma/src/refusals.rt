@@ -7,7 +7,7 @@ ghost use Rattle.strkw_ecma.specs.machine.Outcomes.{takes_pattern};
 ghost use Rattle.strkw_ecma.specs.Refusals.{IsTooLong, IsReason};
 
 use crate::counts::MAX_COUNT;
-use crate::reader::{MAX_LENGTH, MAX_NESTING, outline_of, refusal_of};
+use crate::reader::{MAX_LENGTH, MAX_NESTING, read_passes, refusal_of};
 use crate::size::{MAX_STEPS, MAX_TERM_STEPS};
 use std::alloc::{AllocError, Global};
 use std::error::Error;
@@ -17,7 +17,8 @@ use std::fmt;
 #[derive(Clone, Copy, Debug, PartialEq, Eq)]
 pub enum PatternRefusal {
     /// A look-ahead looks for more than one character of a class, an assertion, nothing, or alternatives of these, and
-    /// does not stand at the front of the whole pattern behind `^`.
+    /// so does a look-behind, neither of them within a look-ahead at the front of the whole pattern behind `^`, or both
+    /// within one.
     LookAhead,
     /// `\` and one of `1` to `9`, or `\k`, stands where a term may.
     BackReference,
@@ -89,13 +90,14 @@ fn is_short(pattern: &str) -> bool
 /// be told, it is the length, else what stands first in the pattern, else a look-ahead, and last the size. `IsReason`
 /// of `specs/Refusals.antt` says what each reason means over the text. The only error is out of memory. A pattern that
 /// is not taken is read twice.
+#[tactic(auto, using(crate::proofs::Taken::comes_some))]
 pub fn why_refused(alloc: Global, pattern: &str) -> Result<Option<PatternRefusal>, AllocError>
     ensures taken { IfOk result (λ why. is_none why ≡ takes_pattern (chars pattern.now)) }
     ensures too_long { IfOk result (λ why.
         (why ≡ Some PatternRefusal.TooLong) ↔ IsTooLong (chars pattern.now)) }
     ensures reason { IfOk result (λ why. IfSome why (IsReason (chars pattern.now))) }
 {
-    if outline_of(alloc, pattern)?.is_some() {
+    if read_passes(alloc, pattern)?.is_some() {
         return Ok(None);
     }
     if !is_short(pattern) {

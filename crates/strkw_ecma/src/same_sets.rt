@@ -12,6 +12,10 @@ fn is_same_property(one: Property, other: Property) -> bool
     ensures { IsTrue result → (c : ℕ) → has_property one c ≡ has_property other c }
 {
     match (one, other) {
+        (Property::Any, Property::Any)
+        | (Property::Ascii, Property::Ascii)
+        | (Property::Assigned, Property::Assigned) => true,
+        (Property::Binary(one), Property::Binary(other)) => one == other,
         (Property::Category(one), Property::Category(other)) => one.number() == other.number(),
         (Property::Group(one), Property::Group(other)) => one == other,
         (Property::Script(one), Property::Script(other)) => one.number() == other.number(),

@@ -2,9 +2,12 @@
 
 ghost use Rattle.std.specs.Prelude.{◌≡◌, ◌^◌, ◌+◌, ◌≤◌, ◌<◌, Some, length};
 ghost use Rattle.std.specs.Str.{chars};
+ghost use Rattle.strkw_ecma.specs.Mirror.{along};
+ghost use Rattle.strkw_ecma.specs.machine.Along.{left_of};
 ghost use Rattle.strkw_ecma.specs.machine.Columns.{column_of};
 ghost use Rattle.strkw_ecma.specs.machine.Table.{entry_at as spec_entry_at, walk};
 
+use crate::along::Along;
 use crate::columns::Columns;
 
 /// The entry that says that the pattern is found.
@@ -38,7 +41,7 @@ impl Table {
     /// Whether the pattern is found in the text. Inlined, its loop would lie across a border of 32 bytes in some
     /// callers, where each turn takes twice as long.
     #[inline(never)]
-    pub(crate) fn is_found(&self, text: &str) -> bool
+    fn is_found(&self, text: &str) -> bool
         ensures { Some result
             ≡ walk (column_of self.now.columns.classes.items self.now.columns.keys.items)
             (length self.now.columns.keys.items) self.now.entries.items 0 (chars text.now) }
@@ -49,7 +52,7 @@ impl Table {
         let mut row = 0;
         for (place, byte) in text.as_bytes().iter().enumerate() {
             let Some(column) = columns.get(usize::from(*byte)) else {
-                return self.is_found_from(row, &text[place..]);
+                return self.is_found_from(row, Along::new(&text[place..], false));
             };
             let entry = entry_at(entries, row, usize::from(*column));
             if entry < NEXT_ROW {
@@ -63,17 +66,31 @@ impl Table {
         entry_at(entries, row, end) == FOUND
     }
 
+    /// Whether it is found in the text, or where it is looked for backward, in the text turned round.
+    pub(crate) fn is_found_along(&self, text: &str, is_backward: bool) -> bool
+        ensures { Some result
+            ≡ walk (column_of self.now.columns.classes.items self.now.columns.keys.items)
+            (length self.now.columns.keys.items) self.now.entries.items 0
+            (along is_backward (chars text.now)) }
+    {
+        if is_backward {
+            return self.is_found_from(0, Along::new(text, true));
+        }
+        self.is_found(text)
+    }
+
     // The same for what is left of a text, from a row on.
     #[inline(never)]
-    fn is_found_from(&self, row: usize, rest: &str) -> bool
+    fn is_found_from(&self, row: usize, left: Along<'_>) -> bool
         requires { row ≤ length self.now.entries.items + 2 ^ 16 }
         ensures { Some result
             ≡ walk (column_of self.now.columns.classes.items self.now.columns.keys.items)
-            (length self.now.columns.keys.items) self.now.entries.items row (chars rest.now) }
+            (length self.now.columns.keys.items) self.now.entries.items row (left_of left.entry) }
     {
         let end = self.columns.keys.len();
         let mut row = row;
-        for c in rest.chars() {
+        let mut left = left;
+        'characters: while let Some(c) = left.next() {
             let column = self.columns.column(c);
             match entry_at(&self.entries, row, column) {
                 NEXT_ROW => row += end + 1,

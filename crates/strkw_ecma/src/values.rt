@@ -1,9 +1,10 @@
-//! The names of categories and scripts in PropertyValueAliases.txt of Unicode 18.0.0, as they are spelled there, and
-//! beside each list of names what they name, in the same order.
+//! The names of categories and scripts in PropertyValueAliases.txt of Unicode 18.0.0, as they are spelled there, those
+//! of binary properties in ECMA-262 2024, and beside each list of names what they name, in the same order.
 
 use crate::properties::Property;
 use ucd_category::{GeneralCategory, GeneralCategoryGroup};
 use ucd_script::Script;
+use ucd_sets::BinaryProperty;
 
 #[rattlefmt::skip]
 pub(crate) static CATEGORY_NAMES: [&str; 80] = [
@@ -250,4 +251,102 @@ pub(crate) static SCRIPTS: [Script; 349] = [
     Script::Yi, Script::Yi, Script::ZanabazarSquare, Script::ZanabazarSquare,
     Script::Inherited, Script::Inherited, Script::Inherited,
     Script::Common, Script::Common, Script::Unknown, Script::Unknown,
+];
+
+#[rattlefmt::skip]
+pub(crate) static BINARY_NAMES: [&str; 96] = [
+    "ASCII", "ASCII_Hex_Digit", "AHex", "Alphabetic", "Alpha", "Any", "Assigned", "Bidi_Control",
+    "Bidi_C", "Bidi_Mirrored", "Bidi_M", "Case_Ignorable", "CI", "Cased",
+    "Changes_When_Casefolded", "CWCF", "Changes_When_Casemapped", "CWCM",
+    "Changes_When_Lowercased", "CWL", "Changes_When_Titlecased", "CWT", "Changes_When_Uppercased",
+    "CWU", "Dash", "Default_Ignorable_Code_Point", "DI", "Deprecated", "Dep", "Diacritic", "Dia",
+    "Emoji", "Emoji_Component", "EComp", "Emoji_Modifier", "EMod", "Emoji_Modifier_Base", "EBase",
+    "Emoji_Presentation", "EPres", "Extended_Pictographic", "ExtPict", "Extender", "Ext",
+    "Grapheme_Base", "Gr_Base", "Grapheme_Extend", "Gr_Ext", "Hex_Digit", "Hex",
+    "IDS_Binary_Operator", "IDSB", "IDS_Trinary_Operator", "IDST", "ID_Continue", "IDC",
+    "ID_Start", "IDS", "Ideographic", "Ideo", "Join_Control", "Join_C", "Logical_Order_Exception",
+    "LOE", "Lowercase", "Lower", "Math", "Noncharacter_Code_Point", "NChar", "Pattern_Syntax",
+    "Pat_Syn", "Pattern_White_Space", "Pat_WS", "Quotation_Mark", "QMark", "Radical",
+    "Regional_Indicator", "RI", "Sentence_Terminal", "STerm", "Soft_Dotted", "SD",
+    "Terminal_Punctuation", "Term", "Unified_Ideograph", "UIdeo", "Uppercase", "Upper",
+    "Variation_Selector", "VS", "White_Space", "space", "XID_Continue", "XIDC", "XID_Start",
+    "XIDS",
+];
+
+#[rattlefmt::skip]
+pub(crate) static BINARY_PROPERTIES: [Property; 96] = [
+    Property::Ascii, Property::Binary(BinaryProperty::AsciiHexDigit),
+    Property::Binary(BinaryProperty::AsciiHexDigit), Property::Binary(BinaryProperty::Alphabetic),
+    Property::Binary(BinaryProperty::Alphabetic), Property::Any, Property::Assigned,
+    Property::Binary(BinaryProperty::BidiControl), Property::Binary(BinaryProperty::BidiControl),
+    Property::Binary(BinaryProperty::BidiMirrored),
+    Property::Binary(BinaryProperty::BidiMirrored),
+    Property::Binary(BinaryProperty::CaseIgnorable),
+    Property::Binary(BinaryProperty::CaseIgnorable), Property::Binary(BinaryProperty::Cased),
+    Property::Binary(BinaryProperty::ChangesWhenCasefolded),
+    Property::Binary(BinaryProperty::ChangesWhenCasefolded),
+    Property::Binary(BinaryProperty::ChangesWhenCasemapped),
+    Property::Binary(BinaryProperty::ChangesWhenCasemapped),
+    Property::Binary(BinaryProperty::ChangesWhenLowercased),
+    Property::Binary(BinaryProperty::ChangesWhenLowercased),
+    Property::Binary(BinaryProperty::ChangesWhenTitlecased),
+    Property::Binary(BinaryProperty::ChangesWhenTitlecased),
+    Property::Binary(BinaryProperty::ChangesWhenUppercased),
+    Property::Binary(BinaryProperty::ChangesWhenUppercased),
+    Property::Binary(BinaryProperty::Dash),
+    Property::Binary(BinaryProperty::DefaultIgnorableCodePoint),
+    Property::Binary(BinaryProperty::DefaultIgnorableCodePoint),
+    Property::Binary(BinaryProperty::Deprecated), Property::Binary(BinaryProperty::Deprecated),
+    Property::Binary(BinaryProperty::Diacritic), Property::Binary(BinaryProperty::Diacritic),
+    Property::Binary(BinaryProperty::Emoji), Property::Binary(BinaryProperty::EmojiComponent),
+    Property::Binary(BinaryProperty::EmojiComponent),
+    Property::Binary(BinaryProperty::EmojiModifier),
+    Property::Binary(BinaryProperty::EmojiModifier),
+    Property::Binary(BinaryProperty::EmojiModifierBase),
+    Property::Binary(BinaryProperty::EmojiModifierBase),
+    Property::Binary(BinaryProperty::EmojiPresentation),
+    Property::Binary(BinaryProperty::EmojiPresentation),
+    Property::Binary(BinaryProperty::ExtendedPictographic),
+    Property::Binary(BinaryProperty::ExtendedPictographic),
+    Property::Binary(BinaryProperty::Extender), Property::Binary(BinaryProperty::Extender),
+    Property::Binary(BinaryProperty::GraphemeBase),
+    Property::Binary(BinaryProperty::GraphemeBase),
+    Property::Binary(BinaryProperty::GraphemeExtend),
+    Property::Binary(BinaryProperty::GraphemeExtend), Property::Binary(BinaryProperty::HexDigit),
+    Property::Binary(BinaryProperty::HexDigit),
+    Property::Binary(BinaryProperty::IdsBinaryOperator),
+    Property::Binary(BinaryProperty::IdsBinaryOperator),
+    Property::Binary(BinaryProperty::IdsTrinaryOperator),
+    Property::Binary(BinaryProperty::IdsTrinaryOperator),
+    Property::Binary(BinaryProperty::IdContinue), Property::Binary(BinaryProperty::IdContinue),
+    Property::Binary(BinaryProperty::IdStart), Property::Binary(BinaryProperty::IdStart),
+    Property::Binary(BinaryProperty::Ideographic), Property::Binary(BinaryProperty::Ideographic),
+    Property::Binary(BinaryProperty::JoinControl), Property::Binary(BinaryProperty::JoinControl),
+    Property::Binary(BinaryProperty::LogicalOrderException),
+    Property::Binary(BinaryProperty::LogicalOrderException),
+    Property::Binary(BinaryProperty::Lowercase), Property::Binary(BinaryProperty::Lowercase),
+    Property::Binary(BinaryProperty::Math),
+    Property::Binary(BinaryProperty::NoncharacterCodePoint),
+    Property::Binary(BinaryProperty::NoncharacterCodePoint),
+    Property::Binary(BinaryProperty::PatternSyntax),
+    Property::Binary(BinaryProperty::PatternSyntax),
+    Property::Binary(BinaryProperty::PatternWhiteSpace),
+    Property::Binary(BinaryProperty::PatternWhiteSpace),
+    Property::Binary(BinaryProperty::QuotationMark),
+    Property::Binary(BinaryProperty::QuotationMark), Property::Binary(BinaryProperty::Radical),
+    Property::Binary(BinaryProperty::RegionalIndicator),
+    Property::Binary(BinaryProperty::RegionalIndicator),
+    Property::Binary(BinaryProperty::SentenceTerminal),
+    Property::Binary(BinaryProperty::SentenceTerminal),
+    Property::Binary(BinaryProperty::SoftDotted), Property::Binary(BinaryProperty::SoftDotted),
+    Property::Binary(BinaryProperty::TerminalPunctuation),
+    Property::Binary(BinaryProperty::TerminalPunctuation),
+    Property::Binary(BinaryProperty::UnifiedIdeograph),
+    Property::Binary(BinaryProperty::UnifiedIdeograph),
+    Property::Binary(BinaryProperty::Uppercase), Property::Binary(BinaryProperty::Uppercase),
+    Property::Binary(BinaryProperty::VariationSelector),
+    Property::Binary(BinaryProperty::VariationSelector),
+    Property::Binary(BinaryProperty::WhiteSpace), Property::Binary(BinaryProperty::WhiteSpace),
+    Property::Binary(BinaryProperty::XidContinue), Property::Binary(BinaryProperty::XidContinue),
+    Property::Binary(BinaryProperty::XidStart), Property::Binary(BinaryProperty::XidStart),
 ];

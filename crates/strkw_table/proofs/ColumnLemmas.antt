@@ -1,6 +1,11 @@
 -- Columns, one more at a time; and that what compiled columns say is what their schema objects mean.
 use Rattle.std.proofs.Common.{◌≡◌, ◌++◌, ◌+◌, ◌∷◌, ◌∙◌, ℕ, List, [], length, take, refl, sym, ap, subst, arith, slice_get, map, take_all, inl, inr}
-use Rattle.std.specs.Prelude.{zero, suc, Bool, true, false, Option, Some, None, IfSome, is_some}
+use Rattle.std.proofs.Common.{true≢false}
+use Rattle.std.proofs.lemmas.Bool.{cases_Bool}
+use Rattle.std.proofs.lemmas.Option.{slice_get-map}
+use Rattle.std.proofs.lemmas.Str.{IsUtf8-from_is_utf8, is_utf8-from_IsUtf8}
+use Rattle.std.specs.Prelude.{zero, suc, Bool, true, false, Option, Some, None, IfSome, is_some, option_map}
+use Rattle.std.specs.Str.{IsUtf8, is_utf8}
 use Rattle.serde_json.specs.Data.{Members}
 use Rattle.csv.specs.Records.{field_at}
 use Rattle.strkw_report.specs.Kinds.{Report}
@@ -18,7 +23,7 @@ use Rattle.strkw_plan.specs.Compiled.{IsCompiledFor}
 use Rattle.strkw_plan.specs.Own.{object_says, skips_empty}
 use Rattle.strkw_table.specs.declared.compiled_object.CompiledObject.{CompiledObject}
 use Rattle.strkw_table.specs.Fields.{ErrorsUnless, FieldErrors, Form, MessagesOf, are_checked, is_checked, is_passed_over, schema_named}
-use Rattle.strkw_table.specs.Broken.{IsBroken}
+use Rattle.strkw_table.specs.Broken.{IsBroken, IsBrokenAt}
 use Rattle.strkw_table.specs.Columns.{AreColumns, ColumnMessages, CompiledErrors, IsObjectFor, IsUsable, checked_of, object_of}
 
 -- the names up to a place, and the name at it
@@ -40,6 +45,28 @@ unfolding field_at
 take-none [] n e = take_all n [] (omega arith)
 take-none (x ∷ xs) zero e = cc e
 take-none (x ∷ xs) (suc n) e = ap (λ l. x ∷ l) (take-none xs n e)
+
+-- a broken field stands where the field and its column do
+broken_there : (checked : List Bool) (fields : List (List ℕ)) (at : ℕ) (is_checked : Bool) (field : List ℕ) → slice_get checked at ≡ Some is_checked
+    → field_at fields at ≡ Some field → IsBroken is_checked field → IsBrokenAt checked fields at
+broken_there checked fields at true field asked stands broken = record { field = field; stands = stands; asked = asked; broken = broken }
+broken_there checked fields at false field asked stands broken = absurd broken
+
+-- where no field of a record is broken, that of a column is not
+pub not_broken : {E : Type 0} (columns : List (SchemaColumn E)) (fields : List (List ℕ)) (at : ℕ) (column : SchemaColumn E) (field : List ℕ)
+    → slice_get columns at ≡ Some column → field_at fields at ≡ Some field → ((other : ℕ) → IsBrokenAt (checked_of columns) fields other → ⊥)
+    → IsBroken (is_some (object_of column)) field → ⊥
+not_broken columns fields at column field here there whole broken =
+    let asked : slice_get (checked_of columns) at ≡ Some (is_some (object_of column)) =
+    slice_get-map (λ c. is_some (object_of c)) columns at ∙ ap (option_map (λ c. is_some (object_of c))) here in
+    whole at (broken_there (checked_of columns) fields at (is_some (object_of column)) field asked there broken)
+
+-- a field that is not broken, of a column that is checked, is a text
+pub is_text : (field : List ℕ) → (IsBroken true field → ⊥) → IsUtf8 field
+is_text field whole = elim (cases_Bool (is_utf8 field)) [
+  | inl is ↦ IsUtf8-from_is_utf8 field is
+  | inr other ↦ absurd (whole (λ text. true≢false (sym (is_utf8-from_IsUtf8 field text) ∙ other)))
+]
 
 -- errors that are meant one way are meant another, where those that are not passed over are
 errors_unless : (b c : Bool) (AreMeant AreToo : List Report → Type 0) (reports : List Report) → b ≡ c → (AreMeant reports → AreToo reports)

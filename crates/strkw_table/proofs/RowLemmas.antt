@@ -14,7 +14,8 @@ use Rattle.strkw_records.specs.Delimiters.{table_config}
 use Rattle.strkw_records.specs.declared.limits.Limits.{Limits}
 use Rattle.strkw_records.specs.Records.{AreLinedRecords, LinedRecord, TakesRecord}
 use Rattle.strkw_table.specs.declared.reading.BrokenField.{BrokenField}
-use Rattle.strkw_table.specs.Broken.{IsBrokenAt}
+use Rattle.strkw_table.specs.declared.reading.BrokenField.TheVariants as on_broken
+use Rattle.strkw_table.specs.Broken.{AreWhole, IsBrokenAt}
 use Rattle.strkw_table.specs.Rows.{AreFirstRecords, HasShape, HaveShape, OfField, OfFirst, OfRecord, OfRecords}
 
 -- what is written and what is left, of what was gathered and more
@@ -76,6 +77,12 @@ module _ (broken : BrokenField) (limits : Limits) (checked : List Bool) where
   unfolding HaveShape
   have_shape-more [] r have one = (one, tt)
   have_shape-more (first ∷ records) r have one = (have.0, have_shape-more records r have.1 one)
+
+-- where no field is broken, there is none that would end the check
+pub are_whole : (broken : BrokenField) (checked : List Bool) (fields : List (List ℕ)) → AreWhole on_broken.EndsCheck checked fields
+    → AreWhole broken checked fields
+are_whole on_broken.EndsCheck checked fields whole = whole
+are_whole on_broken.IsError checked fields whole = tt
 
 -- one field more is not broken
 pub none_broken-more : (checked : List Bool) (fields : List (List ℕ)) (n : ℕ) (found : Bool) → found ≡ false

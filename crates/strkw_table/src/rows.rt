@@ -12,6 +12,7 @@ ghost use Rattle.strkw_records.specs.Delimiters.{table_config};
 ghost use Rattle.strkw_records.specs.Reading.{delimiter_of, limits_of};
 ghost use Rattle.strkw_records.specs.Records.{AreLinedRecords, LinedRecord, TakesRecord};
 ghost use Rattle.strkw_table.specs.Ahead.{IsLeft};
+ghost use Rattle.strkw_table.specs.declared.reading.BrokenField.TheVariants.{EndsCheck};
 ghost use Rattle.strkw_table.specs.Broken.{AreWhole, IsBrokenAt, IsFirstBroken};
 ghost use Rattle.strkw_table.specs.Columns.{AreUsable, ColumnMessages, checked_of};
 ghost use Rattle.strkw_table.specs.Faults.{IsNoPlanFault, IsUnexplained, IsWhyBroken, IsWhyOfNext, IsWhyOfRows};
@@ -50,32 +51,43 @@ pub trait Watch {
     fn at(&mut self, checked: Checked);
 }
 
+// A record that is to be checked.
+#[derive(Clone, Copy)]
+struct Row<'a> {
+    // The line on which it begins.
+    line: u64,
+    fields: &'a ByteRecord,
+    // Whether it is known that no field of it is broken.
+    is_whole: bool,
+}
+
 // Appends the messages about the field at a place, and answers how many they are.
 fn check_field<E: RegexEngine, F: FieldForm>(
     alloc: Global,
     columns: &[SchemaColumn<'_, E>],
     checks: &Checks<'_>,
     form: &F,
-    line: u64,
-    row: &ByteRecord,
+    row: &Row<'_>,
     at: usize,
     out: &mut String,
 ) -> Result<u64, AllocError>
-    requires { let lists = lists_of admits accepted encoded decoding checks.now in
+    requires usable { let lists = lists_of admits accepted encoded decoding checks.now in
         AreUsable E.outcome lists columns.now }
+    requires whole { row.now.is_whole ≡ true
+        → AreWhole EndsCheck (checked_of columns.now) (fields_of row.now.fields.now) }
     ensures { let lists = lists_of admits accepted encoded decoding checks.now in
         IfOk result (λ count. Appended
-        (OfField (ColumnMessages (F.writes form.now) E.outcome lists) line
-        (field_at (fields_of row.now) at) (slice_get columns.now at))
+        (OfField (ColumnMessages (F.writes form.now) E.outcome lists) row.now.line
+        (field_at (fields_of row.now.fields.now) at) (slice_get columns.now at))
         count (string_bytes out.old) (string_bytes out.new)) }
 {
-    let Some(field) = row.get(at) else {
+    let Some(field) = row.fields.get(at) else {
         return Ok(0);
     };
     let Some(column) = columns.get(at) else {
         return Ok(0);
     };
-    column.push_messages(alloc, checks, form, line, field, out)
+    column.push_messages(alloc, checks, form, row.line, field, row.is_whole, out)
 }
 
 // Appends the messages about a record, and answers how many they are.
@@ -84,22 +96,23 @@ fn check_record<E: RegexEngine, F: FieldForm>(
     columns: &[SchemaColumn<'_, E>],
     checks: &Checks<'_>,
     form: &F,
-    line: u64,
-    row: &ByteRecord,
+    row: &Row<'_>,
     out: &mut String,
 ) -> Result<u64, TableFault>
-    requires { let lists = lists_of admits accepted encoded decoding checks.now in
+    requires usable { let lists = lists_of admits accepted encoded decoding checks.now in
         AreUsable E.outcome lists columns.now }
+    requires whole { row.now.is_whole ≡ true
+        → AreWhole EndsCheck (checked_of columns.now) (fields_of row.now.fields.now) }
     ensures why { IfErr result IsUnexplained }
     ensures messages { let lists = lists_of admits accepted encoded decoding checks.now in
         IfOk result (λ count. Appended
-        (OfRecord (ColumnMessages (F.writes form.now) E.outcome lists) columns.now line
-        (fields_of row.now))
+        (OfRecord (ColumnMessages (F.writes form.now) E.outcome lists) columns.now row.now.line
+        (fields_of row.now.fields.now))
         count (string_bytes out.old) (string_bytes out.new)) }
 {
     let mut count = 0u64;
     for at in 0..columns.len() {
-        let more = check_field(alloc, columns, checks, form, line, row, at, out)?;
+        let more = check_field(alloc, columns, checks, form, row, at, out)?;
         count = count.checked_add(more).ok_or(TableFault::TooLong)?;
     }
     Ok(count)
@@ -135,24 +148,26 @@ fn first_broken<E>(columns: &[SchemaColumn<'_, E>], row: &ByteRecord) -> Option<
     None
 }
 
-// Refuses a record with a broken field, where such a field ends the check.
+// Whether no field of a record is broken. Refuses one with such a field, where it ends the check.
 fn require_whole<E>(
     columns: &[SchemaColumn<'_, E>],
     broken: BrokenField,
     line: u64,
     row: &ByteRecord,
-) -> Result<(), TableFault>
+) -> Result<bool, TableFault>
     ensures whole { OnOk result
         (AreWhole broken (checked_of columns.now) (fields_of row.now)) }
+    ensures known { IfOk result (λ is_whole. is_whole ≡ true
+        → AreWhole EndsCheck (checked_of columns.now) (fields_of row.now)) }
     ensures why { IfErr result
         (IsWhyBroken broken (checked_of columns.now) line (fields_of row.now)) }
 {
-    if broken == BrokenField::IsError {
-        return Ok(());
-    }
-    match first_broken(columns, row) {
-        Some(field) => Err(TableFault::Record(ReadFault::NotUtf8 { line, field })),
-        None => Ok(()),
+    let Some(field) = first_broken(columns, row) else {
+        return Ok(true);
+    };
+    match broken {
+        BrokenField::EndsCheck => Err(TableFault::Record(ReadFault::NotUtf8 { line, field })),
+        BrokenField::IsError => Ok(false),
     }
 }
 
@@ -197,16 +212,21 @@ fn check_next<E: RegexEngine, R: Read, F: FieldForm>(
     let Some(line) = records.take()? else {
         return Ok(None);
     };
-    let row = &records.row;
-    if row.len() != columns.len() {
+    let fields = &records.row;
+    if fields.len() != columns.len() {
         return Err(TableFault::Fields {
             line,
             expected: columns.len(),
-            found: row.len(),
+            found: fields.len(),
         });
     }
-    require_whole(columns, broken, line, row)?;
-    let count = check_record(alloc, columns, checks, form, line, row, out)?;
+    let is_whole = require_whole(columns, broken, line, fields)?;
+    let row = Row {
+        line,
+        fields,
+        is_whole,
+    };
+    let count = check_record(alloc, columns, checks, form, &row, out)?;
     Ok(Some(count))
 }
 

@@ -1,6 +1,8 @@
 //! A column whose fields are checked by a schema object.
 
 ghost use Rattle.std.specs.Prelude.{◌≡◌, ◌↔◌, IfOk, is_some, string_bytes, true};
+ghost use Rattle.std.specs.Option.{MatchOption};
+ghost use Rattle.std.specs.Str.{IsUtf8};
 ghost use Rattle.strkw_keywords.specs.Handed.{lists_of};
 ghost use Rattle.strkw_table.specs.Broken.{IsBroken};
 ghost use Rattle.strkw_table.specs.Columns.{ColumnMessages, IsUsable, object_of};
@@ -31,7 +33,8 @@ impl<E> SchemaColumn<'_, E> {
 
 impl<E: RegexEngine> SchemaColumn<'_, E> {
     /// Appends the messages in a form about a field of the column, in a record that begins on this line, and answers
-    /// how many they are. Where the column is checked the field is to be UTF-8. The only error is out of memory.
+    /// how many they are. Where the column is checked the field is to be UTF-8, which a caller may know. The only error
+    /// is out of memory.
     pub fn push_messages<F: FieldForm>(
         &self,
         alloc: Global,
@@ -39,10 +42,12 @@ impl<E: RegexEngine> SchemaColumn<'_, E> {
         form: &F,
         line: u64,
         field: &[u8],
+        is_whole: bool,
         out: &mut String,
     ) -> Result<u64, AllocError>
-        requires { let lists = lists_of admits accepted encoded decoding checks.now in
+        requires usable { let lists = lists_of admits accepted encoded decoding checks.now in
             IsUsable E.outcome lists self.now }
+        requires whole { is_whole ≡ true → IsBroken (is_some (object_of self.now)) field.now → ⊥ }
         ensures { let lists = lists_of admits accepted encoded decoding checks.now in
             IfOk result (λ count. Appended
             (ColumnMessages (F.writes form.now) E.outcome lists self.now line field.now)
@@ -51,7 +56,7 @@ impl<E: RegexEngine> SchemaColumn<'_, E> {
         let Some(object) = self.object else {
             return Ok(0);
         };
-        let Ok(text) = str::from_utf8(field) else {
+        let Some(text) = text_of(field, is_whole) else {
             form.push_broken(alloc, line, self.name, out)?;
             return Ok(1);
         };
@@ -65,4 +70,17 @@ impl<E: RegexEngine> SchemaColumn<'_, E> {
         };
         push_messages_as(alloc, &object.keywords, checks, &at, &text, out)
     }
+}
+
+// The text that a field is, or `None` where it is not UTF-8. Where it is known to be, the field is not read.
+#[inline(always)]
+fn text_of(field: &[u8], is_whole: bool) -> Option<&str>
+    requires { is_whole ≡ true → IsUtf8 field.now }
+    ensures { MatchOption result (IsUtf8 field.now → ⊥)
+        (λ text. (text.now ≡ field.now) × IsUtf8 field.now) }
+{
+    if is_whole {
+        return Some(unsafe { str::from_utf8_unchecked(field) });
+    }
+    str::from_utf8(field).ok()
 }

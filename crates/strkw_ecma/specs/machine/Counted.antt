@@ -4,6 +4,7 @@ use Rattle.std.specs.Prelude.{◌≡◌, ℕ, ◌+◌, ◌*◌, ◌≤◌, Bool,
 use Rattle.std.specs.Prelude.{Option, Some, None, if◌then◌else◌}
 use Rattle.strkw_ecma.specs.Tree.{Pattern}
 use Rattle.strkw_ecma.specs.Front.{Part}
+use Rattle.strkw_ecma.specs.Mirror.{sought, sought_in}
 use Rattle.strkw_ecma.specs.machine.Marks.{marks_of}
 use Rattle.strkw_ecma.specs.machine.Search.{search_from}
 use Rattle.strkw_ecma.specs.Program.{Instruction, program}
@@ -70,4 +71,5 @@ pub record IsSearchedWithin (most : ℕ) (p : Pattern) (text : List ℕ) : Type 
 abbrev pub AreSearchedWithin : ℕ → List Part → List ℕ → Type 0
 AreSearchedWithin most [] text = Unit {0}
 AreSearchedWithin most (x ∷ xs) text = (one : ℕ) × (others : ℕ) × (one + others ≤ most)
-    × IsSearchedWithin one x.pattern text × AreSearchedWithin others xs text
+    × IsSearchedWithin one (sought x.pattern) (sought_in x.pattern text)
+    × AreSearchedWithin others xs text

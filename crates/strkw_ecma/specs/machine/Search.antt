@@ -2,6 +2,7 @@
 use Rattle.std.specs.Prelude.{ℕ, Bool, true, ◌||◌, ◌&&◌, List, [], ◌∷◌, Option, Some, None}
 use Rattle.strkw_ecma.specs.Tree.{Pattern, differ}
 use Rattle.strkw_ecma.specs.Front.{Part}
+use Rattle.strkw_ecma.specs.Mirror.{sought, sought_in}
 use Rattle.strkw_ecma.specs.machine.Marks.{leaves, step, is_clean}
 
 -- whether the pattern is found in the rest of a text, behind the character `last`
@@ -10,13 +11,16 @@ search_from p last [] = leaves last None p true
 search_from p last (c ∷ cs) = leaves last (Some c) p true
     || search_from (step last (Some c) p true) (Some c) cs
 
+-- whether the pattern is found in the text, searched along it or from its end on
+abbrev pub search : Pattern → List ℕ → Bool
+search p text = search_from (sought p) None (sought_in p text)
+
 -- whether each part is found in the text, or is not, as it is to be
 abbrev pub are_parts_found : List Part → List ℕ → Bool
 are_parts_found [] text = true
-are_parts_found (x ∷ xs) text =
-    differ x.negated (search_from x.pattern None text) && are_parts_found xs text
+are_parts_found (x ∷ xs) text = differ x.negated (search x.pattern text) && are_parts_found xs text
 
--- no class of a part bears a mark
+-- no class of what is looked for bears a mark
 abbrev pub are_parts_clean : List Part → Bool
 are_parts_clean [] = true
-are_parts_clean (x ∷ xs) = is_clean x.pattern && are_parts_clean xs
+are_parts_clean (x ∷ xs) = is_clean (sought x.pattern) && are_parts_clean xs

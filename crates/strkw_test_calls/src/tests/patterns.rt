@@ -199,7 +199,7 @@ const REFUSALS: &[Refused] = &[
         why: None,
     },
     Refused {
-        pattern: "^(a|b)*(?=cd)",
+        pattern: "^(a|b)*(?<=ab)(?=cd)",
         why: Some(PatternRefusal::LookAhead),
     },
     Refused {

@@ -1,18 +1,16 @@
 use Rattle.std.proofs.Common.{◌≡◌, ◌≤◌, ◌++◌, true, length}
-use Rattle.strkw_ecma.specs.Front.{steps_of_parts, are_parts_told}
 use Rattle.strkw_ecma.specs.Size.{max_steps}
-use Rattle.strkw_ecma.specs.machine.Engine.{finder_parts}
-use Rattle.strkw_ecma.specs.machine.Fronts.{parts_view}
-use Rattle.strkw_ecma.specs.machine.Search.{are_parts_clean}
+use Rattle.strkw_ecma.specs.machine.Engine.{finder_passes}
+use Rattle.strkw_ecma.specs.machine.Passes.{are_passes_clean, are_passes_told, steps_of_passes, passes_of}
 use Rattle.strkw_ecma.proofs.engine.finders_of.Given as goal
 
-abbrev pub invariant-parts : goal.invariant-parts
-invariant-parts l = record {
-  made : finder_parts l.finders.items ++ parts_view l.left.items ≡ parts_view l.fn.parts.items;
-  clean : are_parts_clean (parts_view l.left.items) ≡ true;
-  small : steps_of_parts (parts_view l.left.items) ≤ max_steps;
-  told : are_parts_told (parts_view l.left.items) ≡ true;
+abbrev pub invariant-passes : goal.invariant-passes
+invariant-passes l = record {
+  made : finder_passes l.finders.items ++ passes_of l.left.items ≡ passes_of l.fn.passes.items;
+  clean : are_passes_clean (passes_of l.left.items) ≡ true;
+  small : steps_of_passes (passes_of l.left.items) ≤ max_steps;
+  told : are_passes_told (passes_of l.left.items) ≡ true;
 }
 
-abbrev pub decreases-parts : goal.decreases-parts
-decreases-parts l = length l.left.items
+abbrev pub decreases-passes : goal.decreases-passes
+decreases-passes l = length l.left.items

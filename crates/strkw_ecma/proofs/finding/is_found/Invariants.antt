@@ -1,15 +1,19 @@
-use Rattle.std.proofs.Common.{◌≡◌, ◌↔◌, length}
+use Rattle.std.proofs.Common.{◌≡◌, length, None}
 use Rattle.std.specs.Str.{chars}
-use Rattle.strkw_ecma.specs.Meaning.{Found, before}
-use Rattle.strkw_ecma.specs.machine.Marks.{Kept, Later, marked}
+use Rattle.strkw_ecma.specs.Mirror.{along}
+use Rattle.strkw_ecma.specs.machine.Along.{left_of}
+use Rattle.strkw_ecma.specs.machine.Marks.{marked}
 use Rattle.strkw_ecma.specs.machine.Machine.{pattern_of}
+use Rattle.strkw_ecma.specs.machine.Search.{search_from}
 use Rattle.strkw_ecma.proofs.finding.is_found.Given as goal
 
--- the matches that are under way or begin later are those that are looked for
-abbrev pub invariant-loop-c : goal.invariant-loop-c
-invariant-loop-c l = record {
-  last : l.last ≡ before (chars l.text) (length l.yielded);
+-- the search of what is left comes to what that of the text does
+abbrev pub invariant-characters : goal.invariant-characters
+invariant-characters l = record {
   long : length l.marks ≡ 2600;
-  kept : Kept (chars l.text) (marked l.marks (pattern_of l.program)) (length l.yielded);
-  later : Later (chars l.text) (marked l.marks (pattern_of l.program)) (length l.yielded) ↔ Found (pattern_of l.program) (chars l.text);
+  so_far : search_from (marked l.marks (pattern_of l.program)) l.last (left_of l.left)
+      ≡ search_from (pattern_of l.program) None (along l.is_backward (chars l.text));
 }
+
+abbrev pub decreases-characters : goal.decreases-characters
+decreases-characters l = length (left_of l.left)

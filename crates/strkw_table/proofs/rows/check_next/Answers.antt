@@ -25,21 +25,21 @@ returns-in_err-line-clause-fault g c place text left =
     (λ why. why_of_read c.args.broken (delimiter_of reader) (limits_of reader) (checked_of c.args.columns.now) place text e why
     (c.in_err-line.ensures.fault place text left)) gives
 
-pub returns-in_err-require_whole-clause-why : goal.returns-in_err-require_whole-clause-why
-returns-in_err-require_whole-clause-why g c =
-    let why = c.in_err-require_whole.field-0.0 in
-    let told : c.from_residual-in_err-require_whole.result ≡ Err why = search rules in
+pub returns-in_err-is_whole-clause-why : goal.returns-in_err-is_whole-clause-why
+returns-in_err-is_whole-clause-why g c =
+    let why = c.in_err-is_whole.field-0.0 in
+    let told : c.from_residual-in_err-is_whole.result ≡ Err why = search rules in
     rw told (no_plan_of_broken c.args.broken (checked_of c.args.columns.now) c.in-Some.line (fields_of c.take.new.self.row) why
-    c.in_err-require_whole.ensures.why)
+    c.in_err-is_whole.ensures.why)
 
-pub returns-in_err-require_whole-clause-fault : goal.returns-in_err-require_whole-clause-fault
-returns-in_err-require_whole-clause-fault g c place text left =
-    let why = c.in_err-require_whole.field-0.0 in
+pub returns-in_err-is_whole-clause-fault : goal.returns-in_err-is_whole-clause-fault
+returns-in_err-is_whole-clause-fault g c place text left =
+    let why = c.in_err-is_whole.field-0.0 in
     let reader = c.args.records.now.reader in
-    let told : c.from_residual-in_err-require_whole.result ≡ Err why = search rules in
+    let told : c.from_residual-in_err-is_whole.result ≡ Err why = search rules in
     let (behind, rest, takes, within, leaves) = rw c.in-Some.is at (c.in_ok-line.ensures.record place text left) in
     rw told (why_of_broken c.args.broken (delimiter_of reader) (limits_of reader) (checked_of c.args.columns.now) place text c.in-Some.line
-    (fields_of c.take.new.self.row) behind rest why takes c.in_err-require_whole.ensures.why)
+    (fields_of c.take.new.self.row) behind rest why takes c.in_err-is_whole.ensures.why)
 
 pub returns-in_err-count-clause-why : goal.returns-in_err-count-clause-why
 returns-in_err-count-clause-why g c =
@@ -60,7 +60,7 @@ returns-clause-record g c place text left =
     let wide : length (fields_of c.take.new.self.row) ≡ length c.args.columns.now = search rules in
     let same = sym (length-map c.args.columns.now (λ column. is_some (object_of column))) in
     let (behind, rest, takes, within, leaves) = rw c.in-Some.is at (c.in_ok-line.ensures.record place text left) in
-    (c.in-Some.line, behind, rest, takes, leaves, (wide ∙ same, within, c.in_ok-require_whole.ensures.whole), c.in_ok-count.ensures.messages)
+    (c.in-Some.line, behind, rest, takes, leaves, (wide ∙ same, within, c.in_ok-is_whole.ensures.whole), c.in_ok-count.ensures.messages)
 
 pub returns-then-len-columns-clause-fault : goal.returns-then-len-columns-clause-fault
 returns-then-len-columns-clause-fault g c place text left =

@@ -11,7 +11,7 @@ loop-at-init g c =
     let lists = lists_of (λ b. (goal.Format-dyn g b).admits b.1) (λ b. (goal.MediaTypeCheck-dyn g b).accepted b.1)
     (λ b. (goal.ContentCodec-dyn g b).encoded b.1) (λ b. (goal.ContentCodec-dyn g b).decoding b.1) c.args.checks.now in
     let says = ColumnMessages (g.F.FieldForm.writes c.args.form.now) g.E.RegexEngine.outcome lists in
-    ([], of_first-none says c.args.columns.now c.args.line (fields_of c.args.row.now), refl, sym (append-nil _))
+    ([], of_first-none says c.args.columns.now c.args.row.now.line (fields_of c.args.row.now.fields.now), refl, sym (append-nil _))
 
 pub loop-at-preserved : goal.loop-at-preserved
 loop-at-preserved g c =
@@ -22,7 +22,7 @@ loop-at-preserved g c =
     let (more, last, more_count, more_out) = c.in_ok-more.ensures in
     let sum : c.in_ok-count.count ≡ c.loop-at.count + c.in_ok-more.more = search rules in (
       messages ++ more,
-      of_first-more says c.args.columns.now c.args.line (fields_of c.args.row.now) c.loop-at.at messages more first last,
+      of_first-more says c.args.columns.now c.args.row.now.line (fields_of c.args.row.now.fields.now) c.loop-at.at messages more first last,
       rw (sum, count, more_count) (sym (length-append messages more)),
       joined (string_bytes c.args.out.now) (string_bytes c.loop-at.out) (string_bytes c.check_field.new.out) messages more out more_out,
     )

@@ -1,14 +1,18 @@
-use Rattle.std.proofs.Common.{◌≡◌, ◌^◌, ◌+◌, ◌≤◌, length, drop}
-use Rattle.std.specs.Str.{chars}
+use Rattle.std.proofs.Common.{◌≡◌, ◌^◌, ◌+◌, ◌≤◌, length}
+use Rattle.strkw_ecma.specs.machine.Along.{left_of}
 use Rattle.strkw_ecma.specs.machine.Columns.{column_of}
 use Rattle.strkw_ecma.specs.machine.Table.{walk}
 use Rattle.strkw_ecma.proofs.table.Table.is_found_from.Given as goal
 
 -- the walk over what is left
-abbrev pub invariant-loop-c : goal.invariant-loop-c
-invariant-loop-c l = record {
+abbrev pub invariant-characters : goal.invariant-characters
+invariant-characters l = record {
   near : l.row ≤ length l.self.entries.items + 2 ^ 16;
   so_far : walk (column_of l.self.columns.classes.items l.self.columns.keys.items) (length l.self.columns.keys.items) l.self.entries.items l.row
-      (drop (length l.yielded) (chars l.rest))
-      ≡ walk (column_of l.self.columns.classes.items l.self.columns.keys.items) (length l.self.columns.keys.items) l.self.entries.items l.fn.row (chars l.rest);
+      (left_of l.left)
+      ≡ walk (column_of l.self.columns.classes.items l.self.columns.keys.items) (length l.self.columns.keys.items) l.self.entries.items l.fn.row
+      (left_of l.fn.left);
 }
+
+abbrev pub decreases-characters : goal.decreases-characters
+decreases-characters l = length (left_of l.left)

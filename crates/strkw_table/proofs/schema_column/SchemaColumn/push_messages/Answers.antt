@@ -2,6 +2,7 @@ use Rattle.std.proofs.Common.{rules, ◌≡◌, None, Some, true, false, refl, s
 use Rattle.std.specs.Str.{IsUtf8}
 use Rattle.strkw_table.specs.Columns.{object_of}
 use Rattle.strkw_table.specs.Fields.{is_passed_over}
+use Rattle.strkw_table.proofs.ColumnLemmas.{is_text}
 use Rattle.strkw_table.proofs.MessageLemmas.{said_broken, said_errors, said_nothing}
 use Rattle.strkw_keywords.specs.Handed.{lists_of}
 use Rattle.strkw_table.proofs.schema_column.SchemaColumn.push_messages.Goals as goal
@@ -14,13 +15,18 @@ returns-in_default g c =
     said_nothing (g.F.FieldForm.writes c.args.form.now) g.E.RegexEngine.outcome lists c.args.self.now c.args.line c.args.field.now
     (string_bytes c.args.out.now) (rw none (λ b. b)) (rw none refl)
 
-pub returns-in_default-from_utf8 : goal.returns-in_default-from_utf8
-returns-in_default-from_utf8 g c =
+pub text_of-requires : goal.text_of-requires
+text_of-requires g c known =
+    let there : object_of c.args.self.now ≡ Some c.in-Some.object.now = search rules in
+    is_text c.args.field.now (rw there at (c.requires.whole known))
+
+pub returns-in_default-text_of : goal.returns-in_default-text_of
+returns-in_default-text_of g c =
     let lists = lists_of (λ b. (goal.Format-dyn g b).admits b.1) (λ b. (goal.MediaTypeCheck-dyn g b).accepted b.1)
     (λ b. (goal.ContentCodec-dyn g b).encoded b.1) (λ b. (goal.ContentCodec-dyn g b).decoding b.1) c.args.checks.now in
     let there : object_of c.args.self.now ≡ Some c.in-Some.object.now = search rules in
     said_broken (g.F.FieldForm.writes c.args.form.now) g.E.RegexEngine.outcome lists c.args.self.now c.args.line c.args.field.now
-    (string_bytes c.args.out.now) _ (rw there c.in_default-from_utf8.ensures.cases.0) c.in_ok-push_broken.ensures
+    (string_bytes c.args.out.now) _ (rw there c.in_default-text_of.ensures) c.in_ok-push_broken.ensures
 
 pub returns-then-passes_over : goal.returns-then-passes_over
 returns-then-passes_over g c =
@@ -41,4 +47,4 @@ returns g c =
     let whole : IsUtf8 c.args.field.now = search rules in
     said_errors (g.F.FieldForm.writes c.args.form.now) g.E.RegexEngine.outcome lists c.args.self.now c.args.line c.args.field.now
     (string_bytes c.args.out.now) _ c.in-Some.object.now _ there (rw there (λ b. b whole)) asked
-    (rw c.in-Ok.ensures.cases.0 at c.push_messages_as.ensures)
+    (rw c.in-Some-text_of.ensures.0 at c.push_messages_as.ensures)

@@ -1,9 +1,10 @@
 use Rattle.std.proofs.Common.{rules, ◌≡◌, ◌∷◌}
-use Rattle.strkw_c.proofs.offsets.strkw_nonnull_check_offsets.Goals as goal
+use Rattle.strkw_c.specs.Texts.{numbers}
+use Rattle.strkw_c.proofs.offsets.check_between.Goals as goal
 
 pub returns : goal.returns
 returns c =
-    let e : c.args.offsets.now ≡ c.in-Some.start.now ∷ c.in-Some.ends.now = search rules in
+    let e : numbers c.args.offsets.now ≡ c.in-Some.start ∷ numbers c.in-Some.ends = search rules in
     let told = c.check_from.ensures in
     rw e (record {
       known = told.status;

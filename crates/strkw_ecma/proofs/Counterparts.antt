@@ -1,0 +1,394 @@
+-- What is alike, and that a counted term may keep the order of its copies in a mirror.
+use Rattle.std.proofs.Common.{◌≡◌, ◌↔◌, ◌⊎◌, ℕ, zero, suc, ◌+◌, ◌-◌, Bool, true, false, ◌&&◌, ◌||◌, List, if◌then◌else◌, refl, sym, ap, subst, ◌∙◌, inl, inr}
+use Rattle.std.proofs.Common.{subst₂, Result, Ok, Err, IfOk, Box, Global, ⊎_elim, true≢false, arith}
+use Rattle.strkw_ecma.specs.Tree.{Pattern, empty, class, look, cat, alt, star, plus, lookbehind, lookahead}
+use Rattle.strkw_ecma.specs.Meaning.{Rounds, no_round, a_round, Matches}
+use Rattle.strkw_ecma.specs.Patterns.{Times, any_times, some_times, once_at_most, exact_times, least_times, range_times, repeated, quantified_pattern}
+use Rattle.strkw_ecma.specs.Program.{is_class, is_empty, alternatives}
+use Rattle.strkw_ecma.specs.Glances.{is_glance, are_told}
+use Rattle.strkw_ecma.specs.Size.{steps_of, steps}
+use Rattle.strkw_ecma.specs.Mirror.{mirror}
+use Rattle.strkw_ecma.specs.machine.Marks.{is_clean}
+use Rattle.strkw_ecma.specs.machine.Passes.{Alike}
+use Rattle.std.specs.declared.alloc.AllocError.{AllocError}
+use Rattle.strkw_ecma.specs.machine.Shape.{outlined, quantifier_of}
+use Rattle.strkw_ecma.specs.declared.outline.Quantifier.{Quantifier}
+use Rattle.strkw_ecma.specs.declared.outline.Outline.{Outline}
+use Rattle.strkw_ecma.specs.declared.outline.Outline.TheVariants.{Then, Or, Repeated, Behind, Ahead}
+use Rattle.strkw_ecma.proofs.Shapes.{outlined-Then, outlined-Or, outlined-Repeated, outlined-Behind, outlined-Ahead}
+use Rattle.strkw_ecma.proofs.Mirrors.{unless_same, first_of}
+use Rattle.strkw_ecma.proofs.Sizes.{cat_steps, alt_steps, beside_steps, star_steps, plus_steps, behind_steps, ahead_steps, glance_alt_steps}
+use Rattle.strkw_ecma.proofs.Steps.{and_left, and_right}
+
+-- each pattern is like itself
+pub alike_refl : (p : Pattern) → Alike p p
+alike_refl p = record {
+  meaning = λ text i j. (λ m. m, λ m. m);
+  nothing = refl;
+  class = refl;
+  sees = refl;
+  told = refl;
+  clean = refl;
+  steps = λ t. refl;
+  beside = λ t. refl;
+  glance_steps = λ g. refl;
+}
+
+-- and like all that what is like it is like
+pub alike_trans : (p q r : Pattern) → Alike p q → Alike q r → Alike p r
+alike_trans p q r u w = record {
+  meaning = λ text i j. (
+    λ m. (w.meaning text i j).0 ((u.meaning text i j).0 m),
+    λ m. (u.meaning text i j).1 ((w.meaning text i j).1 m),
+  );
+  nothing = u.nothing ∙ w.nothing;
+  class = u.class ∙ w.class;
+  sees = u.sees ∙ w.sees;
+  told = u.told ∙ w.told;
+  clean = u.clean ∙ w.clean;
+  steps = λ t. u.steps (w.told ∙ t) ∙ w.steps t;
+  beside = λ t. u.beside (w.told ∙ t) ∙ w.beside t;
+  glance_steps = λ g. u.glance_steps (w.sees ∙ g) ∙ w.glance_steps g;
+}
+
+-- both of two are the same where each is
+both_same : (a b c d : Bool) → a ≡ c → b ≡ d → (a && b) ≡ (c && d)
+both_same a b c d e f = ap (λ (x : Bool). x && b) e ∙ ap (λ (x : Bool). c && x) f
+
+-- patterns one behind the other
+pub alike_cat : (p q r s : Pattern) → Alike p r → Alike q s → Alike (cat p q) (cat r s)
+alike_cat p q r s u w =
+    let same : are_told (cat r s) ≡ true → steps (cat p q) ≡ steps (cat r s) =
+    λ t. omega (arith, cat_steps p q, cat_steps r s, u.steps (and_left _ _ t), w.steps (and_right (are_told r) _ t)) in
+    record {
+      meaning = λ text i j. (
+        λ m. (m.0, (u.meaning text i m.0).0 m.1, (w.meaning text m.0 j).0 m.2),
+        λ m. (m.0, (u.meaning text i m.0).1 m.1, (w.meaning text m.0 j).1 m.2),
+      );
+      nothing = refl;
+      class = refl;
+      sees = both_same _ _ _ _ u.nothing w.sees;
+      told = both_same _ _ _ _ u.told w.told;
+      clean = both_same _ _ _ _ u.clean w.clean;
+      steps = same;
+      beside = same;
+      glance_steps = λ g. w.glance_steps (and_right (is_empty r) _ g);
+    }
+
+-- of one class that may be missing, the steps are its own
+option_class : (p q : Pattern) → (is_empty p && is_class q) ≡ true → steps (alt p q) ≡ steps q
+option_class empty (class m n rs) h = refl
+option_class empty _ h = absurd (true≢false (sym h))
+option_class _ q h = absurd (true≢false (sym h))
+
+-- alternatives
+pub alike_alt : (p q r s : Pattern) → Alike p r → Alike q s → Alike (alt p q) (alt r s)
+alike_alt p q r s u w = record {
+  meaning = λ text i j. (
+    λ m. ⊎_elim (λ n. inl ((u.meaning text i j).0 n)) (λ n. inr ((w.meaning text i j).0 n)) m,
+    λ m. ⊎_elim (λ n. inl ((u.meaning text i j).1 n)) (λ n. inr ((w.meaning text i j).1 n)) m,
+  );
+  nothing = refl;
+  class = refl;
+  sees = both_same _ _ _ _ u.sees w.sees;
+  told = both_same _ _ _ _ u.told w.told;
+  clean = both_same _ _ _ _ u.clean w.clean;
+  steps = λ t. by_option (is_empty p && is_class q) refl (u.beside (and_left _ _ t)) (w.steps (and_right (are_told r) _ t));
+  beside = λ t. omega (arith, beside_steps p q, beside_steps r s, u.beside (and_left _ _ t), w.steps (and_right (are_told r) _ t));
+  glance_steps = λ g.
+      omega (arith, glance_alt_steps p q, glance_alt_steps r s, u.glance_steps (and_left _ _ g), w.glance_steps (and_right (is_glance r) _ g));
+}
+  where
+    -- by whether they are a class that may be missing
+    by_option : (b : Bool) → (is_empty p && is_class q) ≡ b → steps_of (alternatives p) ≡ steps_of (alternatives r) → steps q ≡ steps s → steps (alt p q) ≡ steps (alt r s)
+    by_option true e beside same = option_class p q e ∙ same ∙ sym (option_class r s (sym (both_same _ _ _ _ u.nothing w.class) ∙ e))
+    by_option false e beside same = omega (arith, alt_steps p q e, alt_steps r s (sym (both_same _ _ _ _ u.nothing w.class) ∙ e), beside, same)
+
+-- rounds of what leads from place to place as another does
+rounds_alike : (R S : ℕ → ℕ → Type 0) → ((i j : ℕ) → R i j → S i j) → (j i : ℕ) → Rounds R j i → Rounds S j i
+rounds_alike R S f j i (no_round _ e) = no_round i e
+rounds_alike R S f j i (a_round _ l m rs) = a_round i l (f i l m) (rounds_alike R S f j l rs)
+
+-- a class that is repeated takes its own steps
+star_class : (p : Pattern) → is_class p ≡ true → steps (star p) ≡ steps p
+star_class (class m n rs) h = refl
+star_class _ h = absurd (true≢false (sym h))
+
+plus_class : (p : Pattern) → is_class p ≡ true → steps (plus p) ≡ steps p
+plus_class (class m n rs) h = refl
+plus_class _ h = absurd (true≢false (sym h))
+
+-- what is repeated without end
+pub alike_star : (p r : Pattern) → Alike p r → Alike (star p) (star r)
+alike_star p r u = record {
+  meaning = λ text i j. (
+    rounds_alike (Matches text p) (Matches text r) (λ x y. (u.meaning text x y).0) j i,
+    rounds_alike (Matches text r) (Matches text p) (λ x y. (u.meaning text x y).1) j i,
+  );
+  nothing = refl;
+  class = refl;
+  sees = refl;
+  told = u.told;
+  clean = u.clean;
+  steps = λ t. by_class (is_class p) refl (u.steps t);
+  beside = λ t. by_class (is_class p) refl (u.steps t);
+  glance_steps = λ g. absurd (true≢false (sym g));
+}
+  where
+    by_class : (b : Bool) → is_class p ≡ b → steps p ≡ steps r → steps (star p) ≡ steps (star r)
+    by_class true e same = star_class p e ∙ same ∙ sym (star_class r (sym u.class ∙ e))
+    by_class false e same = omega (arith, star_steps p e, star_steps r (sym u.class ∙ e), same)
+
+pub alike_plus : (p r : Pattern) → Alike p r → Alike (plus p) (plus r)
+alike_plus p r u = record {
+  meaning = λ text i j. (
+    λ m. (m.0, (u.meaning text i m.0).0 m.1, rounds_alike (Matches text p) (Matches text r) (λ x y. (u.meaning text x y).0) j m.0 m.2),
+    λ m. (m.0, (u.meaning text i m.0).1 m.1, rounds_alike (Matches text r) (Matches text p) (λ x y. (u.meaning text x y).1) j m.0 m.2),
+  );
+  nothing = refl;
+  class = refl;
+  sees = refl;
+  told = u.told;
+  clean = u.clean;
+  steps = λ t. by_class (is_class p) refl (u.steps t);
+  beside = λ t. by_class (is_class p) refl (u.steps t);
+  glance_steps = λ g. absurd (true≢false (sym g));
+}
+  where
+    by_class : (b : Bool) → is_class p ≡ b → steps p ≡ steps r → steps (plus p) ≡ steps (plus r)
+    by_class true e same = plus_class p e ∙ same ∙ sym (plus_class r (sym u.class ∙ e))
+    by_class false e same = omega (arith, plus_steps p e, plus_steps r (sym u.class ∙ e), same)
+
+-- lookarounds
+pub alike_behind : (n : Bool) (p r : Pattern) → Alike p r → Alike (lookbehind n p) (lookbehind n r)
+alike_behind n p r u = record {
+  meaning = λ text i j. (
+    λ m. (unless_same n _ _ (λ a. (a.0, (u.meaning text a.0 i).0 a.1), λ a. (a.0, (u.meaning text a.0 i).1 a.1)) m.0, m.1),
+    λ m. (unless_same n _ _ (λ a. (a.0, (u.meaning text a.0 i).1 a.1), λ a. (a.0, (u.meaning text a.0 i).0 a.1)) m.0, m.1),
+  );
+  nothing = refl;
+  class = refl;
+  sees = refl;
+  told = u.told;
+  clean = u.clean;
+  steps = λ t. omega (arith, behind_steps n p, behind_steps n r, u.steps t);
+  beside = λ t. omega (arith, behind_steps n p, behind_steps n r, u.steps t);
+  glance_steps = λ g. absurd (true≢false (sym g));
+}
+
+pub alike_ahead : (n : Bool) (p r : Pattern) → Alike p r → Alike (lookahead n p) (lookahead n r)
+alike_ahead n p r u = record {
+  meaning = λ text i j. (
+    λ m. (unless_same n _ _ (λ a. (a.0, (u.meaning text i a.0).0 a.1), λ a. (a.0, (u.meaning text i a.0).1 a.1)) m.0, m.1),
+    λ m. (unless_same n _ _ (λ a. (a.0, (u.meaning text i a.0).1 a.1), λ a. (a.0, (u.meaning text i a.0).0 a.1)) m.0, m.1),
+  );
+  nothing = refl;
+  class = refl;
+  sees = u.sees;
+  told = u.sees;
+  clean = refl;
+  steps = λ t. omega (arith, ahead_steps n p, ahead_steps n r, u.glance_steps t);
+  beside = λ t. omega (arith, ahead_steps n p, ahead_steps n r, u.glance_steps t);
+  glance_steps = λ t. omega (arith, ahead_steps n p, ahead_steps n r, u.glance_steps t);
+}
+
+-- what is repeated
+alike_repeated : (n : ℕ) (p r : Pattern) → Alike p r → Alike (repeated n p) (repeated n r)
+alike_repeated zero p r u = alike_refl empty
+alike_repeated (suc n) p r u = alike_cat _ _ _ _ u (alike_repeated n p r u)
+
+alike_times : (t : Times) (p r : Pattern) → Alike p r → Alike (quantified_pattern t p) (quantified_pattern t r)
+alike_times any_times p r u = alike_star p r u
+alike_times some_times p r u = alike_plus p r u
+alike_times once_at_most p r u = alike_alt _ _ _ _ (alike_refl empty) u
+alike_times (exact_times n) p r u = alike_repeated n p r u
+alike_times (least_times n) p r u = alike_cat _ _ _ _ (alike_repeated n p r u) (alike_star p r u)
+alike_times (range_times n m) p r u =
+    alike_cat _ _ _ _ (alike_repeated n p r u) (alike_repeated (m - n) _ _ (alike_alt _ _ _ _ (alike_refl empty) u))
+
+-- two patterns one behind the other match what they do in the other order
+module _ (text : List ℕ) where
+  abbrev Swaps : Pattern → Pattern → Type 0
+  Swaps q r = (i j : ℕ) → ((m : ℕ) × Matches text q i m × Matches text r m j) → (m : ℕ) × Matches text r i m × Matches text q m j
+
+  -- a pattern and copies of another
+  swaps_copies : (q r : Pattern) → Swaps q r → (n : ℕ) → Swaps q (repeated n r)
+  swaps_copies q r f zero i j (m, a, e) = (i, refl, subst (λ (z : ℕ). Matches text q i z) e a)
+  swaps_copies q r f (suc n) i j (m, a, (x, b, c)) =
+      let one = f i x (m, a, b) in
+      let more = swaps_copies q r f n one.0 j (x, one.2, c) in
+      (more.0, (one.0, one.1, more.1), more.2)
+
+  copies_swap : (r q : Pattern) → Swaps r q → (n : ℕ) → Swaps (repeated n r) q
+  copies_swap r q f zero i j (m, e, a) = (j, subst (λ (z : ℕ). Matches text q z j) (sym e) a, refl)
+  copies_swap r q f (suc n) i j (m, (x, b, c), a) =
+      let more = copies_swap r q f n x j (m, c, a) in
+      let one = f i more.0 (x, b, more.1) in
+      (one.0, one.1, (more.0, one.2, more.2))
+
+  -- one round and more of them
+  last_of : (R : ℕ → ℕ → Type 0) (j i m : ℕ) → R i m → Rounds R j m → (x : ℕ) × Rounds R x i × R x j
+  last_of R j i m r (no_round _ e) = (i, no_round i refl, subst (R i) e r)
+  last_of R j i m r (a_round _ l s rs) =
+      let last = last_of R j m l s rs in
+      (last.0, a_round i m r last.1, last.2)
+
+  swaps_star : (q : Pattern) → Swaps q (star q)
+  swaps_star q i j (m, a, rs) = last_of (Matches text q) j i m a rs
+
+  star_swaps : (q : Pattern) → Swaps (star q) q
+  star_swaps q i j (m, rs, a) = first_of (Matches text q) m j i rs a
+
+  -- one and what may be missing
+  swaps_option : (q : Pattern) → Swaps q (alt empty q)
+  swaps_option q i j (m, a, inl e) = (i, inl refl, subst (λ (z : ℕ). Matches text q i z) e a)
+  swaps_option q i j (m, a, inr b) = (m, inr a, b)
+
+  option_swaps : (q : Pattern) → Swaps (alt empty q) q
+  option_swaps q i j (m, inl e, a) = (j, subst (λ (z : ℕ). Matches text q z j) (sym e) a, inl refl)
+  option_swaps q i j (m, inr b, a) = (m, b, inr a)
+
+-- a mirror is nothing where the pattern is
+mirror_nothing : (p : Pattern) → is_empty (mirror p) ≡ is_empty p
+mirror_nothing empty = refl
+mirror_nothing (class m n rs) = refl
+mirror_nothing (look l) = refl
+mirror_nothing (cat p q) = by_test (is_empty p || is_empty q)
+  where
+    by_test : (b : Bool) → is_empty (if b then cat (mirror p) (mirror q) else cat (mirror q) (mirror p)) ≡ false
+    by_test true = refl
+    by_test false = refl
+mirror_nothing (alt p q) = refl
+mirror_nothing (star p) = refl
+mirror_nothing (plus p) = refl
+mirror_nothing (lookbehind n p) = refl
+mirror_nothing (lookahead n p) = refl
+
+-- both of two are so in either order
+and_turned : (a b : Bool) → (a && b) ≡ (b && a)
+and_turned true true = refl
+and_turned true false = refl
+and_turned false true = refl
+and_turned false false = refl
+
+-- two patterns that match the same in either order, and are not nothing, are alike in either
+swapped : (q r : Pattern) → is_empty q ≡ false → is_empty r ≡ false → ((text : List ℕ) → Swaps text q r × Swaps text r q)
+    → Alike (cat q r) (cat r q)
+swapped q r some other swap =
+    let same : steps (cat q r) ≡ steps (cat r q) = omega (arith, cat_steps q r, cat_steps r q) in
+    record {
+      meaning = λ text i j. ((swap text).0 i j, (swap text).1 i j);
+      nothing = refl;
+      class = refl;
+      sees = ap (λ (b : Bool). b && is_glance r) some ∙ sym (ap (λ (b : Bool). b && is_glance q) other);
+      told = and_turned (are_told q) (are_told r);
+      clean = and_turned (is_clean q) (is_clean r);
+      steps = λ t. same;
+      beside = λ t. same;
+      glance_steps = λ g. absurd (true≢false (sym (and_left (is_empty r) _ g) ∙ other));
+    }
+
+-- such patterns, each like the mirror of another, are one behind the other like the mirror of both
+in_order : (p q r s : Pattern) (b c : Bool) → is_empty p ≡ b → is_empty q ≡ c → Alike r (mirror p) → Alike s (mirror q)
+    → ((text : List ℕ) → Swaps text r s × Swaps text s r)
+    → Alike (cat r s) (if b || c then cat (mirror p) (mirror q) else cat (mirror q) (mirror p))
+in_order p q r s true c e g u w swap = alike_cat _ _ _ _ u w
+in_order p q r s false true e g u w swap = alike_cat _ _ _ _ u w
+in_order p q r s false false e g u w swap =
+    alike_trans _ _ _ (swapped r s (u.nothing ∙ mirror_nothing p ∙ e) (w.nothing ∙ mirror_nothing q ∙ g) swap) (alike_cat _ _ _ _ w u)
+
+-- copies of a mirror are like the mirror of copies
+repeated_mirror : (n : ℕ) (p : Pattern) → Alike (repeated n (mirror p)) (mirror (repeated n p))
+repeated_mirror zero p = alike_refl empty
+repeated_mirror (suc n) p =
+    in_order p (repeated n p) (mirror p) (repeated n (mirror p)) _ _ refl refl (alike_refl (mirror p)) (repeated_mirror n p)
+    (λ text. (
+      swaps_copies text (mirror p) (mirror p) (λ i j m. m) n,
+      copies_swap text (mirror p) (mirror p) (λ i j m. m) n,
+    ))
+
+-- and so it is with all that is repeated
+times_mirror : (t : Times) (p : Pattern) → Alike (quantified_pattern t (mirror p)) (mirror (quantified_pattern t p))
+times_mirror any_times p = alike_refl _
+times_mirror some_times p = alike_refl _
+times_mirror once_at_most p = alike_refl _
+times_mirror (exact_times n) p = repeated_mirror n p
+times_mirror (least_times n) p =
+    in_order (repeated n p) (star p) (repeated n (mirror p)) (star (mirror p)) _ _ refl refl (repeated_mirror n p) (alike_refl _)
+    (λ text. (
+      copies_swap text (mirror p) (star (mirror p)) (swaps_star text (mirror p)) n,
+      swaps_copies text (star (mirror p)) (mirror p) (star_swaps text (mirror p)) n,
+    ))
+times_mirror (range_times n m) p =
+    let q = mirror p in
+    in_order (repeated n p) (repeated (m - n) (alt empty p)) (repeated n q) (repeated (m - n) (alt empty q)) _ _ refl refl
+    (repeated_mirror n p) (repeated_mirror (m - n) (alt empty p))
+    (λ text. (
+      copies_swap text q (repeated (m - n) (alt empty q)) (swaps_copies text q (alt empty q) (swaps_option text q) (m - n)) n,
+      swaps_copies text (repeated (m - n) (alt empty q)) q (copies_swap text (alt empty q) q (option_swaps text q) (m - n)) n,
+    ))
+
+-- what is like the mirror of a pattern is, repeated, like the mirror of that repeated
+pub counted_mirror : (t : Times) (p r : Pattern) → Alike r (mirror p) → Alike (quantified_pattern t r) (mirror (quantified_pattern t p))
+counted_mirror t p r u = alike_trans _ _ _ (alike_times t r (mirror p) u) (times_mirror t p)
+
+-- what are like the mirrors of two patterns are, in the order of their mirror, like that
+pub cat_mirror : (p q r s : Pattern) (b : Bool) → (is_empty p || is_empty q) ≡ b → Alike r (mirror p) → Alike s (mirror q)
+    → Alike (if b then cat r s else cat s r) (mirror (cat p q))
+cat_mirror p q r s b e u w = subst (λ (c : Bool). Alike (if b then cat r s else cat s r) (if c then cat (mirror p) (mirror q) else cat (mirror q) (mirror p))) (sym e) (by_test b)
+  where
+    by_test : (b : Bool) → Alike (if b then cat r s else cat s r) (if b then cat (mirror p) (mirror q) else cat (mirror q) (mirror p))
+    by_test true = alike_cat _ _ _ _ u w
+    by_test false = alike_cat _ _ _ _ w u
+
+-- what holds of a result holds of it by less
+pub ok_weaker : {A E : Type 0} (r : Result A E) (P Q : A → Type 0) → ((x : A) → P x → Q x) → IfOk r P → IfOk r Q
+ok_weaker (Ok x) P Q f p = f x p
+ok_weaker (Err e) P Q f p = tt
+
+-- outlines, of which one is made in the place of another
+module _ (s : Outline) (r : Result Outline AllocError) where
+  -- of two, one behind the other
+  pub then_made : (first second : Box Outline Global) (f g a b : Outline) (x y : Bool) → s ≡ Then first second → f ≡ first.value → g ≡ second.value
+      → x ≡ is_empty (outlined first.value) → y ≡ is_empty (outlined second.value)
+      → Alike (outlined a) (mirror (outlined f)) → Alike (outlined b) (mirror (outlined g))
+      → IfOk r (λ t. outlined t ≡ (if x || y then cat (outlined a) (outlined b) else cat (outlined b) (outlined a)))
+      → IfOk r (λ t. Alike (outlined t) (mirror (outlined s)))
+  then_made first second f g a b x y is f_is g_is x_is y_is u w =
+      ok_weaker r _ _ (λ t e. subst₂ Alike (sym e)
+      (sym (ap mirror (ap outlined is ∙ outlined-Then first second)))
+      (cat_mirror (outlined first.value) (outlined second.value) (outlined a) (outlined b) (x || y)
+      (ap (λ (b : Bool). b || is_empty (outlined second.value)) (sym x_is) ∙ ap (λ (b : Bool). x || b) (sym y_is))
+      (subst (λ (o : Outline). Alike (outlined a) (mirror (outlined o))) f_is u)
+      (subst (λ (o : Outline). Alike (outlined b) (mirror (outlined o))) g_is w)))
+
+  -- of alternatives
+  pub or_made : (one other : Box Outline Global) (f g a b : Outline) → s ≡ Or one other → f ≡ one.value → g ≡ other.value
+      → Alike (outlined a) (mirror (outlined f)) → Alike (outlined b) (mirror (outlined g))
+      → IfOk r (λ t. outlined t ≡ alt (outlined a) (outlined b)) → IfOk r (λ t. Alike (outlined t) (mirror (outlined s)))
+  or_made one other f g a b is f_is g_is u w =
+      ok_weaker r _ _ (λ t e. subst₂ Alike (sym e)
+      (sym (ap mirror (ap outlined is ∙ outlined-Or one other)))
+      (alike_alt _ _ _ _ (subst (λ (o : Outline). Alike (outlined a) (mirror (outlined o))) f_is u)
+      (subst (λ (o : Outline). Alike (outlined b) (mirror (outlined o))) g_is w)))
+
+  -- of one with a body
+  module _ (body : Box Outline Global) (f a : Outline) (f_is : f ≡ body.value) (u : Alike (outlined a) (mirror (outlined f))) where
+    of_body : Alike (outlined a) (mirror (outlined body.value))
+    of_body = subst (λ (o : Outline). Alike (outlined a) (mirror (outlined o))) f_is u
+
+    pub repeated_made : (q : Quantifier) → s ≡ Repeated q body
+        → IfOk r (λ t. outlined t ≡ quantified_pattern (quantifier_of q) (outlined a)) → IfOk r (λ t. Alike (outlined t) (mirror (outlined s)))
+    repeated_made q is =
+        ok_weaker r _ _ (λ t e. subst₂ Alike (sym e) (sym (ap mirror (ap outlined is ∙ outlined-Repeated q body)))
+        (counted_mirror (quantifier_of q) (outlined body.value) (outlined a) of_body))
+
+    pub behind_made : (n : Bool) → s ≡ Behind n body → IfOk r (λ t. outlined t ≡ lookahead n (outlined a))
+        → IfOk r (λ t. Alike (outlined t) (mirror (outlined s)))
+    behind_made n is =
+        ok_weaker r _ _ (λ t e. subst₂ Alike (sym e) (sym (ap mirror (ap outlined is ∙ outlined-Behind n body))) (alike_ahead n _ _ of_body))
+
+    pub ahead_made : (n : Bool) → s ≡ Ahead n body → IfOk r (λ t. outlined t ≡ lookbehind n (outlined a))
+        → IfOk r (λ t. Alike (outlined t) (mirror (outlined s)))
+    ahead_made n is =
+        ok_weaker r _ _ (λ t e. subst₂ Alike (sym e) (sym (ap mirror (ap outlined is ∙ outlined-Ahead n body))) (alike_behind n _ _ of_body))

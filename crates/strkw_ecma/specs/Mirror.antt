@@ -1,0 +1,47 @@
+-- Patterns from the end of a text on: what a pattern matches in a text, its mirror matches in the
+-- text turned round. There each lookahead is a lookbehind.
+use Rattle.std.specs.Prelude.{List, ℕ, reverse, Bool, true, false, not, ◌||◌, if◌then◌else◌}
+use Rattle.strkw_ecma.specs.Tree.{Look, start, end, boundary, no_boundary, Pattern, empty, class}
+use Rattle.strkw_ecma.specs.Tree.{look, cat, alt, star, plus, lookbehind, lookahead}
+use Rattle.strkw_ecma.specs.Glances.{are_told}
+use Rattle.strkw_ecma.specs.Program.{is_empty}
+
+abbrev pub mirror_look : Look → Look
+mirror_look start = end
+mirror_look end = start
+mirror_look boundary = boundary
+mirror_look no_boundary = no_boundary
+
+-- what stands beside nothing stays on its side of it, so that one term stays one
+abbrev pub mirror : Pattern → Pattern
+mirror empty = empty
+mirror (class m n rs) = class m n rs
+mirror (look l) = look (mirror_look l)
+mirror (cat p q) =
+    if is_empty p || is_empty q then cat (mirror p) (mirror q) else cat (mirror q) (mirror p)
+mirror (alt p q) = alt (mirror p) (mirror q)
+mirror (star p) = star (mirror p)
+mirror (plus p) = plus (mirror p)
+mirror (lookbehind n p) = lookahead n (mirror p)
+mirror (lookahead n p) = lookbehind n (mirror p)
+
+-- as they are, or from the end
+abbrev pub facing : Bool → Pattern → Pattern
+facing false p = p
+facing true p = mirror p
+
+abbrev pub along : Bool → List ℕ → List ℕ
+along false text = text
+along true text = reverse text
+
+-- the search goes from the end of the text on, since the next character does not tell what each
+-- lookahead looks for
+abbrev pub is_backward : Pattern → Bool
+is_backward p = not (are_told p)
+
+-- what is looked for then, and in which text
+abbrev pub sought : Pattern → Pattern
+sought p = facing (is_backward p) p
+
+abbrev pub sought_in : Pattern → List ℕ → List ℕ
+sought_in p = along (is_backward p)

@@ -1,0 +1,121 @@
+//! The parts of a pattern, as they are looked for: each along the text, or from its end on.
+
+ghost use Rattle.std.specs.Prelude.{◌≡◌, ◌∷◌, ◌++◌, true, List, IfOk, IfSome, option_map};
+ghost use Rattle.strkw_ecma.specs.Front.{Part, parts};
+ghost use Rattle.strkw_ecma.specs.machine.Fronts.{part_view, parts_view};
+ghost use Rattle.strkw_ecma.specs.machine.Parts.{small_pattern, told_pattern};
+ghost use Rattle.strkw_ecma.specs.machine.Passes.{ArePasses, ComesTo, IsPass, are_passes_told, pass_of, passes_of, steps_of_passes};
+ghost use Rattle.strkw_ecma.specs.machine.Shape.{is_plain, outlined};
+ghost use Rattle.strkw_ecma.specs.machine.Sizes.{capped};
+
+use crate::front::Front;
+use crate::outline::Outline;
+use crate::size::{MAX_STEPS, together};
+use std::alloc::{AllocError, Global};
+
+/// A part of a pattern, or where the search goes from the end of the text on, its mirror.
+#[derive(Drop)]
+pub(crate) struct Pass {
+    pub(crate) negated: bool,
+    pub(crate) is_backward: bool,
+    pub(crate) pattern: Outline,
+}
+
+impl Pass {
+    // Along the text, where the next character tells what each lookahead looks for.
+    fn of(alloc: Global, negated: bool, pattern: Outline) -> Result<Pass, AllocError>
+        ensures { IfOk result (λ p. IsPass (pass_of p)
+            record { negated = negated; pattern = outlined pattern }) }
+    {
+        if pattern.is_told() {
+            return Ok(Pass {
+                negated,
+                is_backward: false,
+                pattern,
+            });
+        }
+        let mirrored = pattern.mirrored(alloc)?;
+        Ok(Pass {
+            negated,
+            is_backward: true,
+            pattern: mirrored,
+        })
+    }
+}
+
+// These, and behind them those of some fronts.
+fn with_fronts(
+    alloc: Global,
+    passes: Vec<Pass>,
+    fronts: Vec<Front>,
+) -> Result<Vec<Pass>, AllocError>
+    ensures { (old : List Part) → ArePasses (passes_of passes.items) old
+        → IfOk result (λ made. ArePasses (passes_of made.items) (old ++ parts_view fronts.items)) }
+{
+    let mut left = fronts;
+    let mut passes = passes;
+    'fronts: while !left.is_empty() {
+        let Front { negated, pattern } = left.remove(0);
+        let pass = Pass::of(alloc, negated, pattern)?;
+        passes.push(pass)?;
+    }
+    Ok(passes)
+}
+
+/// What is left of a pattern, and the lookaheads at its front that are looked for by themselves.
+pub(crate) fn passes_for(alloc: Global, outline: Outline) -> Result<Vec<Pass>, AllocError>
+    requires { is_plain outline ≡ true }
+    ensures { IfOk result (λ made. ArePasses (passes_of made.items) (parts (outlined outline))) }
+{
+    let mut fronts = Vec::new(alloc);
+    let cut = outline.cut(alloc, &mut fronts)?;
+    let mut passes = Vec::new(alloc);
+    passes.push(Pass::of(alloc, false, cut.rest)?)?;
+    with_fronts(alloc, passes, fronts)
+}
+
+// How many steps a search for all of them takes.
+fn steps_of(passes: &[Pass]) -> u32
+    ensures { result ≡ capped (steps_of_passes (passes_of passes.now)) }
+{
+    let mut steps = 0;
+    for pass in passes {
+        steps = together(steps, pass.pattern.steps(), 0);
+    }
+    steps
+}
+
+/// Whether the next character tells what each of their lookaheads looks for.
+pub(crate) fn are_told(passes: &[Pass]) -> bool
+    ensures { result ≡ are_passes_told (passes_of passes.now) }
+{
+    for pass in passes {
+        if !pass.pattern.is_told() {
+            return false;
+        }
+    }
+    true
+}
+
+/// The parts of a pattern, where a search for them takes no more steps than may be, and the next character tells what
+/// their lookaheads look for.
+pub(crate) fn passes_if_taken(
+    alloc: Global,
+    outline: Option<Outline>,
+) -> Result<Option<Vec<Pass>>, AllocError>
+    requires { IfSome outline (λ o. is_plain o ≡ true) }
+    ensures { IfOk result (λ made.
+        ComesTo made (told_pattern (small_pattern (option_map outlined outline)))) }
+{
+    let Some(outline) = outline else {
+        return Ok(None);
+    };
+    let passes = passes_for(alloc, outline)?;
+    if steps_of(&passes) > MAX_STEPS {
+        return Ok(None);
+    }
+    if !are_told(&passes) {
+        return Ok(None);
+    }
+    Ok(Some(passes))
+}
