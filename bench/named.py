@@ -158,6 +158,7 @@ TABLES = {
     }, by({"Requests a second": "{}/requests", "MB a second": "{}/MB", RATIO: "{}/ratio"}, REQUEST_KINDS)),
     "requests_since_30ca60d": Entry(None, ""),
     "requests_written_at_once": Entry(None, ""),
+    "requests_kept": Entry(None, ""),
     "python": Entry(takers.PYTHON_CHECKS, "thousand a second",
                     by({column: "{}/" + column for column in PYTHON})),
     "growth_time": Entry(takers.GROWTH, "ms", by({size: "{}/" + size + "/time" for size in SIZES})),

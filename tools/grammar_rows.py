@@ -2211,6 +2211,143 @@ def limit_rows():
     yield texts(PATTERNS, BRACES, BRACES.get)
 
 
+# The whole of `Pattern[+UnicodeMode]` of ECMA-262 2024: by the rule of section 22.2.1, or the early error of 22.2.1.1,
+# texts that are patterns, and texts that are none.
+WHOLE_PATTERNS = "patterns of the whole of ECMA-262"
+WHOLE_RULES = (
+    ("Disjunction, Alternative and Term",
+     ("", "|", "||", "a|", "|a", "()", "(|)", "(a|b)c", "^$", "^|$", "\\b\\B", "^^", "$a^", "(?:)", "(?:|)*",
+      "((((a))))"),
+     ("(", ")", "(a", "a)", "(?", "(?:", "(a|b", "a|b)", "())", "(()", "(?a)", "(?)", "(?i:a)", "(?i)", "(?-i:a)",
+      "(?#a)", "(?>a)", "(?P<a>b)", "(*a)")),
+    ("PatternCharacter is SourceCharacter but not SyntaxCharacter",
+     ("a", "/", "-", ",", ":", "<>", "=!", "\"", "\n", "\x00", "\u00e9", "\u2028", "\U0001f600", "\U0010ffff", "a b",
+      "&&"),
+     ("]", "}", "{", "*", "+", "?", "\\", "a]", "a}", "a{", "(])", "{}", "{a}", "a{,1}", "a{1", "a{1,2", "a{}",
+      "a{a}")),
+    ("Quantifier",
+     ("a*", "a+", "a?", "a*?", "a+?", "a??", "a{1}", "a{1,}", "a{1,2}", "a{1}?", "a{1,}?", "a{1,2}?", "a{0}",
+      "a{0,0}", "(a)*", "(?:a)*", "(?<n>a)*", ".*", "[a]*", "\\d*", "\\p{L}*", "\\u0041*", "\\u{1F600}{2}", "\\0*",
+      "(a)\\1*", "()*", "(?<a>)\\k<a>*", "\\cA+", "\\x41?", "a*b*"),
+     ("a**", "a++", "a*+", "a+*", "a???", "a*??", "a{1}{1}", "a{1}*", "a{1}??", "|*", "(*)", "(?:*)", "(|*)", "a|*",
+      "^*", "$*", "\\b*", "\\B+", "(?:+)", "{1}", "({1})", "^{1}", "a{1 }", "a{ 1}", "a{1, 2}", "a{1,2,3}", "a{-1}",
+      "a{\u0661}")),
+    ("an Assertion is no Atom, so that no quantifier may follow it",
+     ("(?=a)", "(?!a)", "(?<=a)", "(?<!a)", "(?=)", "(?=a)b*", "((?=a))*", "(?:(?<=a))+", "(?=(?<!a)b)",
+      "(?<=(?=(?!a)))", "(?=a*)", "(?<=a+)", "a(?=b)c", "(?=(a))\\1", "(?<!(a))\\1"),
+     ("(?=a)*", "(?!a)+", "(?<=a)+", "(?<!a)?", "(?=a){2}", "(?<=a){1,2}", "(?!a){0}", "(?=a)*?", "(?<=", "(?<!",
+      "(?=", "(?!a", "(?<a", "(?< =a)", "(?<=a)*")),
+    ("QuantifierPrefix: the first count is greater than the second",
+     ("a{1,1}", "a{00,01}", "a{01,1}", "a{9,10}", "a{999,1000}", "a{0099,100}", "a{5000}", "a{99999999999999999999}",
+      "a{99999999999999999999,}", "a{99999999999999999999,100000000000000000000}", "a{4294967296,4294967297}",
+      "a{18446744073709551616,18446744073709551616}", "a{000000000000000000000000000002,3}",
+      "a{3,000000000000000000000000000003}", "(?:a{1000}){1000}", "a{0,18446744073709551615}"),
+     ("a{1,0}", "a{2,1}", "a{10,9}", "a{1000,999}", "a{2,01}", "a{100000000000000000000,99999999999999999999}",
+      "a{4294967296,0}", "a{4294967297,4294967296}", "a{18446744073709551616,0}",
+      "a{18446744073709551617,18446744073709551616}", "a{3,000000000000000000000000000002}",
+      "a{000000000000000000000000000003,2}", "(a{2,1})", "a{2,1}?", "a|b{1,0}",
+      "a{100000000000000000000000,99999999999999999999999}")),
+    ("IdentityEscape: SyntaxCharacter or `/`",
+     ("\\^", "\\$", "\\\\", "\\.", "\\*", "\\+", "\\?", "\\(", "\\)", "\\[", "\\]", "\\{", "\\}", "\\|", "\\/",
+      "[\\^]", "[\\]]", "[\\/]", "[\\\\]"),
+     ("\\-", "\\a", "\\_", "\\:", "\\ ", "\\g", "\\e", "\\A", "\\Z", "\\z", "\\i", "\\\"", "\\'", "\\,", "\\=",
+      "\\!", "\\<", "\\>", "\\#", "\\&", "\\%", "\\@", "\\`", "\\~", "\\;", "\\\u00e9", "\\\U0001f600", "[\\a]",
+      "[\\_]", "[\\:]", "[\\ ]", "[\\B]", "[\\k]", "[\\8]", "\\\\\\")),
+    ("CharacterEscape and CharacterClassEscape of one letter",
+     ("\\f\\n\\r\\t\\v", "\\d\\D\\s\\S\\w\\W", "[\\f\\n\\r\\t\\v\\b]", "[\\d\\D\\s\\S\\w\\W]", "[\\-]", "[a\\-z]"),
+     ()),
+    ("`c` AsciiLetter, `x` HexDigit HexDigit",
+     ("\\cA", "\\cz", "[\\cA]", "\\x41", "\\xfF", "[\\x41-\\x5A]", "\\x410"),
+     ("\\c", "\\c1", "\\c_", "[\\c1]", "[\\c]", "\\c\u00e9", "\\x", "\\x4", "\\x4g", "[\\x4]", "\\xg4", "\\x 4")),
+    ("`0` with no DecimalDigit behind it",
+     ("\\0", "\\0a", "(\\0)0", "\\0|0", "\\0*0", "[\\0]0", "[\\0-9]", "[\\0a]", "\\0\\x30", "\\\\00"),
+     ("\\00", "\\01", "\\09", "[\\00]", "[\\01]", "a\\07b", "(\\00)", "\\0\\00")),
+    ("RegExpUnicodeEscapeSequence",
+     ("\\u0041", "\\uFFFF", "\\u{0}", "\\u{41}", "\\u{10FFFF}", "\\u{0010FFFF}", "\\u{" + "0" * 40 + "41}",
+      "[\\u{41}-\\u{5A}]", "\\u00411", "[\\u0041-\\u005a]"),
+     ("\\u", "\\u0", "\\u004", "\\u004g", "\\u{", "\\u{}", "\\u{g}", "\\u{41", "\\u{110000}", "\\u{ 41}", "\\u{41 }",
+      "\\u{-1}", "\\u{FFFFFFFFF}", "[\\u]", "[\\u{}]", "[\\u{110000}]", "\\U0041", "\\u+0041")),
+    ("a surrogate alone is a character, and a leading one before a trailing one is the pair",
+     ("\\uD83D", "\\uDE00", "\\u{D83D}", "\\u{DE00}", "\\uD83D\\uDE00", "\\uDE00\\uD83D", "\\uD83D\\uD83D\\uDE00",
+      "\\uD83D*\\uDE00", "\\uD83Da", "\\uD83D\\u0041", "\\uD83D\\u{DE00}", "\\uD83D\\d", "(\\uD83D)\\1", "[\\uD83D]",
+      "[\\uDE00]", "[\\uD83D\\uDE00]", "[\\uD83D-\\uDBFF]", "[\\uDC00-\\uDFFF]", "[\\uD800-\\uDFFF]", "[a-\\uD83D]",
+      "[\\uDE00-\\uE000]", "[\\u{D83D}\\u{DE00}]", "[\\uD83D-\\uDE00]", "[a-\\uD83D\\uDE00]",
+      "[\\uE000-\\uD83D\\uDE00]", "[\\uFFFF-\\uD800\\uDC00]", "[\\uD83D\\uDE00-\\uD83D\\uDE01]",
+      "[\\uD83D\\uDE00-\\u{1F601}]", "[\\uD83D\\uD83D\\uDE00-\\u{1F601}]", "[\\u{D83D}\\uDE00-\\uDE01]",
+      "[\\uD83D\\u{DE00}-\\uDE01]", "[\\uDE00\\uD83D-\\uD83D\\uDE00]", "[a-\\uD83D-\\uDE00]", "[a-\\uD83D-]",
+      "[\\uD83D-]", "[^\\uD83D]", "[a-\\uD83Db]", "[\\uD83D\\d]", "[\\uD83D\\u{1F600}-\\u{1F601}]",
+      "[\\uDE00-\\uD83D\\uDE00]", "[a-\\uD83D\\uDE00-\\uDE01]"),
+     ("[\\uDBFF\\uDC00-\\uDFFF]", "[\\uD83D\\uDE00-\\uDE01]", "[\\uDFFF-\\uDC00]", "[\\uE000-\\uD83D]",
+      "[\\uDE01-\\uDE00]", "[\\uD83D\\uDE01-\\uD83D\\uDE00]", "[\\u{1F601}-\\uD83D\\uDE00]", "[\\uE000-\\uD83Da]",
+      "[\\uE000-\\uD83D-\\uDE00]", "[\\uE000-\\uD83D\\u{DE00}]", "[\\uD83D\\uD83D\\uDE00-\\uDE01]", "[\\uD83D-\\d]",
+      "[\\d-\\uD83D]", "[\\d-\\uD83D\\uDE00]", "[\\uD83D\\uDE00-a]", "[\\uE000-\\uD83D\\u0041]", "\\uD83D\\u",
+      "\\uD83D\\uDE0", "\\uD83D\\")),
+    ("DecimalEscape: all digits that there are, and no more than groups in the whole pattern",
+     ("(a)\\1", "\\1(a)", "(\\1)", "(a)(b)\\2\\1", "()" * 10 + "\\10", "\\10" + "()" * 10, "(?<n>a)\\1",
+      "(?:\\1)(a)", "(?=\\1(a))", "\\1|(a)", "(a)\\1*", "(a)\\1{2}", "(a)\\1b0", "()" * 100 + "\\100", "(a)(?:\\1)0",
+      "(?<=(a))\\1", "((a)\\2)\\1", "\\2(?<b>)(a)", "(a)\\1\\1"),
+     ("\\1", "\\2(a)", "(a)\\2", "(?:a)\\1", "(?=a)\\1", "(?<=a)\\1", "(a)\\10", "()" * 9 + "\\10", "(a)\\11",
+      "\\1\\(a\\)", "[(a)]\\1", "\\9", "\\8", "(a)\\4294967297", "(a)\\18446744073709551617",
+      "(a)\\100000000000000000000000001", "[\\1](a)", "(a)[\\1]", "\\3(a)(b)", "(a)\\4294967295")),
+    ("`k` GroupName: a group of the whole pattern has the name",
+     ("\\k<a>(?<a>)", "(?<a>)\\k<a>", "(?<a>\\k<a>)", "(?<a>)(?<b>)\\k<b>\\k<a>", "(?<a>)\\k<\\u0061>",
+      "(?<\\u{61}>)\\k<a>", "(?<a>)|\\k<a>", "(?<$>)\\k<$>", "(?<\\ud835\\udc9c>)\\k<\U0001d49c>",
+      "(?<\U0001d49c>)\\k<\\u{1d49c}>", "(?<a>)\\k<a>*", "(?=\\k<a>)(?<a>)", "(?<a>)\\k<a>>"),
+     ("\\k", "\\k<a>", "\\k<b>(?<a>)", "(?<a>)\\k<b>", "(?<a>)\\k", "(?<a>)\\ka", "(?<a>)\\k<", "(?<a>)\\k<a",
+      "(?<a>)\\k<>", "(?<a>)\\k<A>", "(a)\\k<1>", "\\k<a>(a)", "(?<a>)\\k{a}", "(?<a>)[\\k<a>]", "(?<a>)\\k<=>",
+      "(?<a>)\\k<aa>", "(?<aa>)\\k<a>", "\\k<a>[(?<a>)]", "(?<a>)\\k<!a>", "\\k<a>\\(?<a>")),
+    ("GroupName: a RegExpIdentifierName, which no other group has",
+     ("(?<a>)", "(?<_>)", "(?<$>)", "(?<a1>)", "(?<\u00e9>)", "(?<a\u200d>)", "(?<\\u0061b>)", "(?<a\\u{62}>)",
+      "(?<\U00020000>)", "(?<\\ud840\\udc00>)", "(?<a>)(?<b>)", "(?<a>(?<b>))", "(?<a>)(?<aa>)", "(?<a>)(?<A>)",
+      "(?<__proto__>)"),
+     ("(?<>)", "(?<1>)", "(?<a", "(?<a)", "(?<a-b>)", "(?<a b>)", "(?< a>)", "(?<\\x61>)", "(?<\\u>)", "(?<\\u{}>)",
+      "(?<\\u0031>)", "(?<\\ud835>)", "(?<\\udc9c>)", "(?<\\u{d835}\\u{dc9c}>)", "(?<a\\ud835>)", "(?<\\a>)",
+      "(?<\U0001f600>)", "(?<\u200d>)", "(?<a>)(?<a>)", "(?<a>)|(?<a>)", "(?<a>(?<a>))", "(?<a>)(?<\\u0061>)",
+      "(?<a>)(?<b>)(?<a>)", "(?<a!>)", "(?<a=>)", "(?<a?>)")),
+    ("UnicodePropertyValueExpression: a name of the tables",
+     ("\\p{L}", "\\P{L}", "\\p{Lu}", "\\p{gc=Lu}", "\\p{General_Category=Uppercase_Letter}", "\\p{sc=Latn}",
+      "\\p{Script=Latin}", "\\p{scx=Latn}", "\\p{Script_Extensions=Greek}", "\\P{scx=Zyyy}", "\\p{CWKCF}",
+      "\\P{Changes_When_NFKC_Casefolded}", "[\\p{CWKCF}]", "[^\\P{scx=Grek}a]", "\\p{Alphabetic}", "\\p{Alpha}",
+      "\\p{ASCII}", "\\p{Any}", "\\p{Assigned}", "\\p{White_Space}", "\\p{space}", "\\p{Emoji}", "\\p{RI}",
+      "[\\p{L}-]", "[-\\p{L}]", "\\p{L}*"),
+     ("\\p", "\\P", "\\pL", "\\p{", "\\p{}", "\\p{L", "\\p{l}", "\\p{lu}", "\\p{Latn}", "\\p{Latin}", "\\p{ L}",
+      "\\p{L }", "\\p{gc=}", "\\p{=Lu}", "\\p{gc=Lu=Lu}", "\\p{gc=Latn}", "\\p{sc=Lu}", "\\p{scx=Lu}",
+      "\\p{scx=latn}", "\\p{scx=}", "\\p{scx}", "\\p{Script_Extensions}", "\\p{script_extensions=Latn}",
+      "\\p{SCX=Latn}", "\\p{cwkcf}", "\\p{CWKCF=Y}", "\\p{CWKCF=Yes}", "\\p{Alphabetic=Y}", "\\p{alphabetic}",
+      "\\p{^L}", "\\p{IsLatin}", "\\p{Basic_Emoji}", "\\p{RGI_Emoji}", "[\\p{X}]", "\\p{Age=1.1}",
+      "\\p{Block=ASCII}", "\\p{Line_Break=AL}", "\\p{Hyphen}", "\\p{Other_Alphabetic}", "[\\p{L}-a]", "[a-\\p{L}]")),
+    ("CharacterClass: both ends of a range are characters, and in order",
+     ("[]", "[]a", "[^]", "[a]", "[^a]", "[a-z]", "[a-a]", "[-]", "[--]", "[---]", "[a-]", "[-a]", "[a-b-c]",
+      "[a-b-]", "[^-a]", "[^^]", "[a^]", "[+--]", "[[]", "[[a]", "[(]", "[)]", "[{}]", "[|]", "[*]", "[.]", "[$]",
+      "[\\b]", "[\\b-\\t]", "[\\0-\\x1f]", "[\\d-]", "[-\\d]", "[!--]", "[\U0001f600-\U0001f601]", "[a&&b]",
+      "[\\--\\/]", "[\\cA-\\cZ]", "[,-.]", "[a-\\u{10FFFF}]"),
+     ("[", "[a", "[^", "[a-", "[\\]", "[z-a]", "[b-a]", "[a--]", "[a-\\d]", "[\\d-z]", "[\\d-\\d]", "[\\w-]a]",
+      "[\\s-a]", "[\U0001f601-\U0001f600]", "[\\b-\\x07]", "[\\u{10FFFF}-a]", "[.--]", "[a]]", "[z-\\-]", "[\\/-\\-]")),
+)
+
+
+def whole_rows():
+    """The rows of the whole grammar of patterns."""
+    for rule, right, wrong in WHOLE_RULES:
+        yield f"the whole grammar: {rule}"
+        yield {"ask": "texts", "of": WHOLE_PATTERNS, "yes": list(right), "no": list(wrong)}, len(right) + len(wrong)
+    yield "the whole grammar: each character behind a backslash, in a pattern and in a class"
+    places = [["\\", ""], ["a\\", "b", "c"], ["(?=\\", ")"], ["a|\\", ""]]
+    yield characters(WHOLE_PATTERNS, SYNTAX + "dDsSwWfnrtvbB0", places)
+    yield characters(WHOLE_PATTERNS, SYNTAX + "dDsSwWfnrtvb0-", [["[\\", "]"], ["[^a\\", "]"]])
+    wide = "\u00e9\u017f\u212a\u2028\u200d\ufeff\uff0d\U0001f600"
+    yield characters(WHOLE_PATTERNS, "", [["\\", ""], ["[\\", "]"]], wide)
+    yield "the whole grammar: neither the depth nor the length has a limit"
+    openings = ("(", "(?:", "(?=", "(?!", "(?<=", "(?<!")
+    right = [[[opening, times], [")", times]] for opening in openings for times in (1000, 10000)]
+    right += [[["a", 100000]], [["a{1000}", 1000]], [["(?:", 5000], ["a", 1], [")*", 5000]],
+              [["()", 1000], ["\\1000", 1]]]
+    wrong = [[[opening, 1000], [")", times]] for opening in openings for times in (999, 1001)]
+    wrong += [[["(", 100000]], [["()", 999], ["\\1000", 1]], [["(?=", 5000], ["a", 1], [")*", 5000]],
+              [["(", 1000], [")*", 1000], ["*", 1]]]
+    yield {"ask": "long texts", "of": WHOLE_PATTERNS, "yes": right, "no": wrong}, len(right) + len(wrong)
+
+
 def ecma_rows():
     """The rows of patterns of ECMA-262."""
     yield from escape_rows()
@@ -2221,6 +2358,7 @@ def ecma_rows():
     yield from ahead_rows()
     yield from limit_rows()
     yield from property_rows()
+    yield from whole_rows()
 
 
 # The parts of `stdin`, by their crates.

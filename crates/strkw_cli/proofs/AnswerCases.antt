@@ -1,5 +1,5 @@
 -- From what is compiled and evaluated to the answer.
-use Rattle.std.proofs.Common.{◌≡◌, ◌≢◌, ◌↔◌, ◌⊎◌, inl, inr, ℕ, List, [], Bool, true, false, ◌++◌, Option, Some, None, Result, Ok, Err, OnOk, OnErr, refl, ap}
+use Rattle.std.proofs.Common.{◌≡◌, ◌≢◌, ◌↔◌, ◌⊎◌, inl, inr, ℕ, List, [], Bool, true, false, ◌++◌, Option, Some, None, Result, Ok, Err, OnOk, OnErr, refl, sym, ap}
 use Rattle.std.proofs.Common.{◌∙◌, subst, codes, append_assoc, if◌then◌else◌, is_ok}
 use Rattle.serde_json.specs.Data.{Members}
 use Rattle.strkw_report.specs.Kinds.{Report}
@@ -111,3 +111,19 @@ pub appended_refusal : {T E : Type 0} (result : Result T E) (r : Request) (e : C
     → OnOk result ((x : List ℕ) × (new ≡ old ++ x) × Answers (Some r) x)
 appended_refusal (Ok x) r e old new refused grown had = (refused_line (refusal_of e) ++ codes "end\n", grown, answer_of_refusal r e refused had)
 appended_refusal (Err f) r e old new refused grown had = tt
+
+-- the same of a request that asks so about folding, and has this instance, where the lists are empty
+pub appended_answer : {T E F : Type 0} (result : Result T F) (outcome : E → List ℕ → Outcome) (r : Request) (k : StringKeywords E) (lists : Lists) (fold : Bool)
+    (node : Option (List ℕ)) (old mid new : List ℕ)
+    → r.fold ≡ fold → r.instance ≡ node → lists ≡ no_lists → IsCompiledFrom outcome (settings_for r) r.schema k
+    → (told : List ℕ) × (mid ≡ old ++ told) × TellsFold fold (IsEmpty (keywords_interval outcome k)) told
+    → OnOk result ((errors : List Report) × (new ≡ mid ++ found_lines node errors (keywords_remarks k))
+    × NodeReports (keywords_assertions outcome k) lists root_site node errors)
+    → OnOk result ((x : List ℕ) × (new ≡ old ++ x) × Answers (Some r) x)
+appended_answer result outcome r k lists fold node old mid new folds is none of (told, first, tells) found =
+    appended_found result outcome r (settings_for r) k told old mid new refl of
+    (subst (λ f. TellsFold f (IsEmpty (keywords_interval outcome k)) told) (sym folds) tells) first
+    (subst (λ n. OnOk result ((errors : List Report) × (new ≡ mid ++ found_lines n errors (keywords_remarks k))
+    × NodeReports (keywords_assertions outcome k) no_lists root_site n errors)) (sym is)
+    (subst (λ l. OnOk result ((errors : List Report) × (new ≡ mid ++ found_lines node errors (keywords_remarks k))
+    × NodeReports (keywords_assertions outcome k) l root_site node errors)) none found))

@@ -12,3 +12,5 @@ pub mod Lines
 pub mod Asked
 pub mod Parts
 pub mod Scalars
+pub mod KeptReading
+pub mod KeptCompiling

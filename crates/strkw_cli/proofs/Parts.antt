@@ -72,6 +72,7 @@ parts_taken name d p q ms takes are = record {
   ignore_unknown_formats = part_taken flag_in (codes "ignore_unknown_formats") name d ms _ _ are.ignore_unknown_formats takes.ignore_unknown_formats;
   fold = part_taken flag_in (codes "fold") name d ms _ _ are.fold takes.fold;
   known = takes.known ∙ ap (λ b. is_request_key name && b) are.known ∙ sym (only_put name d ms);
+  right = takes.right are.right;
 }
 
 -- ---- a name that is none of a request
@@ -124,4 +125,5 @@ module _ (name : List ℕ) (d : Data) (p : Parts) (draft : name ≡ codes "draft
     ignore_unknown_formats = as_it_was _ p.ignore_unknown_formats (codes "ignore_unknown_formats") ignore;
     fold = as_it_was _ p.fold (codes "fold") fold;
     known = sym (ap (λ b. b && p.has_only_request_keys) is_none);
+    right = λ right. right;
   }

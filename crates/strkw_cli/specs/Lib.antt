@@ -9,3 +9,6 @@ pub mod Serving
 pub mod Faults
 pub mod Tokens
 pub mod Parts
+pub mod Unread
+pub mod KeptTokens
+pub mod Kept

@@ -1,18 +1,18 @@
 -- What the members of a request come to, as they are read. The functions below `read_request` speak
 -- of it, and no public clause does.
-use Rattle.std.specs.Prelude.{◌≡◌, ◌&&◌, ℕ, List, Option, Some, option_map, option_and_then, codes}
-use Rattle.std.specs.Prelude.{if◌then◌else◌}
+use Rattle.std.specs.Prelude.{◌≡◌, ◌&&◌, ℕ, List, IfSome, Option, Some, option_map, codes}
+use Rattle.std.specs.Prelude.{option_and_then, if◌then◌else◌}
 use Rattle.std.specs.Str.{bytes_eq}
 use Rattle.serde_json.specs.Data.{Data, Members}
 use Rattle.serde_json.specs.Find.{get_member, as_str, as_object}
-use Rattle.serde_json.specs.View.{members_view}
 use Rattle.strkw_report.specs.Drafts.{draft_in}
+use Rattle.strkw_cli.specs.Borrowed.{IsRight, schema_view}
 use Rattle.strkw_cli.specs.Request.{flag_in, is_request_key, has_only_request_keys}
 use Rattle.strkw_cli.specs.declared.request.Parts.{Parts}
 
 -- the schema object, and the text of the instance, that parts hold
 abbrev pub schema_of : Parts → Option Members
-schema_of p = option_map (λ m. members_view m.entries) p.schema
+schema_of p = option_map schema_view p.schema
 
 abbrev pub instance_of : Parts → Option (Option (List ℕ))
 instance_of p = option_map (option_map (λ text. text.now)) p.instance
@@ -27,6 +27,7 @@ pub record AreParts (p : Parts) (ms : Members) : Type 0 where
       ≡ flag_in (get_member (codes "ignore_unknown_formats") ms)
   pub fold : p.fold ≡ flag_in (get_member (codes "fold") ms)
   pub known : p.has_only_request_keys ≡ has_only_request_keys ms
+  pub right : IfSome p.schema IsRight
 
 -- what a member of the name `taken` makes of the part of this name: its own, or what it was
 abbrev pub after : {A : Type 0} → List ℕ → List ℕ → A → A → A
@@ -44,3 +45,4 @@ pub record Takes (name : List ℕ) (d : Data) (p q : Parts) : Type 0 where
       p.ignore_unknown_formats
   pub fold : q.fold ≡ after (codes "fold") name (flag_in (Some d)) p.fold
   pub known : q.has_only_request_keys ≡ (is_request_key name && p.has_only_request_keys)
+  pub right : IfSome p.schema IsRight → IfSome q.schema IsRight

@@ -1,11 +1,10 @@
 -- The request that a line is: JSON text (RFC 8259), as serde_json reads it, that is an object of
 -- certain members.
-use Rattle.std.specs.Prelude.{◌≡◌, ℕ, ◌==◌, List, ◌&&◌, ◌||◌, Bool, true, false, Option, Some, None}
+use Rattle.std.specs.Prelude.{ℕ, List, ◌&&◌, ◌||◌, Bool, true, false, Option, Some, None}
 use Rattle.std.specs.Prelude.{option_map, option_and_then, unwrap_or, codes, if◌then◌else◌}
-use Rattle.std.specs.Str.{IsUtf8, bytes_eq}
+use Rattle.std.specs.Str.{bytes_eq}
 use Rattle.serde_json.specs.Data.{Data, Members, no_members, member}
-use Rattle.serde_json.specs.Find.{get_member, as_number, as_u64, as_bool, as_str, as_object}
-use Rattle.serde_json.specs.Read.{read as read_text}
+use Rattle.serde_json.specs.Find.{get_member, as_bool, as_str, as_object}
 use Rattle.strkw_report.specs.declared.draft.Draft.{Draft}
 use Rattle.strkw_report.specs.Drafts.{draft_in}
 

@@ -3,11 +3,16 @@
 #![tactic(auto)]
 
 mod answering;
+mod compiling;
 mod faults;
+mod held;
+mod kept;
+mod kept_tokens;
 pub mod laws;
 mod printing;
 mod request;
 mod running;
+mod unread;
 mod writing;
 
 pub use answering::answer;

@@ -1,36 +1,47 @@
 //! The request that a line is.
 
-ghost use Rattle.std.specs.Prelude.{◌<◌, ◌∷◌, ◌≡◌, IfOk, IsErrOf, None, OnOk, Option, Some, false, length, option_and_then, option_map};
+ghost use Rattle.std.specs.Prelude.{◌<◌, ◌∷◌, ◌≡◌, IfOk, IfSome, IsErrOf, None, OnOk, Option, Some, false, length, option_and_then, option_map};
 ghost use Rattle.std.specs.Bool.{MatchBool};
 ghost use Rattle.json.specs.Token.{begin_object};
 ghost use Rattle.serde_json.specs.Data.{Data, Members, no_members};
 ghost use Rattle.serde_json.specs.Find.{as_object};
 ghost use Rattle.serde_json.specs.Read.{read as read_text};
-ghost use Rattle.serde_json.specs.View.{members_view, view};
+ghost use Rattle.serde_json.specs.View.{view};
 ghost use Rattle.strkw_json.specs.Passing.{members_read, value_read};
-ghost use Rattle.strkw_cli.specs.Borrowed.{request_view};
+ghost use Rattle.strkw_cli.specs.Borrowed.{IsRight, request_view, schema_view};
+ghost use Rattle.strkw_cli.specs.Kept.{IsKept};
 ghost use Rattle.strkw_cli.specs.Parts.{AreParts, Takes};
 ghost use Rattle.strkw_report.specs.Drafts.{draft_in, draft_numbered};
 ghost use Rattle.strkw_json.specs.Json.{IsReading};
 ghost use Rattle.strkw_cli.specs.Request.{flag_in, request_in, request_of_members};
 ghost use Rattle.strkw_cli.specs.Tokens.{begins_object, member_depth};
 
+use super::compiling::Asked;
+use super::kept::KeptObject;
+use super::unread::{Unanswered, Unread};
 use json::{Reader, Scratch, Token};
 use serde_json::{Map, Value};
-use std::alloc::{AllocError, Global};
-use strkw_json::{JsonError, build_object, json_scalar, json_text};
+use std::alloc::Global;
+use strkw_json::{build_object, json_scalar, json_text};
 use strkw_report::{Draft, draft_in};
 
 /// A request. The text of its instance stands in its line, or unescaped in the scratch that its line was read with.
 #[derive(Drop)]
-pub struct Request<'a> {
-    pub draft: Draft,
-    pub schema: Map<String, Value>,
+pub(super) struct Request<'a> {
+    pub(super) asked: Asked,
+    pub(super) schema: Schema<'a>,
     /// The text that the instance is, or `None` where it is another value.
-    pub instance: Option<&'a str>,
-    pub validate_formats: Option<bool>,
-    pub ignore_unknown_formats: bool,
-    pub fold: bool,
+    pub(super) instance: Option<&'a str>,
+    pub(super) fold: bool,
+}
+
+/// The schema object of a request.
+#[derive(Drop)]
+pub(super) enum Schema<'a> {
+    /// It was built of its line, where it stands from the first place on, and before the second.
+    Built(Map<String, Value>, usize, usize),
+    /// It is the one that is kept, and stands there.
+    Kept(&'a KeptObject, usize, usize),
 }
 
 fn flag_in(value: &Value) -> Option<Option<bool>>
@@ -39,14 +50,15 @@ fn flag_in(value: &Value) -> Option<Option<bool>>
     Some(Some(value.as_bool()?))
 }
 
-// How deep the value of a member may nest: one less than the line.
-const MEMBER_DEPTH: usize = 126;
+/// How deep the value of a member may nest: one less than the line.
+pub(super) const MEMBER_DEPTH: usize = 126;
 
 // The draft whose number the value of a member is. Any other value is passed over, and not built.
-fn read_draft(tokens: &mut Reader<'_>) -> Result<Option<Draft>, JsonError>
+fn read_draft(tokens: &mut Reader<'_>) -> Result<Option<Draft>, Unread>
     ensures ok { IfOk result (λ draft. (d : Data)
         × (value_read member_depth tokens.old ≡ Some (d, tokens.new)) × (draft ≡ draft_in d)) }
-    ensures none { IsErrOf result JsonError.NotJson → value_read member_depth tokens.old ≡ None }
+    ensures none { IsErrOf result Unread.NotJson → value_read member_depth tokens.old ≡ None }
+    ensures same { IsErrOf result Unread.Differs → ⊥ }
     ensures shorter { OnOk result (length tokens.new < length tokens.old) }
 {
     match json_scalar(tokens, MEMBER_DEPTH)? {
@@ -56,10 +68,11 @@ fn read_draft(tokens: &mut Reader<'_>) -> Result<Option<Draft>, JsonError>
 }
 
 // The flag that the value of a member is. Any other value is passed over, and not built.
-fn read_flag(tokens: &mut Reader<'_>) -> Result<Option<Option<bool>>, JsonError>
+fn read_flag(tokens: &mut Reader<'_>) -> Result<Option<Option<bool>>, Unread>
     ensures ok { IfOk result (λ flag. (d : Data)
         × (value_read member_depth tokens.old ≡ Some (d, tokens.new)) × (flag ≡ flag_in (Some d))) }
-    ensures none { IsErrOf result JsonError.NotJson → value_read member_depth tokens.old ≡ None }
+    ensures none { IsErrOf result Unread.NotJson → value_read member_depth tokens.old ≡ None }
+    ensures same { IsErrOf result Unread.Differs → ⊥ }
     ensures shorter { OnOk result (length tokens.new < length tokens.old) }
 {
     match json_scalar(tokens, MEMBER_DEPTH)? {
@@ -68,11 +81,50 @@ fn read_flag(tokens: &mut Reader<'_>) -> Result<Option<Option<bool>>, JsonError>
     }
 }
 
+/// The text of a line, and the schema object that is kept.
+#[derive(Clone, Copy)]
+pub(super) struct Line<'a> {
+    text: &'a str,
+    kept: Option<&'a KeptObject>,
+}
+
+// The schema object that the value of a member is: the one that is kept, where the line has its text here. Any other
+// value is passed over, and not built. It differs where the text is not that of the tokens.
+fn read_schema<'a>(
+    alloc: Global,
+    line: Line<'a>,
+    tokens: &mut Reader<'_>,
+) -> Result<Option<Schema<'a>>, Unread>
+    requires { IfSome line.kept (λ object. IsKept object.now) }
+    ensures ok { IfOk result (λ schema. (d : Data)
+        × (value_read member_depth tokens.old ≡ Some (d, tokens.new))
+        × (as_object d ≡ option_map schema_view schema)) }
+    ensures right { IfOk result (λ schema. IfSome schema IsRight) }
+    ensures none { IsErrOf result Unread.NotJson → value_read member_depth tokens.old ≡ None }
+    ensures same { line.entry.kept ≡ None → IsErrOf result Unread.Differs → ⊥ }
+    ensures shorter { OnOk result (length tokens.new < length tokens.old) }
+{
+    let start = tokens.offset();
+    match line.kept {
+        Some(object) if object.seems_at(line.text.as_bytes(), start) => {
+            if object.takes(tokens) {
+                Ok(Some(Schema::Kept(object, start, tokens.offset())))
+            } else {
+                Err(Unread::Differs)
+            }
+        }
+        _ => match build_object(alloc, tokens, MEMBER_DEPTH)? {
+            Some(members) => Ok(Some(Schema::Built(members, start, tokens.offset()))),
+            None => Ok(None),
+        },
+    }
+}
+
 // What the members so far come to, each name by its last value: a part of the wanted kind, or none.
 #[derive(Drop)]
 struct Parts<'a> {
     draft: Option<Draft>,
-    schema: Option<Map<String, Value>>,
+    schema: Option<Schema<'a>>,
     instance: Option<Option<&'a str>>,
     validate_formats: Option<Option<bool>>,
     ignore_unknown_formats: Option<Option<bool>>,
@@ -99,19 +151,21 @@ impl<'a> Parts<'a> {
     fn take_member(
         &mut self,
         alloc: Global,
+        line: Line<'a>,
         name: &str,
         tokens: &mut Reader<'a>,
-    ) -> Result<(), JsonError>
+    ) -> Result<(), Unread>
+        requires { IfSome line.kept (λ object. IsKept object.now) }
         ensures ok { OnOk result ((d : Data)
             × (value_read member_depth tokens.old ≡ Some (d, tokens.new))
             × Takes name.now d self.old self.new) }
-        ensures none { IsErrOf result JsonError.NotJson
-            → value_read member_depth tokens.old ≡ None }
+        ensures none { IsErrOf result Unread.NotJson → value_read member_depth tokens.old ≡ None }
+        ensures same { line.entry.kept ≡ None → IsErrOf result Unread.Differs → ⊥ }
         ensures shorter { OnOk result (length tokens.new < length tokens.old) }
     {
         match name {
             "draft" => self.draft = read_draft(tokens)?,
-            "schema" => self.schema = build_object(alloc, tokens, MEMBER_DEPTH)?,
+            "schema" => self.schema = read_schema(alloc, line, tokens)?,
             "instance" => self.instance = Some(json_text(tokens, MEMBER_DEPTH)?),
             "validate_formats" => self.validate_formats = read_flag(tokens)?,
             "ignore_unknown_formats" => self.ignore_unknown_formats = read_flag(tokens)?,
@@ -126,8 +180,10 @@ impl<'a> Parts<'a> {
 
     // The request that these are the parts of.
     fn into_request(self) -> Option<Request<'a>>
-        ensures { (ms : Members) → AreParts self.entry ms
+        ensures request { (ms : Members) → AreParts self.entry ms
             → option_map request_view result ≡ request_of_members ms }
+        ensures right { IfSome self.entry.schema IsRight
+            → IfSome result (λ request. IsRight request.schema) }
     {
         if !self.has_only_request_keys {
             return None;
@@ -138,25 +194,29 @@ impl<'a> Parts<'a> {
         let ignore_unknown_formats = self.ignore_unknown_formats?;
         let fold = self.fold?;
         Some(Request {
-            draft,
+            asked: Asked {
+                draft,
+                validate_formats,
+                ignore_unknown_formats: ignore_unknown_formats.unwrap_or(true),
+            },
             schema: self.schema?,
             instance,
-            validate_formats,
-            ignore_unknown_formats: ignore_unknown_formats.unwrap_or(true),
             fold: fold.unwrap_or(false),
         })
     }
 }
 
 // What the members that are left of an object come to, up to its end.
-fn parts_in<'a>(alloc: Global, tokens: &mut Reader<'a>) -> Result<Parts<'a>, JsonError>
+fn parts_in<'a>(alloc: Global, line: Line<'a>, tokens: &mut Reader<'a>) -> Result<Parts<'a>, Unread>
+    requires { IfSome line.kept (λ object. IsKept object.now) }
     ensures ok { IfOk result (λ parts. (ms : Members)
         × (members_read member_depth tokens.old ≡ Some (ms, tokens.new)) × AreParts parts ms) }
-    ensures none { IsErrOf result JsonError.NotJson → members_read member_depth tokens.old ≡ None }
+    ensures none { IsErrOf result Unread.NotJson → members_read member_depth tokens.old ≡ None }
+    ensures same { line.entry.kept ≡ None → IsErrOf result Unread.Differs → ⊥ }
 {
     let mut parts = Parts::of_no_members();
     'members: while let Some(name) = tokens.next_key()? {
-        parts.take_member(alloc, name, tokens)?;
+        parts.take_member(alloc, line, name, tokens)?;
     }
     Ok(parts)
 }
@@ -172,38 +232,46 @@ fn takes_begin_object(tokens: &mut Reader<'_>) -> bool
 // The request that a text is.
 fn request_in<'a>(
     alloc: Global,
-    text: &'a str,
+    line: Line<'a>,
     scratch: &'a mut Scratch,
-) -> Result<Option<Request<'a>>, AllocError>
-    ensures { IfOk result (λ request.
-        option_map request_view request ≡ option_and_then request_in (read_text text.now)) }
+) -> Result<Option<Request<'a>>, Unanswered>
+    requires { IfSome line.kept (λ object. IsKept object.now) }
+    ensures ok { IfOk result (λ request. option_map request_view request
+        ≡ option_and_then request_in (read_text line.entry.text.now)) }
+    ensures right { IfOk result (λ request. IfSome request (λ r. IsRight r.schema)) }
+    ensures same { line.entry.kept ≡ None → IsErrOf result Unanswered.Differs → ⊥ }
 {
-    let mut tokens = Reader::new(text, scratch)?;
+    let mut tokens = Reader::new(line.text, scratch)?;
     if !takes_begin_object(&mut tokens) {
         return Ok(None);
     }
-    match parts_in(alloc, &mut tokens) {
+    match parts_in(alloc, line, &mut tokens) {
         Ok(parts) => match tokens.next() {
             None => Ok(parts.into_request()),
             Some(_) => Ok(None),
         },
-        Err(JsonError::NotJson) => Ok(None),
-        Err(JsonError::Memory) => Err(AllocError),
+        Err(Unread::NotJson) => Ok(None),
+        Err(Unread::Memory) => Err(Unanswered::Memory),
+        Err(Unread::Differs) => Err(Unanswered::Differs),
     }
 }
 
-/// The request that a line is, or `None` where it is none. The scratch is kept from line to line. The only error is out
-/// of memory.
-pub fn read_request<'a>(
+/// The request that a line is, or `None` where it is none. The scratch is held from line to line, and a schema object
+/// may be kept, which is then not built anew. It differs where the line has the object's text and other tokens.
+pub(super) fn read_request<'a>(
     alloc: Global,
     line: &'a [u8],
     scratch: &'a mut Scratch,
-) -> Result<Option<Request<'a>>, AllocError>
-    ensures { IfOk result (λ request. (read : Option Data) × IsReading line.now read
+    kept: Option<&'a KeptObject>,
+) -> Result<Option<Request<'a>>, Unanswered>
+    requires { IfSome kept (λ object. IsKept object.now) }
+    ensures ok { IfOk result (λ request. (read : Option Data) × IsReading line.now read
         × (option_map request_view request ≡ option_and_then request_in read)) }
+    ensures right { IfOk result (λ request. IfSome request (λ r. IsRight r.schema)) }
+    ensures same { kept.entry ≡ None → IsErrOf result Unanswered.Differs → ⊥ }
 {
     let Ok(text) = simdutf8::basic::from_utf8(line) else {
         return Ok(None);
     };
-    request_in(alloc, text, scratch)
+    request_in(alloc, Line { text, kept }, scratch)
 }

@@ -4,6 +4,7 @@ ghost use Rattle.std.specs.Prelude.{◌++◌, ◌<◌, ◌↔◌, ◌≡◌, ◌
 ghost use Rattle.std.specs.Io.KnownBytes.{Appends, Consumes, IsAtEnd};
 ghost use Rattle.strkw_cli.specs.Answer.{AreAnswers, IsAnswer};
 ghost use Rattle.strkw_cli.specs.Bounds.{HasShortLines, IsBoundedOutcome, IsOutcomeWithin, IsTaken};
+ghost use Rattle.strkw_cli.specs.Kept.{IsSound};
 ghost use Rattle.strkw_cli.specs.declared.running.Ending.TheVariants.{AtEnd};
 ghost use Rattle.strkw_cli.specs.Lines.{ended_lines, is_line_feed, last_part, lines};
 ghost use Rattle.strkw_cli.specs.Outcome.{AnswersSome, IsOutcome};
@@ -11,7 +12,7 @@ ghost use Rattle.strkw_cli.specs.Serving.{Serves};
 
 use super::answering::answer_with;
 use super::faults::{BoundedRunFault, RunFault};
-use json::Scratch;
+use super::held::Held;
 use memchr::memchr;
 use std::alloc::{AllocError, Global};
 use strkw_devices::{Sink, Source};
@@ -32,20 +33,22 @@ fn answer_piece(
     alloc: Global,
     piece: &[u8],
     line: &mut Vec<u8>,
-    scratch: &mut Scratch,
+    held: &mut Held,
     out: &mut Vec<u8>,
 ) -> Result<(), AllocError>
-    requires { last_part line.old.items ≡ line.old.items }
+    requires sound { IsSound held.old }
+    requires begun { last_part line.old.items ≡ line.old.items }
     ensures answered { OnOk result ((made : List ℕ) × (out.new.items ≡ out.old.items ++ made)
         × AreAnswers (ended_lines (line.old.items ++ piece.now)) made) }
     ensures begun { OnOk result (line.new.items ≡ last_part (line.old.items ++ piece.now)) }
     ensures err { OnErr result ((written : List ℕ) × (out.new.items ≡ out.old.items ++ written)
         × AnswersSome (ended_lines (line.old.items ++ piece.now)) written) }
+    ensures sound { IsSound held.new }
 {
     let mut at = 0;
     while let Some(offset) = find_line_feed(&piece[at..]) {
         let end = at + offset;
-        answer_ending(alloc, &piece[at..end], line, scratch, out)?;
+        answer_ending(alloc, &piece[at..end], line, held, out)?;
         at = end + 1;
     }
     line.extend_from_slice(&piece[at..])
@@ -56,19 +59,21 @@ fn answer_ending(
     alloc: Global,
     ending: &[u8],
     line: &mut Vec<u8>,
-    scratch: &mut Scratch,
+    held: &mut Held,
     out: &mut Vec<u8>,
 ) -> Result<(), AllocError>
+    requires sound { IsSound held.old }
     ensures ok { OnOk result ((made : List ℕ) × (out.new.items ≡ out.old.items ++ made)
         × IsAnswer (line.old.items ++ ending.now) made) }
     ensures cleared { OnOk result (line.new.items ≡ []) }
     ensures err { OnErr result (out.new.items ≡ out.old.items) }
+    ensures sound { IsSound held.new }
 {
     if line.is_empty() {
-        return answer_with(alloc, ending, scratch, out);
+        return answer_with(alloc, ending, held, out);
     }
     line.extend_from_slice(ending)?;
-    answer_with(alloc, line, scratch, out)?;
+    answer_with(alloc, line, held, out)?;
     line.clear();
     Ok(())
 }
@@ -78,10 +83,11 @@ fn serve_piece<K: Sink>(
     alloc: Global,
     piece: &[u8],
     line: &mut Vec<u8>,
-    scratch: &mut Scratch,
+    held: &mut Held,
     out: &mut Vec<u8>,
     sink: &mut K,
 ) -> Result<(), RunFault>
+    requires sound { IsSound held.old }
     requires begun { last_part line.old.items ≡ line.old.items }
     requires sink_works { K.has_failed sink.old ≡ false }
     ensures written { (written : List ℕ) × Appends (K.taken sink.old) (K.taken sink.new) written
@@ -89,9 +95,10 @@ fn serve_piece<K: Sink>(
         written }
     ensures begun { OnOk result (line.new.items ≡ last_part (line.old.items ++ piece.now)) }
     ensures write_fault { IsErrOf result RunFault.Write ↔ (K.has_failed sink.new ≡ true) }
+    ensures sound { IsSound held.new }
 {
     out.clear();
-    let answered = answer_piece(alloc, piece, line, scratch, out);
+    let answered = answer_piece(alloc, piece, line, held, out);
     if sink.write_all(out).is_err() {
         return Err(RunFault::Write);
     }
@@ -103,21 +110,23 @@ fn serve_piece<K: Sink>(
 fn serve_last<K: Sink>(
     alloc: Global,
     line: &[u8],
-    scratch: &mut Scratch,
+    held: &mut Held,
     out: &mut Vec<u8>,
     sink: &mut K,
 ) -> Result<(), RunFault>
+    requires sound { IsSound held.old }
     requires begun { last_part line.now ≡ line.now }
     requires sink_works { K.has_failed sink.old ≡ false }
     ensures written { (written : List ℕ) × Appends (K.taken sink.old) (K.taken sink.new) written
         × Serves result (lines line.now) line.now written }
     ensures write_fault { IsErrOf result RunFault.Write ↔ (K.has_failed sink.new ≡ true) }
+    ensures sound { IsSound held.new }
 {
     if line.is_empty() {
         return Ok(());
     }
     out.clear();
-    answer_with(alloc, line, scratch, out)?;
+    answer_with(alloc, line, held, out)?;
     if sink.write_all(out).is_err() {
         return Err(RunFault::Write);
     }
@@ -146,9 +155,10 @@ fn piece_room(alloc: Global) -> Result<Vec<u8>, AllocError>
 /// What is written after `Read`, `Memory` and `TooLong` are whole answers, to lines whose line feed was read.
 ///
 /// The run holds the longest line so far, a piece of 64 KiB, the answers to the lines that end in one piece, and what
-/// one request takes: a byte for each byte of the longest line, its schema object, and its answer. Measured on the
-/// program, in bytes of memory at the peak for each byte of a long line: 2 where it is no JSON, and where its instance
-/// is valid, whatever it is, and 6 where that is a text with four errors.
+/// one request takes: a byte for each byte of the longest line, its schema object, and its answer. Where lines share a
+/// schema object whose text has at most 64 KiB, it holds this object too, with its text, its tokens and what it is
+/// compiled to. Measured on the program, in bytes of memory at the peak for each byte of a long line: 2 where it is no
+/// JSON, and where its instance is valid, whatever it is, and 6 where that is a text with four errors.
 pub fn run<S: Source, K: Sink>(alloc: Global, source: &mut S, sink: &mut K) -> Result<(), RunFault>
     requires source_works { S.has_failed source.old ≡ false }
     requires sink_works { K.has_failed sink.old ≡ false }
@@ -248,27 +258,42 @@ fn run_within<S: Source, K: Sink>(
     ensures read_fault { IsErrOf result RunFault.Read ↔ (S.has_failed source.new ≡ true) }
     ensures write_fault { IsErrOf result RunFault.Write ↔ (K.has_failed sink.new ≡ true) }
 {
+    let mut held = Held::for_lines(alloc);
+    run_lines(alloc, bound, &mut held, source, sink)
+}
+
+// The same with what is held from line to line.
+fn run_lines<S: Source, K: Sink>(
+    alloc: Global,
+    bound: Option<usize>,
+    held: &mut Held,
+    source: &mut S,
+    sink: &mut K,
+) -> Result<Ending, RunFault>
+    requires sound { IsSound held.old }
+    requires source_works { S.has_failed source.old ≡ false }
+    requires sink_works { K.has_failed sink.old ≡ false }
+    ensures written { (read : List ℕ) × (written : List ℕ)
+        × Consumes (S.left source.old) (S.left source.new) read
+        × Appends (K.taken sink.old) (K.taken sink.new) written
+        × IsOutcomeWithin bound result read written }
+    ensures end { IfOk result (λ ending. ending ≡ AtEnd → IsAtEnd (S.left source.new)) }
+    ensures read_fault { IsErrOf result RunFault.Read ↔ (S.has_failed source.new ≡ true) }
+    ensures write_fault { IsErrOf result RunFault.Write ↔ (K.has_failed sink.new ≡ true) }
+{
     let mut piece = piece_room(alloc)?;
     let mut line = Vec::new(alloc);
-    let mut scratch = Scratch::new(alloc);
     let mut out = Vec::new(alloc);
     for turn in 0..u64::MAX {
         let Ok(count) = source.read(&mut piece) else {
             return Err(RunFault::Read);
         };
         if count == 0 {
-            serve_last(alloc, &line, &mut scratch, &mut out, sink)?;
+            serve_last(alloc, &line, held, &mut out, sink)?;
             return Ok(Ending::AtEnd);
         }
         let fitting = fitting_front(bound, &line, &piece[..count]);
-        serve_piece(
-            alloc,
-            &piece[..fitting],
-            &mut line,
-            &mut scratch,
-            &mut out,
-            sink,
-        )?;
+        serve_piece(alloc, &piece[..fitting], &mut line, held, &mut out, sink)?;
         if fitting < count {
             return Ok(Ending::AtLongLine);
         }

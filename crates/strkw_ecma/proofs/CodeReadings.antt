@@ -109,7 +109,7 @@ width_count unit_width = 4
 width_count (trail_width ds) = 4
 
 -- how many digits are still to come
-abbrev wanted_count : Wanted → ℕ
+abbrev pub wanted_count : Wanted → ℕ
 wanted_count one_more = 1
 wanted_count two_more = 2
 wanted_count three_more = 3

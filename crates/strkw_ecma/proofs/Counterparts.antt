@@ -1,5 +1,5 @@
 -- What is alike, and that a counted term may keep the order of its copies in a mirror.
-use Rattle.std.proofs.Common.{◌≡◌, ◌↔◌, ◌⊎◌, ℕ, zero, suc, ◌+◌, ◌-◌, Bool, true, false, ◌&&◌, ◌||◌, List, if◌then◌else◌, refl, sym, ap, subst, ◌∙◌, inl, inr}
+use Rattle.std.proofs.Common.{◌≡◌, ◌⊎◌, ℕ, zero, suc, ◌-◌, Bool, true, false, ◌&&◌, ◌||◌, List, if◌then◌else◌, refl, sym, ap, subst, ◌∙◌, inl, inr}
 use Rattle.std.proofs.Common.{subst₂, Result, Ok, Err, IfOk, Box, Global, ⊎_elim, true≢false, arith}
 use Rattle.strkw_ecma.specs.Tree.{Pattern, empty, class, look, cat, alt, star, plus, lookbehind, lookahead}
 use Rattle.strkw_ecma.specs.Meaning.{Rounds, no_round, a_round, Matches}
@@ -100,7 +100,8 @@ alike_alt p q r s u w = record {
 }
   where
     -- by whether they are a class that may be missing
-    by_option : (b : Bool) → (is_empty p && is_class q) ≡ b → steps_of (alternatives p) ≡ steps_of (alternatives r) → steps q ≡ steps s → steps (alt p q) ≡ steps (alt r s)
+    by_option : (b : Bool) → (is_empty p && is_class q) ≡ b → steps_of (alternatives p) ≡ steps_of (alternatives r)
+        → steps q ≡ steps s → steps (alt p q) ≡ steps (alt r s)
     by_option true e beside same = option_class p q e ∙ same ∙ sym (option_class r s (sym (both_same _ _ _ _ u.nothing w.class) ∙ e))
     by_option false e beside same = omega (arith, alt_steps p q e, alt_steps r s (sym (both_same _ _ _ _ u.nothing w.class) ∙ e), beside, same)
 
@@ -335,7 +336,9 @@ counted_mirror t p r u = alike_trans _ _ _ (alike_times t r (mirror p) u) (times
 -- what are like the mirrors of two patterns are, in the order of their mirror, like that
 pub cat_mirror : (p q r s : Pattern) (b : Bool) → (is_empty p || is_empty q) ≡ b → Alike r (mirror p) → Alike s (mirror q)
     → Alike (if b then cat r s else cat s r) (mirror (cat p q))
-cat_mirror p q r s b e u w = subst (λ (c : Bool). Alike (if b then cat r s else cat s r) (if c then cat (mirror p) (mirror q) else cat (mirror q) (mirror p))) (sym e) (by_test b)
+cat_mirror p q r s b e u w =
+    subst (λ (c : Bool). Alike (if b then cat r s else cat s r)
+    (if c then cat (mirror p) (mirror q) else cat (mirror q) (mirror p))) (sym e) (by_test b)
   where
     by_test : (b : Bool) → Alike (if b then cat r s else cat s r) (if b then cat (mirror p) (mirror q) else cat (mirror q) (mirror p))
     by_test true = alike_cat _ _ _ _ u w

@@ -15,12 +15,12 @@ number_push v [] c = refl
 number_push v (d ∷ ds) c = number_push (v * 10 + (d - byte "0")) ds c
 
 -- the number of digits, and others behind them, goes on from the number of the first
-number_append : (v : ℕ) (ds es : List ℕ) → number_from v (ds ++ es) ≡ number_from (number_from v ds) es
+pub number_append : (v : ℕ) (ds es : List ℕ) → number_from v (ds ++ es) ≡ number_from (number_from v ds) es
 number_append v [] es = refl
 number_append v (d ∷ ds) es = number_append (v * 10 + (d - byte "0")) ds es
 
 -- more digits make no smaller number
-grows : (v : ℕ) (ds : List ℕ) → v ≤ number_from v ds
+pub grows : (v : ℕ) (ds : List ℕ) → v ≤ number_from v ds
 grows v [] = omega arith
 grows v (d ∷ ds) = omega (arith, grows (v * 10 + (d - byte "0")) ds)
 
@@ -58,7 +58,7 @@ pub is_digit_of : (c : ℕ) → count_token c ≡ digit → is_digit c ≡ true
 is_digit_of c h = digit_alone (is_digit c) _ (other_tokens (c == byte ",") (c == byte "}")) h
 
 -- and a digit is taken as one
-token_of_digit : (c : ℕ) → is_digit c ≡ true → count_token c ≡ digit
+pub token_of_digit : (c : ℕ) → is_digit c ≡ true → count_token c ≡ digit
 token_of_digit c h = ap (λ (b : Bool). if b then digit else if c == byte "," then comma else if c == byte "}" then closing_brace else no_count) h
 
 -- each digit is read from its mode, in which the digits before it stand

@@ -1,6 +1,6 @@
 -- The laws of a pattern's text.
 use Rattle.std.proofs.Common.{◌≡◌, ◌↔◌, ◌⊎◌, inl, inr, ℕ, Bool, true, false, List, Option, Some, None, IsTrue, refl, sym, ap, subst, ◌∙◌, true≢false}
-use Rattle.std.proofs.Common.{length, leb, nat_le, ◌≤◌, if◌then◌else◌, option_map}
+use Rattle.std.proofs.Common.{length, leb, nat_le, ◌≤◌, if◌then◌else◌}
 use Rattle.std.specs.Prelude.{is_some}
 use Rattle.std.proofs.lemmas.Bool.{leb-true, le-leb}
 use Rattle.strkw_pattern.specs.Matcher.{outcome_of}
@@ -15,9 +15,8 @@ use Rattle.strkw_ecma.specs.Front.{parts, steps_of_parts, are_parts_told}
 use Rattle.strkw_ecma.specs.Size.{max_steps}
 use Rattle.strkw_ecma.specs.Meaning.{Found}
 use Rattle.strkw_ecma.specs.Tree.{Pattern}
-use Rattle.strkw_ecma.specs.machine.Search.{are_parts_clean}
 use Rattle.strkw_ecma.specs.Patterns.{pattern}
-use Rattle.strkw_ecma.specs.machine.Outcomes.{outcome_of_read, search_outcome}
+use Rattle.strkw_ecma.specs.machine.Outcomes.{outcome_of_read}
 use Rattle.strkw_ecma.specs.Laws.{IsPattern, IsExact}
 use Rattle.strkw_ecma.proofs.Readings.{complete}
 use Rattle.strkw_ecma.proofs.Spelled.{IsSpelled, sound}

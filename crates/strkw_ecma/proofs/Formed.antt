@@ -305,7 +305,7 @@ parts_push [] y h w = (w, tt)
 parts_push (z ∷ n) y h w = (h.0, parts_push n y h.1 w)
 
 -- the beginning of a name, with a character that may follow it, is the beginning of one
-name_push : (n : List NameChar) (y : NameChar) → IsNamePart n → IsNameChar (may_follow (name_value n)) y → IsNamePart (n ++ y ∷ [])
+pub name_push : (n : List NameChar) (y : NameChar) → IsNamePart n → IsNameChar (may_follow (name_value n)) y → IsNamePart (n ++ y ∷ [])
 name_push [] y h w = (w, tt)
 name_push (z ∷ n) y h w = (h.0, parts_push n y h.1 w)
 

@@ -44,3 +44,14 @@ pub mod Named
 pub mod Distinct
 pub mod RunEnds
 pub mod Paged
+pub mod RegexTrees
+pub mod RegexSteps
+pub mod RegexWritten
+pub mod RegexClasses
+pub mod RegexSound
+pub mod RegexReads
+pub mod RegexReadsClass
+pub mod RegexExact
+pub mod RegexDigits
+pub mod RegexNames
+pub mod RegexRun

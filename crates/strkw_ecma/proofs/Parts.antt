@@ -44,10 +44,10 @@ use Rattle.strkw_ecma.specs.machine.Reading.{on_class_coding, on_property, on_cl
 use Rattle.strkw_ecma.specs.machine.Reading.{with_quantifier, questioned, opened, enclosed}
 use Rattle.strkw_ecma.specs.machine.Reading.{closed_in, with_name_char, name_read, look_read}
 use Rattle.strkw_ecma.specs.machine.Reading.{on_naming, on_name_escape}
-use Rattle.strkw_ecma.specs.machine.Reading.{on_name_coding, closed, on_token, on_escape, next, read_from, initial, read, read_short, read_pattern, tree_if}
+use Rattle.strkw_ecma.specs.machine.Reading.{on_name_coding, on_token, on_escape, next, read_from, initial, read, read_short, read_pattern, tree_if}
 use Rattle.strkw_ecma.specs.machine.Reading.{small_tree, told_tree}
 use Rattle.strkw_ecma.specs.machine.Parts.{Side, Parts, after_count, after_low, after_high, after_high_brace, after_counting, small, value, ended, joined}
-use Rattle.strkw_ecma.specs.machine.Parts.{level_ended, level_so_far, new_level, after_atom}
+use Rattle.strkw_ecma.specs.machine.Parts.{level_ended, new_level, after_atom}
 use Rattle.strkw_ecma.specs.machine.Parts.{after_term, after_bar, after_opening, after_enclosed}
 use Rattle.strkw_ecma.specs.machine.Parts.{closing_in, after_name_char}
 use Rattle.strkw_ecma.specs.machine.Parts.{after_name, after_look, after_naming, after_name_escape, after_name_coding, closes, after_closing, after_quantifier}

@@ -203,7 +203,7 @@ is_character character = true
 is_character t = false
 
 -- a character that stands for itself is no question mark
-no_question : (c : ℕ) (b : Bool) → (c == byte "?") ≡ b → token c ≡ character → b ≡ false
+pub no_question : (c : ℕ) (b : Bool) → (c == byte "?") ≡ b → token c ≡ character → b ≡ false
 unfolding is_character
 no_question c false e h = refl
 no_question c true e h =
@@ -268,7 +268,7 @@ inside outer e a x g = state (record {
 
 -- a name
 -- the characters that have a meaning of their own in a name are none of its
-IsApart : (ℕ → Bool) → Type 0
+pub IsApart : (ℕ → Bool) → Type 0
 IsApart f = (f (byte ">") ≡ false) × (f (byte "\\") ≡ false) × (f (byte "=") ≡ false) × (f (byte "!") ≡ false)
 
 -- so it is with the characters that may begin a name
@@ -282,12 +282,12 @@ unfolding IsApart ucd_derived
 part_apart = (refl, refl, refl, refl)
 
 -- so it is with those that may follow this much of a name
-follow_apart : (ds : List ℕ) → IsApart (may_follow ds)
+pub follow_apart : (ds : List ℕ) → IsApart (may_follow ds)
 follow_apart [] = start_apart
 follow_apart (d ∷ ds) = part_apart
 
 -- a character of a name is taken as one of its characters
-token_of_name : (f : ℕ → Bool) → IsApart f → (c : ℕ) → f c ≡ true → name_token c ≡ name_character
+pub token_of_name : (f : ℕ → Bool) → IsApart f → (c : ℕ) → f c ≡ true → name_token c ≡ name_character
 unfolding IsApart
 token_of_name f a c h =
     ap (λ (b : Bool). if b then name_end else if c == byte "\\" then name_backslash else if c == byte "=" then name_equals

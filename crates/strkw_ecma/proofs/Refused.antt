@@ -15,16 +15,17 @@ use Rattle.strkw_ecma.specs.Numbers.{number, number_of, CountToken, digit, comma
 use Rattle.strkw_ecma.specs.Names.{NameChar, name_value, Extension, uncaptured, name_opening, look_equals, look_negation, no_extension, extension}
 use Rattle.strkw_ecma.specs.Names.{NameToken, name_end, name_backslash, name_equals, name_negation, name_character, name_token}
 use Rattle.strkw_ecma.specs.machine.PropertyReading.{PropertyPart, brace_awaited, in_braces}
-use Rattle.strkw_ecma.specs.machine.Reading.{Open, Outer, Level, State, Last, none, atom, counted, Class, Count, low, high, Mode, between, escaping, opening}
+use Rattle.strkw_ecma.specs.machine.Reading.{Open, Outer, Level, State, Last, none, atom, counted, Count, low, high, Mode, between, escaping, opening}
 use Rattle.strkw_ecma.specs.machine.Reading.{extending, class_opened, counting, coding, in_class, class_escaping, class_coding, in_property, in_class_property}
 use Rattle.strkw_ecma.specs.machine.Reading.{naming, name_escaping, name_coding, initial, level_ended, joined, ended, with_mode, opened_within, opened}
-use Rattle.strkw_ecma.specs.machine.Reading.{with_count, with_quantifier, when, with_digit, longer, range_read, on_low, on_high, on_count, on_extension}
-use Rattle.strkw_ecma.specs.machine.Reading.{on_naming, name_read, next_in, read, read_short, read_pattern, small_tree, told_tree, tree_if}
+use Rattle.strkw_ecma.specs.machine.Reading.{with_count, when, longer, on_low, on_high, on_count, on_extension}
+use Rattle.strkw_ecma.specs.machine.Reading.{on_naming, next_in, read, read_short, small_tree, told_tree, tree_if}
 use Rattle.strkw_ecma.specs.Lookahead.{is_apart}
 use Rattle.strkw_ecma.specs.Front.{parts, steps_of_parts, are_parts_told}
 use Rattle.strkw_ecma.specs.machine.Outcomes.{takes_pattern}
 use Rattle.strkw_ecma.specs.Refusals.{IsBeginning, Has, HasTerm, HasTermWithin, is_reference, is_needlessly_escaped, is_unknown, IsReason}
-use Rattle.strkw_ecma.specs.machine.RefusalParts.{told_if, escape_refusal, one_deeper, extension_refusal, name_refusal, term_refusal, range_refusal, count_refusal}
+use Rattle.strkw_ecma.specs.machine.RefusalParts.{told_if, escape_refusal, one_deeper, extension_refusal, name_refusal, term_refusal, range_refusal}
+use Rattle.strkw_ecma.specs.machine.RefusalParts.{count_refusal}
 use Rattle.strkw_ecma.specs.machine.RefusalParts.{part_refusal, refusal_at}
 use Rattle.strkw_ecma.specs.declared.refusals.PatternRefusal.{PatternRefusal}
 use Rattle.strkw_ecma.specs.declared.refusals.PatternRefusal.TheVariants.{LookAhead, BackReference, IdentityEscape, Property, TooDeep, TooLarge}

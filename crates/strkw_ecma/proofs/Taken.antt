@@ -1,6 +1,7 @@
 -- What the code looks for of a pattern comes to what is defined for its parts.
-use Rattle.std.proofs.Common.{◌≡◌, ◌↔◌, ℕ, ◌+◌, ◌<◌, ◌≤◌, nat_le, Bool, true, false, not, ◌&&◌, List, [], ◌∷◌, ◌++◌, length, Vec, Global, Option, Some, None, is_some}
-use Rattle.std.proofs.Common.{option_map, refl, sym, ap, subst, ◌∙◌, true≢false, IsTrue, arith, le-leb}
+use Rattle.std.proofs.Common.{◌≡◌, ◌↔◌, ℕ, ◌+◌, ◌<◌, ◌≤◌, nat_le, Bool, true, false, not, ◌&&◌, List, [], ◌∷◌, ◌++◌, length, Vec, Global, Option, Some, None}
+use Rattle.std.proofs.Common.{is_some}
+use Rattle.std.proofs.Common.{option_map, refl, sym, ap, subst, ◌∙◌, arith, le-leb}
 use Rattle.std.proofs.lemmas.Bool.{lt-leb}
 use Rattle.std.proofs.Math.Path.{fun_ext}
 use Rattle.strkw_pattern.specs.Matcher.{outcome_of}
@@ -19,14 +20,13 @@ use Rattle.strkw_ecma.specs.machine.Parts.{small_pattern, told_pattern, pattern_
 use Rattle.strkw_ecma.specs.machine.Search.{search_from, search, are_parts_found, are_parts_clean}
 use Rattle.strkw_ecma.specs.machine.Outcomes.{outcome_of_read}
 use Rattle.strkw_ecma.specs.machine.Engine.{finder_passes, engine_outcome}
-use Rattle.strkw_ecma.specs.machine.Passes.{Alike, Pass, IsPass, ArePasses, AreTaken, ComesTo, are_passes_found, are_passes_clean, are_passes_told, steps_of_passes}
+use Rattle.strkw_ecma.specs.machine.Passes.{Alike, Pass, IsPass, ArePasses, ComesTo, are_passes_found, are_passes_clean, are_passes_told, steps_of_passes}
 use Rattle.strkw_ecma.specs.machine.Passes.{pass_of, passes_of}
 use Rattle.strkw_ecma.specs.declared.engine.EcmaMatcher.{EcmaMatcher}
 use Rattle.strkw_ecma.specs.declared.front.Front.{Front}
 use Rattle.strkw_ecma.specs.declared.passes.Pass.{Pass as CodePass}
 use Rattle.strkw_ecma.proofs.Answers.{search_is_exact, same_answer}
 use Rattle.strkw_ecma.proofs.Counterparts.{alike_refl}
-use Rattle.strkw_ecma.proofs.Sizes.{small_whole}
 use Rattle.strkw_ecma.proofs.Steps.{and_left, and_right}
 use Rattle.strkw_ecma.proofs.Unmarked.{unmarked_pattern, parts_clean}
 

@@ -1,5 +1,6 @@
 -- The characters at the two ends of a text.
-use Rattle.std.proofs.Common.{◌≡◌, ℕ, Bool, true, false, Option, Some, None, MatchOption, List, [], ◌∷◌, ◌++◌, length, reverse, take, chars, IsUtf8, encode_utf8, refl, sym, ap, subst, ◌∙◌, append-nil, true≢false, arith}
+use Rattle.std.proofs.Common.{◌≡◌, ℕ, Bool, true, false, Option, Some, None, MatchOption, List, [], ◌∷◌, ◌++◌, length, reverse, take, chars, IsUtf8}
+use Rattle.std.proofs.Common.{encode_utf8, refl, sym, ap, subst, ◌∙◌, append-nil, true≢false, arith}
 use Rattle.std.specs.Char.{IsScalar}
 use Rattle.std.specs.Prelude.{⊤}
 use Rattle.std.specs.Str.{is_utf8}

@@ -1,5 +1,5 @@
--- The binary properties that a pattern may name (ECMA-262 2024, section 22.2.2.9.1, the table "Binary
--- Unicode property aliases and their canonical property names"), but for
+-- The binary properties that a pattern may name (ECMA-262 2024, section 22.2.2.9.1, the table
+-- "Binary Unicode property aliases and their canonical property names"), but for
 -- Changes_When_NFKC_Casefolded, of which there is no table here.
 use Rattle.std.specs.Prelude.{List, [], ◌∷◌}
 use Prim.Native.String.{String}

@@ -21,5 +21,6 @@ pub mod Mirror
 pub mod Front
 pub mod Laws
 pub mod Refusals
+pub mod Regex
 -- How the code reads and searches: the laws say that it comes to the same.
 pub mod machine

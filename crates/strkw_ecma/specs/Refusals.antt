@@ -15,7 +15,8 @@ use Rattle.strkw_ecma.specs.Syntax.{max_length}
 use Rattle.strkw_ecma.specs.WellFormed.{IsWellFormed, IsEnclosing, IsAtom}
 use Rattle.strkw_ecma.specs.declared.refusals.PatternRefusal.{PatternRefusal}
 use Rattle.strkw_ecma.specs.declared.refusals.PatternRefusal.TheVariants.{LookAhead}
-use Rattle.strkw_ecma.specs.declared.refusals.PatternRefusal.TheVariants.{BackReference, IdentityEscape}
+use Rattle.strkw_ecma.specs.declared.refusals.PatternRefusal.TheVariants.{BackReference}
+use Rattle.strkw_ecma.specs.declared.refusals.PatternRefusal.TheVariants.{IdentityEscape}
 use Rattle.strkw_ecma.specs.declared.refusals.PatternRefusal.TheVariants.{Property}
 use Rattle.strkw_ecma.specs.declared.refusals.PatternRefusal.TheVariants.{TooLong, TooDeep}
 use Rattle.strkw_ecma.specs.declared.refusals.PatternRefusal.TheVariants.{CountTooGreat}

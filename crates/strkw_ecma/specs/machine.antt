@@ -9,6 +9,8 @@ pub mod CodeReading
 pub mod PropertyReading
 pub mod CodeParts
 pub mod Reading
+pub mod Recognising
+pub mod NameSets
 pub mod Search
 pub mod Counted
 pub mod Outcomes

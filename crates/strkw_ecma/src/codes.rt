@@ -53,7 +53,7 @@ fn made(number: u32) -> Coded
 }
 
 // Of a leading and a trailing surrogate.
-fn pair(lead: u16, trail: u16) -> u32
+pub(crate) fn pair(lead: u16, trail: u16) -> u32
     ensures { result ≡ spec_pair_value lead trail }
 {
     u32::from(lead.saturating_sub(0xD800)) * 0x400
@@ -62,7 +62,7 @@ fn pair(lead: u16, trail: u16) -> u32
 }
 
 // The number with one more digit, where that is none above the greatest.
-fn with_hex_digit(number: u32, c: char) -> Option<u32>
+pub(crate) fn with_hex_digit(number: u32, c: char) -> Option<u32>
     ensures { result ≡ spec_with_hex_digit number c }
 {
     let digit = c.to_digit(16)?;

@@ -27,7 +27,9 @@ mod passes;
 mod program;
 mod properties;
 mod reader;
+mod recogniser;
 mod refusals;
+mod regex;
 mod runs;
 mod same_sets;
 mod samples;
@@ -44,3 +46,4 @@ mod writing;
 
 pub use engine::{EcmaMatcher, EcmaPatterns};
 pub use refusals::{PatternRefusal, why_refused};
+pub use regex::is_valid_regex;

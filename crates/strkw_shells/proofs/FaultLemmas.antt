@@ -48,7 +48,8 @@ why_refused settings kind d e (fault.Document x) comes why = tt
 why_refused settings kind d e fault.Write comes why = tt
 
 -- why a text is no document is why it is not checked
-pub why_unread : (settings : Draft → Settings) (d : Data) (text : List ℕ) (p : Plan) (longest : Option ℕ) (e : DocumentTextFault) (given : FileFault) → plan_of Places d ≡ Some p
+pub why_unread : (settings : Draft → Settings) (d : Data) (text : List ℕ) (p : Plan) (longest : Option ℕ)
+    (e : DocumentTextFault) (given : FileFault) → plan_of Places d ≡ Some p
     → longest ≡ p.limits.longest_document → IsWhyUnread longest text e → GivesOfText e given → IsWhyUnchecked settings d text given
 why_unread settings d text p longest (unread.Unread x) given is within why gives = rw gives (p, is, tt)
 why_unread settings d text p longest (unread.Long most) given is within why gives =

@@ -57,8 +57,8 @@ pub fn ask_searches(alloc: Global, row: &Value, tally: &mut Tally) -> Result<(),
     Ok(())
 }
 
-// Parts of a text, each so many times.
-fn repeated(alloc: Global, parts: &[Value]) -> Result<String, AllocError> {
+/// Parts of a text, each so many times.
+pub fn repeated(alloc: Global, parts: &[Value]) -> Result<String, AllocError> {
     let mut text = String::new(alloc);
     for part in parts {
         for _ in 0..part.get(1).and_then(Value::as_u64).unwrap_or(0) {

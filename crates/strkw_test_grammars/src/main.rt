@@ -57,6 +57,7 @@ fn answer(alloc: Global, line: &str, all: &mut Tally) -> Result<String, AllocErr
 fn ask(alloc: Global, row: &Value, tally: &mut Tally) -> Result<(), AllocError> {
     match row::text(row, "ask") {
         "texts" => texts::ask(alloc, row, tally),
+        "long texts" => texts::ask_long(alloc, row, tally),
         "characters" => sweeps::ask_characters(alloc, row, tally),
         "numbers" => sweeps::ask_numbers(alloc, row, tally),
         "counts" => sweeps::ask_counts(alloc, row, tally),

@@ -1,6 +1,7 @@
 //! What stands in a row. `ask` names what is asked, and `of` whose it is:
 //!
 //! - `texts`: `of` a grammar or an encoding (`texts.rt`) the texts `yes`, and not the texts `no`;
+//! - `long texts`: the same of texts by their parts, each with how often it stands;
 //! - `characters`: each ASCII character, or each of `tried`, between the two texts of each of `places`, alone and with
 //!   each of `sides` on both sides of it: those of `accepted`, and of the third text of the place, and no others;
 //! - `numbers`, `counts`: each number below `below`, with a zero before one digit where `two_digits` is set, and so

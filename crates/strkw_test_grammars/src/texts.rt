@@ -5,6 +5,7 @@ use crate::tally::Tally;
 use crate::{coding, ecma, label};
 use serde_json::Value;
 use std::alloc::{AllocError, Global};
+use strkw_ecma::is_valid_regex;
 use strkw_label::{is_valid_hostname, is_valid_idn_hostname, is_valid_u_label};
 use strkw_mail::{is_valid_email, is_valid_idn_email};
 use strkw_net::{is_valid_hostname_rfc1034, is_valid_ipv4, is_valid_ipv6, is_valid_uuid};
@@ -53,6 +54,7 @@ pub fn accepts(alloc: Global, of: &str, text: &str) -> Result<Option<bool>, Allo
         "idn-email" => Ok(Some(is_valid_idn_email(alloc, text)?)),
         "json" => coding::is_media(alloc, text),
         "patterns of ECMA-262" => Ok(ecma::is_taken(alloc, text)),
+        "patterns of the whole of ECMA-262" => Ok(Some(is_valid_regex(alloc, text)?)),
         "base64" | "base64url" | "base32" | "base32hex" | "base16" => {
             coding::is_encoded(alloc, of, text)
         }
@@ -85,6 +87,26 @@ pub fn ask(alloc: Global, row: &Value, tally: &mut Tally) -> Result<(), AllocErr
     }
     for item in items(row, "no") {
         ask_one(alloc, of, item.as_str().unwrap_or(""), false, tally)?;
+    }
+    Ok(())
+}
+
+/// The texts of a row that are said by their parts.
+pub fn ask_long(alloc: Global, row: &Value, tally: &mut Tally) -> Result<(), AllocError> {
+    let of = text(row, "of");
+    for item in items(row, "yes") {
+        let repeated = ecma::repeated(
+            alloc,
+            item.as_array().map_or(&[], |parts| parts.as_slice()),
+        )?;
+        ask_one(alloc, of, &repeated, true, tally)?;
+    }
+    for item in items(row, "no") {
+        let repeated = ecma::repeated(
+            alloc,
+            item.as_array().map_or(&[], |parts| parts.as_slice()),
+        )?;
+        ask_one(alloc, of, &repeated, false, tally)?;
     }
     Ok(())
 }

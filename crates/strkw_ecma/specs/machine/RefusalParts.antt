@@ -16,7 +16,8 @@ use Rattle.strkw_ecma.specs.machine.Parts.{in_property, in_class_property, namin
 use Rattle.strkw_ecma.specs.machine.Parts.{name_coding, Parts}
 use Rattle.strkw_ecma.specs.Refusals.{is_reference, is_needlessly_escaped, is_unknown}
 use Rattle.strkw_ecma.specs.declared.refusals.PatternRefusal.{PatternRefusal}
-use Rattle.strkw_ecma.specs.declared.refusals.PatternRefusal.TheVariants.{BackReference, IdentityEscape}
+use Rattle.strkw_ecma.specs.declared.refusals.PatternRefusal.TheVariants.{BackReference}
+use Rattle.strkw_ecma.specs.declared.refusals.PatternRefusal.TheVariants.{IdentityEscape}
 use Rattle.strkw_ecma.specs.declared.refusals.PatternRefusal.TheVariants.{Property}
 use Rattle.strkw_ecma.specs.declared.refusals.PatternRefusal.TheVariants.{TooDeep, CountTooGreat}
 use Rattle.strkw_ecma.specs.declared.refusals.PatternRefusal.TheVariants.{TermTooLarge, NotTaken}

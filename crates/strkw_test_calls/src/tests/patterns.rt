@@ -2,7 +2,7 @@
 
 use std::alloc::{AllocError, Global};
 use std::test::Fail;
-use strkw_ecma::{EcmaPatterns, PatternRefusal, why_refused};
+use strkw_ecma::{EcmaPatterns, PatternRefusal, is_valid_regex, why_refused};
 use strkw_pattern::{
     BuildRefusal, EngineBuilder, LiteralMatcher, PatternOptimization, RegexEngine, analyze_pattern,
 };
@@ -225,6 +225,26 @@ fn why_refused_under_refusal(rt: HostRuntime) -> Result<(), Fail> {
     for row in REFUSALS {
         if why_refused(rt.alloc(), row.pattern)? != row.why {
             return Err(Fail::new(row.pattern));
+        }
+    }
+    Ok(())
+}
+
+// A pattern of the whole of ECMA-262, and two texts that are none.
+const REGEXES: &[(&str, bool)] = &[
+    (
+        "(?<n>\\p{scx=Grek}+)\\k<n>\\1[\\uD83D\\uDE00-\\u{1F602}]{01,2}?",
+        true,
+    ),
+    ("(?<n>)|(?<n>)", false),
+    ("a{100000000000000000000,99999999999999999999}", false),
+];
+
+#[test]
+fn is_valid_regex_under_refusal(rt: HostRuntime) -> Result<(), Fail> {
+    for (text, expected) in REGEXES {
+        if is_valid_regex(rt.alloc(), text)? != *expected {
+            return Err(Fail::new(text));
         }
     }
     Ok(())

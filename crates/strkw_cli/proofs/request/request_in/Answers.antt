@@ -6,29 +6,29 @@ use Rattle.strkw_cli.specs.Tokens.{begins_object}
 use Rattle.strkw_cli.proofs.Asked.{asked, asked_with_more, no_members_read, no_object_read}
 use Rattle.strkw_cli.proofs.request.request_in.Goals as goal
 
-pub returns-in-None : goal.returns-in-None
-returns-in-None c =
-    let text = c.args.text.now in
+pub returns-in-None-clause-ok : goal.returns-in-None-clause-ok
+returns-in-None-clause-ok c =
+    let text = c.args.line.text.now in
     let first : tokens text ≡ begin_object ∷ c.takes_begin_object.new.tokens = grind arith in
     let (ms, read, are) = c.in-Ok.ensures.ok in
     let over : c.parts_in.new.tokens ≡ [] = grind arith in
-    c.into_request.ensures ms are ∙ sym (asked text _ ms first (read ∙ ap (λ rest. Some (ms, rest)) over))
+    c.into_request.ensures.request ms are ∙ sym (asked text _ ms first (read ∙ ap (λ rest. Some (ms, rest)) over))
 
-pub returns-then-not-takes_begin_object : goal.returns-then-not-takes_begin_object
-returns-then-not-takes_begin_object c =
-    let none : begins_object (tokens c.args.text.now) ≡ false = grind arith in
-    sym (no_object_read c.args.text.now none)
+pub returns-then-not-takes_begin_object-clause-ok : goal.returns-then-not-takes_begin_object-clause-ok
+returns-then-not-takes_begin_object-clause-ok c =
+    let none : begins_object (tokens c.args.line.text.now) ≡ false = grind arith in
+    sym (no_object_read c.args.line.text.now none)
 
-pub returns-in-Ok : goal.returns-in-Ok
-returns-in-Ok c =
-    let text = c.args.text.now in
+pub returns-in-Ok-clause-ok : goal.returns-in-Ok-clause-ok
+returns-in-Ok-clause-ok c =
+    let text = c.args.line.text.now in
     let first : tokens text ≡ begin_object ∷ c.takes_begin_object.new.tokens = grind arith in
     let (ms, read, are) = c.in-Ok.ensures.ok in
     let more : c.parts_in.new.tokens ≡ token_of c.in-Some.field-0 ∷ c.next.new.self = grind arith in
     sym (asked_with_more text _ ms _ _ first (read ∙ ap (λ rest. Some (ms, rest)) more))
 
-pub returns-in-Err-NotJson : goal.returns-in-Err-NotJson
-returns-in-Err-NotJson c =
-    let text = c.args.text.now in
+pub returns-in-Err-NotJson-clause-ok : goal.returns-in-Err-NotJson-clause-ok
+returns-in-Err-NotJson-clause-ok c =
+    let text = c.args.line.text.now in
     let first : tokens text ≡ begin_object ∷ c.takes_begin_object.new.tokens = grind arith in
     sym (no_members_read text _ first (c.parts_in.ensures.none (grind arith)))

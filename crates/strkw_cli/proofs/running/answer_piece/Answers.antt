@@ -17,9 +17,10 @@ pub loop-offset-init : goal.loop-offset-init
 loop-offset-init c =
     let start = append-nil c.args.line.now.items in
     record {
+      sound = c.requires.sound;
       within = omega arith;
-      begun = sym (ap last_part start ∙ c.requires);
-      answered = ([], sym (append-nil c.args.out.now.items), rw (start, none_ended c.args.line.now.items c.requires) refl);
+      begun = sym (ap last_part start ∙ c.requires.begun);
+      answered = ([], sym (append-nil c.args.out.now.items), rw (start, none_ended c.args.line.now.items c.requires.begun) refl);
     }
 
 pub returns-in_err-answer_ending-clause-err : goal.returns-in_err-answer_ending-clause-err
@@ -47,6 +48,7 @@ loop-offset-preserved c =
     let (made, is, are) = c.loop-offset.invariant.answered in
     let (answer, answer_is, answered) = c.in_ok-answer_ending.ensures.ok in
     record {
+      sound = c.answer_ending.ensures.sound;
       within = omega (arith, line.within);
       begun = c.in_ok-answer_ending.ensures.cleared ∙ sym line.begun;
       answered = (

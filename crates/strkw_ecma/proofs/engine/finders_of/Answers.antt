@@ -21,7 +21,8 @@ passes-preserved c =
     record {
       made = ap (λ l. finder_passes l ++ passes_of rest) c.in_ok-push.ensures.items
           ∙ ap (λ l. l ++ passes_of rest) (finder_append c.passes.finders.items _)
-          ∙ append_assoc made (finder_pass record { negated = pass.negated; is_backward = pass.is_backward; finder = c.in_ok-finder.finder } ∷ []) (passes_of rest)
+          ∙ append_assoc made
+          (finder_pass record { negated = pass.negated; is_backward = pass.is_backward; finder = c.in_ok-finder.finder } ∷ []) (passes_of rest)
           ∙ ap (λ p. made ++ (record { negated = pass.negated; backward = pass.is_backward; pattern = p } ∷ passes_of rest)) c.in_ok-finder.ensures
           ∙ ap (λ l. made ++ passes_of l) (sym is) ∙ c.passes.invariant.made;
       clean = and_right (is_clean (outlined pass.pattern)) _ (ap (λ l. are_passes_clean (passes_of l)) (sym is) ∙ c.passes.invariant.clean);

@@ -46,7 +46,9 @@ pub returns : goal.returns
 returns c =
     let p = pattern_of c.args.program.now in
     let text = along c.args.is_backward (chars c.args.text.now) in
-    let is = search_ends _ _ _ _ c.characters.invariant.so_far (none_next _ _ c.next.result c.in_default.not-Some c.next.ensures) c.step-2.result c.step-2.ensures.left in
+    let is =
+    search_ends _ _ _ _ c.characters.invariant.so_far (none_next _ _ c.next.result c.in_default.not-Some c.next.ensures)
+    c.step-2.result c.step-2.ensures.left in
     record {
       meaning = subst (λ (b : Bool). IsTrue b ↔ Found p text) (sym is) (search_is_exact p text c.requires.clean c.requires.told);
       search = is;

@@ -1,4 +1,4 @@
-use Rattle.std.proofs.Common.{◌≡◌, true, false, Some, None, option_map, sym, subst, ◌∙◌}
+use Rattle.std.proofs.Common.{◌≡◌, true, false, Some, None, option_map, sym, subst}
 use Rattle.strkw_ecma.specs.machine.Parts.{small_pattern, told_pattern}
 use Rattle.strkw_ecma.specs.machine.Passes.{ComesTo, are_passes_told, passes_of, steps_of_passes}
 use Rattle.strkw_ecma.specs.machine.Shape.{outlined}

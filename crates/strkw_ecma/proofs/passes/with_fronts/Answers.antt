@@ -1,4 +1,4 @@
-use Rattle.std.proofs.Common.{rules, ◌≡◌, ◌<◌, [], ◌∷◌, ◌++◌, List, length, sym, ap, subst, ◌∙◌, append-nil, refl, arith}
+use Rattle.std.proofs.Common.{rules, ◌≡◌, ◌<◌, [], ◌∷◌, ◌++◌, List, length, sym, ap, subst, ◌∙◌, append-nil, refl}
 use Rattle.std.proofs.lemmas.List.{append_assoc}
 use Rattle.strkw_ecma.specs.Front.{Part}
 use Rattle.strkw_ecma.specs.machine.Fronts.{part_view, parts_view}

@@ -1,4 +1,4 @@
-use Rattle.std.proofs.Common.{◌≡◌, true, false, None, IfOk, refl, subst, option_map}
+use Rattle.std.proofs.Common.{◌≡◌, true, false, None, IfOk, refl, subst}
 use Rattle.std.specs.Str.{chars}
 use Rattle.strkw_ecma.specs.Lookahead.{is_apart}
 use Rattle.strkw_ecma.specs.machine.Passes.{ComesTo}

@@ -1,4 +1,4 @@
-use Rattle.std.proofs.Common.{◌≡◌, sym, subst, Some, None, option_map}
+use Rattle.std.proofs.Common.{sym, subst, Some, None, option_map}
 use Rattle.std.specs.Str.{chars}
 use Rattle.strkw_ecma.specs.Patterns.{pattern}
 use Rattle.strkw_ecma.specs.machine.Passes.{ComesTo}

@@ -11,14 +11,15 @@ use Rattle.strkw_cli.specs.Serving.{Serves}
 use Rattle.strkw_cli.proofs.OutcomeLemmas.{some_none}
 use Rattle.strkw_cli.proofs.BoundLemmas.{fits_none, taken_whole, within_none}
 use Rattle.strkw_cli.proofs.RunLemmas.{Runs, Runs-start, Runs-begun, Runs-more, written_at_read_fault, none_read, written_at_end, written_at_fault}
-use Rattle.strkw_cli.proofs.RunLemmas.{written_at_last_fault, written_at_long_line}
-use Rattle.strkw_cli.proofs.running.run_within.Goals as goal
+use Rattle.strkw_cli.proofs.RunLemmas.{written_at_last_fault, written_at_long_line, written_at_too_long}
+use Rattle.strkw_cli.proofs.running.run_lines.Goals as goal
 
 pub loop-turn-init : goal.loop-turn-init
 loop-turn-init g c = record {
   room = c.in_ok-piece.ensures;
   source_works = c.requires.source_works;
   sink_works = c.requires.sink_works;
+  sound = c.requires.sound;
   runs = rw c.new-line.ensures.items (Runs-start c.args.bound _ _);
 }
 
@@ -153,7 +154,12 @@ loop-turn-preserved g c =
       source_works = c.in-Ok.ensures.ok ∙ c.loop-turn.invariant.source_works;
       sink_works = false_from_ne_true (g.K.Sink.has_failed c.serve_piece.new.sink)
           (λ failed. let fault = c.in_ok-serve_piece.ensures.write_fault.1 failed in cc);
+      sound = c.serve_piece.ensures.sound;
       runs = Runs-more _ _ _ _ _ _ _ c.loop-turn.line.items c.loop-turn.turn runs bytes c.serve_piece.new.line.items consumed some
           (subst (λ f. HasShortLines c.args.bound (runs.read ++ f)) all taken.short) served
           (c.in_ok-serve_piece.ensures.begun ∙ ap (λ f. last_part (c.loop-turn.line.items ++ f)) whole);
     }
+
+pub returns-clause-written : goal.returns-clause-written
+returns-clause-written g c = written_at_too_long _ _ _ (g.S.Source.left c.loop-turn.source) _ _ (g.K.Sink.taken c.loop-turn.sink) _ c.loop-turn.turn
+    c.loop-turn.invariant.runs (omega (arith, c.loop-turn-test.false, c.loop-turn.auto.turn-end))

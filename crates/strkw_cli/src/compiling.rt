@@ -1,0 +1,74 @@
+//! What a schema object is compiled to.
+
+ghost use Rattle.std.specs.Prelude.{◌≡◌};
+ghost use Rattle.serde_json.specs.View.{members_view};
+ghost use Rattle.strkw_keywords.specs.Handed.{lists_of, settings_of};
+ghost use Rattle.strkw_keywords.specs.Meanings.{no_lists};
+ghost use Rattle.strkw_cli.specs.Kept.{CanAnswer, IsCompiledTo, settings_asked};
+
+use serde_json::{Map, Value};
+use std::alloc::Global;
+use strkw_keywords::{Checks, ContentCodec, Context, Format, MediaTypeCheck, Options};
+use strkw_object::{StringKeywords, compile_owned};
+use strkw_pattern::{EngineBuilder, LiteralMatcher, NoPatterns};
+use strkw_report::{CompileError, CompileErrorKind, Draft, Location};
+
+/// What a request compiles its schema object under.
+#[derive(Clone, Copy, PartialEq, Eq)]
+pub(super) struct Asked {
+    pub(super) draft: Draft,
+    pub(super) validate_formats: Option<bool>,
+    pub(super) ignore_unknown_formats: bool,
+}
+
+/// The keywords of a schema object, or why it is refused.
+pub(super) type Compiled = Result<StringKeywords<LiteralMatcher>, CompileError>;
+
+/// What a schema object is compiled to where this is asked of it, which may be out of memory.
+pub(super) fn compile(alloc: Global, asked: Asked, members: Map<String, Value>) -> Compiled
+    ensures compiled { IsCompiledTo (settings_asked asked) (members_view members.entries) result }
+    ensures can_answer { CanAnswer result }
+{
+    let builder = NoPatterns;
+    let ctx = context_of(alloc, asked, &builder);
+    compile_owned(alloc, &ctx, members)
+}
+
+/// Whether this is no refusal, but out of memory.
+pub(super) fn is_out_of_memory(compiled: &Compiled) -> bool {
+    match compiled {
+        Ok(_) => false,
+        Err(refusal) => matches!(refusal.kind, CompileErrorKind::Memory),
+    }
+}
+
+/// No check is registered.
+pub(super) fn no_checks() -> Checks<'static>
+    ensures { lists_of admits accepted encoded decoding result ≡ no_lists }
+{
+    Checks {
+        formats: &[],
+        media_types: &[],
+        codecs: &[],
+    }
+}
+
+// What a request compiles its schema object under: it stands at the root, no check is registered, and only two options
+// are set.
+fn context_of<'a>(alloc: Global, asked: Asked, builder: &'a NoPatterns) -> Context<'a, NoPatterns>
+    ensures { settings_of ⟦<NoPatterns as EngineBuilder>⟧.takes
+        ⟦<NoPatterns as EngineBuilder>⟧.outcome
+        admits accepted encoded decoding result ≡ settings_asked asked }
+{
+    let mut options = Options::default();
+    options.validate_formats = asked.validate_formats;
+    options.ignore_unknown_formats = asked.ignore_unknown_formats;
+    Context {
+        draft: asked.draft,
+        location: Location::root(alloc),
+        absolute: None,
+        options,
+        checks: no_checks(),
+        builder,
+    }
+}

@@ -1,0 +1,221 @@
+//! The schema object that lines share, kept with what it is compiled to.
+
+ghost use Rattle.std.specs.Prelude.{◌≡◌, ◌<◌, [], IfOk, IfSome, IsTrue, Some, length};
+ghost use Rattle.json.specs.Lex.{tokens as tokens_of_text};
+ghost use Rattle.serde_json.specs.Data.{object};
+ghost use Rattle.serde_json.specs.View.{members_view, view};
+ghost use Rattle.strkw_json.specs.Passing.{value_read};
+ghost use Rattle.strkw_cli.specs.Kept.{IsKept, members_in, members_kept};
+ghost use Rattle.strkw_cli.specs.Tokens.{member_depth};
+
+use super::compiling::{Asked, Compiled, compile, is_out_of_memory};
+use super::kept_tokens::{KeptToken, take_same, tokens_in};
+use super::request::MEMBER_DEPTH;
+use json::{Reader, Scratch};
+use memchr::memrchr;
+use serde_json::{Map, Value};
+use std::alloc::{AllocError, Global};
+use strkw_json::{JsonError, build_json};
+
+// So many lines in turn have one schema object and ask the same of it before the first is kept. Before the next is kept
+// they are so many more, less one for each line that the first has answered.
+const LINES_BEFORE: usize = 16;
+
+/// A schema object as its text and tokens, and what it is compiled to.
+#[derive(Drop)]
+pub(super) struct KeptObject {
+    text: Vec<u8>,
+    tokens: Vec<KeptToken>,
+    value: Value,
+    pub(super) asked: Asked,
+    pub(super) compiled: Compiled,
+}
+
+impl KeptObject {
+    // The object that a text is, if it is one, compiled as is asked.
+    fn of(
+        alloc: Global,
+        scratch: &mut Scratch,
+        bytes: &[u8],
+        asked: Asked,
+    ) -> Result<Option<KeptObject>, AllocError>
+        ensures { IfOk result (λ found. IfSome found IsKept) }
+    {
+        let Ok(text) = std::str::from_utf8(bytes) else {
+            return Ok(None);
+        };
+        let Some(value) = object_in(alloc, scratch, text)? else {
+            return Ok(None);
+        };
+        let tokens = tokens_in(alloc, scratch, text)?;
+        let compiled = compile(alloc, asked, members_of(alloc, &value)?);
+        if is_out_of_memory(&compiled) {
+            return Err(AllocError);
+        }
+        Ok(Some(KeptObject {
+            text: Vec::from_slice(alloc, bytes)?,
+            tokens,
+            value,
+            asked,
+            compiled,
+        }))
+    }
+
+    /// Whether a line seems to have the text of the object from a place on.
+    pub(super) fn seems_at(&self, line: &[u8], start: usize) -> bool {
+        match line.get(start..) {
+            Some(rest) => rest.starts_with(&self.text),
+            None => false,
+        }
+    }
+
+    /// Takes the tokens of the object: whether they come. Else others are taken, up to some place.
+    pub(super) fn takes(&self, tokens: &mut Reader<'_>) -> bool
+        requires { IsKept self.now }
+        ensures taken { IsTrue result → value_read member_depth tokens.old
+            ≡ Some (object (members_kept self.now), tokens.new) }
+        ensures shorter { IsTrue result → length tokens.new < length tokens.old }
+    {
+        take_same(&self.tokens, tokens)
+    }
+
+    /// A copy of its members.
+    pub(super) fn members(&self, alloc: Global) -> Result<Map<String, Value>, AllocError>
+        ensures { IfOk result (λ m. members_view m.entries ≡ members_kept self.now) }
+    {
+        members_of(alloc, &self.value)
+    }
+}
+
+// A copy of the members of an object. Another value has none.
+fn members_of(alloc: Global, value: &Value) -> Result<Map<String, Value>, AllocError>
+    ensures { IfOk result (λ m. members_view m.entries ≡ members_in (view value.now)) }
+{
+    match value.clone()? {
+        Value::Object(members) => Ok(members),
+        _ => Ok(Map::new(alloc)),
+    }
+}
+
+// The object that a text is, where it is one.
+fn object_in(alloc: Global, scratch: &mut Scratch, text: &str) -> Result<Option<Value>, AllocError>
+    ensures { IfOk result (λ found. IfSome found (λ v.
+        value_read member_depth (tokens_of_text text.now)
+        ≡ Some (object (members_in (view v)), []))) }
+{
+    let mut tokens = Reader::new(text, scratch)?;
+    match build_json(alloc, &mut tokens, MEMBER_DEPTH) {
+        Ok(Value::Object(members)) if tokens.next().is_none() => Ok(Some(Value::Object(members))),
+        Ok(_) | Err(JsonError::NotJson) => Ok(None),
+        Err(JsonError::Memory) => Err(AllocError),
+    }
+}
+
+/// What a line asked of its schema object, and where the object stands in it: from its first byte on, and before
+/// another token.
+#[derive(Clone, Copy)]
+pub(super) struct Sight {
+    pub(super) asked: Asked,
+    pub(super) start: usize,
+    pub(super) end: usize,
+}
+
+impl Sight {
+    // The text of the object.
+    fn text_in<'a>(&self, line: &'a [u8]) -> Option<&'a [u8]> {
+        let front = line.get(self.start..self.end)?;
+        let last = memrchr(b'}', front)?;
+        front.get(..=last)
+    }
+}
+
+/// What is kept from line to line: the schema object that lines shared, once enough of them did.
+#[derive(Drop)]
+pub(super) struct Kept {
+    // No object is kept whose text is longer.
+    longest: usize,
+    // The text of the object of the last line, what the line asked of it, how many lines in turn had both, and how many
+    // have to before the object is kept.
+    text: Vec<u8>,
+    asked: Option<Asked>,
+    lines: usize,
+    wanted: usize,
+    object: Option<KeptObject>,
+}
+
+impl Kept {
+    /// Nothing is kept yet, and then no object whose text is longer than so many bytes.
+    pub(super) fn new(alloc: Global, longest: usize) -> Self
+        ensures { IfSome result.object IsKept }
+    {
+        Kept {
+            longest,
+            text: Vec::new(alloc),
+            asked: None,
+            lines: 0,
+            wanted: LINES_BEFORE,
+            object: None,
+        }
+    }
+
+    /// The object that is kept.
+    pub(super) fn object(&self) -> Option<&KeptObject>
+        requires { IfSome self.now.object IsKept }
+        ensures { IfSome result (λ object. IsKept object.now) }
+    {
+        self.object.as_ref()
+    }
+
+    /// Keeps no object.
+    pub(super) fn forget(&mut self)
+        ensures { IfSome self.new.object IsKept }
+    {
+        self.object = None;
+    }
+
+    /// Sees the object of a line, where it was compiled anew, and keeps it where enough lines in turn had it and asked
+    /// the same of it.
+    pub(super) fn see(
+        &mut self,
+        alloc: Global,
+        scratch: &mut Scratch,
+        line: &[u8],
+        sight: Option<Sight>,
+    ) -> Result<(), AllocError>
+        requires { IfSome self.old.object IsKept }
+        ensures { IfSome self.new.object IsKept }
+    {
+        let Some(sight) = sight else {
+            self.wanted = LINES_BEFORE.max(self.wanted.saturating_sub(1));
+            return Ok(());
+        };
+        let Some(text) = sight.text_in(line) else {
+            return Ok(());
+        };
+        if text.len() > self.longest {
+            return Ok(());
+        }
+        if self.asked != Some(sight.asked) || self.text.as_slice() != text {
+            return self.begin(text, sight.asked);
+        }
+        self.lines = self.lines.saturating_add(1);
+        if self.lines >= self.wanted {
+            self.lines = 0;
+            self.wanted = self.wanted.saturating_add(LINES_BEFORE);
+            self.object = KeptObject::of(alloc, scratch, text, sight.asked)?;
+        }
+        Ok(())
+    }
+
+    // Sees an object for the first time.
+    fn begin(&mut self, text: &[u8], asked: Asked) -> Result<(), AllocError>
+        ensures { self.new.object ≡ self.old.object }
+    {
+        self.asked = None;
+        self.text.clear();
+        self.text.extend_from_slice(text)?;
+        self.asked = Some(asked);
+        self.lines = 1;
+        Ok(())
+    }
+}

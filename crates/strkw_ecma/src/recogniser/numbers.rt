@@ -1,0 +1,84 @@
+//! Escapes that give a code point by a number, which may be a surrogate, read character by character behind their
+//! letter.
+
+ghost use Rattle.std.specs.Prelude.{◌≡◌};
+ghost use Rattle.strkw_ecma.specs.machine.CodeParts.{with_hex_digit as spec_with_hex_digit, value_or_zero};
+ghost use Rattle.strkw_ecma.specs.machine.Recognising.{digit_read as spec_digit_read, digit_or_none, point_digit, number_next};
+
+use crate::codes::{Wanted, with_hex_digit};
+
+// `\u` with four digits, where a surrogate may be one of two, or another escape.
+#[derive(Clone, Copy)]
+pub(crate) enum Form {
+    Unit,
+    Other,
+}
+
+// What has been read: `\c`; `\u`; digits, as the number that they make; `\u{` and digits.
+#[derive(Clone, Copy)]
+pub(crate) enum NumberPart {
+    Letter,
+    UnitOpened,
+    Digits(Form, Wanted, u32),
+    PointOpened(Option<u32>),
+}
+
+// What comes of one more character.
+#[derive(Clone, Copy)]
+pub(crate) enum NumberRead {
+    Fails,
+    Goes(NumberPart),
+    Makes(Form, u32),
+}
+
+impl Form {
+    // Behind one more digit.
+    fn digit_read(self, wanted: Wanted, number: u32) -> NumberRead
+        ensures { result ≡ spec_digit_read self wanted number }
+    {
+        match wanted {
+            Wanted::One => NumberRead::Makes(self, number),
+            Wanted::Two => NumberRead::Goes(NumberPart::Digits(self, Wanted::One, number)),
+            Wanted::Three => NumberRead::Goes(NumberPart::Digits(self, Wanted::Two, number)),
+            Wanted::Four => NumberRead::Goes(NumberPart::Digits(self, Wanted::Three, number)),
+        }
+    }
+
+    fn on_digit(self, wanted: Wanted, number: u32, c: char) -> NumberRead
+        ensures { result ≡ digit_or_none self wanted (spec_with_hex_digit number c) }
+    {
+        match with_hex_digit(number, c) {
+            Some(longer) => self.digit_read(wanted, longer),
+            None => NumberRead::Fails,
+        }
+    }
+}
+
+fn on_point_digit(number: Option<u32>, c: char) -> NumberRead
+    ensures { result ≡ point_digit (spec_with_hex_digit (value_or_zero number) c) }
+{
+    match with_hex_digit(number.unwrap_or(0), c) {
+        Some(longer) => NumberRead::Goes(NumberPart::PointOpened(Some(longer))),
+        None => NumberRead::Fails,
+    }
+}
+
+impl NumberPart {
+    // After one more character.
+    pub(super) fn next(self, c: char) -> NumberRead
+        ensures { result ≡ number_next self c }
+    {
+        match self {
+            NumberPart::Letter if c.is_ascii_alphabetic() => {
+                NumberRead::Makes(Form::Other, u32::from(c) % 32)
+            }
+            NumberPart::Letter => NumberRead::Fails,
+            NumberPart::UnitOpened if c == '{' => NumberRead::Goes(NumberPart::PointOpened(None)),
+            NumberPart::UnitOpened => Form::Unit.on_digit(Wanted::Four, 0, c),
+            NumberPart::Digits(form, wanted, number) => form.on_digit(wanted, number, c),
+            NumberPart::PointOpened(number) if c != '}' => on_point_digit(number, c),
+            NumberPart::PointOpened(Some(number)) => NumberRead::Makes(Form::Other, number),
+            NumberPart::PointOpened(None) => NumberRead::Fails,
+        }
+    }
+}

@@ -1,0 +1,88 @@
+//! How a property is recognised, in a pattern and in a class.
+
+ghost use Rattle.std.specs.Prelude.{◌≡◌, ◌||◌, bytes_eq, codes, Some, IfOk};
+ghost use Rattle.strkw_ecma.specs.Regex.{is_property as spec_is_property};
+ghost use Rattle.strkw_ecma.specs.machine.PropertyReading.{property_next};
+ghost use Rattle.strkw_ecma.specs.machine.Parts.{part_of, expression_of};
+ghost use Rattle.strkw_ecma.specs.machine.Recognising.{standing_of, state_of, state_if, on_property, on_class_property};
+
+use super::classes::{Item, Pending};
+use super::standing::Last;
+use super::{Mode, Recogniser};
+use crate::properties::{Expression, PropertyPart, PropertyRead};
+use std::alloc::{AllocError, Global};
+
+// Whether it is the name of the property Script_Extensions.
+fn is_extensions(name: &[u8]) -> bool
+    ensures { result ≡ (bytes_eq name.now (codes "Script_Extensions") || bytes_eq name.now (codes "scx")) }
+{
+    name == b"Script_Extensions".as_slice() || name == b"scx".as_slice()
+}
+
+// Whether the standard has the property. The engine has no table of those that are named here.
+fn is_property(alloc: Global, expression: Expression) -> Result<bool, AllocError>
+    ensures { IfOk result (λ known. known ≡ spec_is_property (expression_of expression)) }
+{
+    if expression.property().is_some() {
+        return Ok(true);
+    }
+    match expression {
+        Expression::Alone(name) => {
+            let name = name.as_slice();
+            Ok(name == b"Changes_When_NFKC_Casefolded".as_slice() || name == b"CWKCF".as_slice())
+        }
+        Expression::Valued(name, value) => {
+            if !is_extensions(&name) {
+                return Ok(false);
+            }
+            let script = Expression::Valued(Vec::from_slice(alloc, b"Script")?, value);
+            Ok(script.property().is_some())
+        }
+    }
+}
+
+impl Recogniser {
+    pub(super) fn in_property(
+        &mut self,
+        alloc: Global,
+        part: PropertyPart,
+        c: char,
+    ) -> Result<bool, AllocError>
+        ensures { IfOk result (λ taken. state_if taken (Some (state_of self.new))
+            ≡ on_property (standing_of self.old.standing) (property_next (part_of part) c)) }
+    {
+        match part.next(alloc, c)? {
+            PropertyRead::Fails => Ok(false),
+            PropertyRead::Goes(part) => {
+                self.mode = Mode::Property(part);
+                Ok(true)
+            }
+            PropertyRead::Ends(_, expression) => {
+                self.add(Last::Atom);
+                is_property(alloc, expression)
+            }
+        }
+    }
+
+    pub(super) fn in_class_property(
+        &mut self,
+        alloc: Global,
+        class: Pending,
+        part: PropertyPart,
+        c: char,
+    ) -> Result<bool, AllocError>
+        ensures { IfOk result (λ taken. state_if taken (Some (state_of self.new))
+            ≡ on_class_property (standing_of self.old.standing) class (property_next (part_of part) c)) }
+    {
+        match part.next(alloc, c)? {
+            PropertyRead::Fails => Ok(false),
+            PropertyRead::Goes(part) => {
+                self.mode = Mode::ClassProperty(class, part);
+                Ok(true)
+            }
+            PropertyRead::Ends(_, expression) => {
+                Ok(is_property(alloc, expression)? && self.set_class(class.with_item(Item::Set)))
+            }
+        }
+    }
+}
