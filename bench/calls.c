@@ -10,7 +10,7 @@
 #include <string.h>
 #include <time.h>
 
-enum { KINDS = 5, SIZES = 3, LONGEST = 10000, MILLION = 1000000, DATE = 10, BATCH = 100 };
+enum { KINDS = 8, SIZES = 3, LONGEST = 10000, MILLION = 1000000, DATE = 10, BATCH = 100 };
 
 static const size_t sizes[SIZES] = {10, 100, LONGEST};
 static const char *const object = "{\"format\":\"uri\",\"maxLength\":10000}";
@@ -18,6 +18,10 @@ static const char *const of_dates = "{\"format\":\"date\"}";
 static strkw_schema *kept = NULL;
 
 static const uint8_t *bytes(const char *text) { return (const uint8_t *)text; }
+
+/* Formats whose functions tell where they are out of memory. */
+static bool is_idn_host_name(const uint8_t *text, size_t count) { return strkw_is_idn_hostname(text, count) == 1; }
+static bool is_regex(const uint8_t *text, size_t count) { return strkw_is_regex(text, count) == 1; }
 
 /* By an object that is kept: its bytes are compiled each time. */
 static bool by_object(const uint8_t *text, size_t count) {
@@ -35,18 +39,23 @@ static bool by_object_in_batch(const uint8_t *text, size_t count) {
     return strkw_schema_check(kept, texts, BATCH * count, ends, BATCH, verdicts, BATCH) == STRKW_DONE && verdicts[0];
 }
 
-/* What is timed, and how many texts a call has. A text of each size begins so, and then has letters. */
+/* What is timed, how many texts a call has, and whether they have labels. A text of each size begins so, and then has
+   letters. */
 static const struct {
     const char *name;
     bool (*check)(const uint8_t *, size_t);
     double texts;
+    bool has_labels;
     const char *shortest, *front;
 } kinds[KINDS] = {
-    {"`strkw_is_date`", strkw_is_date, 1, "2024-02-29", "2024-02-29"},
-    {"`strkw_is_uri`", strkw_is_uri, 1, "http://b.c", "http://b.c/"},
-    {"`strkw_is_email`", strkw_is_email, 1, "joe@exa.mp", "joe@example."},
-    {"`strkw_schema_check`, one text", by_object, 1, "http://b.c", "http://b.c/"},
-    {"`strkw_schema_check`, a text of 100", by_object_in_batch, BATCH, "http://b.c", "http://b.c/"},
+    {"`strkw_is_date`", strkw_is_date, 1, false, "2024-02-29", "2024-02-29"},
+    {"`strkw_is_uri`", strkw_is_uri, 1, false, "http://b.c", "http://b.c/"},
+    {"`strkw_is_email`", strkw_is_email, 1, true, "joe@exa.mp", "joe@example."},
+    {"`strkw_is_hostname`", strkw_is_hostname, 1, true, "www.exa.mp", "www.example."},
+    {"`strkw_is_idn_hostname`", is_idn_host_name, 1, true, "www.exa.mp", "www.example."},
+    {"`strkw_is_regex`", is_regex, 1, false, "^[a-z]+\\d$", "^[a-z]+\\d"},
+    {"`strkw_schema_check`, one text", by_object, 1, false, "http://b.c", "http://b.c/"},
+    {"`strkw_schema_check`, a text of 100", by_object_in_batch, BATCH, false, "http://b.c", "http://b.c/"},
 };
 
 static double now(void) {
@@ -61,7 +70,7 @@ static void fill(uint8_t *text, size_t kind, size_t size) {
     memset(text, 'a', size);
     memcpy(text, front, strlen(front));
     /* A label of a host name has at most 63 letters. */
-    for (size_t i = 60; kinds[kind].check == strkw_is_email && i < size; i += 60) text[i] = '.';
+    for (size_t i = 60; kinds[kind].has_labels && i < size; i += 60) text[i] = '.';
 }
 
 /* Nanoseconds for a text of a kind and a size. */

@@ -61,18 +61,28 @@ TIMES = {
     "ASCII host name, 253 bytes": "host name, the longest",
 }
 FORMS = {
+    "four templates of 20 bytes": "template, four of 20 bytes",
+    "a template of 64 KiB, of literals": "template, 64 KiB of literals",
+    "a template of 64 KiB, of literals past ASCII": "template, 64 KiB of literals past ASCII",
+    "a template of 64 KiB, of expressions": "template, 64 KiB of expressions",
     "four pointers of 20 bytes": "pointer, four of 20 bytes",
     "a pointer of 64 KiB without escapes": "pointer, 64 KiB without escapes",
     "a pointer of 64 KiB with an escape every 16 bytes": "pointer, 64 KiB with an escape every 16 bytes",
     "four relative pointers": "relative pointer, four",
+    "three IRI references of 5 to 26 bytes": "IRI, three of 20 bytes",
     "an IRI reference of 64 KiB, characters of 2 bytes": "IRI, 64 KiB of characters of 2 bytes",
     "the same, characters of 3 bytes": "IRI, 64 KiB of characters of 3 bytes",
     "the same, characters of 4 bytes": "IRI, 64 KiB of characters of 4 bytes",
     "the same, mixed characters": "IRI, 64 KiB of mixed characters",
-    "base64, 32 letters checked": "base64 checked, 32 letters",
-    "base64, 64 letters checked": "base64 checked, 64 letters",
-    "base64, 64 KiB checked": "base64 checked, 64 KiB",
-    "base64, 64 KiB decoded": "base64 decoded, 64 KiB",
+    "no white space, four texts of 20 bytes": "no white space, four of 20 bytes",
+    "no white space, 100 bytes": "no white space, 100 bytes",
+    "no white space, 64 KiB": "no white space, 64 KiB",
+    "no white space, 64 KiB with `é` every 16 bytes": "no white space, 64 KiB past ASCII",
+    "no white space, 64 KiB of Han characters": "no white space, 64 KiB of Han characters",
+    "a prefix of 6 bytes, four texts": "prefix, four",
+    "a prefix of 16 bytes, two texts": "prefix, 16 bytes",
+    **{f"{codec}, {size} {what}": f"{codec} {what}, {size}" for codec in ("base32", "base32hex", "base64")
+       for size in ("32 letters", "64 letters", "64 KiB") for what in ("checked", "decoded")},
 }
 JSON_FORMS = {
     "JSON, an object of 20 bytes": "JSON, an object of 20 bytes",
@@ -144,7 +154,6 @@ TABLES = {
     "times": Entry(topic("time_net"), "ns", by({HERE: "{}"}, TIMES), ratio=(HERE, CRATE)),
     "encodings": Entry(topic("coding"), "MB/s", by({"Check": "is_{}", "Decoder": "from_{}"})),
     "forms": Entry(topic("forms"), "ns", of_forms, ratio=(HERE, "Compared")),
-    "forms_before": Entry(None, ""),
     "patterns": Entry(takers.PATTERN_SEARCHES, {HERE: "ns", "`regex`": "ns", "Bytes": "bytes"}, of_patterns,
                       ratio=(HERE, "`regex`")),
     "building": Entry(takers.BUILDING_OF_TABLES, {

@@ -85,7 +85,7 @@ static const struct {
 };
 
 /* What answers by 0, 1 or 2: encodings, with "foob" in each (RFC 4648, section 10) and a text that is none; JSON (RFC
-   8259); internationalised mail addresses (RFC 6531) and host names (RFC 5890). */
+   8259); internationalised mail addresses (RFC 6531) and host names (RFC 5890); patterns (ECMA-262 2024, 22.2.1). */
 static const struct {
     const char *name;
     uint8_t (*check)(const uint8_t *, size_t);
@@ -99,6 +99,7 @@ static const struct {
     {"is_json", strkw_is_json, "{\"a\":[1,null]}", "{\"a\":}"},
     {"is_idn_email", strkw_is_idn_email, "j\303\274rgen@b\303\274cher.example", "j\303\274rgen@B\303\274cher.example"},
     {"is_idn_hostname", strkw_is_idn_hostname, "b\303\274cher.example", "b\303\274cher-.example"},
+    {"is_regex", strkw_is_regex, "(?<year>\\d{4})-\\k<year>", "(?<year>\\d{4})-\\k<month>"},
 };
 
 static void call_formats(void) {
@@ -147,7 +148,7 @@ static void call_answer(void) {
 }
 
 static const char *MAIL = "{\"format\":\"email\"}", *IDN_HOST = "{\"format\":\"idn-hostname\"}";
-static const char *IDN_MAIL = "{\"format\":\"idn-email\"}";
+static const char *IDN_MAIL = "{\"format\":\"idn-email\"}", *REGEX = "{\"format\":\"regex\"}";
 
 /* strkw_check on five texts: a date, one that is none, one that is no UTF-8, and two empty ones. */
 static bool checks(uint32_t draft, uint32_t options, const char *schema, uint8_t status, const char *verdicts) {
@@ -260,6 +261,8 @@ static void call_check(void) {
         checks(6, companions, IDN_MAIL, STRKW_REFUSED, NULL));
     row("check", "refused", "host names in draft 6", checks(6, companions, IDN_HOST, STRKW_REFUSED, NULL));
     row("check", "refused", "mail addresses with no option", checks(4, 0, MAIL, STRKW_REFUSED, NULL));
+    row("check", "right", "patterns", checks(4, companions, REGEX, STRKW_DONE, "\1\1\2\1\1"));
+    row("check", "refused", "patterns with no option", checks(4, 0, REGEX, STRKW_REFUSED, NULL));
     row("check", "refused", "option 8", checks(7, 8, date, STRKW_NO_OPTION, NULL));
     row("check", "refused", "no object", checks(7, 0, "[]", STRKW_NO_SCHEMA, NULL));
     row("check", "refused", "no JSON", checks(7, 0, "{", STRKW_NO_SCHEMA, NULL));
@@ -324,11 +327,12 @@ static const char *NOTED = "note /format: \"date\"\n";
 static const char *WRONG = "error /format: \"2023-02-29\" is not a \"date\"\nnote /format: \"date\"\n";
 
 static const char *NO_MAIL = "error /format: \"ada\" is not a \"email\"\nnote /format: \"email\"\n";
+static const char *NO_REGEX = "error /format: \"(\" is not a \"regex\"\nnote /format: \"regex\"\n";
 static const char *HOST = "note /format: \"idn-hostname\"\n", *NOTED_MAIL = "note /format: \"idn-email\"\n";
 
 static void call_errors(void) {
     const size_t noted = strlen(NOTED), wrong = strlen(WRONG), no_mail = strlen(NO_MAIL), host = strlen(HOST);
-    const size_t mail = strlen(NOTED_MAIL);
+    const size_t mail = strlen(NOTED_MAIL), no_regex = strlen(NO_REGEX);
     const uint32_t companions = STRKW_COMPANION_FORMATS;
     const uint8_t *object = text_of("{}");
     uint8_t *out = room_of(1);
@@ -338,6 +342,7 @@ static void call_errors(void) {
     row("errors", "wrong", "no date", writes(7, 0, DATE, "2023-02-29", wrong, STRKW_DONE, wrong, WRONG));
     row("errors", "wrong", "no mail address",
         writes(7, companions, MAIL, "ada", no_mail, STRKW_DONE, no_mail, NO_MAIL));
+    row("errors", "wrong", "no pattern", writes(7, companions, REGEX, "(", no_regex, STRKW_DONE, no_regex, NO_REGEX));
     row("errors", "right", "an internationalised mail address",
         writes(7, companions, IDN_MAIL, "j\303\274rgen@b\303\274cher.example", mail, STRKW_DONE, mail, NOTED_MAIL));
     row("errors", "right", "a host name",

@@ -48,6 +48,7 @@ FORMAT(is_email)
 
 DECISION(is_idn_email)
 DECISION(is_idn_hostname)
+DECISION(is_regex)
 DECISION(is_base64)
 DECISION(is_base64url)
 DECISION(is_base32)

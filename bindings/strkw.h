@@ -1,7 +1,7 @@
 /* The string checks of Neldrafi, from C. Link libstrkw.a or libstrkw.so, which ./build makes.
 
-   email, idn-email, idn-hostname and regex are formats that no schema object knows, but the first three by
-   STRKW_COMPANION_FORMATS. strkw_is_email, strkw_is_idn_email and strkw_is_idn_hostname are calls by themselves.
+   email, regex, idn-email and idn-hostname are formats that a schema object knows by STRKW_COMPANION_FORMATS alone.
+   strkw_is_email, strkw_is_regex, strkw_is_idn_email and strkw_is_idn_hostname are calls by themselves.
 
    A text is bytes and their count: no zero byte ends it, and it may hold zero bytes. Bytes that are not UTF-8 have no
    format and are no encoding. NULL with a count of 0 is an empty text, list or buffer everywhere. NULL with another
@@ -49,6 +49,10 @@ uint8_t strkw_is_idn_email(const uint8_t *text, size_t count);
 /* An internationalised host name, by RFC 5890 to 5893 and Unicode 18.0. 0: no. 1: yes. 2: out of memory. */
 uint8_t strkw_is_idn_hostname(const uint8_t *text, size_t count);
 
+/* A pattern of ECMA-262 2024, section 22.2.1, in Unicode mode, also one that `pattern` does not take. 0: no. 1: yes. 2:
+   out of memory. */
+uint8_t strkw_is_regex(const uint8_t *text, size_t count);
+
 /* Encodings of RFC 4648, and JSON. 0: no. 1: yes. 2: out of memory. */
 uint8_t strkw_is_base64(const uint8_t *text, size_t count);
 uint8_t strkw_is_base64url(const uint8_t *text, size_t count);
@@ -80,7 +84,7 @@ uint8_t strkw_answer(const uint8_t *requests, size_t count, uint8_t *out, size_t
 /* Options of the functions below. By 0 the formats are checked in every draft, and an unknown one is refused. */
 #define STRKW_FORMATS_AS_DRAFT ((uint32_t)1)       /* drafts 4, 6 and 7 check formats, 2019-09 and 2020-12 do not */
 #define STRKW_IGNORE_UNKNOWN_FORMATS ((uint32_t)2) /* an unknown format lets every text pass */
-#define STRKW_COMPANION_FORMATS ((uint32_t)4)      /* email is known, from draft 7 on idn-email and idn-hostname too */
+#define STRKW_COMPANION_FORMATS ((uint32_t)4)      /* email and regex are known, from draft 7 on the two of IDN too */
 
 /* Checks many texts by one schema object, which is compiled once: JSON, of a draft.
    A pattern is one of ECMA-262 in Unicode mode, of a part of its syntax: no look-arounds that look far both ways and

@@ -40,6 +40,7 @@ static const struct {
     {"base64", strkw_is_base64},       {"base64url", strkw_is_base64url}, {"base32", strkw_is_base32},
     {"base32hex", strkw_is_base32hex}, {"base16", strkw_is_base16},       {"json", strkw_is_json},
     {"idn-email", strkw_is_idn_email}, {"idn-hostname", strkw_is_idn_hostname},
+    {"regex", strkw_is_regex},
 };
 
 static int failed = 0;

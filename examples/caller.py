@@ -52,7 +52,7 @@ def check_many(rows):
         check(found == [want for _, want in texts], f"draft {draft}, {name}")
         noted = strkw.check_texts(202012, schema, [text for text, _ in texts], formats="as-draft")
         check(all(noted), f"draft 2020-12, {name}")
-    for name in ("email", "idn-email", "idn-hostname"):
+    for name in ("email", "regex", "idn-email", "idn-hostname"):
         texts = [(text, want == "yes") for row, want, text in rows if row == name]
         found = strkw.check_texts(7, {"format": name}, [text for text, _ in texts], companion_formats=True)
         check(found == [want for _, want in texts], f"the companion {name}")

@@ -58,6 +58,7 @@ mod strkw {
         "json" strkw_is_json,
         "idn-email" strkw_is_idn_email,
         "idn-hostname" strkw_is_idn_hostname,
+        "regex" strkw_is_regex,
     }
 
     /// Whether the bytes are of a format; `None` for a name that is none.

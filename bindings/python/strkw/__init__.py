@@ -16,15 +16,15 @@ Texts by a schema object:
 
 The strings of an array of Apache Arrow are checked where they lie, by `check_array` of a Schema.
 
-`email`, `idn-email`, `idn-hostname` and `regex` are formats that a schema object does not know. By the argument
-companion_formats=True it knows `email`, and from draft 7 on `idn-email` and `idn-hostname`. `checks` of a Schema
-registers others.
+`email`, `regex`, `idn-email` and `idn-hostname` are formats that a schema object does not know. By the argument
+companion_formats=True it knows `email` and `regex`, and from draft 7 on `idn-email` and `idn-hostname`. `checks` of a
+Schema registers others.
 
 The library is the file that the environment variable STRKW_LIBRARY names, or else libstrkw.so: in the folder of this
 package, in `bindings/out`, or where the loader of the system finds it.
 """
 from strkw._formats import (
-    ENCODINGS, FORMATS, answer, is_email, is_encoded, is_format, is_idn_email, is_idn_hostname,
+    ENCODINGS, FORMATS, answer, is_email, is_encoded, is_format, is_idn_email, is_idn_hostname, is_regex,
     jsonschema_format_checker)
 from strkw._schemas import DRAFTS, Schema, ValidationError, check_texts
 
@@ -32,10 +32,10 @@ __version__ = "0.1.0"
 
 __all__ = [
     "DRAFTS", "ENCODINGS", "FORMATS", "Schema", "ValidationError", "answer", "check_texts", "is_email", "is_encoded",
-    "is_format", "is_idn_email", "is_idn_hostname", "jsonschema_format_checker",
+    "is_format", "is_idn_email", "is_idn_hostname", "is_regex", "jsonschema_format_checker",
 ]
 
 for _public in (Schema, ValidationError, answer, check_texts, is_email, is_encoded, is_format, is_idn_email,
-                is_idn_hostname, jsonschema_format_checker):
+                is_idn_hostname, is_regex, jsonschema_format_checker):
     _public.__module__ = "strkw"
 del _public

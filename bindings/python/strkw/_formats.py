@@ -18,8 +18,8 @@ ENCODINGS = ("base64", "base64url", "base32", "base32hex", "base16", "json")
 FORMAT_CHECKS = {
     name: function("is-" + name, BYTES, COUNT, result=ctypes.c_bool) for name in (*FORMATS, "hostname-draft4", "email")}
 # What may be out of memory: the answer is 0, 1 or 2.
-IDN_FORMATS = ("idn-email", "idn-hostname")
-DECISIONS = {name: function("is-" + name, BYTES, COUNT) for name in (*ENCODINGS, *IDN_FORMATS)}
+DECIDED_FORMATS = ("regex", "idn-email", "idn-hostname")
+DECISIONS = {name: function("is-" + name, BYTES, COUNT) for name in (*ENCODINGS, *DECIDED_FORMATS)}
 _ANSWER = function("answer", BYTES, COUNT, *WRITTEN)
 
 
@@ -37,12 +37,13 @@ def is_format(name: str, text: Text) -> bool:
     >>> is_format("date", "2024-02-29"), is_format("date", "2023-02-29")
     (True, False)
 
-    The names are FORMATS, `email`, `idn-email`, `idn-hostname` and `hostname-draft4`. `hostname` is that of draft 7 and
-    later, and `hostname-draft4` that of drafts 4 and 6. KeyError for another name. What is not UTF-8, as a lone
-    surrogate, has no format. MemoryError, of `idn-email` and `idn-hostname` alone, where it is out of memory.
+    The names are FORMATS, `email`, `regex`, `idn-email`, `idn-hostname` and `hostname-draft4`. `hostname` is that of
+    draft 7 and later, and `hostname-draft4` that of drafts 4 and 6. KeyError for another name. What is not UTF-8, as a
+    lone surrogate, has no format. MemoryError, of `regex`, `idn-email` and `idn-hostname` alone, where it is out of
+    memory.
     """
     data = bytes_of(text)
-    if name in IDN_FORMATS:
+    if name in DECIDED_FORMATS:
         return _decided(name, data)
     return FORMAT_CHECKS[name](data, len(data))
 
@@ -76,6 +77,17 @@ def is_idn_hostname(text: Text) -> bool:
     return is_format("idn-hostname", text)
 
 
+def is_regex(text: Text) -> bool:
+    """Whether a text is a pattern of the whole of ECMA-262 in Unicode mode: ECMA-262 2024, section 22.2.1.
+
+    >>> is_regex("([abc])+\\\\1"), is_regex("^(abc]")
+    (True, False)
+
+    The keyword `pattern` does not take all of them: not this one, which has a back reference.
+    """
+    return is_format("regex", text)
+
+
 def is_encoded(name: str, text: Text) -> bool:
     """Whether a text is an encoding of this name, or JSON; KeyError for a name that is none of ENCODINGS.
 
@@ -95,7 +107,7 @@ def answer(requests: BytesLike) -> bytes:
     return written(_ANSWER, data, len(data), room=max(256, 2 * len(data)))[1]
 
 
-def jsonschema_format_checker(names: Iterable[str] = (*FORMATS, "email", *IDN_FORMATS)) -> "FormatChecker":
+def jsonschema_format_checker(names: Iterable[str] = (*FORMATS, "email", *DECIDED_FORMATS)) -> "FormatChecker":
     """A FormatChecker of the package jsonschema that knows these formats alone, by this library.
 
     Draft7Validator({"format": "date"}, format_checker=jsonschema_format_checker()). KeyError for a name that is_format
@@ -108,7 +120,7 @@ def jsonschema_format_checker(names: Iterable[str] = (*FORMATS, "email", *IDN_FO
 
     made = FormatChecker(formats=())
     for name in names:
-        if name not in FORMAT_CHECKS and name not in IDN_FORMATS:
+        if name not in FORMAT_CHECKS and name not in DECIDED_FORMATS:
             raise KeyError(name)
         made.checks(name)(lambda instance, name=name: not isinstance(instance, str) or is_format(name, instance))
     return made

@@ -18,6 +18,14 @@ pub(crate) fn subcommand<'a>(
     )
 }
 
+// A command with one more subcommand.
+fn joined<'a>(
+    command: Result<Command<'a>, AllocError>,
+    subcommand: Command<'a>,
+) -> Result<Command<'a>, AllocError> {
+    command?.subcommand(subcommand)
+}
+
 /// The steps. The only error of each is out of memory.
 pub(crate) trait Building<'a> {
     /// With one more argument.
@@ -40,7 +48,6 @@ impl<'a> Building<'a> for Result<Command<'a>, AllocError> {
     }
 
     fn with_subcommand(self, subcommand: Result<Command<'a>, AllocError>) -> Self {
-        let subcommand = subcommand?;
-        self?.subcommand(subcommand)
+        joined(self, subcommand?)
     }
 }

@@ -71,18 +71,29 @@ pub(crate) fn names_of(alloc: Global, record: &StringRecord) -> Result<Vec<Strin
     Ok(names)
 }
 
-// The names of the columns of a plan that are not among those that were found.
-fn missing_in(alloc: Global, plan: &Value, found: &[String]) -> Result<Vec<String>, AllocError> {
-    let mut missing = Vec::new(alloc);
+// Appends the names of the columns of a plan that are not among those that were found.
+fn push_missing(
+    alloc: Global,
+    plan: &Value,
+    found: &[String],
+    missing: &mut Vec<String>,
+) -> Result<(), AllocError> {
     let columns = plan.get(PlanKind::Columns.schemas_member());
     let Some(columns) = columns.and_then(Value::as_object) else {
-        return Ok(missing);
+        return Ok(());
     };
     for (name, _schema) in columns.iter() {
         if !is_among(name, found) {
             missing.push(String::from_str(alloc, name)?)?;
         }
     }
+    Ok(())
+}
+
+// The names of the columns of a plan that are not among those that were found.
+fn missing_in(alloc: Global, plan: &Value, found: &[String]) -> Result<Vec<String>, AllocError> {
+    let mut missing = Vec::new(alloc);
+    push_missing(alloc, plan, found, &mut missing)?;
     Ok(missing)
 }
 
@@ -201,6 +212,18 @@ impl ColumnsFault {
         }
     }
 
+    // Tells what seems to part the columns in place of what parted them, where something does.
+    fn tell_delimiter<W: fmt::Write>(&self, f: &mut fmt::Formatter<W>) -> fmt::Result {
+        let Some(other) = self.other_delimiter() else {
+            return Ok(());
+        };
+        let (other, delimiter) = (Delimiters(other), Delimiters(&self.delimiter));
+        write!(
+            f,
+            "; its columns seem to be parted by {other}, and not by {delimiter}: `--delimiter` says so"
+        )
+    }
+
     // Tells of the names that were found and are nearly the missing one.
     fn tell_likely<W: fmt::Write>(&self, missing: &str, f: &mut fmt::Formatter<W>) -> fmt::Result {
         for found in &self.found {
@@ -227,13 +250,6 @@ impl fmt::Display for ColumnsFault {
         for missing in &self.missing {
             self.tell_likely(missing, f)?;
         }
-        let Some(other) = self.other_delimiter() else {
-            return Ok(());
-        };
-        let (other, delimiter) = (Delimiters(other), Delimiters(&self.delimiter));
-        write!(
-            f,
-            "; its columns seem to be parted by {other}, and not by {delimiter}: `--delimiter` says so"
-        )
+        self.tell_delimiter(f)
     }
 }

@@ -68,14 +68,22 @@ pub(crate) fn form_of(matches: &ArgMatches<'_>) -> OutputForm {
 /// Runs the subcommand that the words name.
 pub(crate) fn run(rt: &HostRuntime, matches: &ArgMatches<'_>) -> Result<Outcome, Fault> {
     match matches.subcommand() {
-        Some((text::NAME, matches)) => text::run(rt, matches),
-        Some((formats::NAME, matches)) => formats::run(rt, matches),
-        Some((requests::NAME, matches)) => requests::run(rt, matches),
-        Some((csv_files::NAME, matches)) => csv_files::run(rt, matches),
-        Some((json_files::NAME, matches)) => json_files::run(rt, matches),
-        Some((check::NAME, matches)) => check::run(rt, matches),
-        Some((explain::NAME, matches)) => explain::run(rt, matches),
-        Some((plan::NAME, matches)) => plan::run(rt, matches),
+        Some((name, matches)) => run_named(rt, name, matches),
+        None => Err(Fault::NoSubcommand),
+    }
+}
+
+// Runs the subcommand of this name.
+fn run_named(rt: &HostRuntime, name: &str, matches: &ArgMatches<'_>) -> Result<Outcome, Fault> {
+    match name {
+        text::NAME => text::run(rt, matches),
+        formats::NAME => formats::run(rt, matches),
+        requests::NAME => requests::run(rt, matches),
+        csv_files::NAME => csv_files::run(rt, matches),
+        json_files::NAME => json_files::run(rt, matches),
+        check::NAME => check::run(rt, matches),
+        explain::NAME => explain::run(rt, matches),
+        plan::NAME => plan::run(rt, matches),
         // The parser lets no other words pass.
         _ => Err(Fault::NoSubcommand),
     }

@@ -47,6 +47,11 @@ pub(crate) enum Fault {
 }
 
 impl Fault {
+    /// Whether nobody reads the standard output any more.
+    pub(crate) fn is_closed(&self) -> bool {
+        matches!(self, Fault::Closed)
+    }
+
     /// Whether the files that come after one with this fault are not checked either.
     pub(crate) fn ends_all(&self) -> bool {
         matches!(

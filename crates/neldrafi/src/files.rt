@@ -74,26 +74,40 @@ fn told(rt: &HostRuntime, subject: Subject<'_>, wanted: Wanted, fault: &Fault) -
     }
 }
 
-// Checks a file, and tells of its fault. What comes is nothing where the output is closed. The errors are those that
-// keep the files behind from being checked.
-fn check_and_tell<C: FileCheck>(
+// What the fault that ended the check of a file comes to, which is told. What comes is nothing where the output is
+// closed. The errors are those that keep the files behind from being checked.
+fn outcome_of_fault(
     rt: &HostRuntime,
     path: &str,
     label: &str,
     wanted: Wanted,
+    fault: Fault,
+) -> Result<Option<Outcome>, Fault> {
+    if fault.is_closed() {
+        return Ok(None);
+    }
+    if fault.ends_all() {
+        return Err(fault);
+    }
+    let subject = Subject {
+        file: Some(path),
+        label,
+    };
+    Ok(Some(told(rt, subject, wanted, &fault)))
+}
+
+// Checks one of so many files, and tells of its fault. What comes is as above.
+fn check_and_tell<C: FileCheck>(
+    rt: &HostRuntime,
+    path: &str,
+    count: usize,
+    wanted: Wanted,
     check: &mut C,
 ) -> Result<Option<Outcome>, Fault> {
-    match check_file(rt, path, label, wanted, check) {
+    let label = label_of(rt.alloc(), path, count)?;
+    match check_file(rt, path, &label, wanted, check) {
         Ok(outcome) => Ok(Some(outcome)),
-        Err(Fault::Closed) => Ok(None),
-        Err(fault) if fault.ends_all() => Err(fault),
-        Err(fault) => {
-            let subject = Subject {
-                file: Some(path),
-                label,
-            };
-            Ok(Some(told(rt, subject, wanted, &fault)))
-        }
+        Err(fault) => outcome_of_fault(rt, path, &label, wanted, fault),
     }
 }
 
@@ -106,8 +120,7 @@ fn check_each<C: FileCheck>(
 ) -> Result<Outcome, Fault> {
     let mut outcome = Outcome::AllValid;
     for path in paths {
-        let label = label_of(rt.alloc(), path, paths.len())?;
-        let Some(one) = check_and_tell(rt, path, &label, wanted, check)? else {
+        let Some(one) = check_and_tell(rt, path, paths.len(), wanted, check)? else {
             // A line was to be written, so there is an error.
             return Ok(outcome.max(Outcome::Errors));
         };

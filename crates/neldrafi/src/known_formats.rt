@@ -66,6 +66,7 @@ impl KnownFormat {
         match self {
             KnownFormat::Builtin(format) => format.example(),
             KnownFormat::Companion(Companion::Email) => "user@example.org",
+            KnownFormat::Companion(Companion::Regex) => "^[a-z]+$",
             KnownFormat::Companion(Companion::IdnEmail) => "j\u{FC}rgen@b\u{FC}cher.example",
             KnownFormat::Companion(Companion::IdnHostname) => "b\u{FC}cher.example",
         }

@@ -4,6 +4,7 @@ ghost use Rattle.std.specs.Prelude.{◌≡◌, ◌++◌, false, IfOk, OnOk, stri
 ghost use Rattle.serde_json.specs.View.{view};
 ghost use Rattle.serde_json.specs.Written.{has_float};
 ghost use Rattle.strkw_report.specs.Failures.{kind_failed};
+ghost use Rattle.strkw_report.specs.Kinds.{text_of};
 ghost use Rattle.strkw_plan.specs.Found.{report_found};
 ghost use Rattle.neldrafi.specs.Lines.{document_form, field_broken, field_error, field_form, kind_name, line_error, line_of, place_error, place_told};
 
@@ -51,6 +52,32 @@ fn keyword_of(alloc: Global, error: &FoundError<'_>) -> Result<String, AllocErro
     Ok(place)
 }
 
+// The object about an error of a field, with the place of its keyword, and what is said of it.
+fn field_object(
+    alloc: Global,
+    file: &str,
+    line: u64,
+    column: &str,
+    error: &FoundError<'_>,
+    keyword: &str,
+    message: &str,
+) -> Result<Value, AllocError>
+    requires keyword { keyword.now ≡ (report_found error.now).schema_path }
+    requires message { message.now ≡ text_of (report_found error.now) }
+    ensures { IfOk result (λ value. view value
+        ≡ field_error file.now line column.now (report_found error.now)) }
+{
+    json!(in alloc; {
+        "column": column,
+        "file": file,
+        "instance": error.text,
+        "keyword": keyword,
+        "kind": kind_name(&error.failure),
+        "line": line,
+        "message": message
+    })
+}
+
 // The object about an error of a field.
 fn field_error(
     alloc: Global,
@@ -64,15 +91,7 @@ fn field_error(
 {
     let keyword = keyword_of(alloc, error)?;
     let message = error.message(alloc)?;
-    json!(in alloc; {
-        "column": column,
-        "file": file,
-        "instance": error.text,
-        "keyword": keyword.as_str(),
-        "kind": kind_name(&error.failure),
-        "line": line,
-        "message": message.as_str()
-    })
+    field_object(alloc, file, line, column, error, &keyword, &message)
 }
 
 // The object about a field that is not UTF-8.
@@ -88,6 +107,30 @@ fn field_broken(alloc: Global, file: &str, line: u64, column: &str) -> Result<Va
     })
 }
 
+// The object about an error of a line, with the place of its keyword, and what is said of it.
+fn line_object(
+    alloc: Global,
+    file: &str,
+    line: u64,
+    error: &FoundError<'_>,
+    keyword: &str,
+    message: &str,
+) -> Result<Value, AllocError>
+    requires keyword { keyword.now ≡ (report_found error.now).schema_path }
+    requires message { message.now ≡ text_of (report_found error.now) }
+    ensures { IfOk result (λ value. view value
+        ≡ line_error file.now line (report_found error.now)) }
+{
+    json!(in alloc; {
+        "file": file,
+        "instance": error.text,
+        "keyword": keyword,
+        "kind": kind_name(&error.failure),
+        "line": line,
+        "message": message
+    })
+}
+
 // The object about an error of a line.
 fn line_error(
     alloc: Global,
@@ -100,13 +143,30 @@ fn line_error(
 {
     let keyword = keyword_of(alloc, error)?;
     let message = error.message(alloc)?;
+    line_object(alloc, file, line, error, &keyword, &message)
+}
+
+// The object about an error of the value at a place, with the place of its keyword, and what is said of it.
+fn place_object(
+    alloc: Global,
+    file: &str,
+    place: &str,
+    error: &FoundError<'_>,
+    keyword: &str,
+    message: &str,
+) -> Result<Value, AllocError>
+    requires keyword { keyword.now ≡ (report_found error.now).schema_path }
+    requires message { message.now ≡ text_of (report_found error.now) }
+    ensures { IfOk result (λ value. view value
+        ≡ place_error file.now place.now (report_found error.now)) }
+{
     json!(in alloc; {
         "file": file,
         "instance": error.text,
-        "keyword": keyword.as_str(),
+        "keyword": keyword,
         "kind": kind_name(&error.failure),
-        "line": line,
-        "message": message.as_str()
+        "message": message,
+        "place": place
     })
 }
 
@@ -122,14 +182,7 @@ fn place_error(
 {
     let keyword = keyword_of(alloc, error)?;
     let message = error.message(alloc)?;
-    json!(in alloc; {
-        "file": file,
-        "instance": error.text,
-        "keyword": keyword.as_str(),
-        "kind": kind_name(&error.failure),
-        "message": message.as_str(),
-        "place": place
-    })
+    place_object(alloc, file, place, error, &keyword, &message)
 }
 
 // The object about a place with which something is wrong by no keyword: its kind, and in words.

@@ -45,11 +45,11 @@ fn words_of(rt: &HostRuntime) -> Result<Vec<String>, Fault> {
 }
 
 // What running came to. A fault is told in this form.
-fn told(rt: &HostRuntime, form: OutputForm, ran: Result<Outcome, Fault>) -> Outcome {
+fn told(rt: &HostRuntime, form: OutputForm, ran: &Result<Outcome, Fault>) -> Outcome {
     match ran {
-        Ok(outcome) => outcome,
+        Ok(outcome) => *outcome,
         Err(fault) => {
-            tell(rt, form, Subject::none(), Notice::Fault, &fault);
+            tell(rt, form, Subject::none(), Notice::Fault, fault);
             Outcome::Faults
         }
     }
@@ -62,7 +62,7 @@ fn answer(rt: &HostRuntime) -> Result<Outcome, Fault> {
     match command.try_get_matches_from(words.as_slice()) {
         Ok(matches) => {
             let ran = commands::run(rt, &matches);
-            Ok(told(rt, commands::form_of(&matches), ran))
+            Ok(told(rt, commands::form_of(&matches), &ran))
         }
         Err(e) if e.use_stderr() => Err(usage::fault_of(rt.alloc(), &e)),
         Err(e) => usage::show(rt, &e),
@@ -72,5 +72,5 @@ fn answer(rt: &HostRuntime) -> Result<Outcome, Fault> {
 // Answers the command line, and ends with the status that says what came of it.
 fn main(rt: HostRuntime) -> ExitCode {
     let answered = answer(&rt);
-    told(&rt, OutputForm::Text, answered).status()
+    told(&rt, OutputForm::Text, &answered).status()
 }

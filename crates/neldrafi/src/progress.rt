@@ -173,8 +173,8 @@ impl<'a> Progress<'a> {
     }
 
     /// The names in the first record: none where they were not read, or where it is out of memory.
-    pub(crate) fn into_names(self) -> Option<Vec<String>> {
-        self.names
+    pub(crate) fn take_names(&mut self) -> Option<Vec<String>> {
+        self.names.take()
     }
 
     // Tells of so many records, where that is asked.

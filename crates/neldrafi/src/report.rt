@@ -4,7 +4,7 @@ use crate::errors::{FieldError, TakesErrors};
 use crate::faults::Fault;
 use crate::html::push_text;
 use crate::strip::Strip;
-use crate::summary::Summary;
+use crate::summary::{Count, Group, Summary};
 use std::alloc::{AllocError, Global};
 use std::collections::BTreeMap;
 use std::fs;
@@ -54,6 +54,27 @@ svg { display: block; fill: var(--mark); width: 100%; }
 
 // What a page ends with.
 const FOOT: &str = "</body>\n</html>\n";
+
+// What the table of columns and keywords begins with.
+const GROUPS_HEAD: &str = "\
+<table>
+<caption>Errors by column and keyword</caption>
+<thead><tr><th scope=\"col\">Column</th><th scope=\"col\">Keyword</th>\
+<th scope=\"col\" class=\"number\">Errors</th><th scope=\"col\" class=\"number\">First line</th>\
+<th scope=\"col\" class=\"share\">Beside the most</th></tr></thead>
+<tbody>
+";
+
+// What the head of the table of a kind ends with.
+const KIND_HEAD: &str = "\
+</caption>
+<thead><tr><th scope=\"col\" class=\"number\">Line</th><th scope=\"col\">Column</th>\
+<th scope=\"col\">Error</th></tr></thead>
+<tbody>
+";
+
+// What a table ends with.
+const TABLE_FOOT: &str = "</tbody>\n</table>\n";
 
 // The errors of a kind.
 #[derive(Drop)]
@@ -121,6 +142,14 @@ impl FileReport {
         out.push_str("</td>")
     }
 
+    // Appends why the check ended early.
+    fn push_fault(&self, fault: &Fault, out: &mut String) -> Result<(), AllocError> {
+        out.push_str("<p class=\"fault\">The check ended early: ")?;
+        let told = format!(in self.alloc; "{fault}")?;
+        self.push_text(&told, out)?;
+        out.push_str("</p>\n")
+    }
+
     // Appends how many records and errors there are, or why the check ended early.
     fn push_totals(
         &self,
@@ -132,68 +161,67 @@ impl FileReport {
                 let (records, errors) = (checked.records, checked.errors);
                 writeln!(out, "<p>{records} records, {errors} errors</p>")
             }
-            Err(fault) => {
-                out.push_str("<p class=\"fault\">The check ended early: ")?;
-                let told = format!(in self.alloc; "{fault}")?;
-                self.push_text(&told, out)?;
-                out.push_str("</p>\n")
-            }
+            Err(fault) => self.push_fault(fault, out),
         }
+    }
+
+    // Appends the row of a column and a keyword, of which one has this greatest number of errors.
+    fn push_group(
+        &self,
+        group: &Group,
+        count: Count,
+        greatest: u64,
+        out: &mut String,
+    ) -> Result<(), AllocError> {
+        let (errors, first) = (count.errors, count.first);
+        let width = percent(errors, greatest);
+        out.push_str("<tr>")?;
+        self.push_cell(&group.column, out)?;
+        self.push_cell(&group.keyword, out)?;
+        writeln!(
+            out,
+            "<td class=\"number\">{errors}</td><td class=\"number\">{first}</td><td class=\"share\">\
+             <svg class=\"bar\" viewBox=\"0 0 100 1\" preserveAspectRatio=\"none\" aria-hidden=\"true\">\
+             <rect width=\"{width}\" height=\"1\"/></svg></td></tr>"
+        )
     }
 
     // Appends the table of columns and keywords.
     fn push_groups(&self, out: &mut String) -> Result<(), AllocError> {
         let counts = &self.summary.counts;
         let greatest = counts.values().map(|count| count.errors).max().unwrap_or(0);
-        out.push_str(
-            "<table>\n<caption>Errors by column and keyword</caption>\n<thead><tr><th scope=\"col\">Column</th>",
-        )?;
-        out.push_str(
-            "<th scope=\"col\">Keyword</th><th scope=\"col\" class=\"number\">Errors</th>",
-        )?;
-        out.push_str("<th scope=\"col\" class=\"number\">First line</th>")?;
-        out.push_str(
-            "<th scope=\"col\" class=\"share\">Beside the most</th></tr></thead>\n<tbody>\n",
-        )?;
+        out.push_str(GROUPS_HEAD)?;
         for (group, count) in counts.iter() {
-            let (errors, first) = (count.errors, count.first);
-            let width = percent(errors, greatest);
-            out.push_str("<tr>")?;
-            self.push_cell(&group.column, out)?;
-            self.push_cell(&group.keyword, out)?;
-            write!(
-                out,
-                "<td class=\"number\">{errors}</td><td class=\"number\">{first}</td><td class=\"share\">"
-            )?;
-            writeln!(
-                out,
-                "<svg class=\"bar\" viewBox=\"0 0 100 1\" preserveAspectRatio=\"none\" aria-hidden=\"true\">\
-                 <rect width=\"{width}\" height=\"1\"/></svg></td></tr>"
-            )?;
+            self.push_group(group, *count, greatest, out)?;
         }
-        out.push_str("</tbody>\n</table>\n")
+        out.push_str(TABLE_FOOT)
+    }
+
+    // Appends the row of an error.
+    fn push_error(&self, error: &FieldError, out: &mut String) -> Result<(), AllocError> {
+        let line = error.line;
+        write!(out, "<tr><td class=\"number\">{line}</td>")?;
+        self.push_cell(&error.column, out)?;
+        self.push_cell(&error.message, out)?;
+        out.push_str("</tr>\n")
+    }
+
+    // Appends the head of the table of the first errors of a kind.
+    fn push_kind_head(&self, name: &str, kind: &Kind, out: &mut String) -> Result<(), AllocError> {
+        let (shown, errors) = (kind.first.len(), kind.errors);
+        out.push_str("<table>\n<caption>")?;
+        self.push_text(name, out)?;
+        write!(out, ": the first {shown} of {errors}")?;
+        out.push_str(KIND_HEAD)
     }
 
     // Appends the table of the first errors of a kind.
     fn push_kind(&self, name: &str, kind: &Kind, out: &mut String) -> Result<(), AllocError> {
-        let (shown, errors) = (kind.first.len(), kind.errors);
-        out.push_str("<table>\n<caption>")?;
-        self.push_text(name, out)?;
-        write!(
-            out,
-            ": the first {shown} of {errors}</caption>\n<thead><tr><th scope=\"col\" class=\"number\">Line</th>"
-        )?;
-        out.push_str(
-            "<th scope=\"col\">Column</th><th scope=\"col\">Error</th></tr></thead>\n<tbody>\n",
-        )?;
+        self.push_kind_head(name, kind, out)?;
         for error in &kind.first {
-            let line = error.line;
-            write!(out, "<tr><td class=\"number\">{line}</td>")?;
-            self.push_cell(&error.column, out)?;
-            self.push_cell(&error.message, out)?;
-            out.push_str("</tr>\n")?;
+            self.push_error(error, out)?;
         }
-        out.push_str("</tbody>\n</table>\n")
+        out.push_str(TABLE_FOOT)
     }
 
     /// Appends what is told of the file: how many records and errors there are or why the check ended early, where the

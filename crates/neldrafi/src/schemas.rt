@@ -9,7 +9,7 @@ use crate::drafts::draft_number;
 use crate::faults::Fault;
 use serde_json::{Value, json};
 use std::alloc::{AllocError, Global};
-use std::fmt;
+use std::{fmt, mem};
 use strkw_ecma::why_refused;
 use strkw_object::StringKeywords;
 use strkw_pattern::EngineBuilder;
@@ -44,28 +44,40 @@ pub(crate) enum SchemaFault {
     },
 }
 
+// Tells why the file of a schema is refused.
+fn tell_file<W: fmt::Write>(fault: &PlanFileFault, f: &mut fmt::Formatter<W>) -> fmt::Result {
+    match fault {
+        PlanFileFault::Text {
+            path,
+            fault: PlanTextFault::Twice(name),
+        } => {
+            let (path, name) = (Shown(path), Shown(name));
+            write!(f, "`{path}`: member \"{name}\" stands twice in the schema")
+        }
+        _ => write!(f, "{fault}"),
+    }
+}
+
+// Tells that a member is no keyword, and which keyword is near.
+fn tell_unknown<W: fmt::Write>(
+    keyword: &str,
+    nearest: Option<&str>,
+    f: &mut fmt::Formatter<W>,
+) -> fmt::Result {
+    let keyword = Shown(keyword);
+    write!(f, "unknown keyword \"{keyword}\" in the schema")?;
+    match nearest {
+        Some(nearest) => write!(f, ": did you mean \"{nearest}\"?"),
+        None => Ok(()),
+    }
+}
+
 impl fmt::Display for SchemaFault {
     fn fmt<W: fmt::Write>(&self, f: &mut fmt::Formatter<W>) -> fmt::Result {
         match self {
-            SchemaFault::File(
-                PlanFileFault::Text {
-                    path,
-                    fault: PlanTextFault::Twice(name),
-                },
-            ) => {
-                let (path, name) = (Shown(path), Shown(name));
-                write!(f, "`{path}`: member \"{name}\" stands twice in the schema")
-            }
-            SchemaFault::File(e) => write!(f, "{e}"),
+            SchemaFault::File(fault) => tell_file(fault, f),
             SchemaFault::NoObject => f.write_str("the schema is no object"),
-            SchemaFault::UnknownKeyword { keyword, nearest } => {
-                let keyword = Shown(keyword);
-                write!(f, "unknown keyword \"{keyword}\" in the schema")?;
-                match nearest {
-                    Some(nearest) => write!(f, ": did you mean \"{nearest}\"?"),
-                    None => Ok(()),
-                }
-            }
+            SchemaFault::UnknownKeyword { keyword, nearest } => tell_unknown(keyword, *nearest, f),
             SchemaFault::UncheckedKeyword(keyword) => {
                 let keyword = Shown(keyword);
                 write!(
@@ -102,19 +114,37 @@ pub(crate) fn require_keywords(
     schema: &Value,
 ) -> Result<(), Fault> {
     if let Some(member) = own_member(ignored, schema) {
-        return Err(Fault::Schema(SchemaFault::UnknownKeyword {
-            keyword: String::from_str(alloc, member)?,
-            nearest: None,
-        }));
+        return Err(fault_of_member(alloc, member));
     }
-    let schema = without_own(schema)?;
-    let draft = draft_number(draft);
-    let ignored = names(alloc, ignored)?;
-    let plan = json!(in alloc; {"draft": draft, "places": {"": schema}, "ignore": ignored})?;
+    let plan = plan_of(alloc, draft, ignored, schema)?;
     match plan_in(alloc, KIND, &plan) {
         Ok(_) => Ok(()),
         Err(fault) => Err(fault_of_schema(alloc, fault)),
     }
+}
+
+// The fault of a schema that has a member which would be the plan's own if it stood in one.
+fn fault_of_member(alloc: Global, member: &str) -> Fault {
+    match String::from_str(alloc, member) {
+        Ok(keyword) => Fault::Schema(SchemaFault::UnknownKeyword {
+            keyword,
+            nearest: None,
+        }),
+        Err(_) => Fault::Memory,
+    }
+}
+
+// The plan of a schema alone. The only error is out of memory.
+fn plan_of(
+    alloc: Global,
+    draft: Draft,
+    ignored: &[&str],
+    schema: &Value,
+) -> Result<Value, AllocError> {
+    let schema = without_own(schema)?;
+    let ignored = names(alloc, ignored)?;
+    let draft = draft_number(draft);
+    json!(in alloc; {"draft": draft, "places": {"": schema}, "ignore": ignored})
 }
 
 // A member of a schema that would be the plan's own if it stood in one, and is not let pass.
@@ -148,6 +178,14 @@ fn nearest_keyword(nearest: Option<&'static str>) -> Option<&'static str> {
     Some(nearest)
 }
 
+// The name of a keyword that was perhaps meant, where a fault tells one.
+fn nearest_in(fault: &PlanFault) -> Option<&'static str> {
+    match fault {
+        PlanFault::UnknownKeyword { nearest, .. } => nearest_keyword(*nearest),
+        _ => None,
+    }
+}
+
 // Names as an array.
 fn names(alloc: Global, names: &[&str]) -> Result<Value, AllocError> {
     let mut values = Vec::new(alloc);
@@ -175,21 +213,19 @@ pub(crate) fn compile<B: EngineBuilder>(
 }
 
 // The fault that tells why a schema is refused.
-fn fault_of_schema(alloc: Global, fault: PlanFault) -> Fault {
-    match fault {
+fn fault_of_schema(alloc: Global, mut fault: PlanFault) -> Fault {
+    let nearest = nearest_in(&fault);
+    match &mut fault {
         PlanFault::NoObject(_) => Fault::Schema(SchemaFault::NoObject),
-        PlanFault::UnknownKeyword {
-            keyword,
+        PlanFault::UnknownKeyword { keyword, .. } => Fault::Schema(SchemaFault::UnknownKeyword {
+            keyword: mem::replace(keyword, String::new(alloc)),
             nearest,
-            ..
-        } => Fault::Schema(SchemaFault::UnknownKeyword {
-            keyword,
-            nearest: nearest_keyword(nearest),
         }),
         PlanFault::UncheckedKeyword { keyword, .. } => {
+            let keyword = mem::replace(keyword, String::new(alloc));
             Fault::Schema(SchemaFault::UncheckedKeyword(keyword))
         }
-        PlanFault::Refused { refusal, .. } => match refused(alloc, &refusal) {
+        PlanFault::Refused { refusal, .. } => match refused(alloc, refusal) {
             Ok(fault) => Fault::Schema(fault),
             Err(_) => Fault::Memory,
         },

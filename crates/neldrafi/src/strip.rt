@@ -88,22 +88,28 @@ impl Strip {
         Ok(())
     }
 
+    // Appends the drawing, of which a part has this greatest number of errors.
+    fn push_drawing(&self, greatest: u64, out: &mut String) -> Result<(), AllocError> {
+        let width = self.part_of(self.last).saturating_add(1);
+        writeln!(
+            out,
+            "<svg class=\"strip\" viewBox=\"0 0 {width} 8\" preserveAspectRatio=\"none\" role=\"img\"\n \
+             aria-label=\"Where in the file errors are\">"
+        )?;
+        self.push_marks(greatest, out)?;
+        out.push_str("</svg>\n")
+    }
+
     /// Appends the strip as a drawing, and a sentence about it.
     pub(crate) fn push(&self, out: &mut String) -> Result<(), AllocError> {
-        let width = self.part_of(self.last).saturating_add(1);
         let greatest = self.parts.iter().copied().max().unwrap_or(0);
-        writeln!(
-            out,
-            "<svg class=\"strip\" viewBox=\"0 0 {width} 8\" preserveAspectRatio=\"none\" role=\"img\""
-        )?;
-        out.push_str(" aria-label=\"Where in the file errors are\">\n")?;
-        self.push_marks(greatest, out)?;
+        self.push_drawing(greatest, out)?;
         let lines = self.lines_of_a_part();
         let noun = if lines == 1 { "line" } else { "lines" };
-        out.push_str("</svg>\n<p>The file from its first line at the left. ")?;
         writeln!(
             out,
-            "A mark is {lines} {noun}; the stronger it is, the more errors: at most {greatest}.</p>"
+            "<p>The file from its first line at the left. \
+             A mark is {lines} {noun}; the stronger it is, the more errors: at most {greatest}.</p>"
         )
     }
 }

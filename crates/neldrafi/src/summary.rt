@@ -6,7 +6,7 @@ use crate::lines::push_line;
 use crate::options::OutputForm;
 use crate::output::{FaultyWrite, Output};
 use crate::telling::Subject;
-use serde_json::json;
+use serde_json::{Value, json};
 use std::alloc::{AllocError, Global};
 use std::collections::BTreeMap;
 use std::io::Write;
@@ -82,18 +82,23 @@ impl Summary {
         Ok(())
     }
 
+    // The object for a row of the table.
+    fn row(&self, file: &str, group: &Group, count: Count) -> Result<Value, AllocError> {
+        let (errors, first) = (count.errors, count.first);
+        let (column, keyword) = (group.column.as_str(), group.keyword.as_str());
+        json!(in self.alloc; {
+            "file": file,
+            "column": column,
+            "keyword": keyword,
+            "errors": errors,
+            "first": first
+        })
+    }
+
     // Appends an object for each row of the table.
     fn push_objects(&self, file: &str, out: &mut String) -> Result<(), AllocError> {
         for (group, count) in self.counts.iter() {
-            let (errors, first) = (count.errors, count.first);
-            let (column, keyword) = (group.column.as_str(), group.keyword.as_str());
-            let row = json!(in self.alloc; {
-                "file": file,
-                "column": column,
-                "keyword": keyword,
-                "errors": errors,
-                "first": first
-            })?;
+            let row = self.row(file, group, *count)?;
             push_line(self.alloc, &row, out)?;
         }
         Ok(())

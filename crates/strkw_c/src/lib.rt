@@ -11,6 +11,7 @@ mod formats;
 mod internationalised;
 mod lines;
 mod offsets;
+mod patterns;
 mod questions;
 mod refusals;
 mod schemas;
@@ -38,5 +39,6 @@ pub use formats::{
 };
 pub use internationalised::{strkw_nonnull_is_idn_email, strkw_nonnull_is_idn_hostname};
 pub use offsets::{strkw_nonnull_check_offsets, strkw_nonnull_check_offsets32};
+pub use patterns::strkw_nonnull_is_regex;
 pub use refusals::strkw_nonnull_refusal;
 pub use verdicts::strkw_nonnull_check;

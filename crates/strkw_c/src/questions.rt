@@ -3,7 +3,7 @@
 ghost use Rattle.std.specs.Prelude.{◌≡◌, ◌≤◌, ℕ, List, None, Some, IfErr, IfOk, length};
 ghost use Rattle.serde_json.specs.Data.{Members};
 ghost use Rattle.strkw_companions.specs.Companions as companions;
-ghost use Rattle.strkw_companions.specs.declared.companion.Companion.TheVariants.{Email, IdnEmail, IdnHostname};
+ghost use Rattle.strkw_companions.specs.declared.companion.Companion.TheVariants.{Email, IdnEmail, IdnHostname, Regex};
 ghost use Rattle.strkw_ecma.specs.machine.Engine.{engine_outcome};
 ghost use Rattle.strkw_keywords.specs.Demands.{IsInUse};
 ghost use Rattle.strkw_keywords.specs.Handed.{lists_of};
@@ -64,10 +64,11 @@ pub(crate) fn answer_to<Q: Question>(
         (λ failure. Fails failure (settings_for draft choices) schema.now) }
 {
     let email = Box::new(alloc, Companion::Email)?;
+    let regex = Box::new(alloc, Companion::Regex)?;
     let idn_email = Box::new(alloc, Companion::IdnEmail)?;
     let host = Box::new(alloc, Companion::IdnHostname)?;
     answer_with(
-        alloc, draft, choices, email, idn_email, host, schema, question,
+        alloc, draft, choices, email, regex, idn_email, host, schema, question,
     )
 }
 
@@ -77,6 +78,7 @@ fn answer_with<Q: Question>(
     draft: Draft,
     choices: Choices,
     email: Box<dyn Format>,
+    regex: Box<dyn Format>,
     idn_email: Box<dyn Format>,
     host: Box<dyn Format>,
     schema: &[u8],
@@ -84,6 +86,7 @@ fn answer_with<Q: Question>(
 ) -> Result<Vec<u8>, Failure>
     requires askable { Q.askable question.now }
     requires email { (text : List ℕ) → admits email text ≡ companions.admits Email text }
+    requires regex { (text : List ℕ) → admits regex text ≡ companions.admits Regex text }
     requires idn_email { (text : List ℕ)
         → admits idn_email text ≡ companions.admits IdnEmail text }
     requires host { (text : List ℕ) → admits host text ≡ companions.admits IdnHostname text }
@@ -98,6 +101,10 @@ fn answer_with<Q: Question>(
         NamedFormat {
             name: String::from_str(alloc, Companion::Email.as_str())?,
             check: email,
+        },
+        NamedFormat {
+            name: String::from_str(alloc, Companion::Regex.as_str())?,
+            check: regex,
         },
         NamedFormat {
             name: String::from_str(alloc, Companion::IdnEmail.as_str())?,
@@ -141,7 +148,7 @@ fn answer_by<Q: Question>(
 // How many companions are formats that are checked.
 fn registered_count(draft: Draft, choices: Choices) -> usize
     ensures count { result ≡ length (registered draft choices.companions) }
-    ensures few { result ≤ 3 }
+    ensures few { result ≤ 4 }
 {
     if choices.companions {
         companions_of(draft).len()

@@ -83,6 +83,7 @@ fn verdicts_under_refusal(rt: HostRuntime) -> Result<(), Fail> {
         (0, "{\"pattern\":\"^2023\"}", [0, 1, 2]),
         (0, "{\"pattern\":\"^\\\\d{3}4\"}", [1, 0, 2]),
         (4, "{\"format\":\"email\"}", [0, 0, 2]),
+        (4, "{\"format\":\"regex\"}", [1, 1, 2]),
         (4, "{\"format\":\"idn-email\"}", [0, 0, 2]),
         (4, "{\"format\":\"idn-hostname\"}", [1, 1, 2]),
     ] {

@@ -4,4 +4,5 @@ pub mod MailboxDecision
 pub mod LabelDecision
 pub mod IdnHostNameDecision
 pub mod IdnMailboxDecision
+pub mod RegexDecision
 pub mod Companions

@@ -5,6 +5,7 @@ ghost use Rattle.strkw_companions.specs.Companions as spec;
 ghost use Rattle.strkw_companions.specs.Companions.{first_draft, name_of};
 
 use std::alloc::{AllocError, Global};
+use strkw_ecma::is_valid_regex;
 use strkw_keywords::Format;
 use strkw_label::is_valid_idn_hostname;
 use strkw_mail::{is_valid_email, is_valid_idn_email};
@@ -15,6 +16,8 @@ use strkw_report::Draft;
 pub enum Companion {
     /// `email`: a mail address, `Mailbox` of RFC 5321, section 4.1.2.
     Email,
+    /// `regex`: a pattern of ECMA-262 in Unicode mode, ECMA-262 2024, section 22.2.1.
+    Regex,
     /// `idn-email`: an internationalised mail address, RFC 6531, section 3.3.
     IdnEmail,
     /// `idn-hostname`: an internationalised host name, RFC 5890, section 2.3.2.3.
@@ -28,6 +31,7 @@ impl Companion {
     {
         match self {
             Companion::Email => "email",
+            Companion::Regex => "regex",
             Companion::IdnEmail => "idn-email",
             Companion::IdnHostname => "idn-hostname",
         }
@@ -39,6 +43,7 @@ impl Companion {
     {
         match self {
             Companion::Email => Draft::Draft4,
+            Companion::Regex => Draft::Draft4,
             Companion::IdnEmail => Draft::Draft7,
             Companion::IdnHostname => Draft::Draft7,
         }
@@ -51,6 +56,7 @@ impl Format for Companion {
     fn is_valid(&self, alloc: Global, value: &str) -> Result<bool, AllocError> {
         match self {
             Companion::Email => Ok(is_valid_email(value)),
+            Companion::Regex => is_valid_regex(alloc, value),
             Companion::IdnEmail => is_valid_idn_email(alloc, value),
             Companion::IdnHostname => is_valid_idn_hostname(alloc, value),
         }
@@ -62,10 +68,11 @@ pub fn companions_of(draft: Draft) -> &'static [Companion]
     ensures { result.now ≡ spec.companions_of draft }
 {
     match draft {
-        Draft::Draft4 | Draft::Draft6 => &[Companion::Email],
+        Draft::Draft4 | Draft::Draft6 => &[Companion::Email, Companion::Regex],
         Draft::Draft7 | Draft::Draft201909 | Draft::Draft202012 => {
             &[
                 Companion::Email,
+                Companion::Regex,
                 Companion::IdnEmail,
                 Companion::IdnHostname,
             ]

@@ -10,12 +10,12 @@ use Rattle.strkw_ecma.specs.machine.CodeReading.{Wanted, one_more, two_more, thr
 use Rattle.strkw_ecma.specs.machine.CodeParts.{number_if, with_hex_digit, digit_or_none, value_or_zero, point_digit}
 
 -- one more digit makes a number sixteen times as great, with the digit's value added
-hex_push : (v : ℕ) (ds : List ℕ) (c : ℕ) → hex_number_from v (ds ++ c ∷ []) ≡ hex_number_from v ds * 16 + digit_value c
+pub hex_push : (v : ℕ) (ds : List ℕ) (c : ℕ) → hex_number_from v (ds ++ c ∷ []) ≡ hex_number_from v ds * 16 + digit_value c
 hex_push v [] c = refl
 hex_push v (d ∷ ds) c = hex_push (v * 16 + digit_value d) ds c
 
 -- the number, where there are digits
-abbrev hex_number_of : List ℕ → Option ℕ
+abbrev pub hex_number_of : List ℕ → Option ℕ
 hex_number_of [] = None
 hex_number_of (d ∷ ds) = Some (hex_number (d ∷ ds))
 
@@ -89,12 +89,12 @@ unit_image c false = on_digit_image reading.unit_width four_more [] c
 unit_image c true = refl
 
 -- of digits with one more there is a number
-pushed_is : (ds : List ℕ) (c : ℕ) → hex_number_of (ds ++ c ∷ []) ≡ Some (hex_number (ds ++ c ∷ []))
+pub pushed_is : (ds : List ℕ) (c : ℕ) → hex_number_of (ds ++ c ∷ []) ≡ Some (hex_number (ds ++ c ∷ []))
 pushed_is [] c = refl
 pushed_is (d ∷ ds) c = refl
 
 -- the number of digits is the one that is held of them, or 0 of none
-number_is : (ds : List ℕ) → hex_number ds ≡ value_or_zero (hex_number_of ds)
+pub number_is : (ds : List ℕ) → hex_number ds ≡ value_or_zero (hex_number_of ds)
 number_is [] = refl
 number_is (d ∷ ds) = refl
 

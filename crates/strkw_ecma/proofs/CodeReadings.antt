@@ -170,7 +170,7 @@ digit_read_formed w three_more ds v h e = (v, h, omega (arith, e))
 digit_read_formed w four_more ds v h e = (v, h, omega (arith, e))
 
 -- digits with one more are digits
-hex_push_digit : (ds : List ℕ) (c : ℕ) → are_hex_digits ds ≡ true → is_hex_digit c ≡ true → are_hex_digits (ds ++ c ∷ []) ≡ true
+pub hex_push_digit : (ds : List ℕ) (c : ℕ) → are_hex_digits ds ≡ true → is_hex_digit c ≡ true → are_hex_digits (ds ++ c ∷ []) ≡ true
 hex_push_digit [] c h e = and_true _ _ e refl
 hex_push_digit (d ∷ ds) c h e = and_true _ _ (and_left (is_hex_digit d) _ h) (hex_push_digit ds c (and_right (is_hex_digit d) _ h) e)
 
@@ -280,7 +280,7 @@ hex_append v [] es = refl
 hex_append v (d ∷ ds) es = hex_append (v * 16 + digit_value d) ds es
 
 -- more digits make no smaller number
-hex_grows : (v : ℕ) (ds : List ℕ) → v ≤ hex_number_from v ds
+pub hex_grows : (v : ℕ) (ds : List ℕ) → v ≤ hex_number_from v ds
 hex_grows v [] = omega arith
 hex_grows v (d ∷ ds) =
     let next : v * 16 + digit_value d ≤ hex_number_from v (d ∷ ds) = hex_grows (v * 16 + digit_value d) ds in
@@ -297,15 +297,15 @@ front_small ds es h =
     omega (arith, whole, hex_grows (hex_number ds) es, h)
 
 -- a code point that a text can have is not above the greatest
-scalar_small : (n : ℕ) → is_scalar n ≡ true → n ≤ max_code_point
+pub scalar_small : (n : ℕ) → is_scalar n ≡ true → n ≤ max_code_point
 scalar_small n h = grind (arith, nat_tests)
 
 -- nor is a leading surrogate
-lead_small : (n : ℕ) → is_lead n ≡ true → n ≤ max_code_point
+pub lead_small : (n : ℕ) → is_lead n ≡ true → n ≤ max_code_point
 lead_small n h = grind (arith, nat_tests)
 
 -- nor a trailing one
-trail_small : (n : ℕ) → is_trail n ≡ true → n ≤ max_code_point
+pub trail_small : (n : ℕ) → is_trail n ≡ true → n ≤ max_code_point
 trail_small n h = grind (arith, nat_tests)
 
 -- a code point that a text can have is no leading surrogate
@@ -342,7 +342,7 @@ begun F G (pair_code ds es) cs = F unit_opened cs
 begun F G (point_code ds) cs = F unit_opened cs
 
 -- there is always a digit still to come
-no_digits : (n : Wanted) → 0 ≡ wanted_count n → ⊥
+pub no_digits : (n : Wanted) → 0 ≡ wanted_count n → ⊥
 no_digits one_more e = omega (arith, e)
 no_digits two_more e = omega (arith, e)
 no_digits three_more e = omega (arith, e)

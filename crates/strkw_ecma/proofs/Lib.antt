@@ -55,3 +55,4 @@ pub mod RegexExact
 pub mod RegexDigits
 pub mod RegexNames
 pub mod RegexRun
+pub mod RegexTaken

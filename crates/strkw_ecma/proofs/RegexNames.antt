@@ -14,6 +14,7 @@ use Rattle.strkw_ecma.specs.Names.{same_name, are_distinct}
 use Rattle.strkw_ecma.specs.machine.NameSets.{has_name}
 use Rattle.strkw_ecma.specs.machine.Recognising.{Standing, is_closed, is_whole}
 use Rattle.strkw_ecma.proofs.Steps.{and_true, and_left, and_right}
+use Rattle.strkw_ecma.proofs.RegexClasses.{and_false}
 
 -- a name as the code borrows it
 abbrev pub Name : Type 0
@@ -87,8 +88,8 @@ or_right : (a b : Bool) → (a || b) ≡ false → b ≡ false
 or_right true b h = absurd (true≢false h)
 or_right false b h = h
 
--- what is not false is true
-not_false : (b : Bool) → not b ≡ true → b ≡ false
+-- where it holds that a test does not, it does not
+pub not_false : (b : Bool) → not b ≡ true → b ≡ false
 not_false true h = absurd (true≢false (sym h))
 not_false false h = refl
 
@@ -106,11 +107,6 @@ distinct_push (m ∷ ns) n h w =
 or_true : (a : Bool) → (a || true) ≡ true
 or_true true = refl
 or_true false = refl
-
--- two tests do not hold together where the second does not
-and_false : (a b : Bool) → b ≡ false → (a && b) ≡ false
-and_false true b h = h
-and_false false b h = refl
 
 -- names are not distinct where one comes again
 pub twice : (ns : List (List ℕ)) (n : List ℕ) (ms : List (List ℕ)) → list_any (same_name n) ns ≡ true → are_distinct (ns ++ n ∷ ms) ≡ false

@@ -12,7 +12,7 @@ use Rattle.strkw_text.specs.Characters.{is_one_of}
 use Rattle.strkw_ecma.specs.Escapes.{Escape, itself, control, set, boundary, no_boundary, null, letter, hexadecimal, unicode, property, no_property, unknown}
 use Rattle.strkw_ecma.specs.Escapes.{escape}
 use Rattle.strkw_ecma.specs.Codes.{Code, null_code, letter_code, byte_code, unit_code, pair_code, point_code, is_hex_digit, are_hex_digits, hex_number_from}
-use Rattle.strkw_ecma.specs.Codes.{hex_number, max_code_point, has_digits, code_spelling, code_value, AreDigits, is_lead, is_trail}
+use Rattle.strkw_ecma.specs.Codes.{hex_number, max_code_point, has_digits, code_spelling, code_value, AreDigits}
 use Rattle.strkw_ecma.specs.Numbers.{number, is_digit, are_digits, CountToken}
 use Rattle.strkw_ecma.specs.Properties.{Expression, expression_spelling, property_letter, property_spelling}
 use Rattle.strkw_ecma.specs.Names.{NameChar, verbatim, by_code, name_spelling, name_char_spelling, name_char_value, name_value, may_follow, IsName, IsNameChar}
@@ -37,7 +37,8 @@ use Rattle.strkw_ecma.specs.machine.Recognising.{held, on_referring, on_number, 
 use Rattle.strkw_ecma.specs.machine.Recognising.{on_naming}
 use Rattle.strkw_ecma.specs.machine.Recognising.{on_name_coding, on_low, range_read, on_high, holds_of, is_read_from}
 use Rattle.strkw_ecma.proofs.Letters.{is_not}
-use Rattle.strkw_ecma.proofs.CodeReadings.{wanted_count, follow, code_tail, begun, reads_code}
+use Rattle.strkw_ecma.proofs.CodeReadings.{wanted_count, hex_grows, no_digits, lead_small, trail_small, follow, code_tail, begun, reads_code}
+use Rattle.strkw_ecma.proofs.RegexNames.{not_false}
 use Rattle.strkw_ecma.proofs.CodeImages.{coding_image, coded_image, next_coding_image}
 use Rattle.strkw_ecma.proofs.PropertyReadings.{follow_property, reads_property}
 use Rattle.strkw_ecma.proofs.Digits.{token_of_digit, number_push}
@@ -58,22 +59,6 @@ abbrev pub follow_number : (NumberPart → List ℕ → Bool) → (Form → ℕ 
 follow_number F G no_number cs = false
 follow_number F G (number_goes k) cs = F k cs
 follow_number F G (number_ends f n) cs = G f n cs
-
--- more digits make no smaller number
-hex_grows : (v : ℕ) (ds : List ℕ) → v ≤ hex_number_from v ds
-hex_grows v [] = omega arith
-hex_grows v (d ∷ ds) = smaller v (digit_value d) _ (hex_grows (v * 16 + digit_value d) ds)
-  where
-    -- what is sixteen times a number or more is no smaller than it
-    smaller : (v d n : ℕ) → v * 16 + d ≤ n → v ≤ n
-    smaller v d n h = omega (arith, h)
-
--- there is always a digit still to come
-no_digits : (w : Wanted) → 0 ≡ wanted_count w → ⊥
-no_digits one_more e = omega (arith, e)
-no_digits two_more e = omega (arith, e)
-no_digits three_more e = omega (arith, e)
-no_digits four_more e = omega (arith, e)
 
 module _ (F : NumberPart → List ℕ → Bool) (G : Form → ℕ → List ℕ → Bool)
     (turn : (k : NumberPart) (c : ℕ) (cs : List ℕ) → F k (c ∷ cs) ≡ follow_number F G (number_next k c) cs) where
@@ -186,13 +171,6 @@ reads_escape s (pair_code ds es) h cs =
     ap (run s (numbering unit_opened)) (append_assoc ds (byte "\\" ∷ byte "u" ∷ es) cs)
     ∙ reads_unit (number_behind s) (number_whole s) (turn s) ds (h.0.0.0, lead_small (hex_number ds) h.0.0.1) (byte "\\" ∷ byte "u" ∷ (es ++ cs))
     ∙ reads_unit (number_behind t) (number_whole t) (turn t) es (h.0.1, trail_small (hex_number es) h.0.2) cs
-  where
-    -- surrogates are not above the greatest
-    lead_small : (n : ℕ) → is_lead n ≡ true → n ≤ max_code_point
-    lead_small n h = grind (arith, nat_tests)
-
-    trail_small : (n : ℕ) → is_trail n ≡ true → n ≤ max_code_point
-    trail_small n h = grind (arith, nat_tests)
 reads_escape s (point_code ds) h cs = reads_braces (number_behind s) (number_whole s) (turn s) ds h cs
 
 -- what is told as trees elsewhere
@@ -355,17 +333,12 @@ reads_quantifier s (from_to ds es) h w cs =
 abbrev have_no_digit : List ℕ → Bool
 have_no_digit ds = list_all (λ d. not (is_digit d)) ds
 
--- what is not false is true
-not_true : (b : Bool) → not b ≡ true → b ≡ false
-not_true false h = refl
-not_true true h = absurd (true≢false (sym h))
-
 -- so a digit is none of them
 no_one_of : (c : ℕ) (ds : List ℕ) → have_no_digit ds ≡ true → is_digit c ≡ true → is_one_of ds c ≡ false
 no_one_of c [] h k = refl
 no_one_of c (d ∷ ds) h k =
     ap (λ (b : Bool). b || list_any (λ e. c == e) ds)
-    (is_not is_digit c d (c == d) refl k (not_true (is_digit d) (and_left (not (is_digit d)) _ h)))
+    (is_not is_digit c d (c == d) refl k (not_false (is_digit d) (and_left (not (is_digit d)) _ h)))
     ∙ no_one_of c ds (and_right (not (is_digit d)) _ h) k
 
 -- nor is it one that is none

@@ -1,11 +1,10 @@
 -- A class is read from its spelling.
-use Rattle.std.proofs.Common.{◌≡◌, inl, inr, ℕ, ◌≤◌, Bool, true, false, ◌&&◌, List, [], ◌∷◌, ◌++◌, Option, Some, refl, sym, ap, subst, ◌∙◌}
+use Rattle.std.proofs.Common.{◌≡◌, inl, inr, ℕ, Bool, true, false, ◌&&◌, List, [], ◌∷◌, ◌++◌, Option, Some, refl, sym, ap, subst, ◌∙◌}
 use Rattle.std.proofs.Common.{append_assoc, true≢false, arith}
 use Rattle.std.proofs.lemmas.Bool.Decides.{nat_tests}
 use Rattle.std.specs.Str.{byte}
 use Rattle.strkw_ecma.specs.Escapes.{Escape}
 use Rattle.strkw_ecma.specs.Codes.{Code, null_code, letter_code, byte_code, unit_code, pair_code, point_code, code_spelling, is_lead, is_trail, hex_number}
-use Rattle.strkw_ecma.specs.Codes.{max_code_point}
 use Rattle.strkw_ecma.specs.Properties.{Expression, expression_spelling, property_letter}
 use Rattle.strkw_ecma.specs.Classes.{ClassToken, ClassAtom, class_plain, hyphen, class_escaped, class_control, class_set, backspace, class_coded}
 use Rattle.strkw_ecma.specs.Classes.{class_property}
@@ -24,19 +23,14 @@ use Rattle.strkw_ecma.specs.machine.Recognising.{with_last, set_item, char_item,
 use Rattle.strkw_ecma.specs.machine.Recognising.{pending_if, took_behind, took_dashed, took_ranged, took, hyphen_item, within}
 use Rattle.strkw_ecma.specs.machine.Recognising.{number_item}
 use Rattle.strkw_ecma.specs.machine.Recognising.{state_if, on_class_token, on_class_escape, on_class_number, on_class_property, on_bracket}
+use Rattle.strkw_ecma.proofs.CodeReadings.{lead_small, trail_small}
 use Rattle.strkw_ecma.proofs.PropertyReadings.{follow_property, reads_property}
 use Rattle.strkw_ecma.proofs.RegexClasses.{item_of, lead_value, behind_char, behind_lead, LeadView, lead_view, TrailView, trail_view, lead_is, trail_is}
 use Rattle.strkw_ecma.proofs.RegexClasses.{value_is}
 use Rattle.strkw_ecma.proofs.RegexClasses.{same_range}
 use Rattle.strkw_ecma.proofs.RegexReads.{run, after, follow_number, reads_unit, reads_letter, reads_byte, reads_braces, wrap, unwrap}
 
--- surrogates are not above the greatest number, and a trailing one is no leading one
-lead_small : (n : ℕ) → is_lead n ≡ true → n ≤ max_code_point
-lead_small n h = grind (arith, nat_tests)
-
-trail_small : (n : ℕ) → is_trail n ≡ true → n ≤ max_code_point
-trail_small n h = grind (arith, nat_tests)
-
+-- a trailing surrogate is no leading one
 trail_alone : (n : ℕ) → is_trail n ≡ true → is_lead n ≡ false
 trail_alone n h = grind (arith, nat_tests)
 
@@ -226,7 +220,8 @@ module _ (s : Standing) where
 
   -- so an atom is read behind a range, where it may stand there
   reads_behind_range : (x z y : ClassAtom) (b : Bool) → is_lead_item z ≡ b → is_range (item_of x) (item_of z) ≡ true
-      → (is_lead_item z && is_trail_item y) ≡ false → IsClassItem y → (cs : List ℕ) → run s (range_place x z b) (class_atom_spelling y ++ cs) ≡ run s (in_class (one (item_of y))) cs
+      → (is_lead_item z && is_trail_item y) ≡ false → IsClassItem y → (cs : List ℕ)
+      → run s (range_place x z b) (class_atom_spelling y ++ cs) ≡ run s (in_class (one (item_of y))) cs
   reads_behind_range x z y false e m w h cs = reads_any fresh y tt h cs
   reads_behind_range x z y true e m w h cs =
       reads_any (ranged (item_of x) (lead_value z)) y tt h cs ∙ ap (λ o. then o cs) (stays_ranged x z y e m w (trail_view y))

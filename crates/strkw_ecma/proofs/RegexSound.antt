@@ -98,7 +98,7 @@ Written (name_coding g n k) w =
 Written (referring n) w = (ds : List ℕ) × AreDecimal ds × (begins_with_zero ds ≡ false) × (held (number ds) ≡ n) × (w ≡ byte "\\" ∷ ds)
 
 -- whether the part is a back reference by a number
-abbrev is_number : Part → Bool
+abbrev pub is_number : Part → Bool
 is_number (leaf (numbered ds)) = true
 is_number p = false
 
@@ -545,7 +545,7 @@ prepend s u p w cs f m is e r = record {
 }
 
 -- any text may stand behind a part that is no back reference by a number
-may_precede : (p : Part) (cs : List ℕ) → is_number p ≡ false → MayPrecede p cs
+pub may_precede : (p : Part) (cs : List ℕ) → is_number p ≡ false → MayPrecede p cs
 may_precede bar cs h = tt
 may_precede (edge e) cs h = tt
 may_precede (leaf (plain c)) cs h = tt

@@ -196,7 +196,7 @@ module _ (s : Standing) (small : s.captures < capture_limit) where
   step_reaches lazily = lazy_reaches s.last refl
 
 -- the groups of a part and of others behind it are counted together
-captures_more : (p : Part) (ps : List Part) → captures (p ∷ ps) ≡ captures (p ∷ []) + captures ps
+pub captures_more : (p : Part) (ps : List Part) → captures (p ∷ ps) ≡ captures (p ∷ []) + captures ps
 captures_more bar ps = omega arith
 captures_more (edge e) ps = omega arith
 captures_more (leaf l) ps = omega arith
@@ -210,7 +210,7 @@ captures_more (repeats q) ps = omega arith
 captures_more lazily ps = omega arith
 
 -- so are their names
-names_more : (p : Part) (ps : List Part) → names (p ∷ ps) ≡ names (p ∷ []) ++ names ps
+pub names_more : (p : Part) (ps : List Part) → names (p ∷ ps) ≡ names (p ∷ []) ++ names ps
 names_more bar ps = refl
 names_more (edge e) ps = refl
 names_more (leaf l) ps = refl
@@ -224,7 +224,7 @@ names_more (repeats q) ps = refl
 names_more lazily ps = refl
 
 -- and the names and the numbers of back references
-asked_more : (p : Part) (ps : List Part) → ((calls (p ∷ ps) ≡ calls (p ∷ []) ++ calls ps) × (numbers (p ∷ ps) ≡ numbers (p ∷ []) ++ numbers ps))
+pub asked_more : (p : Part) (ps : List Part) → ((calls (p ∷ ps) ≡ calls (p ∷ []) ++ calls ps) × (numbers (p ∷ ps) ≡ numbers (p ∷ []) ++ numbers ps))
 asked_more bar ps = (refl, refl)
 asked_more (edge e) ps = (refl, refl)
 asked_more (leaf (plain c)) ps = (refl, refl)

@@ -1,11 +1,11 @@
 -- What a state of the recogniser may have read, and what comes of one more character outside of classes.
 use Rattle.std.proofs.Common.{◌≡◌, ℕ, ◌+◌, ◌*◌, ◌%◌, ◌≤◌, nat_le, ◌==◌, Bool, true, false, ◌&&◌, List, [], ◌∷◌, ◌++◌}
-use Rattle.std.proofs.Common.{Option, Some, None, length, refl, sym, ap, subst, ◌∙◌, arith}
+use Rattle.std.proofs.Common.{length, refl, sym, ap, subst, ◌∙◌, arith}
 use Rattle.std.proofs.lemmas.Bool.{leb-true}
 use Rattle.std.proofs.lemmas.List.{length_push}
 use Rattle.std.specs.Char.{digit_value, is_ascii_alphabetic}
 use Rattle.std.specs.Str.{byte}
-use Rattle.strkw_ecma.specs.Codes.{Code, null_code, letter_code, byte_code, unit_code, pair_code, point_code, is_hex_digit, are_hex_digits, hex_number_from}
+use Rattle.strkw_ecma.specs.Codes.{Code, null_code, letter_code, byte_code, unit_code, pair_code, point_code, is_hex_digit, are_hex_digits}
 use Rattle.strkw_ecma.specs.Codes.{hex_number, max_code_point, code_spelling, code_value}
 use Rattle.strkw_ecma.specs.Regex.{IsEscape}
 use Rattle.strkw_ecma.specs.machine.CodeReading.{Wanted, one_more, two_more, three_more, four_more}
@@ -16,8 +16,9 @@ use Rattle.strkw_ecma.specs.machine.Recognising.{point_opened, NumberRead, no_nu
 use Rattle.strkw_ecma.specs.machine.Recognising.{digit_read, digit_or_none, number_if}
 use Rattle.strkw_ecma.specs.machine.Recognising.{on_unit, point_digit, on_point, number_next}
 use Rattle.strkw_ecma.proofs.Letters.{same_char}
-use Rattle.strkw_ecma.proofs.CodeReadings.{wanted_count}
-use Rattle.strkw_ecma.proofs.Steps.{and_true, and_left, and_right}
+use Rattle.strkw_ecma.proofs.CodeReadings.{wanted_count, hex_push_digit}
+use Rattle.strkw_ecma.proofs.CodeImages.{hex_number_of, hex_push, pushed_is, number_is}
+use Rattle.strkw_ecma.proofs.Steps.{and_left, and_right}
 
 -- of an escape by a number
 -- the letter behind the backslash, and how many digits there are
@@ -29,11 +30,6 @@ form_letter other_form = byte "x"
 abbrev form_count : Form → ℕ
 form_count unit_form = 4
 form_count other_form = 2
-
--- the number, where there are digits
-abbrev pub hex_number_of : List ℕ → Option ℕ
-hex_number_of [] = None
-hex_number_of (d ∷ ds) = Some (hex_number (d ∷ ds))
 
 -- the form of an escape
 abbrev pub form : Code → Form
@@ -63,21 +59,6 @@ NumberReadText no_number v = Unit {0}
 NumberReadText (number_goes k) v = NumberText k v
 NumberReadText (number_ends f n) v = Escapes f n v
 
--- digits of a hexadecimal number with one more are such digits
-hex_digits_push : (ds : List ℕ) (c : ℕ) → are_hex_digits ds ≡ true → is_hex_digit c ≡ true → are_hex_digits (ds ++ c ∷ []) ≡ true
-hex_digits_push [] c h e = and_true _ _ e refl
-hex_digits_push (d ∷ ds) c h e = and_true _ _ (and_left (is_hex_digit d) _ h) (hex_digits_push ds c (and_right (is_hex_digit d) _ h) e)
-
--- and their number is sixteen times as great, with the digit's value added
-pub hex_push : (v : ℕ) (ds : List ℕ) (c : ℕ) → hex_number_from v (ds ++ c ∷ []) ≡ hex_number_from v ds * 16 + digit_value c
-hex_push v [] c = refl
-hex_push v (d ∷ ds) c = hex_push (v * 16 + digit_value d) ds c
-
--- of digits with one more there is a number
-pub hex_pushed : (ds : List ℕ) (c : ℕ) → hex_number_of (ds ++ c ∷ []) ≡ Some (hex_number (ds ++ c ∷ []))
-hex_pushed [] c = refl
-hex_pushed (d ∷ ds) c = refl
-
 -- what is read of all digits of a form, where no number is above the greatest
 whole_number : (f : Form) (ds : List ℕ) → are_hex_digits ds ≡ true → length ds ≡ form_count f → hex_number ds ≤ max_code_point
     → Escapes f (hex_number ds) (form_letter f ∷ ds)
@@ -104,20 +85,15 @@ digit_follows f w ds c h l =
         → NumberReadText (digit_or_none f w (code_parts.number_if b (hex_number (ds ++ c ∷ [])))) (form_letter f ∷ (ds ++ c ∷ []))
     by_test false e = tt
     by_test true e =
-        digits_read f w (ds ++ c ∷ []) (hex_digits_push ds c h (and_left (is_hex_digit c) _ e)) (omega (arith, length_push ds c, l))
+        digits_read f w (ds ++ c ∷ []) (hex_push_digit ds c h (and_left (is_hex_digit c) _ e)) (omega (arith, length_push ds c, l))
         (leb-true (hex_number (ds ++ c ∷ [])) max_code_point (and_right (is_hex_digit c) _ e))
-
--- the number of digits is the one that is held of them, or 0 of none
-number_is : (ds : List ℕ) (o : Option ℕ) → hex_number_of ds ≡ o → code_parts.value_or_zero o ≡ hex_number ds
-number_is [] o e = ap code_parts.value_or_zero (sym e)
-number_is (d ∷ ds) o e = ap code_parts.value_or_zero (sym e)
 
 -- what is read behind `\u{` and digits
 point_follows : (ds : List ℕ) (c : ℕ) (b : Bool) → (c == byte "}") ≡ b → are_hex_digits ds ≡ true → hex_number ds ≤ max_code_point
     → NumberReadText (on_point (hex_number_of ds) c b) (byte "u" ∷ byte "{" ∷ (ds ++ c ∷ []))
 point_follows ds c false k h m =
     subst (λ n. NumberReadText (point_digit (code_parts.number_if (is_hex_digit c && nat_le n max_code_point) n)) (byte "u" ∷ byte "{" ∷ (ds ++ c ∷ [])))
-    (hex_push 0 ds c ∙ ap (λ n. n * 16 + digit_value c) (sym (number_is ds (hex_number_of ds) refl)))
+    (hex_push 0 ds c ∙ ap (λ n. n * 16 + digit_value c) (number_is ds))
     (by_test (is_hex_digit c && nat_le (hex_number (ds ++ c ∷ [])) max_code_point) refl)
   where
     -- by whether it is a digit that makes no number above the greatest
@@ -126,9 +102,9 @@ point_follows ds c false k h m =
     by_test false e = tt
     by_test true e = (
       ds ++ c ∷ [],
-      hex_digits_push ds c h (and_left (is_hex_digit c) _ e),
+      hex_push_digit ds c h (and_left (is_hex_digit c) _ e),
       leb-true (hex_number (ds ++ c ∷ [])) max_code_point (and_right (is_hex_digit c) _ e),
-      hex_pushed ds c,
+      pushed_is ds c,
       refl,
     )
 point_follows [] c true k h m = tt

@@ -21,7 +21,7 @@ pub(crate) fn with_digit(number: Option<u32>, c: char) -> Option<u32>
     if before > MAX_COUNT {
         return None;
     }
-    let longer = before * 10 + u32::from(c).saturating_sub(48);
+    let longer = before * 10 + u32::from(c).saturating_sub(u32::from('0'));
     if longer <= MAX_COUNT {
         Some(longer)
     } else {

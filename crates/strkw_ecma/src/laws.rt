@@ -11,6 +11,7 @@ ghost use Rattle.strkw_ecma.specs.Syntax.{Disjunction};
 ghost use Rattle.strkw_ecma.specs.Size.{max_steps};
 ghost use Rattle.strkw_ecma.specs.machine.Counted.{AreSearchedWithin};
 ghost use Rattle.strkw_ecma.specs.Patterns.{pattern};
+ghost use Rattle.strkw_ecma.specs.Regex.{IsRegex};
 ghost use Rattle.strkw_ecma.specs.Sets.{digits, non_digits, white_space, non_white_space, word_characters, non_word_characters};
 
 /// What `takes` and `outcome` of `EcmaPatterns` come to, said by the grammar and the meaning: for every text, it is
@@ -65,4 +66,10 @@ pub fn patterns_have_parts()
 /// A pattern is found in a text exactly where its mirror is found in the text turned round.
 pub fn mirrors_are_found()
     ensures { (p : Pattern) (text : List ℕ) → Found p text ↔ Found (mirror p) (reverse text) }
+{}
+
+/// What the engine may take is a pattern of the whole grammar: a text that some tree of the engine's grammar spells,
+/// within its limits, is one that `is_valid_regex` takes.
+pub fn taken_patterns_are_valid()
+    ensures { (source : List ℕ) (d : Disjunction) → IsPattern source d → IsRegex source }
 {}

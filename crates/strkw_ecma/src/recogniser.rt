@@ -103,7 +103,7 @@ impl Recogniser {
     {
         match c {
             '0'..='9' => {
-                self.mode = Mode::Referring(u32::from(c).saturating_sub(48));
+                self.mode = Mode::Referring(u32::from(c).saturating_sub(u32::from('0')));
                 true
             }
             'k' => {
@@ -160,7 +160,7 @@ impl Recogniser {
             ≡ on_referring (standing_of self.old.standing) number c (is_digit c) }
     {
         if matches!(c, '0'..='9') {
-            let digit = u32::from(c).saturating_sub(48);
+            let digit = u32::from(c).saturating_sub(u32::from('0'));
             self.mode = Mode::Referring(number.saturating_mul(10).saturating_add(digit));
             return true;
         }
@@ -249,7 +249,8 @@ impl Recogniser {
 
     // Whether the pattern may end here.
     fn may_end(&mut self, alloc: Global) -> Result<bool, AllocError>
-        ensures { let s = state_of self.old in IfOk result (λ ends. ends ≡ ends_in s.standing s.mode) }
+        ensures { let s = state_of self.old in IfOk result (λ ends.
+            ends ≡ ends_in s.standing s.mode) }
     {
         match mem::replace(&mut self.mode, Mode::Between) {
             Mode::Between => self.standing.is_whole(alloc),

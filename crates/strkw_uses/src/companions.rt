@@ -1,4 +1,4 @@
-//! Mail addresses, internationalised ones and host names as formats that a schema object knows.
+//! Mail addresses, patterns and internationalised host names as formats that a schema object knows.
 
 use anyhow::Result;
 use serde_json::{Map, Value};
@@ -9,7 +9,7 @@ use strkw_object::compile_strings;
 use strkw_pattern::NoPatterns;
 use strkw_report::Draft;
 
-/// Whether a text is valid by a schema object of draft 7, which may have the formats `email`, `idn-email` and
+/// Whether a text is valid by a schema object of draft 7, which may have the formats `email`, `regex`, `idn-email` and
 /// `idn-hostname`.
 pub fn is_valid_with_companions(
     alloc: Global,

@@ -162,11 +162,13 @@ fn print_registered(rt: &impl Print, alloc: Global) -> Result<()> {
     Ok(())
 }
 
-// A mail address, an internationalised one and such a host name, and texts that are none of them.
+// A mail address, a pattern, an internationalised address and such a host name, and texts that are none of them.
 fn print_companions(rt: &impl Print, alloc: Global) -> Result<()> {
     for (schema, text) in [
         (r#"{"format":"email"}"#, "joe@example.com"),
         (r#"{"format":"email"}"#, "-joe"),
+        (r#"{"format":"regex"}"#, r"([abc])+\s+$"),
+        (r#"{"format":"regex"}"#, "^(abc]"),
         (r#"{"format":"idn-email"}"#, "jürgen@bücher.example"),
         (r#"{"format":"idn-email"}"#, "jürgen@Bücher.example"),
         (r#"{"format":"idn-hostname"}"#, "bücher.example"),

@@ -41,7 +41,7 @@ judges! {
 
 judges! {
     u8: strkw_is_base64, strkw_is_base64url, strkw_is_base32, strkw_is_base32hex, strkw_is_base16, strkw_is_json,
-    strkw_is_idn_email, strkw_is_idn_hostname,
+    strkw_is_idn_email, strkw_is_idn_hostname, strkw_is_regex,
 }
 
 extern "C" {

@@ -14,7 +14,7 @@ kinds! {
     DateTime "date-time" strkw_is_date_time,
     /// `duration` of RFC 3339, appendix A.
     Duration "duration" strkw_is_duration,
-    /// A mail address: `Mailbox` of RFC 5321, section 4.1.2. No schema object knows it.
+    /// A mail address: `Mailbox` of RFC 5321, section 4.1.2. A schema object knows it where its options say so.
     Email "email" strkw_is_email,
     /// The host names of draft 7 and later.
     Hostname "hostname" strkw_is_hostname,

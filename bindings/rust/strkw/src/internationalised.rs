@@ -1,4 +1,4 @@
-//! Internationalised mail addresses and host names. No schema object knows them as formats.
+//! Internationalised mail addresses and host names. A schema object knows them as formats where its options say so.
 
 use crate::decisions::decided;
 use crate::errors::OutOfMemory;

@@ -10,6 +10,7 @@ mod format;
 mod internationalised;
 mod names;
 mod options;
+mod patterns;
 mod schema;
 
 pub use answers::answer;
@@ -18,4 +19,5 @@ pub use errors::{CompileError, OutOfMemory, UnknownName, ValidationError};
 pub use format::Format;
 pub use internationalised::{is_idn_email, is_idn_hostname};
 pub use options::{Draft, Options};
+pub use patterns::is_regex;
 pub use schema::{Report, Schema};

@@ -37,7 +37,7 @@ pub struct Options {
     pub formats_as_draft: bool,
     /// A format that is not known lets every text pass.
     pub ignore_unknown_formats: bool,
-    /// `email` is known, and from draft 7 on `idn-email` and `idn-hostname`.
+    /// `email` and `regex` are known, and from draft 7 on `idn-email` and `idn-hostname`.
     pub companion_formats: bool,
 }
 

@@ -4,7 +4,8 @@ use std::fs;
 use std::path::PathBuf;
 use std::thread;
 use strkw::{
-    answer, is_idn_email, is_idn_hostname, CompileError, Draft, Encoding, Format, Options, Schema, UnknownName,
+    answer, is_idn_email, is_idn_hostname, is_regex, CompileError, Draft, Encoding, Format, Options, Schema,
+    UnknownName,
 };
 
 fn stored(name: &str) -> String {
@@ -24,6 +25,7 @@ fn formats_and_encodings_answer_as_the_stored_rows() {
         let found = match (name, name.parse::<Encoding>()) {
             ("idn-email", _) => is_idn_email(text).unwrap(),
             ("idn-hostname", _) => is_idn_hostname(text).unwrap(),
+            ("regex", _) => is_regex(text).unwrap(),
             (_, Ok(encoding)) => encoding.is_valid(text).unwrap(),
             _ => name.parse::<Format>().unwrap().is_valid(text),
         };
@@ -86,6 +88,8 @@ fn options_say_how_formats_are_checked() {
     let companions = Options { companion_formats: true, ..Options::default() };
     let mail = Schema::compile(Draft::Draft4, companions, r#"{"format": "email"}"#).unwrap();
     assert!(mail.is_valid("joe@example.com").unwrap() && !mail.is_valid("joe").unwrap());
+    let pattern = Schema::compile(Draft::Draft4, companions, r#"{"format": "regex"}"#).unwrap();
+    assert!(pattern.is_valid(r"([abc])+\s+$").unwrap() && !pattern.is_valid("^(abc]").unwrap());
     let mail = Schema::compile(Draft::Draft7, companions, r#"{"format": "idn-email"}"#).unwrap();
     assert!(mail.is_valid("j\u{fc}rgen@b\u{fc}cher.example").unwrap());
     assert!(!mail.is_valid("j\u{fc}rgen@B\u{fc}cher.example").unwrap());

@@ -196,42 +196,47 @@ impl TableCheck<'_> {
         output: &mut W,
         form: &F,
     ) -> Result<Checked, Fault> {
-        let alloc = rt.alloc();
         let mut progress = Progress::begin(rt, self.form, subject, self.asks_progress, &file);
-        let checked = check_csv(
-            alloc,
-            self.plan,
-            self.reading,
-            file,
-            output,
-            &mut progress,
-            form,
-        );
+        self.check_watched(rt.alloc(), file, output, &mut progress, form)
+    }
+
+    // The same, of which `progress` tells how far it is.
+    fn check_watched<F: FieldForm, W: FaultyWrite>(
+        &self,
+        alloc: Global,
+        file: InputFile,
+        output: &mut W,
+        progress: &mut Progress<'_>,
+        form: &F,
+    ) -> Result<Checked, Fault> {
+        let checked = check_csv(alloc, self.plan, self.reading, file, output, progress, form);
         progress.end(checked.as_ref().ok().copied());
         match checked {
             Ok(checked) => Ok(checked),
-            Err(fault) => {
-                let names = progress.into_names();
-                Err(self.fault_of(alloc, fault, names, output))
-            }
+            Err(fault) => Err(self.fault_of(alloc, fault, progress, output)),
         }
     }
 
-    // The fault of a check, of a file with these names if they were read.
+    // The fault of a check, of a file whose names `progress` has if they were read.
     fn fault_of<W: FaultyWrite>(
         &self,
         alloc: Global,
         fault: FileFault,
-        names: Option<Vec<String>>,
+        progress: &mut Progress<'_>,
         output: &mut W,
     ) -> Fault {
-        match fault {
+        match &fault {
             FileFault::Write => output.fault(),
-            FileFault::Table(TableFault::Missing(_)) => match names {
-                Some(names) => fault_of_missing(alloc, self.plan, self.reading.header, names),
-                None => Fault::Memory,
-            },
-            fault => Fault::from(fault),
+            FileFault::Table(TableFault::Missing(_)) => self.fault_of_names(alloc, progress),
+            _ => Fault::from(fault),
+        }
+    }
+
+    // The fault of a file that lacks columns.
+    fn fault_of_names(&self, alloc: Global, progress: &mut Progress<'_>) -> Fault {
+        match progress.take_names() {
+            Some(names) => fault_of_missing(alloc, self.plan, self.reading.header, names),
+            None => Fault::Memory,
         }
     }
 }
@@ -287,8 +292,14 @@ pub(crate) fn run(rt: &HostRuntime, matches: &ArgMatches<'_>) -> Result<Outcome,
     let (page, files) = (matches.get_str(REPORT), matches.get_strs(FILE));
     require_other_path(rt.alloc(), page, path, files)?;
     let plan = read_plan_by(rt, path, delimiter_said(matches))?;
+    run_by(rt, matches, &plan)
+}
+
+// Checks the files by a plan.
+fn run_by(rt: &HostRuntime, matches: &ArgMatches<'_>, plan: &Value) -> Result<Outcome, Fault> {
+    let (page, files) = (matches.get_str(REPORT), matches.get_strs(FILE));
     let mut check = TableCheck {
-        plan: &plan,
+        plan,
         reading: reading_said(matches),
         form: OutputForm::of(matches),
         asks_progress: matches.get_flag(PROGRESS),

@@ -132,6 +132,36 @@ fn words_of_pattern(alloc: Global, pattern: &str) -> Result<String, AllocError> 
     }
 }
 
+// What is said of a keyword whose value is not taken.
+const NOT_TAKEN: &str = "a value that is not taken, or a number that is no integer";
+
+// What a keyword is checked for, by its value, which is a text.
+fn words_of_text(
+    alloc: Global,
+    draft: Draft,
+    keyword: &str,
+    text: &str,
+) -> Result<String, AllocError> {
+    let name = Shown(text);
+    match keyword {
+        "format" => words_of_format(alloc, draft, text),
+        "pattern" => words_of_pattern(alloc, text),
+        "contentEncoding" => {
+            format!(in alloc; "texts in the encoding \"{name}\", where it is known")
+        }
+        "contentMediaType" => {
+            format!(in alloc; "texts of the media type \"{name}\", where it is known")
+        }
+        _ => String::from_str(alloc, NOT_TAKEN),
+    }
+}
+
+// What a limit of the number of characters is checked for: that they are at least, or at most, so many.
+fn words_of_length(alloc: Global, bound: &str, count: u64) -> Result<String, AllocError> {
+    let characters = characters(alloc, count)?;
+    format!(in alloc; "texts of at {bound} {characters}")
+}
+
 // What a keyword is checked for, by its value.
 fn words_of_check(
     alloc: Global,
@@ -139,29 +169,13 @@ fn words_of_check(
     keyword: &str,
     value: &Value,
 ) -> Result<String, AllocError> {
-    match (keyword, value.as_str(), value.as_u64()) {
-        ("format", Some(name), _) => words_of_format(alloc, draft, name),
-        ("pattern", Some(pattern), _) => words_of_pattern(alloc, pattern),
-        ("minLength", _, Some(least)) => {
-            let least = characters(alloc, least)?;
-            format!(in alloc; "texts of at least {least}")
-        }
-        ("maxLength", _, Some(most)) => {
-            let most = characters(alloc, most)?;
-            format!(in alloc; "texts of at most {most}")
-        }
-        ("contentEncoding", Some(name), _) => {
-            let name = Shown(name);
-            format!(in alloc; "texts in the encoding \"{name}\", where it is known")
-        }
-        ("contentMediaType", Some(name), _) => {
-            let name = Shown(name);
-            format!(in alloc; "texts of the media type \"{name}\", where it is known")
-        }
-        _ => String::from_str(
-            alloc,
-            "a value that is not taken, or a number that is no integer",
-        ),
+    if let Some(text) = value.as_str() {
+        return words_of_text(alloc, draft, keyword, text);
+    }
+    match (keyword, value.as_u64()) {
+        ("minLength", Some(least)) => words_of_length(alloc, "least", least),
+        ("maxLength", Some(most)) => words_of_length(alloc, "most", most),
+        _ => String::from_str(alloc, NOT_TAKEN),
     }
 }
 
@@ -173,13 +187,20 @@ struct Explanation {
     message: String,
 }
 
+// What a fault of a schema says. Another fault comes back.
+fn words_of_fault(alloc: Global, fault: Fault) -> Result<String, Fault> {
+    match &fault {
+        Fault::Schema(fault) => Ok(format!(in alloc; "{fault}")?),
+        _ => Err(fault),
+    }
+}
+
 // What is said of a keyword that is refused, unless it is ignored.
 fn words_of_other(alloc: Global, draft: Draft, keyword: &str) -> Result<String, Fault> {
     let alone = json!(in alloc; {(keyword): null})?;
     match require_keywords(alloc, draft, &[], &alone) {
-        Err(Fault::Schema(fault)) => Ok(format!(in alloc; "{fault}")?),
-        Err(fault) => Err(fault),
         Ok(()) => Ok(String::new(alloc)),
+        Err(fault) => words_of_fault(alloc, fault),
     }
 }
 
@@ -285,13 +306,20 @@ fn push_schema(
     Ok(())
 }
 
+// Writes what is said of a schema. The errors are those for which it is refused.
+fn explain(rt: &HostRuntime, matches: &ArgMatches<'_>, schema: &Value) -> Result<(), Fault> {
+    let mut lines = String::new(rt.alloc());
+    let pushed = push_schema(rt.alloc(), matches, schema, &mut lines);
+    match write_text(rt, &lines) {
+        Ok(()) => pushed,
+        Err(fault) => Err(fault),
+    }
+}
+
 /// Runs the subcommand.
 pub(crate) fn run(rt: &HostRuntime, matches: &ArgMatches<'_>) -> Result<Outcome, Fault> {
     let path = matches.get_str(SCHEMA).unwrap_or("");
     let schema = read_schema(rt, path)?;
-    let mut lines = String::new(rt.alloc());
-    let pushed = push_schema(rt.alloc(), matches, &schema, &mut lines);
-    write_text(rt, &lines)?;
-    pushed?;
+    explain(rt, matches, &schema)?;
     Ok(Outcome::AllValid)
 }

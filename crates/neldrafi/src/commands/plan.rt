@@ -296,21 +296,48 @@ fn begin_sample(
     }
 }
 
-// A sample of so many records that a reader reads behind the first.
-fn take_sample(
+// The records behind the first that a reader reads are seen, so many of them.
+fn see_records(
     alloc: Global,
-    mut sample: Sample,
-    mut reader: RecordReader<InputFile>,
+    reader: &mut RecordReader<InputFile>,
     most: u64,
-) -> Result<Sample, Fault> {
+    sample: &mut Sample,
+) -> Result<(), Fault> {
     let mut row = StringRecord::new(alloc);
     for _ in 0..most {
-        let Some(line) = next_record(&mut reader, &mut row)? else {
-            return Ok(sample);
+        let Some(line) = next_record(reader, &mut row)? else {
+            return Ok(());
         };
         sample.see(alloc, line, &row)?;
     }
+    Ok(())
+}
+
+// A sample of so many records that a reader reads.
+fn take_sample(
+    alloc: Global,
+    draft: Draft,
+    header: Header,
+    reader: &mut RecordReader<InputFile>,
+    most: u64,
+) -> Result<Sample, Fault> {
+    let mut sample = begin_sample(alloc, draft, header, reader)?;
+    // Without a header the first record is one of those that are looked at.
+    let more = match header {
+        Header::First => most,
+        Header::Absent => most.saturating_sub(1),
+    };
+    see_records(alloc, reader, more, &mut sample)?;
     Ok(sample)
+}
+
+// The plan that is proposed for a file.
+fn plan_for(alloc: Global, matches: &ArgMatches<'_>, file: InputFile) -> Result<Value, Fault> {
+    let draft = draft_of(matches);
+    let most = matches.get_one::<u64>(RECORDS).unwrap_or(SAMPLE);
+    let mut reader = reader_of(alloc, file, delimiter_said(matches))?;
+    let sample = take_sample(alloc, draft, header_said(matches), &mut reader, most)?;
+    Ok(sample.plan(alloc, draft)?)
 }
 
 // The text of a plan: on one line, where lines of JSON are wanted.
@@ -324,20 +351,9 @@ fn text_of(alloc: Global, form: OutputForm, plan: &Value) -> Result<String, Allo
 /// Runs the subcommand.
 pub(crate) fn run(rt: &HostRuntime, matches: &ArgMatches<'_>) -> Result<Outcome, Fault> {
     let alloc = rt.alloc();
-    let draft = draft_of(matches);
     let file = InputFile::open(rt, matches.get_str(FILE).unwrap_or(STANDARD_INPUT))?;
-    let most = matches.get_one::<u64>(RECORDS).unwrap_or(SAMPLE);
-    let said = delimiter_said(matches);
-    let header = header_said(matches);
-    let mut reader = reader_of(alloc, file, said)?;
-    let first = begin_sample(alloc, draft, header, &mut reader)?;
-    // Without a header the first record is one of those that are looked at.
-    let more = match header {
-        Header::First => most,
-        Header::Absent => most.saturating_sub(1),
-    };
-    let mut plan = take_sample(alloc, first, reader, more)?.plan(alloc, draft)?;
-    if let Some(delimiter) = said {
+    let mut plan = plan_for(alloc, matches, file)?;
+    if let Some(delimiter) = delimiter_said(matches) {
         set_delimiter(alloc, &mut plan, delimiter)?;
     }
     let mut text = text_of(alloc, OutputForm::of(matches), &plan)?;

@@ -51,24 +51,21 @@ fn file<'a>(alloc: Global) -> Arg<'a> {
 }
 
 // What requests are answered with, and how it is told that a line is none.
-#[derive(Clone, Copy)]
+#[derive(Drop)]
 struct Answering<'a> {
     rt: &'a HostRuntime,
     form: OutputForm,
+    // The answer to the last line.
+    made: Vec<u8>,
 }
 
 impl Answering<'_> {
     // Appends the answer to a line, and tells why the line is no request where it is none.
-    fn answer_line(
-        &self,
-        line: LineBytes<'_>,
-        made: &mut Vec<u8>,
-        out: &mut String,
-    ) -> Result<(), Fault> {
+    fn answer_line(&mut self, line: LineBytes<'_>, out: &mut String) -> Result<(), Fault> {
         let alloc = self.rt.alloc();
-        made.clear();
-        answer(alloc, line.bytes, made)?;
-        if made.as_slice() == BAD_REQUEST {
+        self.made.clear();
+        answer(alloc, line.bytes, &mut self.made)?;
+        if self.made.as_slice() == BAD_REQUEST {
             if let Some(why) = why_bad(alloc, line)? {
                 tell(
                     self.rt,
@@ -80,20 +77,23 @@ impl Answering<'_> {
             }
         }
         // An answer is text, so there is no other case.
-        if let Ok(text) = str::from_utf8(made) {
+        if let Ok(text) = str::from_utf8(&self.made) {
             out.push_str(text)?;
         }
         Ok(())
     }
 
     // Answers each line of a file.
-    fn answer_lines(&self, lines: &mut Lines, answers: &mut Gathered<'_, '_>) -> Result<(), Fault> {
-        let mut made = Vec::new(self.rt.alloc());
+    fn answer_lines(
+        &mut self,
+        lines: &mut Lines,
+        answers: &mut Gathered<'_, '_>,
+    ) -> Result<(), Fault> {
         for _ in 0..u64::MAX {
             let Some(line) = lines.next_bytes()? else {
                 return Ok(());
             };
-            self.answer_line(line, &mut made, &mut answers.text)?;
+            self.answer_line(line, &mut answers.text)?;
             answers.write_some(lines.is_drained())?;
         }
         Err(Fault::Input(InputFault::TooLong))
@@ -108,8 +108,12 @@ pub(crate) fn run(rt: &HostRuntime, matches: &ArgMatches<'_>) -> Result<Outcome,
     let mut lines = Lines::new(rt.alloc(), file)?;
     let mut output = Output::new(rt, "", Wanted::all());
     let mut answers = Gathered::new(rt.alloc(), &mut output);
-    let form = OutputForm::of(matches);
-    let answered = Answering { rt, form }.answer_lines(&mut lines, &mut answers);
+    let mut answering = Answering {
+        rt,
+        form: OutputForm::of(matches),
+        made: Vec::new(rt.alloc()),
+    };
+    let answered = answering.answer_lines(&mut lines, &mut answers);
     match answers.end(answered) {
         Ok(()) | Err(Fault::Closed) => Ok(Outcome::AllValid),
         Err(fault) => Err(fault),

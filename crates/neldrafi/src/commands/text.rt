@@ -161,18 +161,23 @@ impl Verdicts<'_, '_> {
         Ok(())
     }
 
-    // Judges each line of standard input.
-    fn judge_lines(&mut self, rt: &HostRuntime) -> Result<(), Fault> {
-        let file = InputFile::open(rt, STANDARD_INPUT)?;
-        let mut lines = Lines::new(rt.alloc(), file)?;
+    // Judges each of the lines.
+    fn judge_lines(&mut self, alloc: Global, lines: &mut Lines) -> Result<(), Fault> {
         for _ in 0..u64::MAX {
             let Some(line) = lines.next_line()? else {
                 return Ok(());
             };
-            self.judge(rt.alloc(), line.number, line.text)?;
+            self.judge(alloc, line.number, line.text)?;
             self.lines.write_some(lines.is_drained())?;
         }
         Ok(())
+    }
+
+    // Judges each line of standard input.
+    fn judge_input(&mut self, rt: &HostRuntime) -> Result<(), Fault> {
+        let file = InputFile::open(rt, STANDARD_INPUT)?;
+        let mut lines = Lines::new(rt.alloc(), file)?;
+        self.judge_lines(rt.alloc(), &mut lines)
     }
 
     // Writes what is left, and answers what all came to. The verdicts before a fault stay written.
@@ -197,7 +202,7 @@ pub(crate) fn run(rt: &HostRuntime, matches: &ArgMatches<'_>) -> Result<Outcome,
     };
     let judged = match matches.get_strs(TEXT) {
         Some(texts) => verdicts.judge_all(rt.alloc(), texts),
-        None => verdicts.judge_lines(rt),
+        None => verdicts.judge_input(rt),
     };
     verdicts.end(judged)
 }

@@ -50,30 +50,24 @@ pub use Rattle.strkw_ecma.specs.declared.recogniser.numbers.Form.TheVariants.{Un
 pub use Rattle.strkw_ecma.specs.declared.recogniser.numbers.Form.TheVariants.{Other as other_form}
 -- a part of one, and what comes of one more character
 pub use Rattle.strkw_ecma.specs.declared.recogniser.numbers.NumberPart.{NumberPart}
-pub use Rattle.strkw_ecma.specs.declared.recogniser.numbers.NumberPart.TheVariants.{Letter as letter_awaited}
-pub use Rattle.strkw_ecma.specs.declared.recogniser.numbers.NumberPart.TheVariants.{UnitOpened as unit_opened}
-pub use Rattle.strkw_ecma.specs.declared.recogniser.numbers.NumberPart.TheVariants.{Digits as digits_of}
-pub use Rattle.strkw_ecma.specs.declared.recogniser.numbers.NumberPart.TheVariants.{PointOpened as point_opened}
+use Rattle.strkw_ecma.specs.declared.recogniser.numbers.NumberPart.TheVariants as number_parts
+pub use number_parts.{Letter as letter_awaited, UnitOpened as unit_opened, Digits as digits_of}
+pub use number_parts.{PointOpened as point_opened}
 pub use Rattle.strkw_ecma.specs.declared.recogniser.numbers.NumberRead.{NumberRead}
-pub use Rattle.strkw_ecma.specs.declared.recogniser.numbers.NumberRead.TheVariants.{Fails as no_number}
-pub use Rattle.strkw_ecma.specs.declared.recogniser.numbers.NumberRead.TheVariants.{Goes as number_goes}
-pub use Rattle.strkw_ecma.specs.declared.recogniser.numbers.NumberRead.TheVariants.{Makes as number_ends}
+use Rattle.strkw_ecma.specs.declared.recogniser.numbers.NumberRead.TheVariants as number_reads
+pub use number_reads.{Fails as no_number, Goes as number_goes, Makes as number_ends}
 -- what stands in a class: a set, a character, or `\u` with a surrogate; and what may belong to a
 -- range, or, last, a range up to a leading surrogate, behind which a trailing one may come
 pub use Rattle.strkw_ecma.specs.declared.recogniser.classes.Item.{Item}
-pub use Rattle.strkw_ecma.specs.declared.recogniser.classes.Item.TheVariants.{Set as set_item}
-pub use Rattle.strkw_ecma.specs.declared.recogniser.classes.Item.TheVariants.{Char as char_item}
-pub use Rattle.strkw_ecma.specs.declared.recogniser.classes.Item.TheVariants.{Lead as lead_item}
-pub use Rattle.strkw_ecma.specs.declared.recogniser.classes.Item.TheVariants.{Trail as trail_item}
+use Rattle.strkw_ecma.specs.declared.recogniser.classes.Item.TheVariants as items_read
+pub use items_read.{Set as set_item, Char as char_item, Lead as lead_item, Trail as trail_item}
 pub use Rattle.strkw_ecma.specs.declared.recogniser.classes.Pending.{Pending}
-pub use Rattle.strkw_ecma.specs.declared.recogniser.classes.Pending.TheVariants.{Fresh as fresh}
-pub use Rattle.strkw_ecma.specs.declared.recogniser.classes.Pending.TheVariants.{One as one}
-pub use Rattle.strkw_ecma.specs.declared.recogniser.classes.Pending.TheVariants.{Dashed as dashed}
-pub use Rattle.strkw_ecma.specs.declared.recogniser.classes.Pending.TheVariants.{Ranged as ranged}
+use Rattle.strkw_ecma.specs.declared.recogniser.classes.Pending.TheVariants as pending_items
+pub use pending_items.{Fresh as fresh, One as one, Dashed as dashed, Ranged as ranged}
 -- whose name is read
 pub use Rattle.strkw_ecma.specs.declared.recogniser.naming.Naming.{Naming}
-pub use Rattle.strkw_ecma.specs.declared.recogniser.naming.Naming.TheVariants.{Group as of_group}
-pub use Rattle.strkw_ecma.specs.declared.recogniser.naming.Naming.TheVariants.{Reference as of_reference}
+use Rattle.strkw_ecma.specs.declared.recogniser.naming.Naming.TheVariants as namings
+pub use namings.{Group as of_group, Reference as of_reference}
 
 -- between terms: whether a quantifier may follow the end of each group that is open, the innermost
 -- first; the last term; how many groups capture; the greatest number that a back reference asks

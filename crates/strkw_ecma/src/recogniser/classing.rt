@@ -83,7 +83,8 @@ impl Recogniser {
     // Behind the letter of a property, which says whether the property is to be missing.
     fn await_brace(&mut self, class: Pending, lacked: bool) -> bool
         ensures { state_if result (Some (state_of self.new))
-            ≡ Some (at (standing_of self.old.standing) (in_class_property class (brace_awaited lacked))) }
+            ≡ Some (at (standing_of self.old.standing)
+            (in_class_property class (brace_awaited lacked))) }
     {
         self.mode = Mode::ClassProperty(class, PropertyPart::BraceAwaited(lacked));
         true

@@ -14,7 +14,8 @@ use std::alloc::{AllocError, Global};
 
 // Whether it is the name of the property Script_Extensions.
 fn is_extensions(name: &[u8]) -> bool
-    ensures { result ≡ (bytes_eq name.now (codes "Script_Extensions") || bytes_eq name.now (codes "scx")) }
+    ensures { result ≡ (bytes_eq name.now (codes "Script_Extensions")
+        || bytes_eq name.now (codes "scx")) }
 {
     name == b"Script_Extensions".as_slice() || name == b"scx".as_slice()
 }

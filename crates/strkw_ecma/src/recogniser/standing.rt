@@ -60,7 +60,8 @@ impl Standing {
     }
 
     pub(super) fn add_name(&mut self, name: Vec<char>) -> Result<(), AllocError>
-        ensures { IfOk result (λ _. standing_of self.new ≡ with_name (standing_of self.old) name.items) }
+        ensures { IfOk result (λ _.
+            standing_of self.new ≡ with_name (standing_of self.old) name.items) }
     {
         self.names.push(name)?;
         Ok(())
@@ -68,7 +69,8 @@ impl Standing {
 
     // Behind a back reference to a name.
     pub(super) fn call(&mut self, name: Vec<char>) -> Result<(), AllocError>
-        ensures { IfOk result (λ _. standing_of self.new ≡ called (standing_of self.old) name.items) }
+        ensures { IfOk result (λ _.
+            standing_of self.new ≡ called (standing_of self.old) name.items) }
     {
         self.calls.push(name)?;
         self.last = Last::Atom;

@@ -11,15 +11,21 @@ answer_with-requires-clause-email g c = λ text.
     read_made own-1 (own-1.entry at-1-1) at-1-1 refl _ (λ j v. j.1.admits v text) box.result.vtable box.result.value c.in_ok-email.email.value box.ensures.1
     ∙ ap (λ x. admits x text) c.in_ok-email.ensures.ok
 
+pub answer_with-requires-clause-regex : goal.answer_with-requires-clause-regex
+answer_with-requires-clause-regex g c = λ text.
+    let box = c.into_dyn_box-2 in
+    read_made own-1 (own-1.entry at-1-1) at-1-1 refl _ (λ j v. j.1.admits v text) box.result.vtable box.result.value c.in_ok-regex.regex.value box.ensures.1
+    ∙ ap (λ x. admits x text) c.in_ok-regex.ensures.ok
+
 pub answer_with-requires-clause-idn_email : goal.answer_with-requires-clause-idn_email
 answer_with-requires-clause-idn_email g c = λ text.
-    let box = c.into_dyn_box-2 in
+    let box = c.into_dyn_box-3 in
     read_made own-1 (own-1.entry at-1-1) at-1-1 refl _ (λ j v. j.1.admits v text) box.result.vtable box.result.value
     c.in_ok-idn_email.idn_email.value box.ensures.1
     ∙ ap (λ x. admits x text) c.in_ok-idn_email.ensures.ok
 
 pub answer_with-requires-clause-host : goal.answer_with-requires-clause-host
 answer_with-requires-clause-host g c = λ text.
-    let box = c.into_dyn_box-3 in
+    let box = c.into_dyn_box-4 in
     read_made own-1 (own-1.entry at-1-1) at-1-1 refl _ (λ j v. j.1.admits v text) box.result.vtable box.result.value c.in_ok-host.host.value box.ensures.1
     ∙ ap (λ x. admits x text) c.in_ok-host.ensures.ok

@@ -1,0 +1,23 @@
+//! Whether bytes are a pattern. The answer is 0 for no, 1 for yes, 2 for out of memory. Bytes that are not UTF-8 are
+//! none.
+
+ghost use Rattle.std.specs.Str.{IsUtf8, chars};
+ghost use Rattle.strkw_c.specs.Statuses.{Tells};
+ghost use Rattle.strkw_ecma.specs.Regex.{IsRegex};
+
+use crate::encodings::{NO, status_of};
+use std::alloc::Global;
+use strkw_ecma::is_valid_regex;
+
+/// Whether the bytes are a pattern of the whole of ECMA-262 in Unicode mode (ECMA-262 2024, section 22.2.1, with the
+/// early errors of section 22.2.1.1). The keyword `pattern` may still not take it. A schema object knows it as the
+/// format `regex` by bit 4 of its options alone.
+#[unsafe(no_mangle)]
+pub extern "C" fn strkw_nonnull_is_regex(alloc: Global, text: &[u8]) -> u8
+    ensures { Tells (IsUtf8 text.now × IsRegex (chars text.now)) result }
+{
+    match str::from_utf8(text) {
+        Ok(text) => status_of(is_valid_regex(alloc, text)),
+        Err(_) => NO,
+    }
+}
