@@ -1,22 +1,20 @@
-/* Calls each function of strkw.h with inputs that it takes, that it finds wrong, and that it refuses.
-
-   Each text and each room ends where its page of memory ends, and the page behind cannot be touched. A text cannot be
-   written to either. So one byte read or written too far ends the program.
+/* Calls each function of strkw.h with inputs that it takes, that it finds wrong, and that it refuses. One byte read or
+   written too far ends the program, as rooms.h says.
 
    calls           runs the rows; the last line is `N passed, M failed`, the status 1 where a row fails
    calls --list    the function and the kind of each row: right, wrong or refused */
 #define _DEFAULT_SOURCE
+#include "rooms.h"
 #include "strkw.h"
 
 #include <pthread.h>
 #include <stdio.h>
 #include <stdlib.h>
 #include <string.h>
-#include <sys/mman.h>
 #include <sys/wait.h>
 #include <unistd.h>
 
-enum { MOST = 4096, THREADS = 8, ROUNDS = 25 };
+enum { THREADS = 8, ROUNDS = 25 };
 
 static bool lists = false;
 static unsigned passed = 0, failed = 0;
@@ -31,32 +29,6 @@ static void row(const char *function, const char *kind, const char *what, bool h
         failed++;
         printf("calls: %s, %s: %s\n", function, kind, what);
     }
-}
-
-/* Room for so many bytes, at most MOST, at the end of pages that no others follow. */
-static uint8_t *room_of(size_t count) {
-    uint8_t *pages = mmap(NULL, 2 * MOST, PROT_READ | PROT_WRITE, MAP_PRIVATE | MAP_ANONYMOUS, -1, 0);
-    if (pages == MAP_FAILED || count > MOST || sysconf(_SC_PAGESIZE) > MOST) exit(2);
-    if (mprotect(pages + MOST, MOST, PROT_NONE) != 0) exit(2);
-    memset(pages, '?', MOST);
-    return pages + MOST - count;
-}
-
-/* These bytes, in such room, which is not to be written to. */
-static const uint8_t *bytes_of(const char *bytes, size_t count) {
-    uint8_t *room = room_of(count);
-    memcpy(room, bytes, count);
-    if (mprotect(room + count - MOST, MOST, PROT_READ) != 0) exit(2);
-    return room;
-}
-
-static const uint8_t *text_of(const char *text) { return bytes_of(text, strlen(text)); }
-
-/* Whether room was written to. */
-static bool is_written(const uint8_t *room, size_t count) {
-    for (size_t i = 0; i < count; i++)
-        if (room[i] != '?') return true;
-    return false;
 }
 
 /* Formats, with a text of each and one that is none: RFC 3339, 5321, 1123, 2673, 4291, 3987, 6901, 3986, 6570, 9562. */
@@ -291,9 +263,9 @@ static bool tells(uint32_t draft, uint32_t options, const char *schema, size_t r
 }
 
 static void call_refusal(void) {
-    static const char *pattern = "{\"pattern\":\"(?<=ab)(?=cd)\"}";
-    static const char *why = "/pattern: the pattern \"(?<=ab)(?=cd)\" is not taken: "
-                             "it has a look-ahead of more than one character";
+    static const char *pattern = "{\"pattern\":\"(a|b)c\\\\1\"}";
+    static const char *why = "/pattern: the pattern \"(a|b)c\\\\1\" is not taken: "
+                             "it has a back reference";
     const size_t count = strlen(why);
     const uint8_t *object = text_of("{}");
     uint8_t *out = room_of(1);

@@ -9,8 +9,9 @@
 
    Nothing is kept between calls but a strkw_schema, which no call changes: any number of threads may call at once, also
    with the same strkw_schema, each with buffers of its own. There is no lock. A fork changes nothing of that. The
-   formats that answer by a bool take no memory. All other functions call malloc, realloc and free: call them from no
-   signal handler, nor in the forked child of a process with several threads. */
+   formats that answer by a bool, and the encodings base32, base32hex and base16, take no memory. All other functions
+   call malloc, realloc and free: call them from no signal handler, nor in the forked child of a process with several
+   threads. */
 #ifndef STRKW_H
 #define STRKW_H
 
@@ -53,7 +54,7 @@ uint8_t strkw_is_idn_hostname(const uint8_t *text, size_t count);
    out of memory. */
 uint8_t strkw_is_regex(const uint8_t *text, size_t count);
 
-/* Encodings of RFC 4648, and JSON. 0: no. 1: yes. 2: out of memory. */
+/* Encodings of RFC 4648, and JSON. 0: no. 1: yes. 2: out of memory, but for base32, base32hex and base16. */
 uint8_t strkw_is_base64(const uint8_t *text, size_t count);
 uint8_t strkw_is_base64url(const uint8_t *text, size_t count);
 uint8_t strkw_is_base32(const uint8_t *text, size_t count);
@@ -115,7 +116,7 @@ uint8_t strkw_check_offsets32(uint32_t draft, uint32_t options, const uint8_t *s
 /* Tells why strkw_check refuses a schema object. schema, out and written do not overlap.
    STRKW_REFUSED: the text is at the head of out, and its count of bytes is in *written. It is UTF-8: the JSON pointer
    of the keyword, a colon, a space and the reason, as
-       /pattern: the pattern "(?<=ab)(?=cd)" is not taken: it has a look-ahead of more than one character
+       /pattern: the pattern "(a|b)c\\1" is not taken: it has a back reference
    The name of an unknown format stands in it as it is, with a zero byte or a line feed if it has one.
    STRKW_DONE: the schema object is not refused; *written is 0.
    STRKW_NO_ROOM: it is refused, and out is as it was; *written is the room that is needed.

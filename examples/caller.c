@@ -164,9 +164,9 @@ static void check_refusal(uint32_t options, const char *schema, const char *want
 static void check_refusals(void) {
     uint8_t out[] = {'?'};
     size_t written = 7;
-    check_refusal(0, "{\"pattern\":\"(?<=ab)(?=cd)\"}",
-                  "/pattern: the pattern \"(?<=ab)(?=cd)\" is not taken: "
-                  "it has a look-ahead of more than one character");
+    check_refusal(0, "{\"pattern\":\"(a|b)c\\\\1\"}",
+                  "/pattern: the pattern \"(a|b)c\\\\1\" is not taken: "
+                  "it has a back reference");
     check_refusal(0, "{\"minLength\":-1}", "/minLength: the limit is not a non-negative whole number of 64 bits");
     check_refusal(1, "{\"format\":5}", "/format: 5 is not of type \"string\"");
     check_refusal(1, "{\"format\":\"uuid\"}",

@@ -33,7 +33,6 @@ REFUSED = " is not taken: "
 LINE_END = re.compile(r"\r\n|\r|\n")
 # What is taken by ECMA-262 and not here, by name.
 BY_DESIGN = [
-    ("look-ahead", re.compile(r"\(\?[=!]")),
     ("back reference", re.compile(r"\\[1-9]|\\k<")),
     ("property", re.compile(r"\\[pP]\{(CWKCF|Changes_When_NFKC_Casefolded|scx=|Script_Extensions=)")),
     ("name twice", re.compile(r"\(\?<(\w+)>.*\(\?<\1>", re.DOTALL)),
@@ -154,10 +153,10 @@ class Maker:
         return start + self.disjunction(self.random.choice([0, 0, 0, 1, 2]) if depth > 2 else 0) + ")"
 
     def look_ahead(self, depth):
-        """One in ten looks for more than one character, and may not be taken."""
+        """Half of them look for one character, or for alternatives of one; the others for anything."""
         start = self.random.choice(["(?=", "(?!"])
-        if self.random.random() < 0.1:
-            return start + self.disjunction(0) + ")"
+        if self.random.random() < 0.5:
+            return start + self.disjunction(self.random.choice([0, 0, 0, 1, 2]) if depth > 2 else 0) + ")"
         return start + "|".join(self.glance(depth - 1) for _ in range(self.random.choice([1, 1, 1, 2, 3]))) + ")"
 
     def glance(self, depth):

@@ -1981,10 +1981,77 @@ NO_FRONTS = [
     "(^(?=ab))", "(?:^(?=ab))a", "^(?=ab)|a", "a|^(?=ab)", "^(?=(?=ab))", "^(?!(?!ab))", "^(?=a(?=ab))",
     "^(?=ab)a(?=ab)", "$(?=ab)", "\\b(?=ab)", "(?<!a)(?=ab)", "^(?:(?=ab))"]
 
-# Patterns that look far both ways, outside what is looked for by itself at the front.
+
+def at_place(holds):
+    """Whether some place of a text is so, by what stands before it and behind it."""
+    return lambda text: any(holds(text[:place], text[place:]) for place in range(len(text) + 1))
+
+
+# Patterns that look far both ways, outside what is looked for by itself at the front, and in which texts of a and b
+# each is found.
 BOTH_WAYS = [
-    "(?<=ab)(?=cd)", "(?=ab)(?<=cd)", "(?<=ab)c(?!de)", "(?<!ab)(?!ab)", "(?=(?<=ab))", "(?<=(?=ab))", "(?=a(?<!bc))",
-    "(?<=a(?=bc))", "(?<=^(?=ab))a", "(?=ab)|(?<=ab)", "((?=ab)(?<=ab))*", "^(?:(?=ab)(?<!ab))"]
+    ("(?<=ab)(?=ba)", lambda text: "abba" in text),
+    ("(?=ab)(?<=ab)", lambda text: "abab" in text),
+    ("(?<=ab)(?!ba)", at_place(lambda before, behind: before.endswith("ab") and not behind.startswith("ba"))),
+    ("(?<!ab)(?=ba)", at_place(lambda before, behind: not before.endswith("ab") and behind.startswith("ba"))),
+    ("(?<!ab)(?!ba)", at_place(lambda before, behind: not before.endswith("ab") and not behind.startswith("ba"))),
+    ("(?<!ab)(?!ab)", at_place(lambda before, behind: not before.endswith("ab") and not behind.startswith("ab"))),
+    ("(?<=ab)a(?!ba)", lambda text: re.search("aba(?!ba)", text)),
+    ("(?=(?<=ab))", lambda text: "ab" in text),
+    ("(?!(?<=ab))$", lambda text: not text.endswith("ab")),
+    ("(?<=(?=ab))", lambda text: "ab" in text),
+    ("(?<!(?=ab))^", lambda text: not text.startswith("ab")),
+    ("(?=a(?<!ba))", at_place(lambda before, behind: behind.startswith("a") and not before.endswith("b"))),
+    ("(?<=a(?=ab))", lambda text: "aab" in text),
+    ("(?<=^(?=ab))a", lambda text: text.startswith("ab")),
+    ("(?=ab)|(?<=ab)", lambda text: "ab" in text),
+    ("((?=ab)(?<=ab))*", lambda text: True),
+    ("^(?:(?=ab)(?<!ab))", lambda text: text.startswith("ab")),
+    ("^(?:(?<=a)b(?=a)|a)+$", lambda text: re.fullmatch("a(?:b?a)*", text)),
+    ("^(?:(?<=aa)b(?=aa)|a)+$", lambda text: re.fullmatch("a+|aa+(?:baa+)+", text)),
+    ("(?<=a(?=ba)b)a", lambda text: "aba" in text),
+    ("(?<!a(?=ba)b)a", at_place(lambda before, behind: behind.startswith("a") and not before.endswith("ab"))),
+    ("(?=(?<=(?=ab)a)b)", lambda text: "ab" in text),
+    ("(?!(?<=ab)(?=ab))$", lambda text: True),
+    ("^(?!(?<=ab)|(?=ab))", lambda text: not text.startswith("ab")),
+    ("(?:(?<=ab)(?=ba)b){2}", never),
+    ("(?:(?<=ab)(?=ab)ab){2}", lambda text: "ababab" in text),
+    ("(?:(?<=ab)(?=ab)|a){2}", lambda text: "aa" in text or "abab" in text),
+    ("(?:(?<=ab)(?=ba)){0}b", lambda text: "b" in text),
+    ("(?<=aa)b{0,2}(?=aa)", lambda text: re.search("aab{0,2}aa", text)),
+    ("^(?<=^(?=ab|ba))..", lambda text: text[:2] in ("ab", "ba")),
+    ("(?<=^|b)(?=aa)(?<!bb)", at_place(lambda before, behind: before[-2:] in ("", "b", "ab") and behind[:2] == "aa")),
+    ("(?<=ab$)(?=ab)", never),
+    ("(?<=ab)(?=$|ba)", lambda text: text.endswith("ab") or "abba" in text),
+    ("(?=ab(?<=(?:^|b)ab))", lambda text: re.search("(?:^|b)ab", text)),
+    ("(?=aab(?!(?<=baab)a))", at_place(
+        lambda before, behind: behind.startswith("aab") and not (before.endswith("b") and behind[3:4] == "a"))),
+    ("(?<!(?!ba)..)$", lambda text: len(text) < 2 or text.endswith("ba")),
+    ("(?<!^(?!.*bb).*)$", lambda text: "bb" in text),
+    ("(?<=(?=.*bb)a.*)$", lambda text: re.search("a.*bb", text)),
+    ("(?:a(?=.*b)|(?<=b.*)b)+$", lambda text: text.endswith("b") and text.count("b") > 1),
+    ("(?=.*a)(?<=b.*)", lambda text: re.search("b.*a", text)),
+    ("(?!.*a)(?<!b.*)", at_place(lambda before, behind: "a" not in behind and "b" not in before)),
+    ("^(?=(?:.*(?<=ab)(?=ba)){2})", lambda text: "abba" in text),
+    ("(?<n>(?<=ab)(?=ba))b", lambda text: "abba" in text),
+    ("(?<!.{2})(?!.{2})", lambda text: len(text) < 3),
+    ("^(?<!ab)(?!ab)$", lambda text: text == ""),
+    ("(?<=^ab)(?=ba$)", lambda text: text == "abba"),
+    ("(?<=^a{2,})(?=b{2,}$)", lambda text: re.fullmatch("aa+bb+", text)),
+]
+
+# Others of characters of one to four bytes, and texts with the verdict.
+BOTH_WAYS_WIDE = [
+    ("(?<=ab)(?=cd)", {"abcd": 1, "abc": 0, "bcd": 0, "xabcdx": 1, "cdab": 0, "ab\ncd": 0, "": 0}),
+    ("^(?:(?<=a)b(?=c)|c)+$", {"c": 1, "ccc": 1, "cbc": 0, "bc": 0, "abc": 0, "": 0}),
+    ("(?<=\u00e9\u00e9)(?=\U0001f600\u0800)", {
+        "\u00e9\u00e9\U0001f600\u0800": 1, "\u00e9\U0001f600\u0800": 0, "\u00e9\u00e9\u0800\U0001f600": 0,
+        "a\u00e9\u00e9\U0001f600\u0800a": 1}),
+    ("(?<!\U0001f600.)(?!.\U0001f600)", {
+        "\U0001f600a": 1, "\U0001f600ab\U0001f600": 1, "\U0001f600": 1, "a\U0001f600": 1}),
+    ("^(?:(?<=\uffff\u00e9)a(?=b\uffff)|[^a])+$", {
+        "\uffff\u00e9ab\uffff": 1, "\u00e9\uffffab\uffff": 0, "\uffff\u00e9ab\ufffe": 0, "\uffff\u00e9b": 1}),
+]
 
 
 def front_rows():
@@ -2039,7 +2106,7 @@ FAR_LOOKS = [
 def far_rows():
     """The rows of lookaheads for more than one character, anywhere."""
     yield ("lookaheads for more than one character: with each body, before each text of a and b; within groups, loops "
-           "and one another; beside others at the front; and what looks far both ways")
+           "and one another; beside others at the front")
     rows = []
     for body, word in itertools.product(FAR, words("ab", range(4))):
         stands = stands_ahead(body, "c" + word, 1)
@@ -2054,7 +2121,23 @@ def far_rows():
     yield long_searches([
         ([["^((?!bb).)*$", 1]], [["ab", 50_000]], True), ([["^((?!bb).)*$", 1]], [["ab", 50_000], ["b", 1]], False),
         ([["a(?=.*c)", 1]], [["a", 100_000], ["c", 1]], True), ([["a(?=.*c)", 1]], [["c", 1], ["a", 100_000]], False)])
-    yield refusals("it has a look-ahead of more than one character", BOTH_WAYS)
+    yield from both_ways_rows()
+
+
+def both_ways_rows():
+    """The rows of patterns that look far both ways."""
+    yield "lookaheads and lookbehinds for more than one character in one part of a pattern, and in one another"
+    for pattern, found in BOTH_WAYS:
+        yield searches([[pattern, text, bool(found(text))] for text in words("ab", range(7))])
+    yield searches([[pattern, text, bool(found)] for pattern, told in BOTH_WAYS_WIDE for text, found in told.items()])
+    yield long_searches([
+        ([["(?<=ab)(?=ba)", 1]], [["ab", 20_000], ["ba", 1]], True), ([["(?<=ab)(?=ba)", 1]], [["ab", 20_000]], False),
+        ([["(?<=b.*)(?=.*a)", 1]], [["a", 20_000], ["b", 1]], False),
+        ([["(?<=b.*)(?=.*a)", 1]], [["b", 20_000], ["a", 1]], True)])
+    # Each lookaround takes three steps more than what it looks for.
+    yield refusals("taken", ["(?<=a{1000}a{297})(?=b{1000}b{297})", "(?=a{1000}(?<=b{1000}c{594}))"])
+    yield refusals("it takes more than 2600 steps", [
+        "(?<=a{1000}a{297})(?=b{1000}b{298})", "(?=a{1000}(?<=b{1000}c{595}))"])
 
 
 def ahead_rows():
@@ -2091,8 +2174,8 @@ LIKE_LOOKS_AHEAD = {
 
 
 def ahead_syntax_rows():
-    """Where a lookahead may stand, and what looks too far."""
-    yield "no quantifier follows a lookahead, and what looks further is not taken in a lookbehind"
+    """Where a lookahead may stand."""
+    yield "no quantifier follows a lookahead, and any stands in a lookbehind"
     expected = {}
     bodies = ["a", "", "a|b", "(?<n>a)", "(?=a)", "[^]", "$", "\\p{L}"]
     for sign, body in itertools.product("=!", bodies):
@@ -2104,7 +2187,7 @@ def ahead_syntax_rows():
     forms = ("(?{}{})", "a|(?{}{})b", "(?:(?{}{}))*", "(?=(?{}{}))")
     yield refusals("taken", [form.format(sign, body) for body, sign, form in itertools.product(FAR, "=!", forms)])
     behind = [f"(?<=(?{sign}{body}))" for body, sign in itertools.product(FAR, "=!")]
-    yield refusals("it has a look-ahead of more than one character", behind)
+    yield refusals("taken", behind)
 
 
 # Atoms, and how many steps each takes: one for a class, and one more for each eight ranges and for each property; one

@@ -11,7 +11,8 @@
 A *row* is a test whose name ends in `_under_refusal`. With ample memory it passes only where its calls answer what
 they are to answer. Here it is run alone, once with nothing refused, when it has to pass, and then with growth 1, 2, ..
 refused, each in a run of its own. Where a growth was refused, and only there, it may also end with the error of a call
-that was out of memory, by that error's own name; a failed assertion or another error is wrong.
+that was out of memory, by that error's own name; a failed assertion or another error is wrong. The rows of
+bindings/refused.c are run so too, by bindings/test_calls.
 
 The programs are run in the same way, on the input that is stored with each, with each growth refused, and with each
 read and write failing, interrupted or moving one byte. Where a call was made to fail a program has to end with the

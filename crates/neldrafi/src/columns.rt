@@ -1,6 +1,6 @@
 //! What is told where a file lacks columns of a plan: which, which it has, and why that may be.
 
-use crate::faults::Fault;
+use crate::faults::{Fault, Reach};
 use crate::plans::delimiter_of;
 use csv::StringRecord;
 use serde_json::Value;
@@ -51,15 +51,15 @@ impl Likeness {
     }
 }
 
-/// Which columns of a plan a file lacks, and which it has.
-#[derive(Debug, Drop)]
-pub(crate) struct ColumnsFault {
-    missing: Vec<String>,
-    found: Vec<String>,
+// Which columns of a plan a file lacks, and which it has.
+#[derive(Clone, Copy)]
+struct ColumnsFault<'a> {
+    missing: &'a [String],
+    found: &'a [String],
     // What names those that it has.
     header: Header,
     // What parted them.
-    delimiter: String,
+    delimiter: &'a str,
 }
 
 /// The names of columns.
@@ -107,12 +107,26 @@ pub(crate) fn fault_of_missing(
     alloc: Global,
     plan: &Value,
     header: Header,
-    found: Vec<String>,
+    found: &[String],
 ) -> Fault {
-    match ColumnsFault::new(alloc, plan, header, found) {
-        Ok(fault) => Fault::Columns(fault),
-        Err(_) => Fault::Memory,
-    }
+    Fault::told(Reach::File, words_of_missing(alloc, plan, header, found))
+}
+
+// What it tells.
+fn words_of_missing(
+    alloc: Global,
+    plan: &Value,
+    header: Header,
+    found: &[String],
+) -> Result<String, AllocError> {
+    let missing = missing_in(alloc, plan, found)?;
+    let fault = ColumnsFault {
+        missing: &missing,
+        found,
+        header,
+        delimiter: delimiter_of(plan),
+    };
+    format!(in alloc; "{fault}")
 }
 
 // Names of columns, each between backquotes, and no more than are told.
@@ -154,26 +168,11 @@ impl fmt::Display for Delimiters<'_> {
     }
 }
 
-impl ColumnsFault {
-    // Of a plan, and a file that has these names by its header.
-    fn new(
-        alloc: Global,
-        plan: &Value,
-        header: Header,
-        found: Vec<String>,
-    ) -> Result<ColumnsFault, AllocError> {
-        Ok(ColumnsFault {
-            missing: missing_in(alloc, plan, &found)?,
-            found,
-            header,
-            delimiter: String::from_str(alloc, delimiter_of(plan))?,
-        })
-    }
-
+impl ColumnsFault<'_> {
     // What seems to part the columns in place of what parted them.
     fn other_delimiter(&self) -> Option<&'static str> {
         for delimiter in DELIMITERS {
-            if *delimiter != self.delimiter.as_str() && self.is_parted_by(delimiter) {
+            if *delimiter != self.delimiter && self.is_parted_by(delimiter) {
                 return Some(*delimiter);
             }
         }
@@ -182,7 +181,7 @@ impl ColumnsFault {
 
     // Whether a name that was found has one that is missing, parted by a delimiter.
     fn is_parted_by(&self, delimiter: &str) -> bool {
-        for found in &self.found {
+        for found in self.found {
             if found.contains(delimiter) && self.has_part(found, delimiter) {
                 return true;
             }
@@ -193,7 +192,7 @@ impl ColumnsFault {
     // Whether one of these parts is a name that is missing.
     fn has_part(&self, found: &str, delimiter: &str) -> bool {
         for part in found.split(delimiter) {
-            if is_among(part.trim().trim_matches('"'), &self.missing) {
+            if is_among(part.trim().trim_matches('"'), self.missing) {
                 return true;
             }
         }
@@ -204,7 +203,7 @@ impl ColumnsFault {
     fn tell_found<W: fmt::Write>(&self, f: &mut fmt::Formatter<W>) -> fmt::Result {
         match (self.header, self.found.len()) {
             (Header::First, _) => {
-                let found = Listed(&self.found);
+                let found = Listed(self.found);
                 write!(f, "{found}")
             }
             (Header::Absent, 1) => f.write_str("1 column, which is named by number"),
@@ -217,7 +216,7 @@ impl ColumnsFault {
         let Some(other) = self.other_delimiter() else {
             return Ok(());
         };
-        let (other, delimiter) = (Delimiters(other), Delimiters(&self.delimiter));
+        let (other, delimiter) = (Delimiters(other), Delimiters(self.delimiter));
         write!(
             f,
             "; its columns seem to be parted by {other}, and not by {delimiter}: `--delimiter` says so"
@@ -226,7 +225,7 @@ impl ColumnsFault {
 
     // Tells of the names that were found and are nearly the missing one.
     fn tell_likely<W: fmt::Write>(&self, missing: &str, f: &mut fmt::Formatter<W>) -> fmt::Result {
-        for found in &self.found {
+        for found in self.found {
             if let Some(likeness) = Likeness::of(missing, found) {
                 let (missing, found) = (Shown(missing), Shown(found));
                 let but = likeness.as_str();
@@ -237,9 +236,9 @@ impl ColumnsFault {
     }
 }
 
-impl fmt::Display for ColumnsFault {
+impl fmt::Display for ColumnsFault<'_> {
     fn fmt<W: fmt::Write>(&self, f: &mut fmt::Formatter<W>) -> fmt::Result {
-        let missing = Listed(&self.missing);
+        let missing = Listed(self.missing);
         let columns = if self.missing.len() == 1 {
             "column"
         } else {
@@ -247,7 +246,7 @@ impl fmt::Display for ColumnsFault {
         };
         write!(f, "the file has no {columns} {missing}: it has ")?;
         self.tell_found(f)?;
-        for missing in &self.missing {
+        for missing in self.missing {
             self.tell_likely(missing, f)?;
         }
         self.tell_delimiter(f)

@@ -7,7 +7,7 @@ mod formats;
 mod json_files;
 mod plan;
 mod requests;
-pub(crate) mod text;
+mod text;
 
 use crate::building::Building;
 use crate::faults::Fault;

@@ -30,17 +30,22 @@ fn text_at<'a>(object: &'a Value, name: &str) -> &'a str {
 impl FieldError {
     // The error of which a line tells.
     fn read(alloc: Global, line: &str) -> Result<FieldError, AllocError> {
-        // The line is JSON, so what fails is memory.
-        let Ok(error) = Value::from_str(alloc, line) else {
-            return Err(AllocError);
-        };
-        let message = text_at(&error, "message");
+        match Value::from_str(alloc, line) {
+            Ok(error) => FieldError::of(alloc, &error),
+            // The line is JSON, so what fails is memory.
+            Err(_) => Err(AllocError),
+        }
+    }
+
+    // The error of which an object tells.
+    fn of(alloc: Global, error: &Value) -> Result<FieldError, AllocError> {
+        let message = text_at(error, "message");
         let (keyword, kind) = match error.get("keyword") {
-            Some(_) => (text_at(&error, "keyword"), text_at(&error, "kind")),
+            Some(_) => (text_at(error, "keyword"), text_at(error, "kind")),
             None => (message, message),
         };
         Ok(FieldError {
-            column: String::from_str(alloc, text_at(&error, "column"))?,
+            column: String::from_str(alloc, text_at(error, "column"))?,
             keyword: String::from_str(alloc, keyword)?,
             kind: String::from_str(alloc, kind)?,
             line: error.get("line").and_then(Value::as_u64).unwrap_or(0),

@@ -1,7 +1,7 @@
 //! What is read: standard input or a file, whole or by lines.
 
 use crate::encodings::{Encoding, MARK};
-use crate::faults::Fault;
+use crate::faults::{Fault, Reach};
 use std::alloc::{AllocError, Global};
 use std::fs::File;
 use std::io::{BufRead, BufReader, Chain, Cursor, ErrorKind, Read, StdinLock};
@@ -14,17 +14,10 @@ pub(crate) const STANDARD_INPUT: &str = "-";
 // So many bytes are read at once where a file is read by lines.
 const PIECE: usize = 65536;
 
-/// Why a file cannot be read, or a line of it.
-#[derive(Debug, Drop)]
+/// Why a file that is open cannot be read to its end, or a line of it.
+#[derive(Clone, Copy, Debug)]
 pub(crate) enum InputFault {
-    /// The file of this path cannot be opened.
-    Unopened {
-        /// The path.
-        path: String,
-        /// Why.
-        error: io::Error,
-    },
-    /// The file is open, but cannot be read.
+    /// The file cannot be read.
     Unread(io::Error),
     /// The file is no text in UTF-8, as its first bytes tell.
     Encoded(Encoding),
@@ -44,10 +37,6 @@ pub(crate) enum InputFault {
 impl fmt::Display for InputFault {
     fn fmt<W: fmt::Write>(&self, f: &mut fmt::Formatter<W>) -> fmt::Result {
         match self {
-            InputFault::Unopened { path, error } => {
-                let path = Shown(path);
-                write!(f, "`{path}` cannot be read: {error}")
-            }
             InputFault::Unread(error) => write!(f, "read failed: {error}"),
             InputFault::Encoded(encoding) => write!(f, "{encoding}"),
             InputFault::NotUtf8(line) => write!(f, "{line}: the line is not UTF-8"),
@@ -76,10 +65,11 @@ impl Source {
         }
         match File::open(rt, path) {
             Ok(file) => Ok(Source::Named(file)),
-            Err(error) => Err(Fault::Input(InputFault::Unopened {
-                path: String::from_str(rt.alloc(), path)?,
-                error,
-            })),
+            Err(error) => {
+                let path = Shown(path);
+                let words = format!(in rt.alloc(); "`{path}` cannot be read: {error}");
+                Err(Fault::told(Reach::NamedFile, words))
+            }
         }
     }
 }

@@ -31,6 +31,7 @@ use crate::faults::Fault;
 use crate::options::OutputForm;
 use crate::outcome::Outcome;
 use crate::telling::{Notice, Subject, tell};
+use clap::{ArgMatches, Error};
 use std::env;
 use std::io::ErrorKind;
 use std::process::ExitCode;
@@ -59,13 +60,24 @@ fn told(rt: &HostRuntime, form: OutputForm, ran: &Result<Outcome, Fault>) -> Out
 fn answer(rt: &HostRuntime) -> Result<Outcome, Fault> {
     let words = words_of(rt)?;
     let command = commands::command(rt.alloc())?;
-    match command.try_get_matches_from(words.as_slice()) {
+    let parsed = command.try_get_matches_from(words.as_slice());
+    let answered = answer_parsed(rt, &parsed);
+    drop(parsed);
+    answered
+}
+
+// Does what the words ask for that were parsed, or tells what the parser answers in its place.
+fn answer_parsed(
+    rt: &HostRuntime,
+    parsed: &Result<ArgMatches<'_>, Error>,
+) -> Result<Outcome, Fault> {
+    match parsed {
         Ok(matches) => {
-            let ran = commands::run(rt, &matches);
-            Ok(told(rt, commands::form_of(&matches), &ran))
+            let ran = commands::run(rt, matches);
+            Ok(told(rt, commands::form_of(matches), &ran))
         }
-        Err(e) if e.use_stderr() => Err(usage::fault_of(rt.alloc(), &e)),
-        Err(e) => usage::show(rt, &e),
+        Err(e) if e.use_stderr() => Err(usage::fault_of(rt.alloc(), e)),
+        Err(e) => usage::show(rt, e),
     }
 }
 

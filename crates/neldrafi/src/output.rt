@@ -204,7 +204,7 @@ impl<'o, 'a> Gathered<'o, 'a> {
     }
 
     /// Writes what is left, and answers what the work came to. The lines before a fault of the work stay written.
-    pub(crate) fn end<T: Drop>(&mut self, worked: Result<T, Fault>) -> Result<T, Fault> {
+    pub(crate) fn end<T: Copy>(&mut self, worked: Result<T, Fault>) -> Result<T, Fault> {
         if let Err(Fault::Closed | Fault::Stopped(_) | Fault::Write) = &worked {
             return worked;
         }

@@ -12,7 +12,7 @@ const DELIMITER: &str = "delimiter";
 /// The JSON value of the file of a plan, which is a plan of this kind.
 pub(crate) fn read_plan_of(rt: &HostRuntime, kind: PlanKind, path: &str) -> Result<Value, Fault> {
     let plan = read_value(rt, path)?;
-    let _ = read_plan(rt.alloc(), kind, &plan)?;
+    require_plan(rt.alloc(), kind, &plan)?;
     Ok(plan)
 }
 
@@ -26,15 +26,26 @@ pub(crate) fn read_plan_by(
     if let Some(delimiter) = delimiter {
         set_delimiter(rt.alloc(), &mut plan, delimiter)?;
     }
-    let _ = read_plan(rt.alloc(), PlanKind::Columns, &plan)?;
+    require_plan(rt.alloc(), PlanKind::Columns, &plan)?;
     Ok(plan)
+}
+
+// Refuses a value that is no plan of this kind.
+fn require_plan(alloc: Global, kind: PlanKind, plan: &Value) -> Result<(), Fault> {
+    match read_plan(alloc, kind, plan) {
+        Ok(plan) => {
+            drop(plan);
+            Ok(())
+        }
+        Err(fault) => Err(Fault::of_ended(alloc, fault)),
+    }
 }
 
 // The JSON value of a file.
 fn read_value(rt: &HostRuntime, path: &str) -> Result<Value, Fault> {
     match read_marked_plan_file(rt, path) {
         Ok(value) => Ok(value),
-        Err(e) => Err(Fault::from(FileFault::from(e))),
+        Err(e) => Err(Fault::of_ended(rt.alloc(), FileFault::from(e))),
     }
 }
 

@@ -173,8 +173,11 @@ impl<'a> Progress<'a> {
     }
 
     /// The names in the first record: none where they were not read, or where it is out of memory.
-    pub(crate) fn take_names(&mut self) -> Option<Vec<String>> {
-        self.names.take()
+    pub(crate) fn names(&self) -> Option<&[String]> {
+        match &self.names {
+            Some(names) => Some(names.as_slice()),
+            None => None,
+        }
     }
 
     // Tells of so many records, where that is asked.

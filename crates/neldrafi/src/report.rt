@@ -1,13 +1,14 @@
 //! A report about the errors of CSV files: a page of HTML that stands alone and has no script.
 
 use crate::errors::{FieldError, TakesErrors};
-use crate::faults::Fault;
+use crate::faults::{Fault, Reach};
 use crate::html::push_text;
 use crate::strip::Strip;
 use crate::summary::{Count, Group, Summary};
 use std::alloc::{AllocError, Global};
 use std::collections::BTreeMap;
 use std::fs;
+use strkw_plan::Shown;
 use strkw_table::Checked;
 
 // So many errors of a kind are told one by one.
@@ -273,10 +274,11 @@ impl Page {
         let text = format!(in rt.alloc(); "{head}{sections}{foot}")?;
         match fs::write(rt, path, text.as_bytes()) {
             Ok(()) => Ok(()),
-            Err(error) => Err(Fault::Unwritten {
-                path: String::from_str(rt.alloc(), path)?,
-                error,
-            }),
+            Err(error) => {
+                let path = Shown(path);
+                let words = format!(in rt.alloc(); "`{path}` cannot be written: {error}");
+                Err(Fault::told(Reach::Run, words))
+            }
         }
     }
 }

@@ -6,10 +6,9 @@ ghost use Rattle.strkw_keywords.specs.Handed.{lists_of};
 ghost use Rattle.strkw_object.specs.Compiled.{keywords_demands};
 
 use crate::drafts::draft_number;
-use crate::faults::Fault;
+use crate::faults::{Fault, Reach};
 use serde_json::{Value, json};
 use std::alloc::{AllocError, Global};
-use std::{fmt, mem};
 use strkw_ecma::why_refused;
 use strkw_object::StringKeywords;
 use strkw_pattern::EngineBuilder;
@@ -19,87 +18,68 @@ use strkw_plan::{
 };
 use strkw_report::{CompileError, CompileErrorKind, Draft};
 
-/// Why a schema is refused.
-#[derive(Debug, Drop)]
-pub(crate) enum SchemaFault {
-    /// Its file has no JSON, or a member twice.
-    File(PlanFileFault),
-    /// It is no object.
-    NoObject,
-    /// It has a member that is no keyword of the draft.
-    UnknownKeyword {
-        /// The name of the member.
-        keyword: String,
-        /// A keyword of the draft, where one is one edit away.
-        nearest: Option<&'static str>,
-    },
-    /// It has a keyword of this name, by which nothing is checked here.
-    UncheckedKeyword(String),
-    /// A keyword of it is refused.
-    Refused {
-        /// The place of the keyword.
-        place: String,
-        /// Why.
-        why: String,
-    },
-}
-
-// Tells why the file of a schema is refused.
-fn tell_file<W: fmt::Write>(fault: &PlanFileFault, f: &mut fmt::Formatter<W>) -> fmt::Result {
+// Why the file of a schema has none.
+fn words_of_file(alloc: Global, fault: &PlanFileFault) -> Result<String, AllocError> {
     match fault {
         PlanFileFault::Text {
             path,
             fault: PlanTextFault::Twice(name),
         } => {
             let (path, name) = (Shown(path), Shown(name));
-            write!(f, "`{path}`: member \"{name}\" stands twice in the schema")
+            format!(in alloc; "`{path}`: member \"{name}\" stands twice in the schema")
         }
-        _ => write!(f, "{fault}"),
+        _ => format!(in alloc; "{fault}"),
     }
 }
 
-// Tells that a member is no keyword, and which keyword is near.
-fn tell_unknown<W: fmt::Write>(
+// That a member is no keyword of the draft, and which keyword is one edit away.
+fn words_of_unknown(
+    alloc: Global,
     keyword: &str,
     nearest: Option<&str>,
-    f: &mut fmt::Formatter<W>,
-) -> fmt::Result {
+) -> Result<String, AllocError> {
     let keyword = Shown(keyword);
-    write!(f, "unknown keyword \"{keyword}\" in the schema")?;
     match nearest {
-        Some(nearest) => write!(f, ": did you mean \"{nearest}\"?"),
-        None => Ok(()),
+        Some(nearest) => {
+            format!(in alloc;
+                "unknown keyword \"{keyword}\" in the schema: did you mean \"{nearest}\"?"
+            )
+        }
+        None => format!(in alloc; "unknown keyword \"{keyword}\" in the schema"),
     }
 }
 
-impl fmt::Display for SchemaFault {
-    fn fmt<W: fmt::Write>(&self, f: &mut fmt::Formatter<W>) -> fmt::Result {
-        match self {
-            SchemaFault::File(fault) => tell_file(fault, f),
-            SchemaFault::NoObject => f.write_str("the schema is no object"),
-            SchemaFault::UnknownKeyword { keyword, nearest } => tell_unknown(keyword, *nearest, f),
-            SchemaFault::UncheckedKeyword(keyword) => {
-                let keyword = Shown(keyword);
-                write!(
-                    f,
-                    "keyword \"{keyword}\" in the schema is not checked here: `--ignore {keyword}` lets it pass"
-                )
-            }
-            SchemaFault::Refused { place, why } => {
-                let (place, why) = (Shown(place), Shown(why));
-                write!(f, "the schema is refused at {place}: {why}")
-            }
-        }
-    }
+// That nothing is checked here by a keyword.
+fn words_of_unchecked(alloc: Global, keyword: &str) -> Result<String, AllocError> {
+    let keyword = Shown(keyword);
+    format!(in alloc;
+        "keyword \"{keyword}\" in the schema is not checked here: `--ignore {keyword}` lets it pass"
+    )
+}
+
+// At which keyword a schema is refused, and why.
+fn words_of_refusal(alloc: Global, refusal: &CompileError) -> Result<String, AllocError> {
+    let why = why_of(alloc, refusal)?;
+    let (place, why) = (Shown(refusal.location.as_str()), Shown(&why));
+    format!(in alloc; "the schema is refused at {place}: {why}")
 }
 
 /// The JSON value of the file of a schema, in which no member stands twice.
 pub(crate) fn read_schema(rt: &HostRuntime, path: &str) -> Result<Value, Fault> {
     match read_marked_plan_file(rt, path) {
         Ok(schema) => Ok(schema),
-        Err(PlanFileFault::Memory) => Err(Fault::Memory),
-        Err(e) => Err(Fault::Schema(SchemaFault::File(e))),
+        Err(fault) => Err(fault_of_file(rt.alloc(), fault)),
     }
+}
+
+// The fault that tells why the file of a schema has none.
+fn fault_of_file(alloc: Global, fault: PlanFileFault) -> Fault {
+    let told = match &fault {
+        PlanFileFault::Memory => Fault::Memory,
+        _ => Fault::told(Reach::Run, words_of_file(alloc, &fault)),
+    };
+    drop(fault);
+    told
 }
 
 // The kind of plan as which a schema is read that stands in none.
@@ -117,21 +97,23 @@ pub(crate) fn require_keywords(
         return Err(fault_of_member(alloc, member));
     }
     let plan = plan_of(alloc, draft, ignored, schema)?;
-    match plan_in(alloc, KIND, &plan) {
-        Ok(_) => Ok(()),
+    require_plan(alloc, &plan)
+}
+
+// Refuses the plan of a schema alone in which something is wrong.
+fn require_plan(alloc: Global, plan: &Value) -> Result<(), Fault> {
+    match plan_in(alloc, KIND, plan) {
+        Ok(plan) => {
+            drop(plan);
+            Ok(())
+        }
         Err(fault) => Err(fault_of_schema(alloc, fault)),
     }
 }
 
 // The fault of a schema that has a member which would be the plan's own if it stood in one.
 fn fault_of_member(alloc: Global, member: &str) -> Fault {
-    match String::from_str(alloc, member) {
-        Ok(keyword) => Fault::Schema(SchemaFault::UnknownKeyword {
-            keyword,
-            nearest: None,
-        }),
-        Err(_) => Fault::Memory,
-    }
+    Fault::told(Reach::Run, words_of_unknown(alloc, member, None))
 }
 
 // The plan of a schema alone. The only error is out of memory.
@@ -178,14 +160,6 @@ fn nearest_keyword(nearest: Option<&'static str>) -> Option<&'static str> {
     Some(nearest)
 }
 
-// The name of a keyword that was perhaps meant, where a fault tells one.
-fn nearest_in(fault: &PlanFault) -> Option<&'static str> {
-    match fault {
-        PlanFault::UnknownKeyword { nearest, .. } => nearest_keyword(*nearest),
-        _ => None,
-    }
-}
-
 // Names as an array.
 fn names(alloc: Global, names: &[&str]) -> Result<Value, AllocError> {
     let mut values = Vec::new(alloc);
@@ -213,32 +187,37 @@ pub(crate) fn compile<B: EngineBuilder>(
 }
 
 // The fault that tells why a schema is refused.
-fn fault_of_schema(alloc: Global, mut fault: PlanFault) -> Fault {
-    let nearest = nearest_in(&fault);
-    match &mut fault {
-        PlanFault::NoObject(_) => Fault::Schema(SchemaFault::NoObject),
-        PlanFault::UnknownKeyword { keyword, .. } => Fault::Schema(SchemaFault::UnknownKeyword {
-            keyword: mem::replace(keyword, String::new(alloc)),
-            nearest,
-        }),
-        PlanFault::UncheckedKeyword { keyword, .. } => {
-            let keyword = mem::replace(keyword, String::new(alloc));
-            Fault::Schema(SchemaFault::UncheckedKeyword(keyword))
-        }
-        PlanFault::Refused { refusal, .. } => match refused(alloc, refusal) {
-            Ok(fault) => Fault::Schema(fault),
-            Err(_) => Fault::Memory,
-        },
-        _ => Fault::Memory,
-    }
+fn fault_of_schema(alloc: Global, fault: PlanFault) -> Fault {
+    let told = refused(alloc, &fault);
+    drop(fault);
+    told
 }
 
-// The same, of a keyword that is refused.
-fn refused(alloc: Global, refusal: &CompileError) -> Result<SchemaFault, AllocError> {
-    Ok(SchemaFault::Refused {
-        place: String::from_str(alloc, refusal.location.as_str())?,
-        why: why_of(alloc, refusal)?,
-    })
+// The same, of a fault that is kept.
+fn refused(alloc: Global, fault: &PlanFault) -> Fault {
+    match fault {
+        PlanFault::NoObject(_) => {
+            Fault::told(
+                Reach::Run,
+                String::from_str(alloc, "the schema is no object"),
+            )
+        }
+        PlanFault::UnknownKeyword {
+            keyword,
+            nearest,
+            ..
+        } => {
+            let nearest = nearest_keyword(*nearest);
+            Fault::told(Reach::Run, words_of_unknown(alloc, keyword, nearest))
+        }
+        PlanFault::UncheckedKeyword { keyword, .. } => {
+            Fault::told(Reach::Run, words_of_unchecked(alloc, keyword))
+        }
+        PlanFault::Refused { refusal, .. } => {
+            Fault::told(Reach::Run, words_of_refusal(alloc, refusal))
+        }
+        _ => Fault::Memory,
+    }
 }
 
 // Why a keyword is refused.

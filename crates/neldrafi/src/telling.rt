@@ -1,6 +1,7 @@
 //! What is told on standard error: faults, how far a check is, and bad requests; each on one line.
 
 use crate::options::OutputForm;
+use crate::plans::set_text;
 use serde_json::{Value, json};
 use std::alloc::{AllocError, Global};
 use std::fmt::Display;
@@ -57,10 +58,11 @@ fn object(
     message: &str,
 ) -> Result<Value, AllocError> {
     let kind = notice.as_str();
-    match subject.file {
-        Some(file) => json!(in alloc; {"file": file, "kind": kind, "message": message}),
-        None => json!(in alloc; {"kind": kind, "message": message}),
+    let mut object = json!(in alloc; {"kind": kind, "message": message})?;
+    if let Some(file) = subject.file {
+        set_text(alloc, &mut object, "file", file)?;
     }
+    Ok(object)
 }
 
 // The line of JSON that tells of it.

@@ -1,11 +1,12 @@
 //! What the parser of the command line answers in place of a command: a fault, help, or the version.
 
-use crate::faults::Fault;
+use crate::faults::{Fault, Reach};
 use crate::outcome::Outcome;
 use crate::output::write_text;
 use clap::Error;
 use clap::error::ErrorKind;
 use std::alloc::{AllocError, Global};
+use strkw_plan::push_shown;
 
 // What the texts of the parser's errors begin with.
 const ERROR: &str = "error: ";
@@ -18,17 +19,19 @@ pub(crate) fn fault_of(alloc: Global, error: &Error) -> Fault {
     if error.kind() == ErrorKind::OutOfMemory {
         return Fault::Memory;
     }
-    match one_line(alloc, error) {
-        Ok(text) => Fault::Usage(text),
-        Err(_) => Fault::Memory,
-    }
+    Fault::told(Reach::Run, one_line(alloc, error))
 }
 
 // The first paragraph of an error's text and its advice, on one line.
 fn one_line(alloc: Global, error: &Error) -> Result<String, AllocError> {
     let text = error.to_string(alloc)?;
-    let text = text.as_str();
     let mut line = String::new(alloc);
+    push_one_line(&text, &mut line)?;
+    Ok(line)
+}
+
+// Appends the first paragraph of a text and its advice, on one line.
+fn push_one_line(text: &str, line: &mut String) -> Result<(), AllocError> {
     let mut is_first = true;
     for part in text.strip_prefix(ERROR).unwrap_or(text).lines() {
         let part = part.trim();
@@ -36,15 +39,15 @@ fn one_line(alloc: Global, error: &Error) -> Result<String, AllocError> {
             is_first = false;
         } else if part.starts_with(TIP) {
             line.push_str("; ")?;
-            line.push_str(part)?;
+            push_shown(part, line)?;
         } else if is_first {
             if !line.is_empty() {
                 line.push_str(" ")?;
             }
-            line.push_str(part)?;
+            push_shown(part, line)?;
         }
     }
-    Ok(line)
+    Ok(())
 }
 
 /// Writes the help or the version that was asked for.

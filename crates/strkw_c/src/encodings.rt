@@ -6,6 +6,7 @@ ghost use Rattle.strkw_json.specs.Json.{IsJson};
 ghost use Rattle.strkw_coding.specs.declared.codec.Codec.TheVariants as codec;
 ghost use Rattle.strkw_c.specs.Statuses.{Tells, TellsEncoding};
 
+use crate::utf8::text_of;
 use std::alloc::{AllocError, Global};
 use strkw_coding::{Codec, is_json};
 
@@ -31,9 +32,9 @@ pub(crate) fn status_of(answer: Result<bool, AllocError>) -> u8
 fn encoding_status(alloc: Global, codec: Codec, text: &[u8]) -> u8
     ensures { TellsEncoding codec text.now result }
 {
-    match str::from_utf8(text) {
-        Ok(text) => status_of(codec.is_encoded(alloc, text)),
-        Err(_) => NO,
+    match text_of(text) {
+        Some(text) => status_of(codec.is_encoded(alloc, text)),
+        None => NO,
     }
 }
 
@@ -82,8 +83,8 @@ pub extern "C" fn strkw_nonnull_is_base16(alloc: Global, text: &[u8]) -> u8
 pub extern "C" fn strkw_nonnull_is_json(alloc: Global, text: &[u8]) -> u8
     ensures { Tells (IsUtf8 text.now × IsJson text.now) result }
 {
-    match str::from_utf8(text) {
-        Ok(text) => status_of(is_json(alloc, text)),
-        Err(_) => NO,
+    match text_of(text) {
+        Some(text) => status_of(is_json(alloc, text)),
+        None => NO,
     }
 }

@@ -7,6 +7,7 @@ ghost use Rattle.strkw_mail.specs.IdnMailbox.{IsIdnMailbox};
 ghost use Rattle.strkw_c.specs.Statuses.{Tells};
 
 use crate::encodings::{NO, status_of};
+use crate::utf8::text_of;
 use std::alloc::Global;
 use strkw_label::is_valid_idn_hostname;
 use strkw_mail::is_valid_idn_email;
@@ -17,9 +18,9 @@ use strkw_mail::is_valid_idn_email;
 pub extern "C" fn strkw_nonnull_is_idn_email(alloc: Global, text: &[u8]) -> u8
     ensures { Tells (IsUtf8 text.now × IsIdnMailbox (chars text.now)) result }
 {
-    match str::from_utf8(text) {
-        Ok(text) => status_of(is_valid_idn_email(alloc, text)),
-        Err(_) => NO,
+    match text_of(text) {
+        Some(text) => status_of(is_valid_idn_email(alloc, text)),
+        None => NO,
     }
 }
 
@@ -29,8 +30,8 @@ pub extern "C" fn strkw_nonnull_is_idn_email(alloc: Global, text: &[u8]) -> u8
 pub extern "C" fn strkw_nonnull_is_idn_hostname(alloc: Global, text: &[u8]) -> u8
     ensures { Tells (IsUtf8 text.now × IsIdnHostName (chars text.now)) result }
 {
-    match str::from_utf8(text) {
-        Ok(text) => status_of(is_valid_idn_hostname(alloc, text)),
-        Err(_) => NO,
+    match text_of(text) {
+        Some(text) => status_of(is_valid_idn_hostname(alloc, text)),
+        None => NO,
     }
 }

@@ -17,8 +17,6 @@ mod refusals;
 mod schemas;
 mod settings;
 mod statuses;
-#[cfg(test)]
-mod tests;
 mod texts;
 mod utf8;
 mod verdicts;

@@ -6,6 +6,7 @@ ghost use Rattle.strkw_c.specs.Statuses.{Tells};
 ghost use Rattle.strkw_ecma.specs.Regex.{IsRegex};
 
 use crate::encodings::{NO, status_of};
+use crate::utf8::text_of;
 use std::alloc::Global;
 use strkw_ecma::is_valid_regex;
 
@@ -16,8 +17,8 @@ use strkw_ecma::is_valid_regex;
 pub extern "C" fn strkw_nonnull_is_regex(alloc: Global, text: &[u8]) -> u8
     ensures { Tells (IsUtf8 text.now × IsRegex (chars text.now)) result }
 {
-    match str::from_utf8(text) {
-        Ok(text) => status_of(is_valid_regex(alloc, text)),
-        Err(_) => NO,
+    match text_of(text) {
+        Some(text) => status_of(is_valid_regex(alloc, text)),
+        None => NO,
     }
 }

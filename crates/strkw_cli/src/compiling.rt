@@ -25,6 +25,7 @@ pub(super) struct Asked {
 pub(super) type Compiled = Result<StringKeywords<LiteralMatcher>, CompileError>;
 
 /// What a schema object is compiled to where this is asked of it, which may be out of memory.
+#[inline(always)]
 pub(super) fn compile(alloc: Global, asked: Asked, members: Map<String, Value>) -> Compiled
     ensures compiled { IsCompiledTo (settings_asked asked) (members_view members.entries) result }
     ensures can_answer { CanAnswer result }

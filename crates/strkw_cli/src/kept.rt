@@ -17,9 +17,12 @@ use serde_json::{Map, Value};
 use std::alloc::{AllocError, Global};
 use strkw_json::{JsonError, build_json};
 
-// So many lines in turn have one schema object and ask the same of it before the first is kept. Before the next is kept
-// they are so many more, less one for each line that the first has answered.
+// So many lines in turn have a schema object of one length and ask the same of it before the first is kept, if its text
+// is that of the eighth of them. Before the next is kept they are so many more, less one for each line that the first
+// has answered.
 const LINES_BEFORE: usize = 16;
+
+const LINES_BEFORE_TEXT: usize = 8;
 
 /// A schema object as its text and tokens, and what it is compiled to.
 #[derive(Drop)]
@@ -121,6 +124,11 @@ pub(super) struct Sight {
 }
 
 impl Sight {
+    // How long the object is, with what stands between it and the next token.
+    fn len(&self) -> usize {
+        self.end.saturating_sub(self.start)
+    }
+
     // The text of the object.
     fn text_in<'a>(&self, line: &'a [u8]) -> Option<&'a [u8]> {
         let front = line.get(self.start..self.end)?;
@@ -134,12 +142,14 @@ impl Sight {
 pub(super) struct Kept {
     // No object is kept whose text is longer.
     longest: usize,
-    // The text of the object of the last line, what the line asked of it, how many lines in turn had both, and how many
+    // How long the object of the last line is, what the line asked of it, how many lines in turn had both, and how many
     // have to before the object is kept.
-    text: Vec<u8>,
+    len: usize,
     asked: Option<Asked>,
     lines: usize,
     wanted: usize,
+    // The text of the object of one of these lines.
+    text: Vec<u8>,
     object: Option<KeptObject>,
 }
 
@@ -150,10 +160,11 @@ impl Kept {
     {
         Kept {
             longest,
-            text: Vec::new(alloc),
+            len: 0,
             asked: None,
             lines: 0,
             wanted: LINES_BEFORE,
+            text: Vec::new(alloc),
             object: None,
         }
     }
@@ -173,8 +184,8 @@ impl Kept {
         self.object = None;
     }
 
-    /// Sees the object of a line, where it was compiled anew, and keeps it where enough lines in turn had it and asked
-    /// the same of it.
+    /// Sees the object of a line, where it was compiled anew, and keeps it where enough lines in turn seem to have it
+    /// and asked the same of it.
     pub(super) fn see(
         &mut self,
         alloc: Global,
@@ -189,33 +200,37 @@ impl Kept {
             self.wanted = LINES_BEFORE.max(self.wanted.saturating_sub(1));
             return Ok(());
         };
+        if self.len != sight.len() || self.asked != Some(sight.asked) {
+            self.len = sight.len();
+            self.asked = Some(sight.asked);
+            self.lines = 0;
+        }
+        self.lines = self.lines.saturating_add(1);
+        if self.lines != LINES_BEFORE_TEXT && self.lines < self.wanted {
+            return Ok(());
+        }
         let Some(text) = sight.text_in(line) else {
             return Ok(());
         };
-        if text.len() > self.longest {
-            return Ok(());
+        if self.lines < self.wanted {
+            return self.note(text);
         }
-        if self.asked != Some(sight.asked) || self.text.as_slice() != text {
-            return self.begin(text, sight.asked);
-        }
-        self.lines = self.lines.saturating_add(1);
-        if self.lines >= self.wanted {
-            self.lines = 0;
+        self.lines = 0;
+        if self.text.as_slice() == text {
             self.wanted = self.wanted.saturating_add(LINES_BEFORE);
             self.object = KeptObject::of(alloc, scratch, text, sight.asked)?;
         }
         Ok(())
     }
 
-    // Sees an object for the first time.
-    fn begin(&mut self, text: &[u8], asked: Asked) -> Result<(), AllocError>
+    // Notes the text of an object, unless it is too long to keep.
+    fn note(&mut self, text: &[u8]) -> Result<(), AllocError>
         ensures { self.new.object ≡ self.old.object }
     {
-        self.asked = None;
         self.text.clear();
-        self.text.extend_from_slice(text)?;
-        self.asked = Some(asked);
-        self.lines = 1;
+        if text.len() <= self.longest {
+            self.text.extend_from_slice(text)?;
+        }
         Ok(())
     }
 }

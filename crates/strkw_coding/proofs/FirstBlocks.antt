@@ -2,9 +2,10 @@
 use Rattle.std.proofs.Common.{◌≡◌, ℕ, zero, suc, ◌%◌, ◌<◌, ◌≤◌, ◌==◌, true, false, List, [], ◌∷◌, ◌++◌, length, take, drop, refl, sym, ap, ◌∙◌, arith}
 use Rattle.std.proofs.Common.{◌↔◌, inl, inr}
 use Rattle.std.proofs.lemmas.Bool.{cases_lt, eqb-true}
-use Rattle.std.proofs.lemmas.List.{append-nil, append_assoc, drop_all, take_all, length-take-le, nil_from_length}
+use Rattle.std.proofs.lemmas.List.{append-nil, append_assoc, drop_all, take_all, length-append, length-take-le, nil_from_length}
+use Rattle.strkw_text.proofs.Equivalences.{iff_trans}
 use Rattle.strkw_coding.specs.Rfc4648.{AreBytes}
-use Rattle.strkw_coding.specs.Blocks.{BeginsWithBlock, IsCode32, code32}
+use Rattle.strkw_coding.specs.Blocks.{BeginsWithBlock, IsCode32, IsDecodedTo, code32}
 use Rattle.strkw_coding.proofs.Codes32.{code32-nil, code32-1, code32-2, code32-3, code32-4, code32-5, code32-block, code32-append}
 
 -- the first block of a code, and the code of what follows
@@ -172,3 +173,27 @@ pub push_block : (abc whole out text bytes : List ℕ) (len : ℕ) (after : List
     → AreBytes out → length out % 5 ≡ 0 → whole ≡ code32 abc (out ++ take len bytes) ++ after
 push_block abc whole out text bytes len after is split out_bytes fives =
     rw (code32-append abc out (take len bytes) out_bytes fives, append_assoc, ← is.is_code) split
+
+-- nothing is decoded of a text up to all of it
+pub none_decoded : (abc text : List ℕ) → IsDecodedTo abc text [] text
+none_decoded abc text = record {
+  split = ap (λ (x : List ℕ). x ++ text) (sym (code32-nil abc));
+  whole = λ _. refl;
+  are_bytes = no_bytes;
+  same = (λ h. h, λ h. h);
+}
+
+-- what is decoded up to a text, and the bytes of its first block, are decoded up to what follows the block
+pub decoded_on : (abc whole out text bytes : List ℕ) (len : ℕ) (after : List ℕ) → BeginsWithBlock abc text bytes len after → IsDecodedTo abc whole out text
+    → IsDecodedTo abc whole (out ++ take len bytes) after
+decoded_on abc whole out text bytes len after first to =
+    let p : List ℕ = take len bytes in
+    let fives = to.whole first.some in
+    let size : length p ≡ len = block_len _ _ _ _ _ first in
+    let full : 0 < length after → len ≡ 5 = more_is_full _ _ _ _ _ first in
+    record {
+      split = push_block _ _ _ _ _ _ _ first to.split to.are_bytes fives;
+      whole = λ more. omega (arith, length-append out p, size, full more, fives);
+      are_bytes = bytes-append _ _ to.are_bytes (bytes-take _ _ first.are_bytes);
+      same = iff_trans to.same (rest_is_code _ _ _ _ _ first);
+    }

@@ -100,11 +100,3 @@ begins_full abc text block after alpha front back long all =
       is_after = back;
       last = λ short. absurd (omega (arith, short));
     }
-
--- what was read of a full block
--- is, up to its length, bytes whose code is the block
-pub read_full : (abc block bytes : List ℕ) (len : ℕ) → is_alphabet abc ≡ true → length block ≡ 8 → list_all (is_letter abc) block ≡ true
-    → bytes ≡ block_bytes abc block → len ≡ group_len block → block ≡ code32 abc (take len bytes)
-read_full abc block bytes len alpha eight all is_bytes is_len =
-    let full = full_block abc block alpha eight all in
-    full.is_code ∙ ap (λ (x : List ℕ). code32 abc (take 5 x)) (sym is_bytes) ∙ ap (λ n. code32 abc (take n bytes)) (sym (is_len ∙ full.five))

@@ -1,10 +1,10 @@
 -- What a block of eight characters stands for.
-use Rattle.std.proofs.Common.{◌≡◌, ℕ, ◌+◌, ◌-◌, ◌*◌, ◌/◌, ◌%◌, ◌<◌, ◌≤◌, ◌==◌, ◌&&◌, nat_lt, true, false, unwrap_or, List, [], ◌∷◌, ◌++◌, length, replicate}
-use Rattle.std.proofs.Common.{slice_index, refl, arith}
+use Rattle.std.proofs.Common.{◌≡◌, ℕ, ◌+◌, ◌-◌, ◌*◌, ◌/◌, ◌%◌, ◌<◌, ◌≤◌, ◌==◌, ◌&&◌, nat_lt, Bool, true, false, not, if◌then◌else◌, unwrap_or}
+use Rattle.std.proofs.Common.{List, [], ◌∷◌, ◌++◌, length, replicate, slice_index, refl, sym, arith}
 use Rattle.std.specs.Prelude.{position}
-use Rattle.std.proofs.lemmas.Bool.{and_parts, eqb-true, ltb-true, not-true}
+use Rattle.std.proofs.lemmas.Bool.{and_parts, eqb-true, not-true}
 use Rattle.strkw_coding.specs.Rfc4648.{AreBytes}
-use Rattle.strkw_coding.specs.Blocks.{code32, passes_below, value_of, is_letter_at, is_alphabet, is_table, group_len, block_bytes}
+use Rattle.strkw_coding.specs.Blocks.{code32, passes_below, value_of, is_letter_at, is_alphabet, is_letter, is_table, group_len, block_bytes}
 use Rattle.strkw_coding.proofs.Passes.{passes_below-at}
 use Rattle.strkw_coding.proofs.Codes32.{code32-1, code32-2, code32-3, code32-4, code32-5}
 
@@ -137,17 +137,25 @@ group_only abc block (a ∷ b ∷ c ∷ d ∷ e ∷ f ∷ rest) alpha h some few
 
 -- ---- the table
 
+-- two tests of which one holds exactly where the other does are the same
+same_test : (a b : Bool) → (if a then b else not b) ≡ true → a ≡ b
+same_test true true h = refl
+same_test true false h = sym h
+same_test false true h = h
+same_test false false h = refl
+
 -- the test of a table holds at each byte
 table_at : (abc places : List ℕ) (c : ℕ) → is_table abc places ≡ true → c < 256
-    → (nat_lt (slice_index places c) 32 && slice_index places c == value_of abc c) ≡ true
+    → (slice_index places c % 32 == value_of abc c && (if nat_lt (slice_index places c) 32 then is_letter abc c else not (is_letter abc c))) ≡ true
 unfolding is_table
 table_at abc places c table lt =
-    passes_below-at (λ c. nat_lt (slice_index places c) 32 && slice_index places c == value_of abc c) 256 c table lt
+    passes_below-at (λ d. slice_index places d % 32 == value_of abc d
+    && (if nat_lt (slice_index places d) 32 then is_letter abc d else not (is_letter abc d))) 256 c table lt
 
--- the place of a character is in the table
-pub table_value : (abc places : List ℕ) (c : ℕ) → is_table abc places ≡ true → c < 256 → slice_index places c ≡ value_of abc c
-table_value abc places c table lt = eqb-true _ _ (and_parts _ _ (table_at abc places c table lt)).1
+-- the place of a letter is what its entry leaves by 32
+pub table_value : (abc places : List ℕ) (c : ℕ) → is_table abc places ≡ true → c < 256 → slice_index places c % 32 ≡ value_of abc c
+table_value abc places c table lt = eqb-true _ _ (and_parts _ _ (table_at abc places c table lt)).0
 
--- and each place that is in it is below 32
-pub table_below : (abc places : List ℕ) (c : ℕ) → is_table abc places ≡ true → c < 256 → slice_index places c < 32
-table_below abc places c table lt = ltb-true _ _ (and_parts _ _ (table_at abc places c table lt)).0
+-- and a character is a letter exactly where its entry is below 32
+pub table_letter : (abc places : List ℕ) (c : ℕ) → is_table abc places ≡ true → c < 256 → nat_lt (slice_index places c) 32 ≡ is_letter abc c
+table_letter abc places c table lt = same_test _ _ (and_parts _ _ (table_at abc places c table lt)).1

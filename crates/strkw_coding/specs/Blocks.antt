@@ -1,6 +1,6 @@
 -- What the private contracts of the code for base32 and base32hex speak of: blocks of eight
 -- characters, which stand for one to five bytes. None of it stands in a public contract.
-use Rattle.std.specs.Prelude.{◌≡◌, ℕ, zero, suc, ◌+◌, ◌*◌, ◌/◌, ◌%◌, ◌<◌, ◌≤◌, Bool, true}
+use Rattle.std.specs.Prelude.{◌≡◌, ◌↔◌, ℕ, zero, suc, ◌+◌, ◌*◌, ◌/◌, ◌%◌, ◌<◌, ◌≤◌, Bool, true}
 use Rattle.std.specs.Prelude.{if◌then◌else◌, List, [], ◌∷◌, ◌++◌, length, drop, slice_index, ◌&&◌}
 use Rattle.std.specs.Prelude.{◌==◌, nat_lt, unwrap_or, position, not, take}
 use Rattle.std.specs.Str.{byte}
@@ -26,10 +26,14 @@ unfoldable pub is_alphabet : List ℕ → Bool
 is_alphabet abc = passes_below (is_letter_at abc) 32
     && unwrap_or (position (λ x. x == byte "=") abc) 0 == 0
 
--- the table has the place of each character among the letters
+-- the character is a letter
+abbrev pub is_letter : List ℕ → ℕ → Bool
+is_letter abc c = nat_lt (value_of abc c) 32 && slice_index abc (value_of abc c) == c
+
+-- the table has the place of each letter, and for another character 32 or a multiple of it
 unfoldable pub is_table : List ℕ → List ℕ → Bool
-is_table abc places = passes_below (λ c. nat_lt (slice_index places c) 32
-    && slice_index places c == value_of abc c) 256
+is_table abc places = passes_below (λ c. slice_index places c % 32 == value_of abc c
+    && (if nat_lt (slice_index places c) 32 then is_letter abc c else not (is_letter abc c))) 256
 
 -- the text that encodes some bytes, five bits a letter and eight letters a block
 unfoldable pub code32 : List ℕ → List ℕ → List ℕ
@@ -66,10 +70,6 @@ block_bytes abc block =
     (value_of abc (slice_index block 4)) (value_of abc (slice_index block 5))
     (value_of abc (slice_index block 6)) (value_of abc (slice_index block 7))
 
--- the character is a letter
-abbrev pub is_letter : List ℕ → ℕ → Bool
-is_letter abc c = nat_lt (value_of abc c) 32 && slice_index abc (value_of abc c) == c
-
 -- the block is the code of the first len of five bytes
 pub record IsBlockOf (abc block bytes : List ℕ) (len : ℕ) : Type 0 where
   pub some : 0 < len
@@ -87,3 +87,10 @@ pub record BeginsWithBlock (abc text bytes : List ℕ) (len : ℕ) (after : List
   pub is_code : text ≡ code32 abc (take len bytes) ++ after
   pub is_after : after ≡ drop 8 text
   pub last : len < 5 → after ≡ []
+
+-- the bytes are what the text encodes up to the rest
+pub record IsDecodedTo (abc text bytes rest : List ℕ) : Type 0 where
+  pub split : text ≡ code32 abc bytes ++ rest
+  pub whole : 0 < length rest → length bytes % 5 ≡ 0
+  pub are_bytes : AreBytes bytes
+  pub same : IsCode32 abc text ↔ IsCode32 abc rest

@@ -4,14 +4,14 @@ ghost use Rattle.std.specs.Prelude.{◌≡◌, ◌↔◌, ◌<◌, ◌≤◌, �
 ghost use Rattle.std.specs.Prelude.{ℕ, List, length, take, drop, replicate, slice_index, IsTrue, IfOk, IfSome, IsSomeAnd, MatchOption};
 ghost use Rattle.std.specs.List.{list_all};
 ghost use Rattle.std.specs.Str.{byte};
-ghost use Rattle.strkw_coding.specs.Blocks.{BeginsWithBlock, IsBlockOf, IsCode32, block_bytes, code32, group_len, is_alphabet, is_letter, is_table, value_of};
+ghost use Rattle.strkw_coding.specs.Blocks.{BeginsWithBlock, IsBlockOf, IsCode32, IsDecodedTo, block_bytes, code32, group_len, is_alphabet, is_letter, is_table, value_of};
 ghost use Rattle.strkw_coding.specs.Rfc4648.{AreBytes, IsEncoding, Reads};
 
 use crate::codec::Codec;
 use std::alloc::{AllocError, Global};
 
 // The 32 letters of an encoding, in the order of their values, and the place of each character among them, or
-// 0 for a character that is no letter.
+// 32 for a character that is no letter.
 struct Alphabet {
     letters: [u8; 32],
     places: [u8; 256],
@@ -22,30 +22,36 @@ struct Alphabet {
 const BASE32: Alphabet = Alphabet {
     letters: *b"ABCDEFGHIJKLMNOPQRSTUVWXYZ234567",
     places: [
-        0, 0, 0, 0, 0, 0, 0, 0, 0, 0, 0, 0, 0, 0, 0, 0, 0, 0, 0, 0, 0, 0, 0, 0, 0, 0, 0, 0, 0, 0,
-        0, 0, 0, 0, 0, 0, 0, 0, 0, 0, 0, 0, 0, 0, 0, 0, 0, 0, 0, 0, 26, 27, 28, 29, 30, 31, 0, 0,
-        0, 0, 0, 0, 0, 0, 0, 0, 1, 2, 3, 4, 5, 6, 7, 8, 9, 10, 11, 12, 13, 14, 15, 16, 17, 18, 19,
-        20, 21, 22, 23, 24, 25, 0, 0, 0, 0, 0, 0, 0, 0, 0, 0, 0, 0, 0, 0, 0, 0, 0, 0, 0, 0, 0, 0,
-        0, 0, 0, 0, 0, 0, 0, 0, 0, 0, 0, 0, 0, 0, 0, 0, 0, 0, 0, 0, 0, 0, 0, 0, 0, 0, 0, 0, 0, 0,
-        0, 0, 0, 0, 0, 0, 0, 0, 0, 0, 0, 0, 0, 0, 0, 0, 0, 0, 0, 0, 0, 0, 0, 0, 0, 0, 0, 0, 0, 0,
-        0, 0, 0, 0, 0, 0, 0, 0, 0, 0, 0, 0, 0, 0, 0, 0, 0, 0, 0, 0, 0, 0, 0, 0, 0, 0, 0, 0, 0, 0,
-        0, 0, 0, 0, 0, 0, 0, 0, 0, 0, 0, 0, 0, 0, 0, 0, 0, 0, 0, 0, 0, 0, 0, 0, 0, 0, 0, 0, 0, 0,
-        0, 0, 0, 0, 0, 0, 0, 0, 0, 0, 0, 0, 0, 0, 0, 0, 0, 0, 0, 0, 0, 0, 0,
+        32, 32, 32, 32, 32, 32, 32, 32, 32, 32, 32, 32, 32, 32, 32, 32, 32, 32, 32, 32, 32, 32, 32,
+        32, 32, 32, 32, 32, 32, 32, 32, 32, 32, 32, 32, 32, 32, 32, 32, 32, 32, 32, 32, 32, 32, 32,
+        32, 32, 32, 32, 26, 27, 28, 29, 30, 31, 32, 32, 32, 32, 32, 32, 32, 32, 32, 0, 1, 2, 3, 4,
+        5, 6, 7, 8, 9, 10, 11, 12, 13, 14, 15, 16, 17, 18, 19, 20, 21, 22, 23, 24, 25, 32, 32, 32,
+        32, 32, 32, 32, 32, 32, 32, 32, 32, 32, 32, 32, 32, 32, 32, 32, 32, 32, 32, 32, 32, 32, 32,
+        32, 32, 32, 32, 32, 32, 32, 32, 32, 32, 32, 32, 32, 32, 32, 32, 32, 32, 32, 32, 32, 32, 32,
+        32, 32, 32, 32, 32, 32, 32, 32, 32, 32, 32, 32, 32, 32, 32, 32, 32, 32, 32, 32, 32, 32, 32,
+        32, 32, 32, 32, 32, 32, 32, 32, 32, 32, 32, 32, 32, 32, 32, 32, 32, 32, 32, 32, 32, 32, 32,
+        32, 32, 32, 32, 32, 32, 32, 32, 32, 32, 32, 32, 32, 32, 32, 32, 32, 32, 32, 32, 32, 32, 32,
+        32, 32, 32, 32, 32, 32, 32, 32, 32, 32, 32, 32, 32, 32, 32, 32, 32, 32, 32, 32, 32, 32, 32,
+        32, 32, 32, 32, 32, 32, 32, 32, 32, 32, 32, 32, 32, 32, 32, 32, 32, 32, 32, 32, 32, 32, 32,
+        32,
     ],
 };
 
 const BASE32_HEX: Alphabet = Alphabet {
     letters: *b"0123456789ABCDEFGHIJKLMNOPQRSTUV",
     places: [
-        0, 0, 0, 0, 0, 0, 0, 0, 0, 0, 0, 0, 0, 0, 0, 0, 0, 0, 0, 0, 0, 0, 0, 0, 0, 0, 0, 0, 0, 0,
-        0, 0, 0, 0, 0, 0, 0, 0, 0, 0, 0, 0, 0, 0, 0, 0, 0, 0, 0, 1, 2, 3, 4, 5, 6, 7, 8, 9, 0, 0,
-        0, 0, 0, 0, 0, 10, 11, 12, 13, 14, 15, 16, 17, 18, 19, 20, 21, 22, 23, 24, 25, 26, 27, 28,
-        29, 30, 31, 0, 0, 0, 0, 0, 0, 0, 0, 0, 0, 0, 0, 0, 0, 0, 0, 0, 0, 0, 0, 0, 0, 0, 0, 0, 0,
-        0, 0, 0, 0, 0, 0, 0, 0, 0, 0, 0, 0, 0, 0, 0, 0, 0, 0, 0, 0, 0, 0, 0, 0, 0, 0, 0, 0, 0, 0,
-        0, 0, 0, 0, 0, 0, 0, 0, 0, 0, 0, 0, 0, 0, 0, 0, 0, 0, 0, 0, 0, 0, 0, 0, 0, 0, 0, 0, 0, 0,
-        0, 0, 0, 0, 0, 0, 0, 0, 0, 0, 0, 0, 0, 0, 0, 0, 0, 0, 0, 0, 0, 0, 0, 0, 0, 0, 0, 0, 0, 0,
-        0, 0, 0, 0, 0, 0, 0, 0, 0, 0, 0, 0, 0, 0, 0, 0, 0, 0, 0, 0, 0, 0, 0, 0, 0, 0, 0, 0, 0, 0,
-        0, 0, 0, 0, 0, 0, 0, 0, 0, 0, 0, 0, 0, 0, 0, 0, 0, 0, 0, 0, 0, 0, 0,
+        32, 32, 32, 32, 32, 32, 32, 32, 32, 32, 32, 32, 32, 32, 32, 32, 32, 32, 32, 32, 32, 32, 32,
+        32, 32, 32, 32, 32, 32, 32, 32, 32, 32, 32, 32, 32, 32, 32, 32, 32, 32, 32, 32, 32, 32, 32,
+        32, 32, 0, 1, 2, 3, 4, 5, 6, 7, 8, 9, 32, 32, 32, 32, 32, 32, 32, 10, 11, 12, 13, 14, 15,
+        16, 17, 18, 19, 20, 21, 22, 23, 24, 25, 26, 27, 28, 29, 30, 31, 32, 32, 32, 32, 32, 32, 32,
+        32, 32, 32, 32, 32, 32, 32, 32, 32, 32, 32, 32, 32, 32, 32, 32, 32, 32, 32, 32, 32, 32, 32,
+        32, 32, 32, 32, 32, 32, 32, 32, 32, 32, 32, 32, 32, 32, 32, 32, 32, 32, 32, 32, 32, 32, 32,
+        32, 32, 32, 32, 32, 32, 32, 32, 32, 32, 32, 32, 32, 32, 32, 32, 32, 32, 32, 32, 32, 32, 32,
+        32, 32, 32, 32, 32, 32, 32, 32, 32, 32, 32, 32, 32, 32, 32, 32, 32, 32, 32, 32, 32, 32, 32,
+        32, 32, 32, 32, 32, 32, 32, 32, 32, 32, 32, 32, 32, 32, 32, 32, 32, 32, 32, 32, 32, 32, 32,
+        32, 32, 32, 32, 32, 32, 32, 32, 32, 32, 32, 32, 32, 32, 32, 32, 32, 32, 32, 32, 32, 32, 32,
+        32, 32, 32, 32, 32, 32, 32, 32, 32, 32, 32, 32, 32, 32, 32, 32, 32, 32, 32, 32, 32, 32, 32,
+        32,
     ],
 };
 
@@ -108,14 +114,28 @@ impl Alphabet {
         ensures { IsCode32 self.now.letters text.now ↔ IsCode32 self.now.letters result.now }
     {
         let mut rest = text;
-        while rest.len() >= 8 {
-            let (block, after) = rest.split_at(8);
-            if !self.are_letters(block) {
-                break;
-            }
+        while let Some((_, after)) = self.full_block(rest) {
             rest = after;
         }
         rest
+    }
+
+    // What a block of letters alone at the front stands for, which is five bytes, and what follows the block.
+    #[inline(always)]
+    fn full_block<'a>(&self, text: &'a [u8]) -> Option<(Group, &'a [u8])>
+        ensures { IfSome result (λ r.
+            BeginsWithBlock self.now.letters text.now r.0.bytes 5 r.1.now) }
+    {
+        if text.len() < 8 {
+            return None;
+        }
+        let (block, after) = text.split_at(8);
+        if self.are_letters(block) {
+            let bytes = self.bytes_of(block);
+            Some((Group { bytes, len: 5 }, after))
+        } else {
+            None
+        }
     }
 
     // Whether each character is a letter. It reads all of them, with no branch between.
@@ -134,8 +154,7 @@ impl Alphabet {
     fn is_letter(&self, character: u8) -> bool
         ensures { result ≡ is_letter self.now.letters character }
     {
-        let place = self.value_of(character);
-        place < 32 && self.letters[place] == character
+        self.places[usize::from(character)] < 32
     }
 
     // The bytes that a text encodes by these letters.
@@ -144,7 +163,7 @@ impl Alphabet {
             (λ v. AreBytes v.items × (text.now ≡ code32 self.now.letters v.items))) }
     {
         let mut bytes = Vec::with_capacity(alloc, text.len() / 8 * 5)?;
-        let mut rest = text;
+        let mut rest = self.push_full_blocks(text, &mut bytes)?;
         while !rest.is_empty() {
             let Some((group, after)) = self.first_block(rest) else {
                 return Ok(None);
@@ -154,6 +173,25 @@ impl Alphabet {
             rest = after;
         }
         Ok(Some(bytes))
+    }
+
+    // Appends the bytes of the blocks of letters alone at the front, and answers what follows these blocks.
+    fn push_full_blocks<'a>(
+        &self,
+        text: &'a [u8],
+        bytes: &mut Vec<u8>,
+    ) -> Result<&'a [u8], AllocError>
+        ensures { IfOk result (λ rest. (whole : List ℕ)
+            → IsDecodedTo self.now.letters whole bytes.old.items text.now
+            → IsDecodedTo self.now.letters whole bytes.new.items rest.now) }
+    {
+        let mut rest = text;
+        while let Some((group, after)) = self.full_block(rest) {
+            let group_bytes = group.bytes;
+            bytes.extend_from_slice(&group_bytes)?;
+            rest = after;
+        }
+        Ok(rest)
     }
 
     // What the first block of a text stands for, and the text after it. Only the last block is padded.
@@ -176,8 +214,8 @@ impl Alphabet {
     }
 
     // What a block stands for: one to five bytes whose code it is. Whatever the characters are, they are
-    // read as letters. Where they all were, the block is a code; else whether the padding is in place and the
-    // spare bits are zero is seen by encoding what was read.
+    // read as letters. Whether they were, the padding is in place and the spare bits are zero is seen by
+    // encoding what was read.
     fn decode_block(&self, block: &[u8]) -> Option<Group>
         requires block { length block.now ≡ 8 }
         ensures found { IfSome result (λ g. IsBlockOf self.now.letters block.now g.bytes g.len) }
@@ -186,9 +224,6 @@ impl Alphabet {
             → IsSomeAnd result (λ g. take g.len g.bytes ≡ p) }
     {
         let group = self.group_of(block);
-        if self.are_letters(block) {
-            return Some(group);
-        }
         let bytes = group.bytes;
         let len = group.len;
         if !is_zero(&bytes[len..]) {
@@ -215,6 +250,21 @@ impl Alphabet {
             → block.now ≡ code32 self.now.letters p
             → (result.len ≡ length p) × (result.bytes ≡ p ++ replicate (5 - length p) 0) }
     {
+        let bytes = self.bytes_of(block);
+        Group {
+            bytes,
+            len: group_len(block),
+        }
+    }
+
+    // The five bytes of the characters of a block, each read as a letter.
+    #[inline(always)]
+    fn bytes_of(&self, block: &[u8]) -> [u8; 5]
+        requires block { length block.now ≡ 8 }
+        ensures value { result ≡ block_bytes self.now.letters block.now }
+        ensures five { length result ≡ 5 }
+        ensures are_bytes { AreBytes result }
+    {
         let v0 = self.value_of(block[0]);
         let v1 = self.value_of(block[1]);
         let v2 = self.value_of(block[2]);
@@ -223,16 +273,13 @@ impl Alphabet {
         let v5 = self.value_of(block[5]);
         let v6 = self.value_of(block[6]);
         let v7 = self.value_of(block[7]);
-        Group {
-            bytes: [
-                (v0 * 8 + v1 / 4) as u8,
-                (v1 % 4 * 64 + v2 * 2 + v3 / 16) as u8,
-                (v3 % 16 * 16 + v4 / 2) as u8,
-                (v4 % 2 * 128 + v5 * 4 + v6 / 8) as u8,
-                (v6 % 8 * 32 + v7) as u8,
-            ],
-            len: group_len(block),
-        }
+        [
+            (v0 * 8 + v1 / 4) as u8,
+            (v1 % 4 * 64 + v2 * 2 + v3 / 16) as u8,
+            (v3 % 16 * 16 + v4 / 2) as u8,
+            (v4 % 2 * 128 + v5 * 4 + v6 / 8) as u8,
+            (v6 % 8 * 32 + v7) as u8,
+        ]
     }
 
     // The code of the first `len` of these bytes, of which the others are 0.
@@ -261,7 +308,7 @@ impl Alphabet {
         ensures value { result ≡ value_of self.now.letters character }
         ensures below { result < 32 }
     {
-        usize::from(self.places[usize::from(character)])
+        usize::from(self.places[usize::from(character)] % 32)
     }
 
     // The letter of a value, or "=" past the letters.

@@ -1,13 +1,13 @@
 -- The marks within lookbehinds: at each place they are those of all ways that have begun before it, so that each
 -- lookbehind says there what is so.
-use Rattle.std.proofs.Common.{◌≡◌, ◌⊎◌, ◌↔◌, ℕ, ◌+◌, ◌≤◌, ◌<◌, Bool, true, false, List, slice_get, refl, sym, ap, subst, inl, inr, ⊎_elim, true≢false, arith}
+use Rattle.std.proofs.Common.{◌≡◌, ◌⊎◌, ◌↔◌, ℕ, ◌+◌, ◌≤◌, ◌<◌, Bool, true, false, List, slice_get, length, refl, sym, ap, subst, inl, inr, ⊎_elim, true≢false, arith}
 use Rattle.strkw_ecma.specs.Tree.{Pattern, empty, class, look, cat, alt, star, plus, lookbehind, lookahead}
 use Rattle.strkw_ecma.specs.Meaning.{before, Matches}
-use Rattle.strkw_ecma.specs.machine.Marks.{Rest, Crosses, Kept, is_clean}
+use Rattle.strkw_ecma.specs.machine.Marks.{sees, Rest, Crosses, IsToldBy, Kept, is_clean}
 use Rattle.strkw_ecma.specs.Program.{is_empty}
 use Rattle.strkw_ecma.specs.Glances.{is_glance, are_told}
 use Rattle.strkw_ecma.proofs.Steps.{same_meaning, and_left, and_right, or_case, or_left, or_right, forwards, rest_forwards, unless_differs, left, stepped}
-use Rattle.strkw_ecma.proofs.Steps.{seen_from, reads_some, Says, Goes, Went, goes_on, goes_back}
+use Rattle.strkw_ecma.proofs.Steps.{reads_some, Says, Goes, Went, goes_on, goes_back}
 
 -- the empty pattern is the one that is nothing
 pub nothing_is : (p : Pattern) → is_empty p ≡ true → p ≡ empty
@@ -21,65 +21,71 @@ nothing_is (plus p) h = absurd (true≢false (sym h))
 nothing_is (lookbehind n p) h = absurd (true≢false (sym h))
 nothing_is (lookahead n p) h = absurd (true≢false (sym h))
 
-module _ (text : List ℕ) (i : ℕ) where
+-- Here `see` says of a lookahead whether what it looks for is there.
+module _ (see : Pattern → Bool) (text : List ℕ) (i : ℕ) where
   -- what is not behind a place stands before it, or there
   before_or_there : (k : ℕ) → k ≤ i → (k < i) ⊎ (k ≡ i)
   before_or_there k h = grind arith
 
-  module _ (p : Pattern) (says : Says text i p) (marks : (j : ℕ) → Rest text p i j ↔ Crosses text p i j) where
+  module _ (p : Pattern) (says : Says see text i p) (marks : (j : ℕ) → Rest text p i j ↔ Crosses text p i j) where
     -- a match that has begun before this place, or begins here, goes through the pattern from here
-    goes_from : (k j : ℕ) → i ≤ j → Matches text p k j → (k < i) ⊎ (k ≡ i) → Goes text i p true j
+    goes_from : (k j : ℕ) → i ≤ j → Matches text p k j → (k < i) ⊎ (k ≡ i) → Goes see text i p true j
     goes_from k j h m (inl early) = inl ((marks j).1 (k, early, h, m))
     goes_from k j h m (inr e) = inr (refl, subst (λ (z : ℕ). Matches text p z j) e m)
 
     -- what goes through the pattern from here is a match that has begun before this place, or begins here
-    matches_from : (j : ℕ) → Goes text i p true j → (k : ℕ) × (k ≤ i) × Matches text p k j
+    matches_from : (j : ℕ) → Goes see text i p true j → (k : ℕ) × (k ≤ i) × Matches text p k j
     matches_from j (inl r) = let c = (marks j).0 r in (c.0, omega (arith, c.1), c.3)
     matches_from j (inr m) = (i, omega arith, m.1)
 
     -- a way that comes to this place and no further ends here
-    ends_here : Went text i p true i → left text i p true ≡ true
+    ends_here : Went see text i p true i → left see text i p true ≡ true
     ends_here (inl e) = e.0
     ends_here (inr r) = let beyond : i + 1 ≤ i = rest_forwards text _ _ _ r in absurd (omega (arith, beyond))
 
     -- and one that comes further goes on from a mark
-    ends_later : (j : ℕ) → i + 1 ≤ j → Went text i p true j → Rest text (stepped text i p true) (i + 1) j
+    ends_later : (j : ℕ) → i + 1 ≤ j → Went see text i p true j → Rest text (stepped see text i p true) (i + 1) j
     ends_later j h (inl e) = absurd (omega (arith, e.1))
     ends_later j h (inr r) = r
 
     -- the body of a lookbehind is left here exactly where it matches up to here from some place
-    pub seen : (left text i p true ≡ true) ↔ ((k : ℕ) × Matches text p k i)
+    pub seen : (left see text i p true ≡ true) ↔ ((k : ℕ) × Matches text p k i)
     seen = (
-      λ h. let found = matches_from i (goes_back text i p says true i (inl (h, refl))) in (found.0, found.2),
+      λ h. let found = matches_from i (goes_back see text i p says true i (inl (h, refl))) in (found.0, found.2),
       λ found.
-          ends_here (goes_on text i p says true i
+          ends_here (goes_on see text i p says true i
           (goes_from found.0 i (omega arith) found.1 (before_or_there found.0 (forwards text p found.0 i found.1)))),
     )
 
     -- a step changes nothing of what the pattern matches
-    same_step : (k j : ℕ) → Matches text (stepped text i p true) k j ≡ Matches text p k j
-    same_step k j = ap (λ (R : ℕ → ℕ → Type 0). R k j) (same_meaning text (before text i) (slice_get text i) p true)
+    same_step : (k j : ℕ) → Matches text (stepped see text i p true) k j ≡ Matches text p k j
+    same_step k j = ap (λ (R : ℕ → ℕ → Type 0). R k j) (same_meaning see text (before text i) (slice_get text i) p true)
 
     -- the marks behind the character here are those of all ways that have begun before the next place
-    pub next_marks : (j : ℕ) → Rest text (stepped text i p true) (i + 1) j ↔ Crosses text (stepped text i p true) (i + 1) j
+    pub next_marks : (j : ℕ) → Rest text (stepped see text i p true) (i + 1) j ↔ Crosses text (stepped see text i p true) (i + 1) j
     next_marks j = (
       λ r.
-          let found = matches_from j (goes_back text i p says true j (inr r)) in (
+          let found = matches_from j (goes_back see text i p says true j (inr r)) in (
             found.0,
             omega (arith, found.1),
             rest_forwards text _ _ _ r,
             subst (λ (A : Type 0). A) (sym (same_step found.0 j)) found.2,
           ),
       λ c.
-          ends_later j c.2 (goes_on text i p says true j
+          ends_later j c.2 (goes_on see text i p says true j
           (goes_from c.0 j (omega (arith, c.2)) (subst (λ (A : Type 0). A) (same_step c.0 j) c.3) (before_or_there c.0 (omega (arith, c.1))))),
     )
 
+-- whether a pattern that the next character tells matches from a place on
+abbrev pub seen_from : List ℕ → ℕ → Pattern → Bool
+seen_from text i = sees (before text i) (slice_get text i)
+
+module _ (text : List ℕ) (i : ℕ) where
   -- a glance says whether the pattern matches from here on
   pub glanced : (p : Pattern) → is_glance p ≡ true → (seen_from text i p ≡ true) ↔ ((k : ℕ) × Matches text p i k)
   glanced empty g = (λ h. (i, refl), λ found. refl)
   glanced (class m n rs) g = (
-    λ h. let found = reads_some text i n rs (slice_get text i) h in (i + 1, (found.0, found.1, found.2, refl)),
+    λ h. let found = reads_some (seen_from text i) text i n rs (slice_get text i) h in (i + 1, (found.0, found.1, found.2, refl)),
     λ found. rw (found.1.1) found.1.2,
   )
   glanced (look l) g = (λ h. (i, (h, refl)), λ found. found.1.0)
@@ -110,8 +116,10 @@ module _ (text : List ℕ) (i : ℕ) where
     λ found. (unless_differs n _ _ (glanced p g)).1 found.1.0,
   )
 
+-- Here `see` says at each place of a lookahead whether what it looks for is there.
+module _ (see : ℕ → Pattern → Bool) (text : List ℕ) (i : ℕ) (within : i ≤ length text) where
   -- where the marks within lookbehinds are kept, each says what is so
-  pub says_of : (p : Pattern) → Kept text p i → Says text i p
+  pub says_of : (p : Pattern) → Kept see text p i → Says (see i) text i p
   says_of empty k = tt
   says_of (class m n rs) k = tt
   says_of (look l) k = tt
@@ -119,11 +127,11 @@ module _ (text : List ℕ) (i : ℕ) where
   says_of (alt p q) k = (says_of p k.0, says_of q k.1)
   says_of (star p) k = says_of p k
   says_of (plus p) k = says_of p k
-  says_of (lookbehind n p) k = (says_of p k.0, seen p (says_of p k.0) k.1)
-  says_of (lookahead n p) k = glanced p k
+  says_of (lookbehind n p) k = (says_of p k.0, seen (see i) text i p (says_of p k.0) k.1)
+  says_of (lookahead n p) k = k i within
 
   -- and a step keeps them
-  pub kept_next : (p : Pattern) (x : Bool) → Kept text p i → Kept text (stepped text i p x) (i + 1)
+  pub kept_next : (p : Pattern) (x : Bool) → Kept see text p i → Kept see text (stepped (see i) text i p x) (i + 1)
   kept_next empty x k = tt
   kept_next (class m n rs) x k = tt
   kept_next (look l) x k = tt
@@ -131,7 +139,7 @@ module _ (text : List ℕ) (i : ℕ) where
   kept_next (alt p q) x k = (kept_next p x k.0, kept_next q x k.1)
   kept_next (star p) x k = kept_next p _ k
   kept_next (plus p) x k = kept_next p _ k
-  kept_next (lookbehind n p) x k = (kept_next p true k.0, next_marks p (says_of p k.0) k.1)
+  kept_next (lookbehind n p) x k = (kept_next p true k.0, next_marks (see i) text i p (says_of p k.0) k.1)
   kept_next (lookahead n p) x k = k
 
 -- a pattern without marks has no match under way
@@ -150,7 +158,7 @@ none_under_way text (lookbehind n p) k j h r = r
 none_under_way text (lookahead n p) k j h r = r
 
 -- so at the first place, before which no way has begun, its marks are kept, where its lookaheads are told
-pub kept_first : (text : List ℕ) (p : Pattern) → is_clean p ≡ true → are_told p ≡ true → Kept text p 0
+pub kept_first : (text : List ℕ) (p : Pattern) → is_clean p ≡ true → are_told p ≡ true → Kept (seen_from text) text p 0
 kept_first text empty h w = tt
 kept_first text (class m n rs) h w = tt
 kept_first text (look l) h w = tt
@@ -162,4 +170,4 @@ kept_first text (star p) h w = kept_first text p h w
 kept_first text (plus p) h w = kept_first text p h w
 kept_first text (lookbehind n p) h w =
     (kept_first text p h w, λ j. (λ r. absurd (none_under_way text p 0 j h r), λ c. absurd (omega (arith, c.1))))
-kept_first text (lookahead n p) h w = w
+kept_first text (lookahead n p) h w = λ i within. glanced text i p w

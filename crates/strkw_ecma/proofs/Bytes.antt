@@ -1,16 +1,23 @@
 -- Bytes of a text that are characters, and their columns.
-use Rattle.std.proofs.Common.{◌≡◌, ℕ, ◌+◌, ◌<◌, ◌≤◌, List, ◌∷◌, ◌++◌, Some, length, get_or, drop, IsUtf8, encode_utf8, sym, ap, ◌∙◌, arith}
+use Rattle.std.proofs.Common.{◌≡◌, ℕ, ◌+◌, ◌<◌, ◌≤◌, List, ◌∷◌, ◌++◌, Vec, Global, Some, length, get_or, drop, IsUtf8, encode_utf8, sym, ap, ◌∙◌, arith}
 use Rattle.std.specs.Str.{chars}
 use Rattle.std.proofs.lemmas.List.{drop_more}
 use Rattle.std.proofs.lemmas.Str.{chars_past_char, IsUtf8-past_char, encode_ascii}
-use Rattle.strkw_ecma.specs.machine.Columns.{column_of}
+use Rattle.strkw_ecma.specs.machine.Columns.{answers, column_of}
 use Rattle.strkw_ecma.specs.declared.columns.Columns.{Columns}
+use Rattle.strkw_ecma.specs.declared.tree.CharSet.{CharSet}
+use Rattle.strkw_ecma.proofs.Alike.{place_is}
+
+-- the column of a character is one of those of the keys
+pub column_within : (classes : List (Vec CharSet Global)) (keys : List ℕ) (c k : ℕ) → column_of classes keys c ≡ Some k → k < length keys
+column_within classes keys c k is = (place_is keys (answers 0 classes c) k is).0
 
 -- at a place of a text there is a character with this column, which is one byte
 pub record ReadsByte (t : Columns) (text : List ℕ) (k b column : ℕ) : Type 0 where
   pub char : chars (drop k text) ≡ b ∷ chars (drop (k + 1) text)
   pub utf8 : IsUtf8 (drop (k + 1) text)
   pub is : column_of t.classes.items t.keys.items b ≡ Some column
+  pub within : column < length t.keys.items
 
 -- a byte that the columns of ASCII characters reach
 module _ (t : Columns) (text bytes columns : List ℕ) (all : bytes ≡ text) (ascii : columns ≡ t.ascii.items) (k b entry column : ℕ)
@@ -43,4 +50,5 @@ module _ (t : Columns) (text bytes columns : List ℕ) (all : bytes ≡ text) (a
     char = chars_past_char (drop k text) (drop (k + 1) text) b utf8 begins;
     utf8 = IsUtf8-past_char (drop k text) (drop (k + 1) text) b utf8 begins;
     is = right;
+    within = column_within t.classes.items t.keys.items b column right;
   }

@@ -8,9 +8,7 @@ use Rattle.strkw_ecma.specs.machine.Search.{search_from}
 use Rattle.strkw_ecma.specs.Program.{Instruction, program}
 use Rattle.strkw_ecma.specs.Size.{instruction_steps, steps_of, steps}
 use Rattle.strkw_ecma.specs.machine.Walk.{top, Asked, Walked, Following, begun, back_over, over, left_by, marks_behind, asked, followed, walked}
-use Rattle.strkw_ecma.specs.Front.{Part, steps_of_parts}
-use Rattle.strkw_ecma.specs.Mirror.{sought, sought_in}
-use Rattle.strkw_ecma.specs.machine.Counted.{Counted, after, asking, following, walking, searching, IsSearchedWithin, AreSearchedWithin}
+use Rattle.strkw_ecma.specs.machine.Counted.{Counted, after, asking, following, walking, searching, IsSearchedWithin}
 use Rattle.strkw_ecma.proofs.Programs.{walked_is}
 use Rattle.strkw_ecma.proofs.Marked.{step_program}
 
@@ -44,13 +42,13 @@ module _ (b a : Option ℕ) where
       ∙ ap (λ (s : Asked). followed b a is (begun s.again) ms) (asking_result is ms)
 
   -- which take twice the steps of the instructions
-  walking_steps : (is : List Instruction) (ms : List Bool) → (walking b a is ms).steps ≡ 2 * steps_of is
+  pub walking_steps : (is : List Instruction) (ms : List Bool) → (walking b a is ms).steps ≡ 2 * steps_of is
   walking_steps is ms =
       omega (arith, asking_steps is ms, following_steps is (begun (asking b a is ms).result.again) ms)
 
   -- of the program of a pattern, with its marks
   -- such a walk comes to whether the pattern is left, and to its marks after a step
-  walk_of : (p : Pattern) → (walking b a (program p) (marks_of p)).result ≡ record { leaves = leaves b a p true; marks = marks_of (step b a p true) }
+  pub walk_of : (p : Pattern) → (walking b a (program p) (marks_of p)).result ≡ record { leaves = leaves b a p true; marks = marks_of (step b a p true) }
   walk_of p =
       walking_result (program p) (marks_of p)
       ∙ ap (walked b a (program p)) (sym (append-nil (marks_of p)))
@@ -100,14 +98,3 @@ searched_within most p text h = record {
   answer = searching_result p None text;
   steps = searching_steps most (program p) (marks_of p) None text h;
 }
-
--- the parts of a pattern are searched within twice their steps
-pub parts_searched_within : (xs : List Part) (most : ℕ) (text : List ℕ) → 2 * steps_of_parts xs ≤ most → AreSearchedWithin most xs text
-parts_searched_within [] most text h = tt
-parts_searched_within (x ∷ xs) most text h = (
-  2 * steps (sought x.pattern),
-  2 * steps_of_parts xs,
-  omega (arith, h),
-  searched_within (2 * steps (sought x.pattern)) (sought x.pattern) (sought_in x.pattern text) (omega arith),
-  parts_searched_within xs (2 * steps_of_parts xs) text (omega arith),
-)

@@ -1,14 +1,14 @@
 -- What is alike, and that a counted term may keep the order of its copies in a mirror.
-use Rattle.std.proofs.Common.{◌≡◌, ◌⊎◌, ℕ, zero, suc, ◌-◌, Bool, true, false, ◌&&◌, ◌||◌, List, if◌then◌else◌, refl, sym, ap, subst, ◌∙◌, inl, inr}
+use Rattle.std.proofs.Common.{◌≡◌, ◌⊎◌, ℕ, zero, suc, ◌-◌, ◌+◌, Bool, true, false, ◌&&◌, ◌||◌, List, [], if◌then◌else◌, refl, sym, ap, subst, ◌∙◌, inl, inr}
 use Rattle.std.proofs.Common.{subst₂, Result, Ok, Err, IfOk, Box, Global, ⊎_elim, true≢false, arith}
 use Rattle.strkw_ecma.specs.Tree.{Pattern, empty, class, look, cat, alt, star, plus, lookbehind, lookahead}
 use Rattle.strkw_ecma.specs.Meaning.{Rounds, no_round, a_round, Matches}
 use Rattle.strkw_ecma.specs.Patterns.{Times, any_times, some_times, once_at_most, exact_times, least_times, range_times, repeated, quantified_pattern}
 use Rattle.strkw_ecma.specs.Program.{is_class, is_empty, alternatives}
 use Rattle.strkw_ecma.specs.Glances.{is_glance, are_told}
-use Rattle.strkw_ecma.specs.Size.{steps_of, steps}
+use Rattle.strkw_ecma.specs.Size.{steps_of, steps, spread}
 use Rattle.strkw_ecma.specs.Mirror.{mirror}
-use Rattle.strkw_ecma.specs.machine.Marks.{is_clean}
+use Rattle.strkw_ecma.specs.machine.Marks.{unmarked}
 use Rattle.strkw_ecma.specs.machine.Passes.{Alike}
 use Rattle.std.specs.declared.alloc.AllocError.{AllocError}
 use Rattle.strkw_ecma.specs.machine.Shape.{outlined, quantifier_of}
@@ -32,6 +32,8 @@ alike_refl p = record {
   steps = λ t. refl;
   beside = λ t. refl;
   glance_steps = λ g. refl;
+  apart = refl;
+  apart_beside = refl;
 }
 
 -- and like all that what is like it is like
@@ -49,10 +51,12 @@ alike_trans p q r u w = record {
   steps = λ t. u.steps (w.told ∙ t) ∙ w.steps t;
   beside = λ t. u.beside (w.told ∙ t) ∙ w.beside t;
   glance_steps = λ g. u.glance_steps (w.sees ∙ g) ∙ w.glance_steps g;
+  apart = u.apart ∙ w.apart;
+  apart_beside = u.apart_beside ∙ w.apart_beside;
 }
 
 -- both of two are the same where each is
-both_same : (a b c d : Bool) → a ≡ c → b ≡ d → (a && b) ≡ (c && d)
+pub both_same : (a b c d : Bool) → a ≡ c → b ≡ d → (a && b) ≡ (c && d)
 both_same a b c d e f = ap (λ (x : Bool). x && b) e ∙ ap (λ (x : Bool). c && x) f
 
 -- patterns one behind the other
@@ -60,6 +64,8 @@ pub alike_cat : (p q r s : Pattern) → Alike p r → Alike q s → Alike (cat p
 alike_cat p q r s u w =
     let same : are_told (cat r s) ≡ true → steps (cat p q) ≡ steps (cat r s) =
     λ t. omega (arith, cat_steps p q, cat_steps r s, u.steps (and_left _ _ t), w.steps (and_right (are_told r) _ t)) in
+    let wide : steps (spread (cat p q)) ≡ steps (spread (cat r s)) =
+    omega (arith, cat_steps (spread p) (spread q), cat_steps (spread r) (spread s), u.apart, w.apart) in
     record {
       meaning = λ text i j. (
         λ m. (m.0, (u.meaning text i m.0).0 m.1, (w.meaning text m.0 j).0 m.2),
@@ -73,13 +79,49 @@ alike_cat p q r s u w =
       steps = same;
       beside = same;
       glance_steps = λ g. w.glance_steps (and_right (is_empty r) _ g);
+      apart = wide;
+      apart_beside = wide;
     }
 
 -- of one class that may be missing, the steps are its own
-option_class : (p q : Pattern) → (is_empty p && is_class q) ≡ true → steps (alt p q) ≡ steps q
+pub option_class : (p q : Pattern) → (is_empty p && is_class q) ≡ true → steps (alt p q) ≡ steps q
 option_class empty (class m n rs) h = refl
 option_class empty _ h = absurd (true≢false (sym h))
 option_class _ q h = absurd (true≢false (sym h))
+
+-- alternatives of as many steps, the first nothing and the second a class where those are, take as many
+alt_same : (p q r s : Pattern) → is_empty p ≡ is_empty r → is_class q ≡ is_class s
+    → steps_of (alternatives p) ≡ steps_of (alternatives r) → steps q ≡ steps s → steps (alt p q) ≡ steps (alt r s)
+alt_same p q r s nothing classes beside same = by_option (is_empty p && is_class q) refl
+  where
+    -- by whether they are a class that may be missing
+    by_option : (b : Bool) → (is_empty p && is_class q) ≡ b → steps (alt p q) ≡ steps (alt r s)
+    by_option true e = option_class p q e ∙ same ∙ sym (option_class r s (sym (both_same _ _ _ _ nothing classes) ∙ e))
+    by_option false e = omega (arith, alt_steps p q e, alt_steps r s (sym (both_same _ _ _ _ nothing classes) ∙ e), beside, same)
+
+-- a mark beside what lookarounds look for makes nothing of what is something
+pub spread_nothing : (p : Pattern) → is_empty (spread p) ≡ is_empty p
+spread_nothing empty = refl
+spread_nothing (class m n rs) = refl
+spread_nothing (look l) = refl
+spread_nothing (cat p q) = refl
+spread_nothing (alt p q) = refl
+spread_nothing (star p) = refl
+spread_nothing (plus p) = refl
+spread_nothing (lookbehind n p) = refl
+spread_nothing (lookahead n p) = refl
+
+-- and no class of what is none
+pub spread_class : (p : Pattern) → is_class (spread p) ≡ is_class p
+spread_class empty = refl
+spread_class (class m n rs) = refl
+spread_class (look l) = refl
+spread_class (cat p q) = refl
+spread_class (alt p q) = refl
+spread_class (star p) = refl
+spread_class (plus p) = refl
+spread_class (lookbehind n p) = refl
+spread_class (lookahead n p) = refl
 
 -- alternatives
 pub alike_alt : (p q r s : Pattern) → Alike p r → Alike q s → Alike (alt p q) (alt r s)
@@ -93,17 +135,16 @@ alike_alt p q r s u w = record {
   sees = both_same _ _ _ _ u.sees w.sees;
   told = both_same _ _ _ _ u.told w.told;
   clean = both_same _ _ _ _ u.clean w.clean;
-  steps = λ t. by_option (is_empty p && is_class q) refl (u.beside (and_left _ _ t)) (w.steps (and_right (are_told r) _ t));
+  steps = λ t. alt_same p q r s u.nothing w.class (u.beside (and_left _ _ t)) (w.steps (and_right (are_told r) _ t));
   beside = λ t. omega (arith, beside_steps p q, beside_steps r s, u.beside (and_left _ _ t), w.steps (and_right (are_told r) _ t));
   glance_steps = λ g.
       omega (arith, glance_alt_steps p q, glance_alt_steps r s, u.glance_steps (and_left _ _ g), w.glance_steps (and_right (is_glance r) _ g));
+  apart =
+      alt_same (spread p) (spread q) (spread r) (spread s) (spread_nothing p ∙ u.nothing ∙ sym (spread_nothing r))
+      (spread_class q ∙ w.class ∙ sym (spread_class s)) u.apart_beside w.apart;
+  apart_beside =
+      omega (arith, beside_steps (spread p) (spread q), beside_steps (spread r) (spread s), u.apart_beside, w.apart);
 }
-  where
-    -- by whether they are a class that may be missing
-    by_option : (b : Bool) → (is_empty p && is_class q) ≡ b → steps_of (alternatives p) ≡ steps_of (alternatives r)
-        → steps q ≡ steps s → steps (alt p q) ≡ steps (alt r s)
-    by_option true e beside same = option_class p q e ∙ same ∙ sym (option_class r s (sym (both_same _ _ _ _ u.nothing w.class) ∙ e))
-    by_option false e beside same = omega (arith, alt_steps p q e, alt_steps r s (sym (both_same _ _ _ _ u.nothing w.class) ∙ e), beside, same)
 
 -- rounds of what leads from place to place as another does
 rounds_alike : (R S : ℕ → ℕ → Type 0) → ((i j : ℕ) → R i j → S i j) → (j i : ℕ) → Rounds R j i → Rounds S j i
@@ -111,54 +152,75 @@ rounds_alike R S f j i (no_round _ e) = no_round i e
 rounds_alike R S f j i (a_round _ l m rs) = a_round i l (f i l m) (rounds_alike R S f j l rs)
 
 -- a class that is repeated takes its own steps
-star_class : (p : Pattern) → is_class p ≡ true → steps (star p) ≡ steps p
+pub star_class : (p : Pattern) → is_class p ≡ true → steps (star p) ≡ steps p
 star_class (class m n rs) h = refl
 star_class _ h = absurd (true≢false (sym h))
 
-plus_class : (p : Pattern) → is_class p ≡ true → steps (plus p) ≡ steps p
+pub plus_class : (p : Pattern) → is_class p ≡ true → steps (plus p) ≡ steps p
 plus_class (class m n rs) h = refl
 plus_class _ h = absurd (true≢false (sym h))
 
+-- so what takes as many steps, and is a class where the other is, takes as many where it is repeated
+star_same : (p r : Pattern) → is_class p ≡ is_class r → steps p ≡ steps r → steps (star p) ≡ steps (star r)
+star_same p r classes same = by_class (is_class p) refl
+  where
+    by_class : (b : Bool) → is_class p ≡ b → steps (star p) ≡ steps (star r)
+    by_class true e = star_class p e ∙ same ∙ sym (star_class r (sym classes ∙ e))
+    by_class false e = omega (arith, star_steps p e, star_steps r (sym classes ∙ e), same)
+
+plus_same : (p r : Pattern) → is_class p ≡ is_class r → steps p ≡ steps r → steps (plus p) ≡ steps (plus r)
+plus_same p r classes same = by_class (is_class p) refl
+  where
+    by_class : (b : Bool) → is_class p ≡ b → steps (plus p) ≡ steps (plus r)
+    by_class true e = plus_class p e ∙ same ∙ sym (plus_class r (sym classes ∙ e))
+    by_class false e = omega (arith, plus_steps p e, plus_steps r (sym classes ∙ e), same)
+
 -- what is repeated without end
 pub alike_star : (p r : Pattern) → Alike p r → Alike (star p) (star r)
-alike_star p r u = record {
-  meaning = λ text i j. (
-    rounds_alike (Matches text p) (Matches text r) (λ x y. (u.meaning text x y).0) j i,
-    rounds_alike (Matches text r) (Matches text p) (λ x y. (u.meaning text x y).1) j i,
-  );
-  nothing = refl;
-  class = refl;
-  sees = refl;
-  told = u.told;
-  clean = u.clean;
-  steps = λ t. by_class (is_class p) refl (u.steps t);
-  beside = λ t. by_class (is_class p) refl (u.steps t);
-  glance_steps = λ g. absurd (true≢false (sym g));
-}
-  where
-    by_class : (b : Bool) → is_class p ≡ b → steps p ≡ steps r → steps (star p) ≡ steps (star r)
-    by_class true e same = star_class p e ∙ same ∙ sym (star_class r (sym u.class ∙ e))
-    by_class false e same = omega (arith, star_steps p e, star_steps r (sym u.class ∙ e), same)
+alike_star p r u =
+    let wide = star_same (spread p) (spread r) (spread_class p ∙ u.class ∙ sym (spread_class r)) u.apart in
+    record {
+      meaning = λ text i j. (
+        rounds_alike (Matches text p) (Matches text r) (λ x y. (u.meaning text x y).0) j i,
+        rounds_alike (Matches text r) (Matches text p) (λ x y. (u.meaning text x y).1) j i,
+      );
+      nothing = refl;
+      class = refl;
+      sees = refl;
+      told = u.told;
+      clean = u.clean;
+      steps = λ t. star_same p r u.class (u.steps t);
+      beside = λ t. star_same p r u.class (u.steps t);
+      glance_steps = λ g. absurd (true≢false (sym g));
+      apart = wide;
+      apart_beside = wide;
+    }
 
 pub alike_plus : (p r : Pattern) → Alike p r → Alike (plus p) (plus r)
-alike_plus p r u = record {
-  meaning = λ text i j. (
-    λ m. (m.0, (u.meaning text i m.0).0 m.1, rounds_alike (Matches text p) (Matches text r) (λ x y. (u.meaning text x y).0) j m.0 m.2),
-    λ m. (m.0, (u.meaning text i m.0).1 m.1, rounds_alike (Matches text r) (Matches text p) (λ x y. (u.meaning text x y).1) j m.0 m.2),
-  );
-  nothing = refl;
-  class = refl;
-  sees = refl;
-  told = u.told;
-  clean = u.clean;
-  steps = λ t. by_class (is_class p) refl (u.steps t);
-  beside = λ t. by_class (is_class p) refl (u.steps t);
-  glance_steps = λ g. absurd (true≢false (sym g));
-}
-  where
-    by_class : (b : Bool) → is_class p ≡ b → steps p ≡ steps r → steps (plus p) ≡ steps (plus r)
-    by_class true e same = plus_class p e ∙ same ∙ sym (plus_class r (sym u.class ∙ e))
-    by_class false e same = omega (arith, plus_steps p e, plus_steps r (sym u.class ∙ e), same)
+alike_plus p r u =
+    let wide = plus_same (spread p) (spread r) (spread_class p ∙ u.class ∙ sym (spread_class r)) u.apart in
+    record {
+      meaning = λ text i j. (
+        λ m. (m.0, (u.meaning text i m.0).0 m.1, rounds_alike (Matches text p) (Matches text r) (λ x y. (u.meaning text x y).0) j m.0 m.2),
+        λ m. (m.0, (u.meaning text i m.0).1 m.1, rounds_alike (Matches text r) (Matches text p) (λ x y. (u.meaning text x y).1) j m.0 m.2),
+      );
+      nothing = refl;
+      class = refl;
+      sees = refl;
+      told = u.told;
+      clean = u.clean;
+      steps = λ t. plus_same p r u.class (u.steps t);
+      beside = λ t. plus_same p r u.class (u.steps t);
+      glance_steps = λ g. absurd (true≢false (sym g));
+      apart = wide;
+      apart_beside = wide;
+    }
+
+-- what a lookaround looks for, with a mark beside it, takes three steps more
+pub spread_look : (n : Bool) (p : Pattern) → steps (lookbehind n (cat (class false false []) p)) ≡ steps p + 3
+spread_look n p =
+    let mark : steps (class false false []) ≡ 1 = refl in
+    omega (arith, behind_steps n (cat (class false false []) p), cat_steps (class false false []) p, mark)
 
 -- lookarounds
 pub alike_behind : (n : Bool) (p r : Pattern) → Alike p r → Alike (lookbehind n p) (lookbehind n r)
@@ -175,6 +237,8 @@ alike_behind n p r u = record {
   steps = λ t. omega (arith, behind_steps n p, behind_steps n r, u.steps t);
   beside = λ t. omega (arith, behind_steps n p, behind_steps n r, u.steps t);
   glance_steps = λ g. absurd (true≢false (sym g));
+  apart = omega (arith, spread_look n (spread p), spread_look n (spread r), u.apart);
+  apart_beside = omega (arith, spread_look n (spread p), spread_look n (spread r), u.apart);
 }
 
 pub alike_ahead : (n : Bool) (p r : Pattern) → Alike p r → Alike (lookahead n p) (lookahead n r)
@@ -187,10 +251,12 @@ alike_ahead n p r u = record {
   class = refl;
   sees = u.sees;
   told = u.sees;
-  clean = refl;
+  clean = u.clean;
   steps = λ t. omega (arith, ahead_steps n p, ahead_steps n r, u.glance_steps t);
   beside = λ t. omega (arith, ahead_steps n p, ahead_steps n r, u.glance_steps t);
   glance_steps = λ t. omega (arith, ahead_steps n p, ahead_steps n r, u.glance_steps t);
+  apart = omega (arith, spread_look n (spread p), spread_look n (spread r), u.apart);
+  apart_beside = omega (arith, spread_look n (spread p), spread_look n (spread r), u.apart);
 }
 
 -- what is repeated
@@ -198,7 +264,7 @@ alike_repeated : (n : ℕ) (p r : Pattern) → Alike p r → Alike (repeated n p
 alike_repeated zero p r u = alike_refl empty
 alike_repeated (suc n) p r u = alike_cat _ _ _ _ u (alike_repeated n p r u)
 
-alike_times : (t : Times) (p r : Pattern) → Alike p r → Alike (quantified_pattern t p) (quantified_pattern t r)
+pub alike_times : (t : Times) (p r : Pattern) → Alike p r → Alike (quantified_pattern t p) (quantified_pattern t r)
 alike_times any_times p r u = alike_star p r u
 alike_times some_times p r u = alike_plus p r u
 alike_times once_at_most p r u = alike_alt _ _ _ _ (alike_refl empty) u
@@ -250,7 +316,7 @@ module _ (text : List ℕ) where
   option_swaps q i j (m, inr b, a) = (m, b, inr a)
 
 -- a mirror is nothing where the pattern is
-mirror_nothing : (p : Pattern) → is_empty (mirror p) ≡ is_empty p
+pub mirror_nothing : (p : Pattern) → is_empty (mirror p) ≡ is_empty p
 mirror_nothing empty = refl
 mirror_nothing (class m n rs) = refl
 mirror_nothing (look l) = refl
@@ -265,6 +331,66 @@ mirror_nothing (plus p) = refl
 mirror_nothing (lookbehind n p) = refl
 mirror_nothing (lookahead n p) = refl
 
+-- it is a class where the pattern is
+pub mirror_class : (p : Pattern) → is_class (mirror p) ≡ is_class p
+mirror_class empty = refl
+mirror_class (class m n rs) = refl
+mirror_class (look l) = refl
+mirror_class (cat p q) = by_test (is_empty p || is_empty q)
+  where
+    by_test : (b : Bool) → is_class (if b then cat (mirror p) (mirror q) else cat (mirror q) (mirror p)) ≡ false
+    by_test true = refl
+    by_test false = refl
+mirror_class (alt p q) = refl
+mirror_class (star p) = refl
+mirror_class (plus p) = refl
+mirror_class (lookbehind n p) = refl
+mirror_class (lookahead n p) = refl
+
+-- and with a mark beside what lookarounds look for it takes as many steps, by itself and among alternatives
+abbrev TakesSame : Pattern → Pattern → Type 0
+TakesSame p q = (steps (spread p) ≡ steps (spread q)) × (steps_of (alternatives (spread p)) ≡ steps_of (alternatives (spread q)))
+
+mirror_spread : (p : Pattern) → TakesSame (mirror p) p
+mirror_spread empty = (refl, refl)
+mirror_spread (class m n rs) = (refl, refl)
+mirror_spread (look l) = (refl, refl)
+mirror_spread (cat p q) = by_test (is_empty p || is_empty q) (mirror_spread p).0 (mirror_spread q).0
+  where
+    -- by whether one of the two is nothing
+    by_test : (b : Bool) → steps (spread (mirror p)) ≡ steps (spread p) → steps (spread (mirror q)) ≡ steps (spread q)
+        → TakesSame (if b then cat (mirror p) (mirror q) else cat (mirror q) (mirror p)) (cat p q)
+    by_test true u w =
+        let same : steps (spread (cat (mirror p) (mirror q))) ≡ steps (spread (cat p q)) =
+        omega (arith, cat_steps (spread (mirror p)) (spread (mirror q)), cat_steps (spread p) (spread q), u, w) in
+        (same, same)
+    by_test false u w =
+        let same : steps (spread (cat (mirror q) (mirror p))) ≡ steps (spread (cat p q)) =
+        omega (arith, cat_steps (spread (mirror q)) (spread (mirror p)), cat_steps (spread p) (spread q), u, w) in
+        (same, same)
+mirror_spread (alt p q) = (
+  alt_same (spread (mirror p)) (spread (mirror q)) (spread p) (spread q) (spread_nothing (mirror p) ∙ mirror_nothing p ∙ sym (spread_nothing p))
+      (spread_class (mirror q) ∙ mirror_class q ∙ sym (spread_class q)) (mirror_spread p).1 (mirror_spread q).0,
+  omega (arith, beside_steps (spread (mirror p)) (spread (mirror q)), beside_steps (spread p) (spread q), (mirror_spread p).1, (mirror_spread q).0),
+)
+mirror_spread (star p) =
+    let same = star_same (spread (mirror p)) (spread p) (spread_class (mirror p) ∙ mirror_class p ∙ sym (spread_class p)) (mirror_spread p).0 in
+    (same, same)
+mirror_spread (plus p) =
+    let same = plus_same (spread (mirror p)) (spread p) (spread_class (mirror p) ∙ mirror_class p ∙ sym (spread_class p)) (mirror_spread p).0 in
+    (same, same)
+mirror_spread (lookbehind n p) =
+    let same : steps (spread (lookahead n (mirror p))) ≡ steps (spread (lookbehind n p)) =
+    omega (arith, spread_look n (spread (mirror p)), spread_look n (spread p), (mirror_spread p).0) in
+    (same, same)
+mirror_spread (lookahead n p) =
+    let same : steps (spread (lookbehind n (mirror p))) ≡ steps (spread (lookahead n p)) =
+    omega (arith, spread_look n (spread (mirror p)), spread_look n (spread p), (mirror_spread p).0) in
+    (same, same)
+
+pub mirror_steps : (p : Pattern) → steps (spread (mirror p)) ≡ steps (spread p)
+mirror_steps p = (mirror_spread p).0
+
 -- both of two are so in either order
 and_turned : (a b : Bool) → (a && b) ≡ (b && a)
 and_turned true true = refl
@@ -277,16 +403,20 @@ swapped : (q r : Pattern) → is_empty q ≡ false → is_empty r ≡ false → 
     → Alike (cat q r) (cat r q)
 swapped q r some other swap =
     let same : steps (cat q r) ≡ steps (cat r q) = omega (arith, cat_steps q r, cat_steps r q) in
+    let wide : steps (spread (cat q r)) ≡ steps (spread (cat r q)) =
+    omega (arith, cat_steps (spread q) (spread r), cat_steps (spread r) (spread q)) in
     record {
       meaning = λ text i j. ((swap text).0 i j, (swap text).1 i j);
       nothing = refl;
       class = refl;
       sees = ap (λ (b : Bool). b && is_glance r) some ∙ sym (ap (λ (b : Bool). b && is_glance q) other);
       told = and_turned (are_told q) (are_told r);
-      clean = and_turned (is_clean q) (is_clean r);
+      clean = and_turned (unmarked q) (unmarked r);
       steps = λ t. same;
       beside = λ t. same;
       glance_steps = λ g. absurd (true≢false (sym (and_left (is_empty r) _ g) ∙ other));
+      apart = wide;
+      apart_beside = wide;
     }
 
 -- such patterns, each like the mirror of another, are one behind the other like the mirror of both
@@ -309,7 +439,7 @@ repeated_mirror (suc n) p =
     ))
 
 -- and so it is with all that is repeated
-times_mirror : (t : Times) (p : Pattern) → Alike (quantified_pattern t (mirror p)) (mirror (quantified_pattern t p))
+pub times_mirror : (t : Times) (p : Pattern) → Alike (quantified_pattern t (mirror p)) (mirror (quantified_pattern t p))
 times_mirror any_times p = alike_refl _
 times_mirror some_times p = alike_refl _
 times_mirror once_at_most p = alike_refl _

@@ -9,9 +9,9 @@ use Rattle.strkw_pattern.specs.declared.engine.Outcome.TheVariants.{Match, NoMat
 use Rattle.strkw_ecma.specs.Names.{are_distinct}
 use Rattle.strkw_ecma.specs.Syntax.{Disjunction, names}
 use Rattle.strkw_ecma.specs.Syntax.{max_length}
-use Rattle.strkw_ecma.specs.machine.Reading.{read, read_short, read_pattern, tree_if, small_tree, told_tree}
+use Rattle.strkw_ecma.specs.machine.Reading.{read, read_short, read_pattern, tree_if, small_tree}
 use Rattle.strkw_ecma.specs.Lookahead.{is_apart}
-use Rattle.strkw_ecma.specs.Front.{parts, steps_of_parts, are_parts_told}
+use Rattle.strkw_ecma.specs.Front.{parts, steps_of_parts}
 use Rattle.strkw_ecma.specs.Size.{max_steps}
 use Rattle.strkw_ecma.specs.Meaning.{Found}
 use Rattle.strkw_ecma.specs.Tree.{Pattern}
@@ -24,18 +24,12 @@ use Rattle.strkw_ecma.proofs.Formed.{IsFormed, read_formed}
 use Rattle.strkw_ecma.proofs.FrontMeaning.{found_parts, parts_are_exact}
 use Rattle.strkw_ecma.proofs.Unmarked.{unmarked_pattern, parts_clean}
 
--- a tree whose lookaheads are told is that of a pattern, if it is one when told
-told_of : (source : List ℕ) (d : Disjunction) (b : Bool) → are_parts_told (parts (pattern d)) ≡ b
-    → (are_parts_told (parts (pattern d)) ≡ true → IsPattern source d) → IsTrue (is_some (tree_if b d)) → (d : Disjunction) × IsPattern source d
-told_of source d false e p h = absurd (true≢false (sym h))
-told_of source d true e p h = (d, p e)
-
--- and one that is not left out for its size either, if it is one when small too
+-- a tree that is not left out for its size is that of a pattern, if it is one when small
 small_of : (source : List ℕ) (d : Disjunction) (b : Bool) → nat_le (steps_of_parts (parts (pattern d))) max_steps ≡ b
-    → (steps_of_parts (parts (pattern d)) ≤ max_steps → are_parts_told (parts (pattern d)) ≡ true → IsPattern source d)
-    → IsTrue (is_some (told_tree (tree_if b d))) → (d : Disjunction) × IsPattern source d
+    → (steps_of_parts (parts (pattern d)) ≤ max_steps → IsPattern source d)
+    → IsTrue (is_some (tree_if b d)) → (d : Disjunction) × IsPattern source d
 small_of source d false e p h = absurd (true≢false (sym h))
-small_of source d true e p h = told_of source d (are_parts_told (parts (pattern d))) refl (p (leb-true (steps_of_parts (parts (pattern d))) max_steps e)) h
+small_of source d true e p h = (d, p (leb-true (steps_of_parts (parts (pattern d))) max_steps e))
 
 -- a tree is read only where no name is there twice
 distinct_of : (d : Disjunction) (b : Bool) → are_distinct (names d) ≡ b → is_some (tree_if b d) ≡ true → are_distinct (names d) ≡ true
@@ -45,31 +39,29 @@ distinct_of d true e h = e
 -- where the reader comes to a tree that is not left out, the text is a pattern
 derived_of : (source : List ℕ) (a b : Bool) (o : Option Disjunction) → is_apart source ≡ a → leb (length source) max_length ≡ b
     → read source ≡ o → IsSpelled o source → IsFormed o
-    → IsTrue (is_some (if a then told_tree (small_tree (if b then o else None)) else None)) → (d : Disjunction) × IsPattern source d
+    → IsTrue (is_some (if a then small_tree (if b then o else None) else None)) → (d : Disjunction) × IsPattern source d
 derived_of source false b o a e r s f h = absurd (true≢false (sym h))
 derived_of source true false o a e r s f h = absurd (true≢false (sym h))
 derived_of source true true None a e r s f h = absurd (true≢false (sym h))
 derived_of source true true (Some d) a e r s f h =
     small_of source d (nat_le (steps_of_parts (parts (pattern d))) max_steps) refl
-    (λ m t. record {
+    (λ m. record {
       formed = f;
       spelled = s;
       short = leb-true (length source) max_length e;
       apart = a;
       distinct = distinct_of d (are_distinct (names d)) refl (ap is_some (sym (complete d f) ∙ ap read s ∙ r));
       small = m;
-      told = t;
     }) h
 
 -- a pattern is read as its tree
 read_is : (source : List ℕ) (d : Disjunction) → IsPattern source d → read_pattern source ≡ Some d
 read_is source d p =
-    ap (λ (b : Bool). if b then told_tree (small_tree (read_short source)) else None) p.apart
-    ∙ ap (λ (b : Bool). told_tree (small_tree (if b then read source else None))) (le-leb (length source) max_length p.short)
-    ∙ ap (λ (z : List ℕ). told_tree (small_tree (read z))) (sym p.spelled) ∙ ap (λ o. told_tree (small_tree o)) (complete d p.formed)
-    ∙ ap (λ (b : Bool). told_tree (small_tree (tree_if b d))) p.distinct
-    ∙ ap (λ (b : Bool). told_tree (tree_if b d)) (le-leb (steps_of_parts (parts (pattern d))) max_steps p.small)
-    ∙ ap (λ (b : Bool). tree_if b d) p.told
+    ap (λ (b : Bool). if b then small_tree (read_short source) else None) p.apart
+    ∙ ap (λ (b : Bool). small_tree (if b then read source else None)) (le-leb (length source) max_length p.short)
+    ∙ ap (λ (z : List ℕ). small_tree (read z)) (sym p.spelled) ∙ ap small_tree (complete d p.formed)
+    ∙ ap (λ (b : Bool). small_tree (tree_if b d)) p.distinct
+    ∙ ap (λ (b : Bool). tree_if b d) (le-leb (steps_of_parts (parts (pattern d))) max_steps p.small)
 
 -- the tree that there is, or else the first one
 tree_or : Disjunction → Option Disjunction → Disjunction
@@ -120,7 +112,7 @@ exact source = record {
   meant = λ d p text.
       subst (λ (o : Option Disjunction). (outcome_of_read o text ≡ Match) ↔ Found (pattern d) text) (sym (read_is source d p))
       (both (match_of _)
-      (both (parts_are_exact text (parts (pattern d)) (parts_clean (pattern d) (unmarked_pattern d)) p.told)
+      (both (parts_are_exact text (parts (pattern d)) (parts_clean (pattern d) (unmarked_pattern d)))
       (back (found_parts text (pattern d)))));
 }
 

@@ -1,15 +1,34 @@
 -- What looks for parts, one after the other.
-use Rattle.std.proofs.Common.{◌≡◌, ◌<◌, List, [], ◌∷◌, ◌++◌, length, drop, slice_index_or, refl, sym, ap, arith}
-use Rattle.strkw_ecma.specs.machine.Engine.{finder_pass, finder_passes}
-use Rattle.strkw_ecma.specs.machine.Passes.{Pass}
+use Rattle.std.proofs.Common.{◌≡◌, ◌<◌, ℕ, Bool, true, false, ◌&&◌, List, [], ◌∷◌, ◌++◌, length, drop, slice_index_or, refl, sym, ap, ◌∙◌, arith}
+use Rattle.strkw_ecma.specs.Tree.{differ}
+use Rattle.strkw_ecma.specs.Mirror.{along}
+use Rattle.strkw_ecma.specs.machine.Engine.{is_found_by, are_found_by}
+use Rattle.strkw_ecma.specs.machine.Passes.{Pass, pass_of, are_passes_found}
+use Rattle.strkw_ecma.specs.machine.Search.{found_in}
+use Rattle.strkw_ecma.specs.machine.Shape.{outlined}
 use Rattle.strkw_ecma.specs.declared.finder.PartFinder.{PartFinder}
+use Rattle.strkw_ecma.specs.declared.passes.Pass.{Pass as CodePass}
 
 -- the first of what is left, and the others
 pub first_left : {A : Type 0} (items : List A) (f : A) → 0 < length items → f ≡ slice_index_or items 0 f → items ≡ f ∷ drop 1 items
 first_left [] f h e = absurd (omega (arith, h))
 first_left (x ∷ xs) f h e = ap (λ y. y ∷ xs) (sym e)
 
--- what finders look for, one behind another
-pub finder_append : (xs ys : List PartFinder) → finder_passes (xs ++ ys) ≡ finder_passes xs ++ finder_passes ys
-finder_append [] ys = refl
-finder_append (x ∷ xs) ys = ap (λ (l : List Pass). finder_pass x ∷ l) (finder_append xs ys)
+-- three answers hold together in either grouping
+and_grouped : (a b c : Bool) → ((a && b) && c) ≡ (a && (b && c))
+and_grouped true b c = refl
+and_grouped false b c = refl
+
+-- what one finder more finds stands before what the others are to find
+pub one_found : (fs : List PartFinder) (f : PartFinder) (x : CodePass) (rest : List Pass) (text : List ℕ) → f.negated ≡ x.negated
+    → is_found_by f.search text ≡ found_in (outlined x.pattern) (along x.is_backward text)
+    → (are_found_by (fs ++ (f ∷ [])) text && are_passes_found rest text) ≡ (are_found_by fs text && are_passes_found (pass_of x ∷ rest) text)
+one_found [] f x rest text e g =
+    and_grouped (differ f.negated (is_found_by f.search text)) true (are_passes_found rest text)
+    ∙ ap (λ (n : Bool). differ n (is_found_by f.search text) && are_passes_found rest text) e
+    ∙ ap (λ (b : Bool). differ x.negated b && are_passes_found rest text) g
+one_found (h ∷ fs) f x rest text e g =
+    let here = differ h.negated (is_found_by h.search text) in
+    and_grouped here (are_found_by (fs ++ (f ∷ [])) text) (are_passes_found rest text)
+    ∙ ap (λ (b : Bool). here && b) (one_found fs f x rest text e g)
+    ∙ sym (and_grouped here (are_found_by fs text) (are_passes_found (pass_of x ∷ rest) text))

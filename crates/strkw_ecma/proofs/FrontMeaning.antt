@@ -6,15 +6,14 @@ use Rattle.std.proofs.lemmas.Option.{slice_get-get_or}
 use Rattle.strkw_ecma.specs.Tree.{start, end, boundary, no_boundary, Pattern, empty, class, look, cat, alt, star, plus, lookbehind, lookahead, differ}
 use Rattle.strkw_ecma.specs.Meaning.{before, is_edge, Unless, Matches, Found}
 use Rattle.strkw_ecma.specs.Front.{Part, first_lead, lead, lead_behind, reads_nothing, is_far, is_apart_behind, part_of, fronts, rest, parts}
-use Rattle.strkw_ecma.specs.Front.{AreFound, are_parts_told}
-use Rattle.strkw_ecma.specs.Glances.{are_told}
-use Rattle.strkw_ecma.specs.machine.Marks.{is_clean}
+use Rattle.strkw_ecma.specs.Front.{AreFound}
+use Rattle.strkw_ecma.specs.machine.Marks.{unmarked}
 use Rattle.strkw_ecma.specs.Mirror.{sought, sought_in}
 use Rattle.strkw_ecma.specs.machine.Search.{search, are_parts_found, are_parts_clean}
 use Rattle.strkw_ecma.specs.declared.front.Lead.{Lead}
 use Rattle.strkw_ecma.specs.declared.front.Lead.TheVariants.{Nothing, Anchored, Past}
 use Rattle.strkw_ecma.proofs.Anchors.{told_unless}
-use Rattle.strkw_ecma.proofs.Answers.{search_is_exact}
+use Rattle.strkw_ecma.proofs.FoundIn.{found_in_right}
 use Rattle.strkw_ecma.proofs.Fronts.{rest_apart, rest_with, fronts_apart, fronts_with, far}
 use Rattle.strkw_ecma.proofs.Mirrors.{unless_same, found_sought}
 use Rattle.strkw_ecma.proofs.Search.{before_next}
@@ -361,15 +360,14 @@ module _ (text : List ℕ) where
   both_true true b A B e f = (λ h. (e.0 refl, f.0 h), λ h. f.1 h.1)
   both_true false b A B e f = (λ h. absurd (true≢false (sym h)), λ h. absurd (true≢false (sym (e.1 h.0))))
 
-  -- of parts without marks, whose lookaheads are told, the searches come to whether all are found, or are not
-  pub parts_are_exact : (xs : List Part) → are_parts_clean xs ≡ true → are_parts_told xs ≡ true → IsTrue (are_parts_found xs text) ↔ AreFound xs text
-  parts_are_exact [] c w = (λ h. tt, λ h. refl)
-  parts_are_exact (x ∷ xs) c w =
+  -- of parts without marks, the searches come to whether all are found, or are not
+  pub parts_are_exact : (xs : List Part) → are_parts_clean xs ≡ true → IsTrue (are_parts_found xs text) ↔ AreFound xs text
+  parts_are_exact [] c = (λ h. tt, λ h. refl)
+  parts_are_exact (x ∷ xs) c =
       both_true (differ x.negated (search x.pattern text)) (are_parts_found xs text) _ _
       (told_unless x.negated (search x.pattern text) (Found x.pattern text)
-      (both (search_is_exact (sought x.pattern) (sought_in x.pattern text) (and_left (is_clean (sought x.pattern)) _ c)
-      (and_left (are_told (sought x.pattern)) _ w)) (found_sought x.pattern text)))
-      (parts_are_exact xs (and_right (is_clean (sought x.pattern)) _ c) (and_right (are_told (sought x.pattern)) _ w))
+      (both (found_in_right (sought x.pattern) (sought_in x.pattern text) (and_left (unmarked (sought x.pattern)) _ c)) (found_sought x.pattern text)))
+      (parts_are_exact xs (and_right (unmarked (sought x.pattern)) _ c))
     where
       -- two equivalences, one behind the other, are one
       both : {A B C : Type 0} → A ↔ B → B ↔ C → A ↔ C

@@ -209,7 +209,7 @@ module _ (b a : Option ℕ) where
   step_classes (lookahead n p) x = refl
 
   -- a step is of the same pattern, with other marks
-  step_marked : (ms : List Bool) (p : Pattern) (x : Bool) → marked ms (step b a p x) ≡ marked ms p
+  pub step_marked : (ms : List Bool) (p : Pattern) (x : Bool) → marked ms (step b a p x) ≡ marked ms p
   step_marked ms empty x = refl
   step_marked ms (class m n rs) x = refl
   step_marked ms (look l) x = refl

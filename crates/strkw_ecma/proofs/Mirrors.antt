@@ -242,6 +242,14 @@ module _ (text : List ℕ) where
         ),
       )
 
+  -- and it matches from a place on exactly where its mirror matches up to that place, counted from the end
+  pub begins_turned : (p : Pattern) (i : ℕ) → i ≤ length text
+      → ((k : ℕ) × Matches (reverse text) (mirror p) k (length text - i)) ↔ ((k : ℕ) × Matches text p i k)
+  begins_turned p i h =
+      let both = turned text (reverse text) (length-reverse text) reversed_char p in
+      up_to (length text) (Matches (reverse text) (mirror p)) (Matches text p) (forwards (reverse text) (mirror p)) (stays text p) both.1 both.0
+      (length text - i) i (omega (arith, h))
+
 -- and what is looked for is found there exactly where the pattern is in the text
 pub found_sought : (p : Pattern) (text : List ℕ) → Found (sought p) (sought_in p text) ↔ Found p text
 found_sought p text = by_test (is_backward p)

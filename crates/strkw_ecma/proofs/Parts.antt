@@ -33,7 +33,7 @@ use Rattle.strkw_ecma.specs.Patterns.{pattern, alternative_pattern, term_pattern
 use Rattle.strkw_ecma.specs.Numbers.{number, number_of, max_count, CountToken, digit, comma, closing_brace, no_count, count_token}
 use Rattle.strkw_ecma.specs.Size.{steps, max_term_steps, max_steps}
 use Rattle.strkw_ecma.specs.Lookahead.{is_apart}
-use Rattle.strkw_ecma.specs.Front.{parts, steps_of_parts, are_parts_told}
+use Rattle.strkw_ecma.specs.Front.{parts, steps_of_parts}
 use Rattle.strkw_ecma.proofs.Digits.{number_push}
 use Rattle.strkw_ecma.proofs.CodeImages.{coding_image, coded_image, next_coding_image}
 use Rattle.strkw_ecma.specs.machine.Reading as reading
@@ -45,7 +45,7 @@ use Rattle.strkw_ecma.specs.machine.Reading.{with_quantifier, questioned, opened
 use Rattle.strkw_ecma.specs.machine.Reading.{closed_in, with_name_char, name_read, look_read}
 use Rattle.strkw_ecma.specs.machine.Reading.{on_naming, on_name_escape}
 use Rattle.strkw_ecma.specs.machine.Reading.{on_name_coding, on_token, on_escape, next, read_from, initial, read, read_short, read_pattern, tree_if}
-use Rattle.strkw_ecma.specs.machine.Reading.{small_tree, told_tree}
+use Rattle.strkw_ecma.specs.machine.Reading.{small_tree}
 use Rattle.strkw_ecma.specs.machine.Parts.{Side, Parts, after_count, after_low, after_high, after_high_brace, after_counting, small, value, ended, joined}
 use Rattle.strkw_ecma.specs.machine.Parts.{level_ended, new_level, after_atom}
 use Rattle.strkw_ecma.specs.machine.Parts.{after_term, after_bar, after_opening, after_enclosed}
@@ -53,7 +53,7 @@ use Rattle.strkw_ecma.specs.machine.Parts.{closing_in, after_name_char}
 use Rattle.strkw_ecma.specs.machine.Parts.{after_name, after_look, after_naming, after_name_escape, after_name_coding, closes, after_closing, after_quantifier}
 use Rattle.strkw_ecma.specs.machine.Parts.{after_question, after_escape, after_token, after_group, after_extension, after_class_token, after_class_escape}
 use Rattle.strkw_ecma.specs.machine.Parts.{after_coding, after_class_coding, after_property, after_class_property, after_bracket, after_in, after_char}
-use Rattle.strkw_ecma.specs.machine.Parts.{at_close, pattern_from, no_parts, pattern_if, small_pattern, told_pattern}
+use Rattle.strkw_ecma.specs.machine.Parts.{at_close, pattern_from, no_parts, pattern_if, small_pattern}
 
 -- a level with the patterns of its trees
 abbrev side : Level → Side
@@ -674,18 +674,13 @@ small_image : (o : Option Disjunction) → option_map pattern (small_tree o) ≡
 small_image None = refl
 small_image (Some d) = tree_image (nat_le (steps_of_parts (parts (pattern d))) max_steps) d
 
--- and exactly where each lookahead in its pattern is told
-told_image : (o : Option Disjunction) → option_map pattern (told_tree o) ≡ told_pattern (option_map pattern o)
-told_image None = refl
-told_image (Some d) = tree_image (are_parts_told (parts (pattern d))) d
-
--- where no digit stands behind `\0`, the pattern of the text is what is read, unless that is too large, or not told
-pub read_whole : (text : List ℕ) (o p q : Option Pattern) → true ≡ is_apart text → o ≡ option_map pattern (read_short text)
-    → p ≡ small_pattern o → q ≡ told_pattern p → q ≡ option_map pattern (read_pattern text)
-read_whole text o p q a e f g =
-    g ∙ ap told_pattern (f ∙ ap small_pattern e ∙ sym (small_image (read_short text))) ∙ sym (told_image (small_tree (read_short text)))
-    ∙ ap (λ (b : Bool). option_map pattern (if b then told_tree (small_tree (read_short text)) else None)) a
+-- where no digit stands behind `\0`, the pattern of the text is what is read, unless that is too large
+pub read_whole : (text : List ℕ) (o p : Option Pattern) → true ≡ is_apart text → o ≡ option_map pattern (read_short text)
+    → p ≡ small_pattern o → p ≡ option_map pattern (read_pattern text)
+read_whole text o p a e f =
+    f ∙ ap small_pattern e ∙ sym (small_image (read_short text))
+    ∙ ap (λ (b : Bool). option_map pattern (if b then small_tree (read_short text) else None)) a
 
 -- a text with a digit behind some `\0` has no pattern
 pub not_apart : (text : List ℕ) → false ≡ is_apart text → None ≡ option_map pattern (read_pattern text)
-not_apart text a = ap (λ (b : Bool). option_map pattern (if b then told_tree (small_tree (read_short text)) else None)) a
+not_apart text a = ap (λ (b : Bool). option_map pattern (if b then small_tree (read_short text) else None)) a

@@ -199,7 +199,7 @@ module _ (b a : Option ℕ) where
       let s = asked b a is ms in
       ap (λ (js : List Instruction). asked b a (plus_begin ∷ js) (marks_of p ++ ms)) (append_assoc (program p) (plus_end ∷ []) is)
       ∙ ap (back_over b a plus_begin (top (marks_of p ++ ms))) known
-      ∙ same_asked _ _ refl (ap (λ (y : Bool). s.goes_on || (s.ends && y)) (plus_leaves b a p false)) refl refl
+      ∙ same_asked _ _ refl (ap (λ (y : Bool). s.goes_on || (s.ends && y)) (plus_leaves (sees b a) b a p false)) refl refl
 
   -- of a pattern that stands alone, and of one that stands among alternatives
   -- what is known before its program is what `before` makes of what is known behind it

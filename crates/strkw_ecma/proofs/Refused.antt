@@ -19,16 +19,16 @@ use Rattle.strkw_ecma.specs.machine.Reading.{Open, Outer, Level, State, Last, no
 use Rattle.strkw_ecma.specs.machine.Reading.{extending, class_opened, counting, coding, in_class, class_escaping, class_coding, in_property, in_class_property}
 use Rattle.strkw_ecma.specs.machine.Reading.{naming, name_escaping, name_coding, initial, level_ended, joined, ended, with_mode, opened_within, opened}
 use Rattle.strkw_ecma.specs.machine.Reading.{with_count, when, longer, on_low, on_high, on_count, on_extension}
-use Rattle.strkw_ecma.specs.machine.Reading.{on_naming, next_in, read, read_short, small_tree, told_tree, tree_if}
+use Rattle.strkw_ecma.specs.machine.Reading.{on_naming, next_in, read, read_short, small_tree, tree_if}
 use Rattle.strkw_ecma.specs.Lookahead.{is_apart}
-use Rattle.strkw_ecma.specs.Front.{parts, steps_of_parts, are_parts_told}
+use Rattle.strkw_ecma.specs.Front.{parts, steps_of_parts}
 use Rattle.strkw_ecma.specs.machine.Outcomes.{takes_pattern}
 use Rattle.strkw_ecma.specs.Refusals.{IsBeginning, Has, HasTerm, HasTermWithin, is_reference, is_needlessly_escaped, is_unknown, IsReason}
 use Rattle.strkw_ecma.specs.machine.RefusalParts.{told_if, escape_refusal, one_deeper, extension_refusal, name_refusal, term_refusal, range_refusal}
 use Rattle.strkw_ecma.specs.machine.RefusalParts.{count_refusal}
 use Rattle.strkw_ecma.specs.machine.RefusalParts.{part_refusal, refusal_at}
 use Rattle.strkw_ecma.specs.declared.refusals.PatternRefusal.{PatternRefusal}
-use Rattle.strkw_ecma.specs.declared.refusals.PatternRefusal.TheVariants.{LookAhead, BackReference, IdentityEscape, Property, TooDeep, TooLarge}
+use Rattle.strkw_ecma.specs.declared.refusals.PatternRefusal.TheVariants.{BackReference, IdentityEscape, Property, TooDeep, TooLarge}
 use Rattle.strkw_ecma.specs.machine.Parts as parts
 use Rattle.strkw_ecma.specs.machine.Reading as reading
 use Rattle.strkw_ecma.specs.machine.Parts.{Parts, after_char}
@@ -367,40 +367,27 @@ module _ (text : List ℕ) (k next c : ℕ) (within : k < length text) (is : c �
       (next_formed s.outer s.level s.last stands.2.0 stands.2.1 stands.2.2 s.mode c stands.2.3)
       (next_read s.outer s.level s.last s.mode c)
 
--- where all is read that may be, and the pattern is not taken, it is too large, or has a lookahead that is not told
--- where it is told, it is left out for its size
-left_out : (b : Bool) (d : Disjunction) → are_parts_told (parts (pattern d)) ≡ true → is_some (told_tree (tree_if b d)) ≡ false → b ≡ false
-left_out false d told refused = refl
-left_out true d told refused = absurd (true≢false (sym (ap (λ (b : Bool). is_some (tree_if b d)) told) ∙ refused))
+-- where all is read that may be, and the pattern is not taken, it is too large
+-- a tree that is left out is so for its size
+left_out : (b : Bool) (d : Disjunction) → is_some (tree_if b d) ≡ false → b ≡ false
+left_out false d refused = refl
+left_out true d refused = absurd (true≢false refused)
 
--- a well-formed tree of a text whose lookaheads are told, and that is left out, makes `TooLarge` a reason
+-- a well-formed tree of a text that is left out makes `TooLarge` a reason
 large_of : (text : List ℕ) (o : Option Disjunction) (p : Pattern) → IsSpelled o text → IsFormed o → Some p ≡ option_map pattern o
-    → are_parts_told (parts p) ≡ true → is_some (told_tree (small_tree o)) ≡ false → IsReason text TooLarge
-large_of text None p w f some told refused = absurd (not_some p some)
-large_of text (Some d) p w f some told refused =
-    let all_told : are_parts_told (parts (pattern d)) ≡ true = ap (λ q. are_parts_told (parts q)) (sym (same_pattern p (pattern d) some)) ∙ told in
-    (d, f, w, leb-false _ _ (left_out (nat_le (steps_of_parts (parts (pattern d))) max_steps) d all_told refused))
-
--- one whose lookaheads are not told makes `LookAhead` one
-ahead_of : (text : List ℕ) (o : Option Disjunction) (p : Pattern) → IsSpelled o text → IsFormed o → Some p ≡ option_map pattern o
-    → are_parts_told (parts p) ≡ false → IsReason text LookAhead
-ahead_of text None p w f some told = absurd (not_some p some)
-ahead_of text (Some d) p w f some told = (d, f, w, ap (λ q. are_parts_told (parts q)) (sym (same_pattern p (pattern d) some)) ∙ told)
+    → is_some (small_tree o) ≡ false → IsReason text TooLarge
+large_of text None p w f some refused = absurd (not_some p some)
+large_of text (Some d) p w f some refused =
+    (d, f, w, leb-false _ _ (left_out (nat_le (steps_of_parts (parts (pattern d))) max_steps) d refused))
 
 -- a text that is short is read as it is
 all_read : (text : List ℕ) → length text ≤ max_length → read_short text ≡ read text
 all_read text short = ap (λ (b : Bool). if b then read text else None) (le-leb (length text) max_length short)
 
--- a text that is short, apart and read as a tree, and is not taken, is too large where its lookaheads are told
+-- a text that is short, apart and read as a tree, and is not taken, is too large
 pub too_large : (text : List ℕ) (p : Pattern) → length text ≤ max_length → Some p ≡ option_map pattern (read_short text) → is_apart text ≡ true
-    → are_parts_told (parts p) ≡ true → takes_pattern text ≡ false → IsReason text TooLarge
-too_large text p short some apart told refused =
-    large_of text (read text) p (sound text) (read_formed text) (some ∙ ap (option_map pattern) (all_read text short)) told
-    (ap (λ o. is_some (told_tree (small_tree o))) (sym (all_read text short))
-    ∙ ap (λ (b : Bool). is_some (if b then told_tree (small_tree (read_short text)) else None)) (sym apart) ∙ refused)
-
--- and else has one that is not told
-pub looks_ahead_far : (text : List ℕ) (p : Pattern) → length text ≤ max_length → Some p ≡ option_map pattern (read_short text)
-    → are_parts_told (parts p) ≡ false → IsReason text LookAhead
-looks_ahead_far text p short some told =
-    ahead_of text (read text) p (sound text) (read_formed text) (some ∙ ap (option_map pattern) (all_read text short)) told
+    → takes_pattern text ≡ false → IsReason text TooLarge
+too_large text p short some apart refused =
+    large_of text (read text) p (sound text) (read_formed text) (some ∙ ap (option_map pattern) (all_read text short))
+    (ap (λ o. is_some (small_tree o)) (sym (all_read text short))
+    ∙ ap (λ (b : Bool). is_some (if b then small_tree (read_short text) else None)) (sym apart) ∙ refused)

@@ -114,7 +114,7 @@ repeated_glance (FromTo n m) p h = no_glance (m - n) (alt empty p)
 
 -- what is repeated, where there is no copy of it
 -- as many copies as none are no number with one more
-no_copy : (n : ℕ) → (suc n == 0) ≡ true → ⊥
+pub no_copy : (n : ℕ) → (suc n == 0) ≡ true → ⊥
 no_copy n h = let some : (suc n == 0) ≡ false = grind (arith, nat_tests) in true≢false (sym h ∙ some)
 
 -- its lookaheads are told

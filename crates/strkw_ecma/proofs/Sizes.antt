@@ -1,11 +1,12 @@
 -- What is counted up to a limit of the parts is what is so counted of the whole.
-use Rattle.std.proofs.Common.{◌≡◌, ℕ, zero, suc, ◌+◌, ◌*◌, ◌≤◌, nat_le, Bool, true, false, ◌&&◌, List, [], ◌∷◌, ◌++◌, refl, sym, ap, ◌∙◌, true≢false, arith}
+use Rattle.std.proofs.Common.{◌≡◌, ℕ, zero, suc, ◌+◌, ◌*◌, ◌≤◌, nat_le, Bool, true, false, ◌&&◌, List, [], ◌∷◌, ◌++◌, if◌then◌else◌, refl, sym, ap, ◌∙◌, true≢false, arith}
 use Rattle.std.proofs.lemmas.Bool.{leb-true, leb-false}
 use Rattle.std.proofs.lemmas.Bool.Decides.{nat_tests}
 use Rattle.strkw_ecma.specs.Tree.{Pattern, empty, cat, alt, star, plus, lookbehind, lookahead}
 use Rattle.strkw_ecma.specs.Patterns.{repeated}
 use Rattle.strkw_ecma.specs.Program.{Instruction, other, join, star_end, plus_end, look_end, is_class, is_empty, glance, program, alternatives}
-use Rattle.strkw_ecma.specs.Size.{steps_of, steps, max_steps, max_term_steps}
+use Rattle.strkw_ecma.specs.Size.{steps_of, steps, spread, search_steps, max_steps, max_term_steps}
+use Rattle.strkw_ecma.specs.Glances.{are_told}
 use Rattle.strkw_ecma.specs.machine.Sizes.{capped}
 use Rattle.strkw_ecma.proofs.Programs.{by_class, by_option}
 
@@ -135,3 +136,11 @@ glance_alt_steps p q = omega (arith, more_steps (glance p) (other ∷ (glance q 
 -- a glance of what may be missing takes three more than one of it
 pub glance_option_steps : (p : Pattern) → steps_of (glance (alt empty p)) ≡ steps_of (glance p) + 3
 glance_option_steps p = omega (arith, glance_alt_steps empty p)
+
+-- what has its lookaheads told takes the steps of its program
+pub told_steps : (p : Pattern) → are_told p ≡ true → search_steps p ≡ steps p
+told_steps p h = ap (λ (b : Bool). if b then steps p else steps (spread p)) h
+
+-- and else those of one with a mark beside what each lookaround looks for
+pub far_steps : (p : Pattern) → are_told p ≡ false → search_steps p ≡ steps (spread p)
+far_steps p h = ap (λ (b : Bool). if b then steps p else steps (spread p)) h

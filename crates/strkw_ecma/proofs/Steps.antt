@@ -4,26 +4,28 @@ use Rattle.std.proofs.Common.{inr, ⊎_elim, true≢false, arith}
 use Rattle.strkw_ecma.specs.declared.tree.CharSet.{CharSet}
 use Rattle.strkw_ecma.specs.Tree.{Pattern, empty, class, look, cat, alt, star, plus, lookbehind, lookahead, differ, is_member}
 use Rattle.strkw_ecma.specs.Meaning.{Rounds, no_round, a_round, before, Unless, Matches}
-use Rattle.strkw_ecma.specs.machine.Marks.{reads, sees, leaves, step, Rest}
+use Rattle.strkw_ecma.specs.machine.Marks.{reads, leaves_by, step_by, Rest}
 
 -- marks mean nothing for what a pattern matches
-pub same_meaning : (text : List ℕ) (b a : Option ℕ) (p : Pattern) (x : Bool) → Matches text (step b a p x) ≡ Matches text p
-same_meaning text b a empty x = refl
-same_meaning text b a (class m n rs) x = refl
-same_meaning text b a (look l) x = refl
-same_meaning text b a (cat p q) x =
-    ap (λ (R : ℕ → ℕ → Type 0). λ (i j : ℕ). (l : ℕ) × R i l × Matches text (step b a q (leaves b a p x)) l j) (same_meaning text b a p x)
-    ∙ ap (λ (R : ℕ → ℕ → Type 0). λ (i j : ℕ). (l : ℕ) × Matches text p i l × R l j) (same_meaning text b a q (leaves b a p x))
-same_meaning text b a (alt p q) x =
-    ap (λ (R : ℕ → ℕ → Type 0). λ (i j : ℕ). R i j ⊎ Matches text (step b a q x) i j) (same_meaning text b a p x)
-    ∙ ap (λ (R : ℕ → ℕ → Type 0). λ (i j : ℕ). Matches text p i j ⊎ R i j) (same_meaning text b a q x)
-same_meaning text b a (star p) x =
-    ap (λ (R : ℕ → ℕ → Type 0). λ (i j : ℕ). Rounds R j i) (same_meaning text b a p (x || leaves b a p false))
-same_meaning text b a (plus p) x =
-    ap (λ (R : ℕ → ℕ → Type 0). λ (i j : ℕ). (l : ℕ) × R i l × Rounds R j l) (same_meaning text b a p (x || leaves b a p false))
-same_meaning text b a (lookbehind n p) x =
-    ap (λ (R : ℕ → ℕ → Type 0). λ (i j : ℕ). Unless n ((k : ℕ) × R k i) × (i ≡ j)) (same_meaning text b a p true)
-same_meaning text b a (lookahead n p) x = refl
+pub same_meaning : (see : Pattern → Bool) (text : List ℕ) (b a : Option ℕ) (p : Pattern) (x : Bool)
+    → Matches text (step_by see b a p x) ≡ Matches text p
+same_meaning see text b a empty x = refl
+same_meaning see text b a (class m n rs) x = refl
+same_meaning see text b a (look l) x = refl
+same_meaning see text b a (cat p q) x =
+    ap (λ (R : ℕ → ℕ → Type 0). λ (i j : ℕ). (l : ℕ) × R i l × Matches text (step_by see b a q (leaves_by see b a p x)) l j)
+    (same_meaning see text b a p x)
+    ∙ ap (λ (R : ℕ → ℕ → Type 0). λ (i j : ℕ). (l : ℕ) × Matches text p i l × R l j) (same_meaning see text b a q (leaves_by see b a p x))
+same_meaning see text b a (alt p q) x =
+    ap (λ (R : ℕ → ℕ → Type 0). λ (i j : ℕ). R i j ⊎ Matches text (step_by see b a q x) i j) (same_meaning see text b a p x)
+    ∙ ap (λ (R : ℕ → ℕ → Type 0). λ (i j : ℕ). Matches text p i j ⊎ R i j) (same_meaning see text b a q x)
+same_meaning see text b a (star p) x =
+    ap (λ (R : ℕ → ℕ → Type 0). λ (i j : ℕ). Rounds R j i) (same_meaning see text b a p (x || leaves_by see b a p false))
+same_meaning see text b a (plus p) x =
+    ap (λ (R : ℕ → ℕ → Type 0). λ (i j : ℕ). (l : ℕ) × R i l × Rounds R j l) (same_meaning see text b a p (x || leaves_by see b a p false))
+same_meaning see text b a (lookbehind n p) x =
+    ap (λ (R : ℕ → ℕ → Type 0). λ (i j : ℕ). Unless n ((k : ℕ) × R k i) × (i ≡ j)) (same_meaning see text b a p true)
+same_meaning see text b a (lookahead n p) x = refl
 
 -- rounds of what never ends before it begins do not either
 pub rounds_forwards : (R : ℕ → ℕ → Type 0) → ((i j : ℕ) → R i j → i ≤ j) → (j i : ℕ) → Rounds R j i → i ≤ j
@@ -102,49 +104,45 @@ same_bool false true f g = g refl
 same_bool false false f g = refl
 
 -- what enters more leaves more, and a way that has ended once in a plus may end there again
-module _ (b a : Option ℕ) where
+module _ (see : Pattern → Bool) (b a : Option ℕ) where
   -- a pattern that is left is left too with more entering
-  more_leaves : (p : Pattern) (x y : Bool) → (x ≡ true → y ≡ true) → leaves b a p x ≡ true → leaves b a p y ≡ true
+  more_leaves : (p : Pattern) (x y : Bool) → (x ≡ true → y ≡ true) → leaves_by see b a p x ≡ true → leaves_by see b a p y ≡ true
   more_leaves empty x y f h = f h
   more_leaves (class m n rs) x y f h = h
   more_leaves (look l) x y f h = and_true _ _ (f (and_left x _ h)) (and_right x _ h)
-  more_leaves (cat p q) x y f h = more_leaves q (leaves b a p x) (leaves b a p y) (more_leaves p x y f) h
+  more_leaves (cat p q) x y f h = more_leaves q (leaves_by see b a p x) (leaves_by see b a p y) (more_leaves p x y f) h
   more_leaves (alt p q) x y f h =
       ⊎_elim (λ one. or_left _ _ (more_leaves p x y f one)) (λ other. or_right _ _ (more_leaves q x y f other))
-      (or_case (leaves b a p x) (leaves b a q x) h)
-  more_leaves (star p) x y f h = ⊎_elim (λ one. or_left _ _ (f one)) (λ other. or_right y _ other) (or_case x (leaves b a p false) h)
+      (or_case (leaves_by see b a p x) (leaves_by see b a q x) h)
+  more_leaves (star p) x y f h = ⊎_elim (λ one. or_left _ _ (f one)) (λ other. or_right y _ other) (or_case x (leaves_by see b a p false) h)
   more_leaves (plus p) x y f h =
-      more_leaves p (x || leaves b a p false) (y || leaves b a p false)
-      (λ e. ⊎_elim (λ one. or_left _ _ (f one)) (λ other. or_right y _ other) (or_case x (leaves b a p false) e)) h
+      more_leaves p (x || leaves_by see b a p false) (y || leaves_by see b a p false)
+      (λ e. ⊎_elim (λ one. or_left _ _ (f one)) (λ other. or_right y _ other) (or_case x (leaves_by see b a p false) e)) h
   more_leaves (lookbehind n p) x y f h = and_true _ _ (f (and_left x _ h)) (and_right x _ h)
   more_leaves (lookahead n p) x y f h = and_true _ _ (f (and_left x _ h)) (and_right x _ h)
 
   -- a pattern is left after what left it enters again only where it was left before
-  once_more : (p : Pattern) (z : Bool) → leaves b a p false ≡ z → leaves b a p z ≡ true → leaves b a p false ≡ true
+  once_more : (p : Pattern) (z : Bool) → leaves_by see b a p false ≡ z → leaves_by see b a p z ≡ true → leaves_by see b a p false ≡ true
   once_more p true e h = e
   once_more p false e h = h
 
   -- where it is left with x and what left it entering, it is left with x alone
-  no_more : (p : Pattern) (x : Bool) → leaves b a p (x || leaves b a p false) ≡ true → leaves b a p x ≡ true
+  no_more : (p : Pattern) (x : Bool) → leaves_by see b a p (x || leaves_by see b a p false) ≡ true → leaves_by see b a p x ≡ true
   no_more p true h = h
-  no_more p false h = once_more p (leaves b a p false) refl h
+  no_more p false h = once_more p (leaves_by see b a p false) refl h
 
   -- it is left alike with x entering alone and with x and what left it
-  pub plus_leaves : (p : Pattern) (x : Bool) → leaves b a p x ≡ leaves b a p (x || leaves b a p false)
-  plus_leaves p x = same_bool _ _ (more_leaves p x (x || leaves b a p false) (or_left x _)) (no_more p x)
+  pub plus_leaves : (p : Pattern) (x : Bool) → leaves_by see b a p x ≡ leaves_by see b a p (x || leaves_by see b a p false)
+  plus_leaves p x = same_bool _ _ (more_leaves p x (x || leaves_by see b a p false) (or_left x _)) (no_more p x)
 
-module _ (text : List ℕ) (i : ℕ) where
+module _ (see : Pattern → Bool) (text : List ℕ) (i : ℕ) where
   -- the marks after the character at i, and whether a way ends here
   abbrev pub left : Pattern → Bool → Bool
-  left = leaves (before text i) (slice_get text i)
+  left = leaves_by see (before text i) (slice_get text i)
 
   -- the pattern with the marks after that character
   abbrev pub stepped : Pattern → Bool → Pattern
-  stepped = step (before text i) (slice_get text i)
-
-  -- whether a pattern that the next character tells matches from here on
-  abbrev pub seen_from : Pattern → Bool
-  seen_from = sees (before text i) (slice_get text i)
+  stepped = step_by see (before text i) (slice_get text i)
 
   -- each lookbehind and lookahead in the pattern says here what is so
   abbrev pub Says : Pattern → Type 0
@@ -156,7 +154,7 @@ module _ (text : List ℕ) (i : ℕ) where
   Says (star p) = Says p
   Says (plus p) = Says p
   Says (lookbehind n p) = Says p × ((left p true ≡ true) ↔ ((k : ℕ) × Matches text p k i))
-  Says (lookahead n p) = (seen_from p ≡ true) ↔ ((k : ℕ) × Matches text p i k)
+  Says (lookahead n p) = (see p ≡ true) ↔ ((k : ℕ) × Matches text p i k)
 
   -- the ways through the pattern that end at j: from a mark, or from here where x holds
   abbrev pub Goes : Pattern → Bool → ℕ → Type 0
@@ -168,19 +166,19 @@ module _ (text : List ℕ) (i : ℕ) where
 
   -- what the pattern after a step matches is what it matches
   to_stepped : (q : Pattern) (y : Bool) (l j : ℕ) → Matches text q l j → Matches text (stepped q y) l j
-  to_stepped q y l j m = subst (λ (R : ℕ → ℕ → Type 0). R l j) (sym (same_meaning text (before text i) (slice_get text i) q y)) m
+  to_stepped q y l j m = subst (λ (R : ℕ → ℕ → Type 0). R l j) (sym (same_meaning see text (before text i) (slice_get text i) q y)) m
 
   -- and back
   from_stepped : (q : Pattern) (y : Bool) (l j : ℕ) → Matches text (stepped q y) l j → Matches text q l j
-  from_stepped q y l j m = subst (λ (R : ℕ → ℕ → Type 0). R l j) (same_meaning text (before text i) (slice_get text i) q y) m
+  from_stepped q y l j m = subst (λ (R : ℕ → ℕ → Type 0). R l j) (same_meaning see text (before text i) (slice_get text i) q y) m
 
   -- the same of rounds of it
   rounds_to_stepped : (q : Pattern) (y : Bool) (l j : ℕ) → Rounds (Matches text q) j l → Rounds (Matches text (stepped q y)) j l
-  rounds_to_stepped q y l j m = subst (λ (R : ℕ → ℕ → Type 0). Rounds R j l) (sym (same_meaning text (before text i) (slice_get text i) q y)) m
+  rounds_to_stepped q y l j m = subst (λ (R : ℕ → ℕ → Type 0). Rounds R j l) (sym (same_meaning see text (before text i) (slice_get text i) q y)) m
 
   -- and back
   rounds_from_stepped : (q : Pattern) (y : Bool) (l j : ℕ) → Rounds (Matches text (stepped q y)) j l → Rounds (Matches text q) j l
-  rounds_from_stepped q y l j m = subst (λ (R : ℕ → ℕ → Type 0). Rounds R j l) (same_meaning text (before text i) (slice_get text i) q y) m
+  rounds_from_stepped q y l j m = subst (λ (R : ℕ → ℕ → Type 0). Rounds R j l) (same_meaning see text (before text i) (slice_get text i) q y) m
 
   -- a class that enters and reads the character here
   class_went : (n : Bool) (rs : List CharSet) (x : Bool) (c : ℕ) (j : ℕ) → x ≡ true → slice_get text i ≡ Some c → is_member n rs c ≡ true → j ≡ i + 1

@@ -1,5 +1,5 @@
 -- What the code looks for of a pattern comes to what is defined for its parts.
-use Rattle.std.proofs.Common.{◌≡◌, ◌↔◌, ℕ, ◌+◌, ◌<◌, ◌≤◌, nat_le, Bool, true, false, not, ◌&&◌, List, [], ◌∷◌, ◌++◌, length, Vec, Global, Option, Some, None}
+use Rattle.std.proofs.Common.{◌≡◌, ◌↔◌, ℕ, ◌+◌, ◌<◌, ◌≤◌, nat_le, Bool, true, false, not, ◌&&◌, ◌||◌, List, [], ◌∷◌, ◌++◌, length, Vec, Global, Option, Some, None}
 use Rattle.std.proofs.Common.{is_some}
 use Rattle.std.proofs.Common.{option_map, refl, sym, ap, subst, ◌∙◌, arith, le-leb}
 use Rattle.std.proofs.lemmas.Bool.{lt-leb}
@@ -8,45 +8,52 @@ use Rattle.strkw_pattern.specs.Matcher.{outcome_of}
 use Rattle.strkw_ecma.specs.Tree.{Pattern, differ}
 use Rattle.strkw_ecma.specs.Meaning.{Found}
 use Rattle.strkw_ecma.specs.Glances.{are_told}
-use Rattle.strkw_ecma.specs.Size.{steps, max_steps}
+use Rattle.strkw_ecma.specs.Size.{steps, search_steps, max_steps}
 use Rattle.strkw_ecma.specs.Syntax.{Disjunction}
 use Rattle.strkw_ecma.specs.Patterns.{pattern}
-use Rattle.strkw_ecma.specs.Mirror.{mirror, facing, along, sought, sought_in}
-use Rattle.strkw_ecma.specs.Front.{Part, parts, steps_of_parts, are_parts_told}
+use Rattle.strkw_ecma.specs.Mirror.{mirror, facing, along, is_backward, sought, sought_in}
+use Rattle.strkw_ecma.specs.Front.{Part, parts, steps_of_parts}
 use Rattle.strkw_ecma.specs.machine.Fronts.{parts_view}
-use Rattle.strkw_ecma.specs.machine.Marks.{is_clean}
+use Rattle.strkw_ecma.specs.machine.Marks.{unmarked}
 use Rattle.strkw_ecma.specs.machine.Sizes.{capped}
-use Rattle.strkw_ecma.specs.machine.Parts.{small_pattern, told_pattern, pattern_if}
-use Rattle.strkw_ecma.specs.machine.Search.{search_from, search, are_parts_found, are_parts_clean}
+use Rattle.strkw_ecma.specs.machine.Parts.{small_pattern, pattern_if}
+use Rattle.strkw_ecma.specs.machine.Search.{found_in, search, are_parts_found, are_parts_clean}
 use Rattle.strkw_ecma.specs.machine.Outcomes.{outcome_of_read}
-use Rattle.strkw_ecma.specs.machine.Engine.{finder_passes, engine_outcome}
-use Rattle.strkw_ecma.specs.machine.Passes.{Alike, Pass, IsPass, ArePasses, ComesTo, are_passes_found, are_passes_clean, are_passes_told, steps_of_passes}
+use Rattle.strkw_ecma.specs.machine.Engine.{are_found_by, engine_outcome}
+use Rattle.strkw_ecma.specs.machine.Passes.{Alike, Pass, IsPass, ArePasses, ComesTo, are_passes_found, are_passes_clean, are_passes_faced, steps_of_passes}
 use Rattle.strkw_ecma.specs.machine.Passes.{pass_of, passes_of}
 use Rattle.strkw_ecma.specs.declared.engine.EcmaMatcher.{EcmaMatcher}
 use Rattle.strkw_ecma.specs.declared.front.Front.{Front}
 use Rattle.strkw_ecma.specs.declared.passes.Pass.{Pass as CodePass}
-use Rattle.strkw_ecma.proofs.Answers.{search_is_exact, same_answer}
+use Rattle.strkw_ecma.proofs.Answers.{same_answer}
+use Rattle.strkw_ecma.proofs.FoundIn.{found_in_right}
 use Rattle.strkw_ecma.proofs.Counterparts.{alike_refl}
-use Rattle.strkw_ecma.proofs.Steps.{and_left, and_right}
+use Rattle.strkw_ecma.proofs.Sizes.{told_steps}
+use Rattle.strkw_ecma.proofs.Steps.{and_true, and_left, and_right}
 use Rattle.strkw_ecma.proofs.Unmarked.{unmarked_pattern, parts_clean}
 
--- a pattern whose lookaheads are told is looked for along the text
-pub forth_pass : (n : Bool) (p : Pattern) → are_told p ≡ true
+-- a pattern that is no better told from the end of a text on is looked for along it
+pub forth_pass : (n : Bool) (p : Pattern) → is_backward p ≡ false
     → IsPass record { negated = n; backward = false; pattern = p } record { negated = n; pattern = p }
-forth_pass n p told = record {
+forth_pass n p along_it = record {
   negated = refl;
-  backward = sym (ap not told);
-  alike = subst (λ (b : Bool). Alike p (facing b p)) (sym (ap not told)) (alike_refl p);
+  backward = sym along_it;
+  alike = subst (λ (b : Bool). Alike p (facing b p)) (sym along_it) (alike_refl p);
+  steps = subst (λ (b : Bool). search_steps p ≡ search_steps (facing b p)) (sym along_it) refl;
 }
 
 -- and any other from its end on
-pub back_pass : (n : Bool) (p q : Pattern) → are_told p ≡ false → Alike q (mirror p)
+pub back_pass : (n : Bool) (p q : Pattern) → is_backward p ≡ true → Alike q (mirror p)
     → IsPass record { negated = n; backward = true; pattern = q } record { negated = n; pattern = p }
-back_pass n p q told u = record {
-  negated = refl;
-  backward = sym (ap not told);
-  alike = subst (λ (b : Bool). Alike q (facing b p)) (sym (ap not told)) u;
-}
+back_pass n p q turned u =
+    let told : are_told (mirror p) ≡ true = and_right (not (are_told p)) _ turned in
+    record {
+      negated = refl;
+      backward = sym turned;
+      alike = subst (λ (b : Bool). Alike q (facing b p)) (sym turned) u;
+      steps = subst (λ (b : Bool). search_steps q ≡ search_steps (facing b p)) (sym turned)
+          (told_steps q (u.told ∙ told) ∙ u.steps told ∙ sym (told_steps (mirror p) told));
+    }
 
 -- passes one behind another
 pub passes_append : (ps qs : List CodePass) → passes_of (ps ++ qs) ≡ passes_of ps ++ passes_of qs
@@ -69,13 +76,6 @@ none_left (f ∷ fs) e = absurd (omega (arith, e))
 both_same : (a b c d : Bool) → a ≡ c → b ≡ d → (a && b) ≡ (c && d)
 both_same a b c d e f = ap (λ (x : Bool). x && b) e ∙ ap (λ (x : Bool). c && x) f
 
--- their lookaheads are told where those of the parts are
-pub told_same : (xs : List Pass) (us : List Part) → ArePasses xs us → are_passes_told xs ≡ are_parts_told us
-told_same [] [] u = refl
-told_same [] (a ∷ us) u = absurd u
-told_same (x ∷ xs) [] u = absurd u
-told_same (x ∷ xs) (a ∷ us) u = both_same _ _ _ _ u.0.alike.told (told_same xs us u.1)
-
 -- they have no marks where those have none
 clean_same : (xs : List Pass) (us : List Part) → ArePasses xs us → are_passes_clean xs ≡ are_parts_clean us
 clean_same [] [] u = refl
@@ -83,13 +83,30 @@ clean_same [] (a ∷ us) u = absurd u
 clean_same (x ∷ xs) [] u = absurd u
 clean_same (x ∷ xs) (a ∷ us) u = both_same _ _ _ _ u.0.alike.clean (clean_same xs us u.1)
 
--- and where they are told, they take us many steps
-steps_same : (xs : List Pass) (us : List Part) → ArePasses xs us → are_parts_told us ≡ true → steps_of_passes xs ≡ steps_of_parts us
-steps_same [] [] u t = refl
-steps_same [] (a ∷ us) u t = absurd u
-steps_same (x ∷ xs) [] u t = absurd u
-steps_same (x ∷ xs) (a ∷ us) u t =
-    omega (arith, u.0.alike.steps (and_left _ _ t), steps_same xs us u.1 (and_right (are_told (sought a.pattern)) _ t))
+-- one is looked for from the end only where its lookaheads are told from there
+one_faced : (p q : Pattern) (b : Bool) → b ≡ is_backward p → are_told q ≡ are_told (sought p) → (not b || are_told q) ≡ true
+one_faced p q b way told = by_test (is_backward p) refl
+  where
+    -- by whether it is
+    by_test : (c : Bool) → is_backward p ≡ c → (not b || are_told q) ≡ true
+    by_test false e = ap (λ (x : Bool). not x || are_told q) (way ∙ e)
+    by_test true e =
+        ap (λ (x : Bool). not x || are_told q) (way ∙ e) ∙ told ∙ ap (λ (x : Bool). are_told (facing x p)) e
+        ∙ and_right (not (are_told p)) _ e
+
+all_faced : (xs : List Pass) (us : List Part) → ArePasses xs us → are_passes_faced xs ≡ true
+all_faced [] [] u = refl
+all_faced [] (a ∷ us) u = absurd u
+all_faced (x ∷ xs) [] u = absurd u
+all_faced (x ∷ xs) (a ∷ us) u =
+    and_true _ _ (one_faced a.pattern x.pattern x.backward u.0.backward u.0.alike.told) (all_faced xs us u.1)
+
+-- and they take as many steps
+steps_same : (xs : List Pass) (us : List Part) → ArePasses xs us → steps_of_passes xs ≡ steps_of_parts us
+steps_same [] [] u = refl
+steps_same [] (a ∷ us) u = absurd u
+steps_same (x ∷ xs) [] u = absurd u
+steps_same (x ∷ xs) (a ∷ us) u = omega (arith, u.0.steps, steps_same xs us u.1)
 
 -- what is alike is found in the same texts
 found_alike : (p q : Pattern) (text : List ℕ) → Alike p q → Found p text ↔ Found q text
@@ -103,68 +120,49 @@ both : {A B C : Type 0} → A ↔ B → B ↔ C → A ↔ C
 both e f = (λ a. f.0 (e.0 a), λ c. e.1 (f.1 c))
 
 -- a pass comes to the search of its part
-pass_found : (x : Pass) (a : Part) (text : List ℕ) → IsPass x a → is_clean (sought a.pattern) ≡ true → are_told (sought a.pattern) ≡ true
-    → search_from x.pattern None (along x.backward text) ≡ search a.pattern text
-pass_found x a text u c t =
+pass_found : (x : Pass) (a : Part) (text : List ℕ) → IsPass x a → unmarked (sought a.pattern) ≡ true
+    → found_in x.pattern (along x.backward text) ≡ search a.pattern text
+pass_found x a text u c =
     let same : Found x.pattern (along x.backward text) ↔ Found (sought a.pattern) (sought_in a.pattern text) =
     subst (λ (b : Bool). Found x.pattern (along b text) ↔ Found (sought a.pattern) (sought_in a.pattern text)) (sym u.backward)
     (found_alike x.pattern (sought a.pattern) (sought_in a.pattern text) u.alike) in
     same_answer (Found (sought a.pattern) (sought_in a.pattern text)) _ _
-    (both (search_is_exact x.pattern (along x.backward text) (u.alike.clean ∙ c) (u.alike.told ∙ t)) same)
-    (search_is_exact (sought a.pattern) (sought_in a.pattern text) c t)
+    (both (found_in_right x.pattern (along x.backward text) (u.alike.clean ∙ c)) same)
+    (found_in_right (sought a.pattern) (sought_in a.pattern text) c)
 
 -- so passes come to what the parts do
-pub found_same : (xs : List Pass) (us : List Part) (text : List ℕ) → ArePasses xs us → are_parts_clean us ≡ true → are_parts_told us ≡ true
+pub found_same : (xs : List Pass) (us : List Part) (text : List ℕ) → ArePasses xs us → are_parts_clean us ≡ true
     → are_passes_found xs text ≡ are_parts_found us text
-found_same [] [] text u c t = refl
-found_same [] (a ∷ us) text u c t = absurd u
-found_same (x ∷ xs) [] text u c t = absurd u
-found_same (x ∷ xs) (a ∷ us) text u c t =
+found_same [] [] text u c = refl
+found_same [] (a ∷ us) text u c = absurd u
+found_same (x ∷ xs) [] text u c = absurd u
+found_same (x ∷ xs) (a ∷ us) text u c =
     both_same _ _ _ _
-    (ap (λ (n : Bool). differ n (search_from x.pattern None (along x.backward text))) u.0.negated
-    ∙ ap (differ a.negated) (pass_found x a text u.0 (and_left _ _ c) (and_left _ _ t)))
-    (found_same xs us text u.1 (and_right (is_clean (sought a.pattern)) _ c) (and_right (are_told (sought a.pattern)) _ t))
+    (ap (λ (n : Bool). differ n (found_in x.pattern (along x.backward text))) u.0.negated
+    ∙ ap (differ a.negated) (pass_found x a text u.0 (and_left _ _ c)))
+    (found_same xs us text u.1 (and_right (unmarked (sought a.pattern)) _ c))
 
--- a pattern that is small and told is taken
-taken_so : (p : Pattern) → steps_of_parts (parts p) ≤ max_steps → are_parts_told (parts p) ≡ true → told_pattern (small_pattern (Some p)) ≡ Some p
-taken_so p small told =
-    ap (λ (b : Bool). told_pattern (pattern_if b p)) (le-leb (steps_of_parts (parts p)) max_steps small) ∙ ap (λ (b : Bool). pattern_if b p) told
+-- a pattern that is small is taken
+taken_so : (p : Pattern) → steps_of_parts (parts p) ≤ max_steps → small_pattern (Some p) ≡ Some p
+taken_so p small = ap (λ (b : Bool). pattern_if b p) (le-leb (steps_of_parts (parts p)) max_steps small)
 
--- one that is not told is not
-not_told : (p : Pattern) → are_parts_told (parts p) ≡ false → told_pattern (small_pattern (Some p)) ≡ None
-not_told p told = by_size (nat_le (steps_of_parts (parts p)) max_steps)
-  where
-    by_size : (b : Bool) → told_pattern (pattern_if b p) ≡ None
-    by_size true = ap (λ (b : Bool). pattern_if b p) told
-    by_size false = refl
-
--- and neither is one that is not small
-not_small : (p : Pattern) → nat_le (steps_of_parts (parts p)) max_steps ≡ false → told_pattern (small_pattern (Some p)) ≡ None
-not_small p large = ap (λ (b : Bool). told_pattern (pattern_if b p)) large
+-- and one that is not small is not
+not_small : (p : Pattern) → nat_le (steps_of_parts (parts p)) max_steps ≡ false → small_pattern (Some p) ≡ None
+not_small p large = ap (λ (b : Bool). pattern_if b p) large
 
 module _ (v : Vec CodePass Global) (p : Pattern) (are : ArePasses (passes_of v.items) (parts p)) where
   -- what is looked for of a pattern that is taken
-  pub comes_to : (s : ℕ) → s ≡ capped (steps_of_passes (passes_of v.items)) → s ≤ max_steps → are_passes_told (passes_of v.items) ≡ true
-      → ComesTo (Some v) (told_pattern (small_pattern (Some p)))
-  comes_to s is h t =
-      let told : are_parts_told (parts p) ≡ true = sym (told_same _ _ are) ∙ t in
-      let small : steps_of_parts (parts p) ≤ max_steps =
-      omega (arith, is, h, steps_same (passes_of v.items) (parts p) are told) in
-      subst (ComesTo (Some v)) (sym (taken_so p small told)) record { passes = are; small = small; told = told }
+  pub comes_to : (s : ℕ) → s ≡ capped (steps_of_passes (passes_of v.items)) → s ≤ max_steps
+      → ComesTo (Some v) (small_pattern (Some p))
+  comes_to s is h =
+      let small : steps_of_parts (parts p) ≤ max_steps = omega (arith, is, h, steps_same (passes_of v.items) (parts p) are) in
+      subst (ComesTo (Some v)) (sym (taken_so p small)) record { passes = are; small = small }
 
-  -- nothing is, where it is not told
-  pub none_told : are_passes_told (passes_of v.items) ≡ false → ComesTo None (told_pattern (small_pattern (Some p)))
-  none_told t = subst (ComesTo None) (sym (not_told p (sym (told_same _ _ are) ∙ t))) tt
-
-  -- nor where it is not small
-  pub none_small : (s : ℕ) → s ≡ capped (steps_of_passes (passes_of v.items)) → max_steps < s → ComesTo None (told_pattern (small_pattern (Some p)))
-  none_small s is h = by_told (are_parts_told (parts p)) refl
-    where
-      by_told : (b : Bool) → are_parts_told (parts p) ≡ b → ComesTo None (told_pattern (small_pattern (Some p)))
-      by_told false e = subst (ComesTo None) (sym (not_told p e)) tt
-      by_told true e =
-          let large : max_steps < steps_of_parts (parts p) = omega (arith, is, h, steps_same (passes_of v.items) (parts p) are e) in
-          subst (ComesTo None) (sym (not_small p (lt-leb (steps_of_parts (parts p)) max_steps large))) tt
+  -- nothing is, where it is not small
+  pub none_small : (s : ℕ) → s ≡ capped (steps_of_passes (passes_of v.items)) → max_steps < s → ComesTo None (small_pattern (Some p))
+  none_small s is h =
+      let large : max_steps < steps_of_parts (parts p) = omega (arith, is, h, steps_same (passes_of v.items) (parts p) are) in
+      subst (ComesTo None) (sym (not_small p (lt-leb (steps_of_parts (parts p)) max_steps large))) tt
 
 -- what is looked for of the pattern of a tree that is read
 module _ (v : Vec CodePass Global) where
@@ -173,23 +171,22 @@ module _ (v : Vec CodePass Global) where
   read_clean None u = absurd u
   read_clean (Some d) u = clean_same _ _ u.passes ∙ parts_clean (pattern d) (unmarked_pattern d)
 
-  -- is told
-  pub read_told : (o : Option Disjunction) → ComesTo (Some v) (option_map pattern o) → are_passes_told (passes_of v.items) ≡ true
-  read_told None u = absurd u
-  read_told (Some d) u = told_same _ _ u.passes ∙ u.told
+  -- is looked for from the end only where it is told from there
+  pub read_faced : (o : Option Disjunction) → ComesTo (Some v) (option_map pattern o) → are_passes_faced (passes_of v.items) ≡ true
+  read_faced None u = absurd u
+  read_faced (Some d) u = all_faced _ _ u.passes
 
-  -- and small
+  -- is small
   pub read_small : (o : Option Disjunction) → ComesTo (Some v) (option_map pattern o) → steps_of_passes (passes_of v.items) ≤ max_steps
   read_small None u = absurd u
-  read_small (Some d) u = omega (arith, steps_same _ _ u.passes u.told, u.small)
+  read_small (Some d) u = omega (arith, steps_same _ _ u.passes, u.small)
 
   -- and an engine of it comes to what is defined for it
-  pub read_outcome : (e : EcmaMatcher) → finder_passes e.parts.items ≡ passes_of v.items → (o : Option Disjunction)
-      → ComesTo (Some v) (option_map pattern o) → engine_outcome e ≡ outcome_of_read o
+  pub read_outcome : (e : EcmaMatcher) → ((text : List ℕ) → are_found_by e.parts.items text ≡ are_passes_found (passes_of v.items) text)
+      → (o : Option Disjunction) → ComesTo (Some v) (option_map pattern o) → engine_outcome e ≡ outcome_of_read o
   read_outcome e is None u = absurd u
   read_outcome e is (Some d) u =
-      fun_ext (λ text. ap outcome_of (ap (λ (l : List Pass). are_passes_found l text) is
-      ∙ found_same _ _ text u.passes (parts_clean (pattern d) (unmarked_pattern d)) u.told))
+      fun_ext (λ text. ap outcome_of (is text ∙ found_same _ _ text u.passes (parts_clean (pattern d) (unmarked_pattern d))))
 
 -- something is looked for exactly where a tree is read
 pub comes_some : (v : Option (Vec CodePass Global)) (o : Option Disjunction) → ComesTo v (option_map pattern o) → is_some v ≡ is_some o

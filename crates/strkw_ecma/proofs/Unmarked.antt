@@ -9,21 +9,9 @@ use Rattle.strkw_ecma.specs.Patterns.{least_times, range_times, times, repeated,
 use Rattle.strkw_ecma.specs.Front.{Part, lead, is_apart_behind, part_of, fronts, rest, parts}
 use Rattle.strkw_ecma.specs.Program.{is_empty}
 use Rattle.strkw_ecma.specs.Mirror.{mirror, facing, is_backward, sought}
-use Rattle.strkw_ecma.specs.machine.Marks.{is_clean}
+use Rattle.strkw_ecma.specs.machine.Marks.{is_clean, unmarked}
 use Rattle.strkw_ecma.specs.machine.Search.{are_parts_clean}
 use Rattle.strkw_ecma.proofs.Steps.{and_true, and_left, and_right}
-
--- no class bears a mark, in lookaheads as elsewhere
-abbrev pub unmarked : Pattern → Bool
-unmarked empty = true
-unmarked (class m n rs) = not m
-unmarked (look l) = true
-unmarked (cat p q) = unmarked p && unmarked q
-unmarked (alt p q) = unmarked p && unmarked q
-unmarked (star p) = unmarked p
-unmarked (plus p) = unmarked p
-unmarked (lookbehind n p) = unmarked p
-unmarked (lookahead n p) = unmarked p
 
 -- a pattern without marks has none where it is repeated
 unmarked_repeated : (n : ℕ) (p : Pattern) → unmarked p ≡ true → unmarked (repeated n p) ≡ true
@@ -75,7 +63,7 @@ mutual
 
 -- parts
 -- what has no marks has none outside lookaheads
-clean_unmarked : (p : Pattern) → unmarked p ≡ true → is_clean p ≡ true
+pub clean_unmarked : (p : Pattern) → unmarked p ≡ true → is_clean p ≡ true
 clean_unmarked empty h = refl
 clean_unmarked (class m n rs) h = h
 clean_unmarked (look l) h = refl
@@ -104,7 +92,7 @@ rest_unmarked (lookbehind n p) h = h
 rest_unmarked (lookahead n p) h = h
 
 -- nor has its mirror
-mirror_unmarked : (p : Pattern) → unmarked p ≡ true → unmarked (mirror p) ≡ true
+pub mirror_unmarked : (p : Pattern) → unmarked p ≡ true → unmarked (mirror p) ≡ true
 mirror_unmarked empty h = refl
 mirror_unmarked (class m n rs) h = h
 mirror_unmarked (look l) h = refl
@@ -122,19 +110,19 @@ mirror_unmarked (plus p) h = mirror_unmarked p h
 mirror_unmarked (lookbehind n p) h = mirror_unmarked p h
 mirror_unmarked (lookahead n p) h = mirror_unmarked p h
 
--- so what is looked for of it has none outside lookaheads
-sought_clean : (p : Pattern) → unmarked p ≡ true → is_clean (sought p) ≡ true
-sought_clean p h = by_test (is_backward p)
-  where
-    -- by whether the search goes from the end on
-    by_test : (b : Bool) → is_clean (facing b p) ≡ true
-    by_test false = clean_unmarked p h
-    by_test true = clean_unmarked (mirror p) (mirror_unmarked p h)
+-- so it has none, looked for from either end
+pub facing_unmarked : (b : Bool) (p : Pattern) → unmarked p ≡ true → unmarked (facing b p) ≡ true
+facing_unmarked false p h = h
+facing_unmarked true p h = mirror_unmarked p h
+
+-- and what is looked for of it has none
+sought_unmarked : (p : Pattern) → unmarked p ≡ true → unmarked (sought p) ≡ true
+sought_unmarked p h = facing_unmarked (is_backward p) p h
 
 -- parts one behind another have none where none of them has
 clean_append : (xs ys : List Part) → are_parts_clean xs ≡ true → are_parts_clean ys ≡ true → are_parts_clean (xs ++ ys) ≡ true
 clean_append [] ys h g = g
-clean_append (x ∷ xs) ys h g = and_true _ _ (and_left _ _ h) (clean_append xs ys (and_right (is_clean (sought x.pattern)) _ h) g)
+clean_append (x ∷ xs) ys h g = and_true _ _ (and_left _ _ h) (clean_append xs ys (and_right (unmarked (sought x.pattern)) _ h) g)
 
 -- the part of a lookahead has none
 part_clean : (q : Pattern) → unmarked q ≡ true → are_parts_clean (part_of q) ≡ true
@@ -146,7 +134,7 @@ part_clean (alt p q) h = refl
 part_clean (star p) h = refl
 part_clean (plus p) h = refl
 part_clean (lookbehind n p) h = refl
-part_clean (lookahead n p) h = and_true _ _ (sought_clean (cat (look start) p) h) refl
+part_clean (lookahead n p) h = and_true _ _ (sought_unmarked (cat (look start) p) h) refl
 
 -- nor have those at the front
 fronts_clean : (p : Pattern) → unmarked p ≡ true → are_parts_clean (fronts p) ≡ true
@@ -167,4 +155,4 @@ fronts_clean (lookahead n p) h = refl
 
 -- the parts of what has no marks have none
 pub parts_clean : (p : Pattern) → unmarked p ≡ true → are_parts_clean (parts p) ≡ true
-parts_clean p h = and_true _ _ (sought_clean (rest p) (rest_unmarked p h)) (fronts_clean p h)
+parts_clean p h = and_true _ _ (sought_unmarked (rest p) (rest_unmarked p h)) (fronts_clean p h)

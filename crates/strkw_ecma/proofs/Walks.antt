@@ -1,26 +1,33 @@
 -- The walk over a table, character by character: what it comes to is what the search does.
-use Rattle.std.proofs.Common.{◌≡◌, ◌⊎◌, ⊎_elim, ◌≤◌, ℕ, suc, ◌+◌, ◌<◌, ◌==◌, Bool, true, false, ◌||◌, List, [], ◌∷◌, length, get_or, drop, drop-cons, Option}
-use Rattle.std.proofs.Common.{Some, None, option_and_then, if◌then◌else◌, refl, sym, ap, ◌∙◌, true≢false, arith}
+use Rattle.std.proofs.Common.{◌≡◌, ◌≤◌, ℕ, suc, ◌+◌, ◌<◌, ◌==◌, Bool, true, false, ◌||◌, List, [], ◌∷◌, length, get_or, drop, drop-cons, Option}
+use Rattle.std.proofs.Common.{Some, None, option_and_then, if◌then◌else◌, refl, sym, ap, ◌∙◌, true≢false, arith, rules}
 use Rattle.std.specs.Prelude.{is_some}
 use Rattle.std.proofs.lemmas.Bool.{eq-eqb}
-use Rattle.std.proofs.lemmas.List.{get_or_past}
 use Rattle.strkw_ecma.specs.Tree.{Pattern}
 use Rattle.strkw_ecma.specs.machine.Marks.{leaves, step}
 use Rattle.strkw_ecma.specs.machine.Search.{search_from}
-use Rattle.strkw_ecma.specs.machine.Table.{entry_at, found, next_row, row_after, walk}
+use Rattle.strkw_ecma.specs.machine.Table.{entry_at, found, next_row, row_after, walk, AreInside}
 
 -- from its place on a text is the character there, and what stands from the next place on
 pub at_place : (text : List ℕ) (k next c : ℕ) → k < length text → c ≡ get_or text k c → next ≡ suc k → drop k text ≡ c ∷ drop next text
 at_place text k next c within is follows =
     drop-cons text k c within ∙ ap (λ (d : ℕ). d ∷ drop (suc k) text) (sym is) ∙ ap (λ (n : ℕ). c ∷ drop n text) (sym follows)
 
--- a number is less than another, or is at least that
-below_or_past : (i n : ℕ) → (i < n) ⊎ (n ≤ i)
-below_or_past i n = grind arith
-
 -- what is the same as options is the same
 some_is : {A : Type 0} (x y : A) → Some x ≡ Some y → x ≡ y
 some_is x y e = cc
+
+-- what an entry is: the place of a row is less than what leads to the row behind, and than what says that the pattern is found
+module _ (entry : ℕ) where
+  pub not_next : entry < 65534 → (entry == next_row) ≡ false
+  not_next h = search rules
+
+  pub not_found : entry < 65534 → (entry == found) ≡ false
+  not_found h = search rules
+
+  -- and what is no less and not the one is the other
+  pub else_found : 65534 ≤ entry → (entry ≡ 65534 → ⊥) → entry < 65536 → entry ≡ found
+  else_found low other high = omega (arith, low, other, high)
 
 -- one turn of the walk over a text, at its first character
 module _ (column : ℕ → Option ℕ) (end : ℕ) (entries text rest : List ℕ) (row c k entry : ℕ) (answer : Option Bool)
@@ -62,11 +69,20 @@ pub walk_ends : (column : ℕ → Option ℕ) (end : ℕ) (entries text : List �
 walk_ends column end entries text row entry answer so_far none is =
     ap (λ (x : ℕ). Some (x == found)) is ∙ sym (ap (walk column end entries row) none) ∙ so_far
 
--- only a row of the table has an entry that is not 0
-pub within_table : (entries : List ℕ) (row column : ℕ) → entry_at entries row column ≡ next_row → row + column < length entries
-within_table entries row column e =
-    ⊎_elim (λ h. h) (λ h. let none : entry_at entries row column ≡ 0 = get_or_past entries (row + column) 0 h in absurd (omega arith))
-    (below_or_past (row + column) (length entries))
+-- a look at a row of a table, whose entries lead to rows that are there
+module _ (end : ℕ) (entries : List ℕ) (all : AreInside end entries) (row k entry : ℕ) (inside : row + end < length entries) (column : k < end)
+    (entry_is : entry ≡ entry_at entries row k) where
+  -- there is an entry
+  pub has_entry : row + k < length entries
+  has_entry = omega (arith, inside, column)
+
+  -- where it is the place of a row, that row is there
+  pub row_inside : entry < next_row → entry + end < length entries
+  row_inside h = rw entry_is ((all.leads (row + k) has_entry).0 (rw (sym entry_is) h))
+
+  -- and where it leads to the row behind its own, that one is
+  pub next_inside : entry ≡ next_row → row + (end + 1) + end < length entries
+  next_inside e = let more = (all.leads (row + k) has_entry).1 (sym entry_is ∙ e) in omega (arith, more)
 
 -- a relation of rows to states of the search that each entry keeps
 module _ (column : ℕ → Option ℕ) (end : ℕ) (entries : List ℕ) (At : ℕ → Pattern → Option ℕ → Type 0)

@@ -4,10 +4,10 @@ use Rattle.std.specs.Prelude.{ℕ, ◌+◌, Bool, true, false, not, ◌&&◌, Li
 use Rattle.std.specs.Prelude.{if◌then◌else◌, ⊤}
 use Rattle.strkw_ecma.specs.Tree.{Look, start, end, boundary, no_boundary, Pattern, empty, class}
 use Rattle.strkw_ecma.specs.Tree.{look, cat, alt, star, plus, lookbehind, lookahead}
-use Rattle.strkw_ecma.specs.Glances.{is_glance, are_told}
+use Rattle.strkw_ecma.specs.Glances.{is_glance}
 use Rattle.strkw_ecma.specs.Meaning.{Found, Unless}
 use Rattle.strkw_ecma.specs.Mirror.{sought}
-use Rattle.strkw_ecma.specs.Size.{steps}
+use Rattle.strkw_ecma.specs.Size.{search_steps}
 use Rattle.strkw_ecma.specs.declared.front.Lead.{Lead}
 use Rattle.strkw_ecma.specs.declared.front.Lead.TheVariants.{Nothing, Anchored, Past}
 
@@ -130,9 +130,4 @@ AreFound (x ∷ xs) text = Unless x.negated (Found x.pattern text) × AreFound x
 -- of what is looked for of each
 abbrev pub steps_of_parts : List Part → ℕ
 steps_of_parts [] = 0
-steps_of_parts (x ∷ xs) = steps (sought x.pattern) + steps_of_parts xs
-
--- the next character tells what each lookahead looks for, along the text or from its end on
-abbrev pub are_parts_told : List Part → Bool
-are_parts_told [] = true
-are_parts_told (x ∷ xs) = are_told (sought x.pattern) && are_parts_told xs
+steps_of_parts (x ∷ xs) = search_steps (sought x.pattern) + steps_of_parts xs

@@ -10,7 +10,7 @@ use Rattle.strkw_ecma.specs.declared.tree.CharSet.{CharSet}
 use Rattle.strkw_ecma.specs.Codes.{max_code_point}
 use Rattle.strkw_ecma.specs.Lookahead.{is_apart}
 use Rattle.strkw_ecma.specs.Size.{max_steps}
-use Rattle.strkw_ecma.specs.Front.{parts, steps_of_parts, are_parts_told}
+use Rattle.strkw_ecma.specs.Front.{parts, steps_of_parts}
 use Rattle.strkw_ecma.specs.Meaning.{Found}
 use Rattle.strkw_ecma.specs.Patterns.{pattern}
 use Rattle.strkw_ecma.specs.machine.Outcomes.{takes_pattern, pattern_outcome}
@@ -48,9 +48,6 @@ pub record IsPattern (source : List ℕ) (d : Disjunction) : Type 0 where
   -- no two groups have the same name
   pub distinct : are_distinct (names d) ≡ true
   pub small : steps_of_parts (parts (pattern d)) ≤ max_steps
-  -- in each part, what each lookahead looks for is told by the next character, or else what each
-  -- lookbehind does by the one before
-  pub told : are_parts_told (parts (pattern d)) ≡ true
 
 -- what is taken is a pattern, each pattern is taken, it has one tree, and it comes to a match
 -- exactly where that is found, and to none elsewhere

@@ -1,6 +1,6 @@
 -- Patterns from the end of a text on: what a pattern matches in a text, its mirror matches in the
 -- text turned round. There each lookahead is a lookbehind.
-use Rattle.std.specs.Prelude.{List, ℕ, reverse, Bool, true, false, not, ◌||◌, if◌then◌else◌}
+use Rattle.std.specs.Prelude.{List, ℕ, reverse, Bool, true, false, not, ◌&&◌, ◌||◌, if◌then◌else◌}
 use Rattle.strkw_ecma.specs.Tree.{Look, start, end, boundary, no_boundary, Pattern, empty, class}
 use Rattle.strkw_ecma.specs.Tree.{look, cat, alt, star, plus, lookbehind, lookahead}
 use Rattle.strkw_ecma.specs.Glances.{are_told}
@@ -34,10 +34,10 @@ abbrev pub along : Bool → List ℕ → List ℕ
 along false text = text
 along true text = reverse text
 
--- the search goes from the end of the text on, since the next character does not tell what each
--- lookahead looks for
+-- the search goes from the end of the text on, since only from there the next character tells what
+-- each lookahead looks for
 abbrev pub is_backward : Pattern → Bool
-is_backward p = not (are_told p)
+is_backward p = not (are_told p) && are_told (mirror p)
 
 -- what is looked for then, and in which text
 abbrev pub sought : Pattern → Pattern

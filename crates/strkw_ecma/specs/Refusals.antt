@@ -8,13 +8,12 @@ use Rattle.strkw_ecma.specs.Properties.{Expression, alone, valued, property_of, 
 use Rattle.strkw_ecma.specs.Properties.{property_spelling}
 use Rattle.strkw_ecma.specs.Size.{steps, max_term_steps, max_steps}
 use Rattle.strkw_ecma.specs.Patterns.{pattern, atom_pattern, times, copies}
-use Rattle.strkw_ecma.specs.Front.{parts, steps_of_parts, are_parts_told}
+use Rattle.strkw_ecma.specs.Front.{parts, steps_of_parts}
 use Rattle.strkw_ecma.specs.Syntax.{Disjunction, spelling, Enclosing, enclosing_spelling, Atom}
 use Rattle.strkw_ecma.specs.Syntax.{atom_spelling, Quantifier, quantifier_spelling, max_nesting}
 use Rattle.strkw_ecma.specs.Syntax.{max_length}
 use Rattle.strkw_ecma.specs.WellFormed.{IsWellFormed, IsEnclosing, IsAtom}
 use Rattle.strkw_ecma.specs.declared.refusals.PatternRefusal.{PatternRefusal}
-use Rattle.strkw_ecma.specs.declared.refusals.PatternRefusal.TheVariants.{LookAhead}
 use Rattle.strkw_ecma.specs.declared.refusals.PatternRefusal.TheVariants.{BackReference}
 use Rattle.strkw_ecma.specs.declared.refusals.PatternRefusal.TheVariants.{IdentityEscape}
 use Rattle.strkw_ecma.specs.declared.refusals.PatternRefusal.TheVariants.{Property}
@@ -78,11 +77,6 @@ IsTooLong text = max_length < length text
 
 -- what a refusal says of the text of a pattern that is not taken
 abbrev pub IsReason : List ℕ → PatternRefusal → Type 0
--- the whole is well formed. In one of its parts some lookahead looks for more than the next
--- character tells, and some lookbehind for more than the one before
-IsReason text LookAhead =
-    (d : Disjunction) × IsWellFormed 0 d × (spelling d ≡ text)
-    × (are_parts_told (parts (pattern d)) ≡ false)
 IsReason text BackReference = (c : ℕ) × (is_reference c ≡ true) × HasTerm (byte "\\" ∷ c ∷ []) text
 IsReason text (IdentityEscape c) =
     (is_needlessly_escaped c ≡ true) × HasTerm (byte "\\" ∷ c ∷ []) text

@@ -1,11 +1,18 @@
 //! The characters of a text, from its beginning on or from its end.
 
-ghost use Rattle.std.specs.Prelude.{◌≡◌, true, [], ◌∷◌, MatchOption};
+ghost use Rattle.std.specs.Prelude.{◌≡◌, true, [], ◌∷◌, length, MatchOption};
 ghost use Rattle.std.specs.Str.{chars, is_utf8};
 ghost use Rattle.std.specs.Str.Iter.{chars_rest};
 ghost use Rattle.strkw_ecma.specs.Mirror.{along};
 
 use std::str::Chars;
+
+/// How many characters a text has.
+pub(crate) fn char_count(text: &str) -> usize
+    ensures { result ≡ length (chars text.now) }
+{
+    text.chars().count()
+}
 
 /// The characters of a text that are left, the next first.
 #[derive(Drop)]
@@ -19,6 +26,7 @@ impl<'a> Along<'a> {
     ghost use Rattle.strkw_ecma.specs.machine.Along.{left_of};
 
     /// Those of a text, from its beginning on, or where it is backward, from its end.
+    #[inline(always)]
     pub(crate) fn new(text: &'a str, is_backward: bool) -> Along<'a>
         ensures { left_of result ≡ along is_backward (chars text.now) }
     {
@@ -28,6 +36,8 @@ impl<'a> Along<'a> {
         }
     }
 
+    /// The next of them. Inlined, a loop whose direction is known asks for it no more.
+    #[inline(always)]
     pub(crate) fn next(&mut self) -> Option<char>
         ensures { MatchOption result (left_of self.old ≡ [])
             (λ c. left_of self.old ≡ c ∷ left_of self.new) }

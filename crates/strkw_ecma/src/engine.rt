@@ -1,13 +1,13 @@
 //! The engine, and what builds it.
 
-ghost use Rattle.std.specs.Prelude.{◌≡◌, ◌≤◌, true, IfOk, IsOk};
+ghost use Rattle.std.specs.Prelude.{◌≡◌, ◌≤◌, ℕ, List, true, false, IfOk, IfErr, IsOk};
 ghost use Rattle.std.specs.Str.{chars};
 ghost use Rattle.strkw_ecma.specs.Size.{max_steps};
-ghost use Rattle.strkw_ecma.specs.machine.Engine.{finder_passes, have_tables as spec_have_tables};
+ghost use Rattle.strkw_ecma.specs.machine.Engine.{are_found_by, have_rows, have_tables as spec_have_tables};
 ghost use Rattle.strkw_ecma.specs.machine.Outcomes.{takes_pattern, pattern_outcome};
-ghost use Rattle.strkw_ecma.specs.machine.Passes.{are_passes_clean, are_passes_found, are_passes_told, passes_of, steps_of_passes};
+ghost use Rattle.strkw_ecma.specs.machine.Passes.{are_passes_clean, are_passes_faced, are_passes_found, passes_of, steps_of_passes};
 
-use crate::finder::{Finder, PartFinder};
+use crate::finder::PartFinder;
 use crate::passes::Pass;
 use crate::reader::read_passes;
 use std::alloc::{AllocError, Global};
@@ -20,21 +20,31 @@ pub struct EcmaMatcher {
 }
 
 impl EcmaMatcher {
-    ghost use Rattle.strkw_ecma.specs.machine.Engine.{has_table as spec_has_table};
+    ghost use Rattle.strkw_ecma.specs.machine.Engine.{has_table as spec_has_table, takes_memory as spec_takes_memory};
 
-    /// Whether matches are read off tables: one for each lookahead that is looked for by itself, and one for the rest.
+    /// Whether matches are read off tables: one for each lookahead at the front that is looked for by itself, and one
+    /// for the rest.
     pub fn has_table(&self) -> bool
         ensures { result ≡ spec_has_table self.now }
     {
         have_tables(&self.parts)
     }
 
+    /// Whether a match takes memory: a bit for each place of the text and each look-around that another pass looks for.
+    /// That is so only where look-aheads and look-behinds look far in one part of the pattern.
+    pub fn takes_memory(&self) -> bool
+        ensures { result ≡ spec_takes_memory self.now }
+    {
+        take_memory(&self.parts)
+    }
+
     // The engine of what was read.
     fn of(alloc: Global, passes: Vec<Pass>) -> Result<EcmaMatcher, AllocError>
         requires clean { are_passes_clean (passes_of passes.items) ≡ true }
+        requires faced { are_passes_faced (passes_of passes.items) ≡ true }
         requires small { steps_of_passes (passes_of passes.items) ≤ max_steps }
-        requires told { are_passes_told (passes_of passes.items) ≡ true }
-        ensures { IfOk result (λ e. finder_passes e.parts.items ≡ passes_of passes.items) }
+        ensures { IfOk result (λ e. (text : List ℕ)
+            → are_found_by e.parts.items text ≡ are_passes_found (passes_of passes.items) text) }
     {
         Ok(EcmaMatcher {
             parts: finders_of(alloc, passes)?,
@@ -46,73 +56,81 @@ fn have_tables(parts: &[PartFinder]) -> bool
     ensures { result ≡ spec_have_tables parts.now }
 {
     for part in parts {
-        if part.finder.table.is_none() {
+        if !part.has_table() {
             return false;
         }
     }
     true
+}
+
+fn take_memory(parts: &[PartFinder]) -> bool
+    ensures { result ≡ have_rows parts.now }
+{
+    for part in parts {
+        if part.takes_memory() {
+            return true;
+        }
+    }
+    false
 }
 
 // What looks for each of these parts.
 fn finders_of(alloc: Global, passes: Vec<Pass>) -> Result<Vec<PartFinder>, AllocError>
     requires clean { are_passes_clean (passes_of passes.items) ≡ true }
+    requires faced { are_passes_faced (passes_of passes.items) ≡ true }
     requires small { steps_of_passes (passes_of passes.items) ≤ max_steps }
-    requires told { are_passes_told (passes_of passes.items) ≡ true }
-    ensures { IfOk result (λ made. finder_passes made.items ≡ passes_of passes.items) }
+    ensures { IfOk result (λ made. (text : List ℕ)
+        → are_found_by made.items text ≡ are_passes_found (passes_of passes.items) text) }
 {
     let mut left = passes;
     let mut finders = Vec::new(alloc);
     'passes: while !left.is_empty() {
-        let Pass {
-            negated,
-            is_backward,
-            pattern,
-        } = left.remove(0);
-        let finder = Finder::of(alloc, pattern)?;
-        finders.push(PartFinder {
-            negated,
-            is_backward,
-            finder,
-        })?;
+        let pass = left.remove(0);
+        let finder = PartFinder::of(alloc, pass)?;
+        finders.push(finder)?;
     }
     Ok(finders)
 }
 
 // Whether each part is found in the text, or is not, as it is to be.
-fn are_found(parts: &[PartFinder], text: &str) -> bool
-    ensures { result ≡ are_passes_found (finder_passes parts.now) (chars text.now) }
+fn are_found(alloc: Global, parts: &[PartFinder], text: &str) -> Result<bool, AllocError>
+    ensures found { IfOk result (λ found. found ≡ are_found_by parts.now (chars text.now)) }
+    ensures memory { have_rows parts.now ≡ false → IsOk result }
 {
     for part in parts {
-        if part.finder.is_found(text, part.is_backward) == part.negated {
-            return false;
+        if part.is_found(alloc, text)? == part.negated {
+            return Ok(false);
         }
     }
-    true
+    Ok(true)
 }
 
 impl RegexEngine for EcmaMatcher {
     ghost use Rattle.strkw_pattern.specs.Engine.{IsAnswer};
-    ghost use Rattle.strkw_ecma.specs.machine.Engine.{engine_outcome};
+    ghost use Rattle.strkw_ecma.specs.machine.Engine.{engine_outcome, takes_memory};
 
     ghost outcome = { engine_outcome };
 
     /// Whether the pattern is found in the text (RegExpBuiltinExec, ECMA-262 2024, section 22.2.7.2), in one pass, and
     /// one more for each look-ahead at its front that is looked for by itself. Where look-aheads look far, a pass goes
-    /// from the end of the text on. It takes no memory, and there is no error.
-    fn is_match(&self, _alloc: Global, text: &str) -> Result<bool, EngineFailure>
+    /// from the end of the text on. Where both they and look-behinds do, each look-around has a pass at most, and the
+    /// call takes memory: `EngineFailure::Memory` where it is out of that. Else there is no error.
+    fn is_match(&self, alloc: Global, text: &str) -> Result<bool, EngineFailure>
         ensures answer { IsAnswer (engine_outcome self.now (chars text.now)) result }
-        ensures never_fails { IsOk result }
+        ensures never_fails { takes_memory self.now ≡ false → IsOk result }
+        ensures memory { IfErr result (λ e. e ≡ EngineFailure.Memory) }
     {
-        Ok(are_found(&self.parts, text))
+        match are_found(alloc, &self.parts, text) {
+            Ok(is_found) => Ok(is_found),
+            Err(AllocError) => Err(EngineFailure::Memory),
+        }
     }
 }
 
 /// Builds engines of patterns of ECMA-262 2024 in Unicode mode (`Pattern`, section 22.2.1), of this part of its syntax:
 /// - alternatives with `|`, and groups with `( )`, `(?: )` and `(?<name> )`, whose names are read and told nowhere;
 /// - the assertions `^`, `$`, `\b`, `\B`, look-behinds with `(?<= )` and `(?<! )`, and look-aheads with `(?= )` and
-///   `(?! )`, for any pattern, where they do not look far both ways: each look-ahead, or else each look-behind, is for
-///   one character of a class, an assertion, nothing, another such, or alternatives of these. That holds by itself of
-///   each look-ahead at the front of the whole pattern, behind `^`. No quantifier follows them;
+///   `(?! )`, for any pattern. No quantifier follows them;
 /// - behind an atom `*`, `+`, `?`, `{n}`, `{n,}` or `{n,m}`, and a `?` behind that, which changes no answer;
 /// - `.`; a character that is none of `^ $ \ . * + ? ( ) [ ] { } |`; `\` before one of those or `/`; `\f \n \r \t \v`;
 ///   `\d \D \s \S \w \W`;
@@ -128,7 +146,8 @@ impl RegexEngine for EcmaMatcher {
 /// of what is repeated), or one of more than 2,600 steps as a whole. A step is an instruction of the pattern's program:
 /// one for each class, which may be repeated without end or be missing, and for each other assertion, two around a loop
 /// or the pattern of a look-around, three around alternatives, and one between more of them; and of a class one more
-/// for each eight ranges and for each property. They are counted before there is a program.
+/// for each eight ranges and for each property. A look-around is counted one step more in a part where look-aheads and
+/// look-behinds both look far. Steps are counted before there is a program.
 ///
 /// A match is a search for the pattern in the text (section 22.2.7.2), with no flag but `u`: characters are Unicode
 /// scalar values; `^` and `$` stand for the two ends of the text, `.` for each character but U+000A, U+000D, U+2028

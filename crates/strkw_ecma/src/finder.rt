@@ -1,12 +1,12 @@
 //! What looks for a pattern in a text: its program, and where it has one, its table.
 
-ghost use Rattle.std.specs.Prelude.{◌≡◌, ◌↔◌, ◌≤◌, true, IsTrue, IfOk, None, Some};
+ghost use Rattle.std.specs.Prelude.{◌≡◌, ◌≤◌, ◌||◌, not, ℕ, List, true, false, IsTrue, IsOk, IfOk, None, Some};
 ghost use Rattle.std.specs.Str.{chars};
 ghost use Rattle.strkw_ecma.specs.Glances.{are_told};
 ghost use Rattle.strkw_ecma.specs.Mirror.{along};
-ghost use Rattle.strkw_ecma.specs.Size.{steps, max_steps};
+ghost use Rattle.strkw_ecma.specs.Size.{steps, search_steps, max_steps};
 ghost use Rattle.strkw_ecma.specs.machine.Machine.{pattern_of};
-ghost use Rattle.strkw_ecma.specs.machine.Marks.{is_clean};
+ghost use Rattle.strkw_ecma.specs.machine.Marks.{is_clean, unmarked};
 ghost use Rattle.strkw_ecma.specs.machine.Search.{search_from};
 ghost use Rattle.strkw_ecma.specs.machine.Searches.{IsSearchedBy};
 ghost use Rattle.strkw_ecma.specs.machine.Shape.{outlined};
@@ -15,7 +15,10 @@ ghost use Rattle.strkw_ecma.specs.declared.table.Table.{Table};
 use crate::finding::is_found;
 use crate::making::table_of;
 use crate::outline::Outline;
+use crate::passes::Pass;
 use crate::program::Program;
+use crate::seeker::Seeker;
+use crate::seekers::{rows_of, seekers_of};
 use crate::table::Table;
 use std::alloc::{AllocError, Global};
 
@@ -53,11 +56,111 @@ impl Finder {
     }
 }
 
-/// What looks for a part of a pattern, along the text or backward. The part is to be found, or where it is negated, is
-/// not.
+/// How a part of a pattern is looked for.
+#[derive(Drop)]
+pub(crate) enum Search {
+    /// In one pass, along the text or backward.
+    Plain { is_backward: bool, finder: Finder },
+    /// By the last, whose marks are told by those before it.
+    Told { asides: Vec<Seeker>, last: Seeker },
+}
+
+impl Search {
+    ghost use Rattle.strkw_ecma.specs.machine.Engine.{has_rows, is_found_by};
+    ghost use Rattle.strkw_ecma.specs.machine.Search.{found_in};
+
+    fn of(alloc: Global, pattern: Outline, is_backward: bool) -> Result<Search, AllocError>
+        requires bare { unmarked (outlined pattern) ≡ true }
+        requires faced { (not is_backward || are_told (outlined pattern)) ≡ true }
+        requires small { search_steps (outlined pattern) ≤ max_steps }
+        ensures { IfOk result (λ s. (text : List ℕ)
+            → is_found_by s text ≡ found_in (outlined pattern) (along is_backward text)) }
+    {
+        if pattern.is_told() {
+            let finder = Finder::of(alloc, pattern)?;
+            return Ok(Search::Plain {
+                is_backward,
+                finder,
+            });
+        }
+        let mut asides = Vec::new(alloc);
+        let last = pattern.set_aside(alloc, is_backward, &mut asides)?;
+        Ok(Search::Told {
+            asides: seekers_of(alloc, asides)?,
+            last: Seeker::of(alloc, last)?,
+        })
+    }
+
+    fn is_found(&self, alloc: Global, text: &str) -> Result<bool, AllocError>
+        ensures found { IfOk result (λ found. found ≡ is_found_by self.now (chars text.now)) }
+        ensures memory { has_rows self.now ≡ false → IsOk result }
+    {
+        match self {
+            Search::Plain {
+                is_backward,
+                finder,
+            } => Ok(finder.is_found(text, *is_backward)),
+            Search::Told { asides, last } => {
+                let rows = rows_of(alloc, asides, text)?;
+                Ok(last.is_found(text, &rows))
+            }
+        }
+    }
+}
+
+/// What looks for a part of a pattern. The part is to be found, or where it is negated, is not.
 #[derive(Drop)]
 pub(crate) struct PartFinder {
     pub(crate) negated: bool,
-    pub(crate) is_backward: bool,
-    pub(crate) finder: Finder,
+    search: Search,
+}
+
+impl PartFinder {
+    ghost use Rattle.strkw_ecma.specs.machine.Engine.{has_rows, is_found_by, reads_table};
+    ghost use Rattle.strkw_ecma.specs.machine.Search.{found_in};
+
+    pub(crate) fn of(alloc: Global, pass: Pass) -> Result<PartFinder, AllocError>
+        requires bare { unmarked (outlined pass.pattern) ≡ true }
+        requires faced { (not pass.is_backward || are_told (outlined pass.pattern)) ≡ true }
+        requires small { search_steps (outlined pass.pattern) ≤ max_steps }
+        ensures negated { IfOk result (λ f. f.negated ≡ pass.negated) }
+        ensures found { IfOk result (λ f. (text : List ℕ) → is_found_by f.search text
+            ≡ found_in (outlined pass.pattern) (along pass.is_backward text)) }
+    {
+        let Pass {
+            negated,
+            is_backward,
+            pattern,
+        } = pass;
+        Ok(PartFinder {
+            negated,
+            search: Search::of(alloc, pattern, is_backward)?,
+        })
+    }
+
+    /// Whether what it looks for is found in the text.
+    pub(crate) fn is_found(&self, alloc: Global, text: &str) -> Result<bool, AllocError>
+        ensures found { IfOk result (λ found.
+            found ≡ is_found_by self.now.search (chars text.now)) }
+        ensures memory { has_rows self.now.search ≡ false → IsOk result }
+    {
+        self.search.is_found(alloc, text)
+    }
+
+    /// Whether it is read off a table.
+    pub(crate) fn has_table(&self) -> bool
+        ensures { result ≡ reads_table self.now.search }
+    {
+        match &self.search {
+            Search::Plain { finder, .. } => finder.table.is_some(),
+            Search::Told { .. } => false,
+        }
+    }
+
+    /// Whether a search takes memory.
+    pub(crate) fn takes_memory(&self) -> bool
+        ensures { result ≡ has_rows self.now.search }
+    {
+        matches!(&self.search, Search::Told { .. })
+    }
 }

@@ -4,6 +4,8 @@
 #![tactic(auto)]
 
 mod along;
+mod asides;
+mod bits;
 mod classes;
 mod code;
 mod codes;
@@ -33,6 +35,8 @@ mod regex;
 mod runs;
 mod same_sets;
 mod samples;
+mod seeker;
+mod seekers;
 mod sets;
 mod size;
 mod stack;

@@ -13,7 +13,7 @@ use crate::program::{Program, Room};
 use crate::runs::mark_runs;
 use crate::samples::{Sampled, sampled_of};
 use crate::states::{State, entry_of};
-use crate::table::{FOUND, Table};
+use crate::table::{FOUND, Table, are_inside};
 use std::alloc::{AllocError, Global};
 
 /// The most rows and entries of a table. The state of an entry is looked for among those before it.
@@ -184,7 +184,8 @@ fn table_if_right(sampled: Sampled, draft: Draft, program: &Program) -> Option<T
         draft.states.items }
     ensures { MatchOption result Unit (λ t. IsSearchedBy t (pattern_of program.now)) }
 {
-    if !draft.is_table(&sampled, program) {
+    let end = sampled.columns.keys.len();
+    if !draft.is_table(&sampled, program) || !are_inside(&draft.entries, end) {
         return None;
     }
     Some(Table {

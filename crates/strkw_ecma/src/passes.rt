@@ -3,8 +3,8 @@
 ghost use Rattle.std.specs.Prelude.{◌≡◌, ◌∷◌, ◌++◌, true, List, IfOk, IfSome, option_map};
 ghost use Rattle.strkw_ecma.specs.Front.{Part, parts};
 ghost use Rattle.strkw_ecma.specs.machine.Fronts.{part_view, parts_view};
-ghost use Rattle.strkw_ecma.specs.machine.Parts.{small_pattern, told_pattern};
-ghost use Rattle.strkw_ecma.specs.machine.Passes.{ArePasses, ComesTo, IsPass, are_passes_told, pass_of, passes_of, steps_of_passes};
+ghost use Rattle.strkw_ecma.specs.machine.Parts.{small_pattern};
+ghost use Rattle.strkw_ecma.specs.machine.Passes.{ArePasses, ComesTo, IsPass, pass_of, passes_of, steps_of_passes};
 ghost use Rattle.strkw_ecma.specs.machine.Shape.{is_plain, outlined};
 ghost use Rattle.strkw_ecma.specs.machine.Sizes.{capped};
 
@@ -22,12 +22,12 @@ pub(crate) struct Pass {
 }
 
 impl Pass {
-    // Along the text, where the next character tells what each lookahead looks for.
+    // Along the text, but for where only from its end on each lookahead is told by the next character.
     fn of(alloc: Global, negated: bool, pattern: Outline) -> Result<Pass, AllocError>
         ensures { IfOk result (λ p. IsPass (pass_of p)
             record { negated = negated; pattern = outlined pattern }) }
     {
-        if pattern.is_told() {
+        if !pattern.is_sought_back() {
             return Ok(Pass {
                 negated,
                 is_backward: false,
@@ -80,41 +80,26 @@ fn steps_of(passes: &[Pass]) -> u32
 {
     let mut steps = 0;
     for pass in passes {
-        steps = together(steps, pass.pattern.steps(), 0);
+        let is_spread = !pass.pattern.is_told();
+        steps = together(steps, pass.pattern.steps(is_spread), 0);
     }
     steps
 }
 
-/// Whether the next character tells what each of their lookaheads looks for.
-pub(crate) fn are_told(passes: &[Pass]) -> bool
-    ensures { result ≡ are_passes_told (passes_of passes.now) }
-{
-    for pass in passes {
-        if !pass.pattern.is_told() {
-            return false;
-        }
-    }
-    true
-}
-
-/// The parts of a pattern, where a search for them takes no more steps than may be, and the next character tells what
-/// their lookaheads look for.
+/// The parts of a pattern, where a search for them takes no more steps than may be.
 pub(crate) fn passes_if_taken(
     alloc: Global,
     outline: Option<Outline>,
 ) -> Result<Option<Vec<Pass>>, AllocError>
     requires { IfSome outline (λ o. is_plain o ≡ true) }
     ensures { IfOk result (λ made.
-        ComesTo made (told_pattern (small_pattern (option_map outlined outline)))) }
+        ComesTo made (small_pattern (option_map outlined outline))) }
 {
     let Some(outline) = outline else {
         return Ok(None);
     };
     let passes = passes_for(alloc, outline)?;
     if steps_of(&passes) > MAX_STEPS {
-        return Ok(None);
-    }
-    if !are_told(&passes) {
         return Ok(None);
     }
     Ok(Some(passes))

@@ -6,6 +6,7 @@ ghost use Rattle.strkw_ecma.specs.Syntax.{max_length};
 ghost use Rattle.strkw_ecma.specs.machine.Outcomes.{takes_pattern};
 ghost use Rattle.strkw_ecma.specs.Refusals.{IsTooLong, IsReason};
 
+use crate::along::char_count;
 use crate::counts::MAX_COUNT;
 use crate::reader::{MAX_LENGTH, MAX_NESTING, read_passes, refusal_of};
 use crate::size::{MAX_STEPS, MAX_TERM_STEPS};
@@ -16,10 +17,6 @@ use std::fmt;
 /// Why a pattern is not taken. Each tells of what stands in it; `NotTaken` tells nothing more.
 #[derive(Clone, Copy, Debug, PartialEq, Eq)]
 pub enum PatternRefusal {
-    /// A look-ahead looks for more than one character of a class, an assertion, nothing, or alternatives of these, and
-    /// so does a look-behind, neither of them within a look-ahead at the front of the whole pattern behind `^`, or both
-    /// within one.
-    LookAhead,
     /// `\` and one of `1` to `9`, or `\k`, stands where a term may.
     BackReference,
     /// `\` and this character, one of ``!"#%&',-:;<=>@_`~``, stands where a term may. Without the flag `u` it stands for
@@ -46,9 +43,6 @@ pub enum PatternRefusal {
 impl fmt::Display for PatternRefusal {
     fn fmt<W: fmt::Write>(&self, f: &mut fmt::Formatter<W>) -> fmt::Result {
         match self {
-            PatternRefusal::LookAhead => {
-                f.write_str("it has a look-ahead of more than one character")
-            }
             PatternRefusal::BackReference => f.write_str("it has a back reference"),
             PatternRefusal::IdentityEscape(c) => {
                 write!(
@@ -73,12 +67,6 @@ impl fmt::Display for PatternRefusal {
 
 impl Error for PatternRefusal {}
 
-fn char_count(pattern: &str) -> usize
-    ensures { result ≡ length (chars pattern.now) }
-{
-    pattern.chars().count()
-}
-
 // Whether it has no more characters than may be.
 fn is_short(pattern: &str) -> bool
     ensures { IsTrue result ↔ (length (chars pattern.now) ≤ max_length) }
@@ -87,7 +75,7 @@ fn is_short(pattern: &str) -> bool
 }
 
 /// Why `EcmaPatterns` does not take a pattern, and `None` exactly where it takes it. Where more than one reason could
-/// be told, it is the length, else what stands first in the pattern, else a look-ahead, and last the size. `IsReason`
+/// be told, it is the length, else what stands first in the pattern, and last the size. `IsReason`
 /// of `specs/Refusals.antt` says what each reason means over the text. The only error is out of memory. A pattern that
 /// is not taken is read twice.
 #[tactic(auto, using(crate::proofs::Taken::comes_some))]

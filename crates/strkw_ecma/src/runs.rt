@@ -30,7 +30,7 @@ fn leads_on(entries: &[u16], stride: usize, number: usize) -> bool
     leads
 }
 
-// Says of an entry of a row that leads to the row behind it that it does.
+// Says of an entry of a row that leads to the row behind it that it does, where there is one more row behind that.
 fn mark_entry(entries: &mut [u16], end: usize, number: usize, column: usize)
     requires few { end < 256 }
     requires column { column < end }
@@ -41,7 +41,10 @@ fn mark_entry(entries: &mut [u16], end: usize, number: usize, column: usize)
     };
     let place = usize::from(row) + column;
     let next = usize::from(row) + (end + 1);
-    if next < NEXT_ROW && place < entries.len() && usize::from(entries[place]) == next {
+    if next < NEXT_ROW
+        && place + 2 * end + 1 < entries.len()
+        && usize::from(entries[place]) == next
+    {
         entries[place] = NEXT_ROW as u16;
     }
 }

@@ -1,12 +1,12 @@
 //! How many steps a search takes for a character, told of the outline of a pattern before there is a program.
 
-ghost use Rattle.std.specs.Prelude.{◌≡◌, ◌+◌, ◌*◌, nat_le};
+ghost use Rattle.std.specs.Prelude.{◌≡◌, ◌+◌, ◌*◌, nat_le, if◌then◌else◌};
 ghost use Rattle.strkw_ecma.specs.Tree.{empty, alt, star, plus};
 ghost use Rattle.strkw_ecma.specs.Patterns.{quantified_pattern, copies};
 ghost use Rattle.strkw_ecma.specs.Program.{glance, alternatives};
 ghost use Rattle.strkw_ecma.specs.machine.Shape.{outlined, quantifier_of};
 ghost use Rattle.strkw_ecma.specs.Size.{steps, steps_of, max_term_steps, set_cost, class_steps as spec_class_steps};
-ghost use Rattle.strkw_ecma.specs.machine.Sizes.{capped};
+ghost use Rattle.strkw_ecma.specs.machine.Sizes.{capped, spread_if};
 
 use crate::outline::{Outline, Quantifier};
 use crate::tree::CharSet;
@@ -30,6 +30,9 @@ const STEPS_BETWEEN: u32 = 1;
 
 // What stands around what a lookbehind or a lookahead looks for.
 const STEPS_OF_A_LOOK: u32 = 2;
+
+// Of a mark beside it.
+const STEPS_OF_A_MARK: u32 = 1;
 
 // A number of steps, up to one more than the most.
 fn cap(steps: u64) -> u32
@@ -89,31 +92,48 @@ impl Quantifier {
         ensures { result
             ≡ nat_le (copies (quantifier_of self) * steps (outlined body.now)) max_term_steps }
     {
-        self.copies() * u64::from(body.steps()) <= u64::from(MAX_TERM_STEPS)
+        self.copies() * u64::from(body.steps(false)) <= u64::from(MAX_TERM_STEPS)
     }
 }
 
 impl Outline {
-    /// Of its program.
+    /// Of its program, or where `is_spread` holds, of that with a mark beside what each lookaround looks for.
     #[cycle(steps)]
-    pub(crate) fn steps(&self) -> u32
-        ensures { result ≡ capped (steps (outlined self.now)) }
+    pub(crate) fn steps(&self, is_spread: bool) -> u32
+        ensures { result ≡ capped (steps (spread_if is_spread (outlined self.now))) }
     {
         match self {
             Outline::Empty => 0,
             Outline::Class { sets, .. } => class_steps(sets),
             Outline::Start | Outline::End | Outline::Boundary | Outline::NoBoundary => 1,
-            Outline::Then(first, second) => together(first.steps(), second.steps(), 0),
+            Outline::Then(first, second) => {
+                together(first.steps(is_spread), second.steps(is_spread), 0)
+            }
             Outline::Or(one, other) => {
+                let steps = other.steps(is_spread);
                 if one.is_nothing() {
-                    other.option_steps(other.steps())
+                    other.option_steps(steps, is_spread)
                 } else {
-                    together(one.steps_beside(), other.steps(), STEPS_OF_A_CHOICE)
+                    together(one.steps_beside(is_spread), steps, STEPS_OF_A_CHOICE)
                 }
             }
-            Outline::Repeated(quantifier, body) => body.repeated_steps(*quantifier, body.steps()),
-            Outline::Behind(_, body) => together(0, body.steps(), STEPS_OF_A_LOOK),
-            Outline::Ahead(_, body) => together(0, body.glance_steps(), STEPS_OF_A_LOOK),
+            Outline::Repeated(quantifier, body) => {
+                body.repeated_steps(*quantifier, body.steps(is_spread), is_spread)
+            }
+            Outline::Behind(_, body) => {
+                together(
+                    mark_steps(is_spread),
+                    body.steps(is_spread),
+                    STEPS_OF_A_LOOK,
+                )
+            }
+            Outline::Ahead(_, body) => {
+                if is_spread {
+                    together(mark_steps(true), body.steps(true), STEPS_OF_A_LOOK)
+                } else {
+                    together(0, body.glance_steps(), STEPS_OF_A_LOOK)
+                }
+            }
         }
     }
 
@@ -138,16 +158,23 @@ impl Outline {
         }
     }
 
-    // The same, among alternatives.
+    // The same as `steps`, among alternatives.
     #[cycle(steps)]
-    fn steps_beside(&self) -> u32
-        ensures { result ≡ capped (steps_of (alternatives (outlined self.now))) }
+    fn steps_beside(&self, is_spread: bool) -> u32
+        ensures { result
+            ≡ capped (steps_of (alternatives (spread_if is_spread (outlined self.now)))) }
     {
         match self {
-            Outline::Or(one, other) => together(one.steps_beside(), other.steps(), STEPS_BETWEEN),
+            Outline::Or(one, other) => {
+                together(
+                    one.steps_beside(is_spread),
+                    other.steps(is_spread),
+                    STEPS_BETWEEN,
+                )
+            }
             Outline::Repeated(quantifier, body) => match quantifier {
-                Quantifier::ZeroOrOne => together(0, body.steps(), STEPS_BETWEEN),
-                _ => self.steps(),
+                Quantifier::ZeroOrOne => together(0, body.steps(is_spread), STEPS_BETWEEN),
+                _ => self.steps(is_spread),
             },
             Outline::Empty
             | Outline::Class { .. }
@@ -157,14 +184,14 @@ impl Outline {
             | Outline::NoBoundary
             | Outline::Then(..)
             | Outline::Behind(..)
-            | Outline::Ahead(..) => self.steps(),
+            | Outline::Ahead(..) => self.steps(is_spread),
         }
     }
 
     // Where it may be missing, by its own steps.
-    fn option_steps(&self, own: u32) -> u32
-        requires { own ≡ capped (steps (outlined self.now)) }
-        ensures { result ≡ capped (steps (alt empty (outlined self.now))) }
+    fn option_steps(&self, own: u32, is_spread: bool) -> u32
+        requires { own ≡ capped (steps (spread_if is_spread (outlined self.now))) }
+        ensures { result ≡ capped (steps (alt empty (spread_if is_spread (outlined self.now)))) }
     {
         match self.class() {
             Some(_) => own,
@@ -173,10 +200,10 @@ impl Outline {
     }
 
     // Where it is repeated without end, by its own steps.
-    fn loop_steps(&self, own: u32) -> u32
-        requires { own ≡ capped (steps (outlined self.now)) }
-        ensures star { result ≡ capped (steps (star (outlined self.now))) }
-        ensures plus { result ≡ capped (steps (plus (outlined self.now))) }
+    fn loop_steps(&self, own: u32, is_spread: bool) -> u32
+        requires { own ≡ capped (steps (spread_if is_spread (outlined self.now))) }
+        ensures star { result ≡ capped (steps (star (spread_if is_spread (outlined self.now)))) }
+        ensures plus { result ≡ capped (steps (plus (spread_if is_spread (outlined self.now)))) }
     {
         match self.class() {
             Some(_) => own,
@@ -184,23 +211,35 @@ impl Outline {
         }
     }
 
-    fn repeated_steps(&self, quantifier: Quantifier, own: u32) -> u32
-        requires { own ≡ capped (steps (outlined self.now)) }
+    fn repeated_steps(&self, quantifier: Quantifier, own: u32, is_spread: bool) -> u32
+        requires { own ≡ capped (steps (spread_if is_spread (outlined self.now))) }
         ensures { result
             ≡ capped (steps (quantified_pattern (quantifier_of quantifier)
-            (outlined self.now))) }
+            (spread_if is_spread (outlined self.now)))) }
     {
         match quantifier {
-            Quantifier::ZeroOrMore | Quantifier::OneOrMore => self.loop_steps(own),
-            Quantifier::ZeroOrOne => self.option_steps(own),
+            Quantifier::ZeroOrMore | Quantifier::OneOrMore => self.loop_steps(own, is_spread),
+            Quantifier::ZeroOrOne => self.option_steps(own, is_spread),
             Quantifier::Exactly(count) => times(count, own),
-            Quantifier::AtLeast(count) => together(times(count, own), self.loop_steps(own), 0),
+            Quantifier::AtLeast(count) => {
+                together(times(count, own), self.loop_steps(own, is_spread), 0)
+            }
             Quantifier::FromTo(least, most) => {
-                let rest = times(most.saturating_sub(least), self.option_steps(own));
+                let rest = times(
+                    most.saturating_sub(least),
+                    self.option_steps(own, is_spread),
+                );
                 together(times(least, own), rest, 0)
             }
         }
     }
+}
+
+// Of the mark that stands beside what a lookaround looks for, if one does.
+fn mark_steps(is_spread: bool) -> u32
+    ensures { result ≡ (if is_spread then 1 else 0) }
+{
+    if is_spread { STEPS_OF_A_MARK } else { 0 }
 }
 
 // Of so many copies.

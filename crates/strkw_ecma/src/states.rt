@@ -19,7 +19,7 @@ use std::alloc::{AllocError, Global};
 pub(crate) struct State {
     marks: Vec<bool>,
     last: Option<char>,
-    digest: u64,
+    digest: u16,
 }
 
 impl State {
@@ -79,23 +79,16 @@ impl State {
     }
 }
 
-// A number of the marks, which is mostly another for others, so that few need be compared.
-fn digest(marks: &[bool]) -> u64 {
-    let mut digest = 0u64;
-    for word in marks.chunks(64) {
-        digest = (digest ^ packed(word)).wrapping_mul(0x9E37_79B9_7F4A_7C15);
-        digest ^= digest >> 32;
+// A number of the marks, which is mostly another for others, so that few need be compared: the sum of a weight for each
+// that is set. A loop without branches over numbers so small takes several marks at once.
+fn digest(marks: &[bool]) -> u16 {
+    let mut digest = 0u16;
+    let mut root = 1u16;
+    for mark in marks {
+        digest = digest.wrapping_add(u16::from(*mark).wrapping_mul(root.wrapping_mul(root)));
+        root = root.wrapping_add(0x9E37);
     }
     digest
-}
-
-// The marks as digits of a number, as far as it has so many.
-fn packed(marks: &[bool]) -> u64 {
-    let mut digits = 0u64;
-    for mark in marks {
-        digits = (digits << 1) | u64::from(*mark);
-    }
-    digits
 }
 
 // The number of the state of these marks behind a character, which is added where there is none.

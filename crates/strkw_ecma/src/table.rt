@@ -1,11 +1,11 @@
 //! The search by a table: one look at it for each character.
 
-ghost use Rattle.std.specs.Prelude.{◌≡◌, ◌^◌, ◌+◌, ◌≤◌, ◌<◌, Some, length};
+ghost use Rattle.std.specs.Prelude.{◌≡◌, ◌+◌, ◌<◌, Some, length, IsTrue};
 ghost use Rattle.std.specs.Str.{chars};
 ghost use Rattle.strkw_ecma.specs.Mirror.{along};
 ghost use Rattle.strkw_ecma.specs.machine.Along.{left_of};
 ghost use Rattle.strkw_ecma.specs.machine.Columns.{column_of};
-ghost use Rattle.strkw_ecma.specs.machine.Table.{entry_at as spec_entry_at, walk};
+ghost use Rattle.strkw_ecma.specs.machine.Table.{walk, AreInside};
 
 use crate::along::Along;
 use crate::columns::Columns;
@@ -17,24 +17,31 @@ pub(crate) const FOUND: usize = 0xFFFF;
 /// entry once it has this one; where it guesses that this one leads to the row behind, it need not wait.
 pub(crate) const NEXT_ROW: usize = 0xFFFE;
 
+/// Whether each entry leads to a row that is there, where it leads to one. The last column has the number `end`.
+pub(crate) fn are_inside(entries: &[u16], end: usize) -> bool
+    requires few { end < 256 }
+    ensures { IsTrue result → AreInside end entries.now }
+{
+    for (place, entry) in entries.iter().enumerate() {
+        // Where the row ends that it leads to, from whichever row has it.
+        let last = match usize::from(*entry) {
+            FOUND => end,
+            NEXT_ROW => place + 2 * end + 1,
+            row => row + end,
+        };
+        if last >= entries.len() {
+            return false;
+        }
+    }
+    end < entries.len()
+}
+
 /// The table of a pattern. `table_of` makes it.
 #[derive(Drop)]
 pub(crate) struct Table {
     pub(crate) columns: Columns,
     pub(crate) entries: Vec<u16>,
-}
-
-/// The entry of a row and a column.
-pub(crate) fn entry_at(entries: &[u16], row: usize, column: usize) -> usize
-    requires row { row < 2 ^ 63 + 2 ^ 17 }
-    requires column { column < 256 }
-    ensures entry { result ≡ spec_entry_at entries.now row column }
-    ensures fits { result < 2 ^ 16 }
-{
-    match entries.get(row + column) {
-        Some(entry) => usize::from(*entry),
-        None => 0,
-    }
+    ghost inside: { AreInside (length columns.keys.items) entries.items },
 }
 
 impl Table {
@@ -52,9 +59,9 @@ impl Table {
         let mut row = 0;
         for (place, byte) in text.as_bytes().iter().enumerate() {
             let Some(column) = columns.get(usize::from(*byte)) else {
-                return self.is_found_from(row, Along::new(&text[place..], false));
+                return self.is_found_behind(row, &text[place..]);
             };
-            let entry = entry_at(entries, row, usize::from(*column));
+            let entry = usize::from(entries[row + usize::from(*column)]);
             if entry < NEXT_ROW {
                 row = entry;
             } else if entry == NEXT_ROW {
@@ -63,7 +70,7 @@ impl Table {
                 return true;
             }
         }
-        entry_at(entries, row, end) == FOUND
+        usize::from(entries[row + end]) == FOUND
     }
 
     /// Whether it is found in the text, or where it is looked for backward, in the text turned round.
@@ -81,23 +88,37 @@ impl Table {
 
     // The same for what is left of a text, from a row on.
     #[inline(never)]
+    fn is_found_behind(&self, row: usize, left: &str) -> bool
+        requires { row + length self.now.columns.keys.items < length self.now.entries.items }
+        ensures { Some result
+            ≡ walk (column_of self.now.columns.classes.items self.now.columns.keys.items)
+            (length self.now.columns.keys.items) self.now.entries.items row (chars left.now) }
+    {
+        self.is_found_from(row, Along::new(left, false))
+    }
+
+    // The same in a direction that the caller knows: inlined, each has a loop of its own.
+    #[inline(always)]
     fn is_found_from(&self, row: usize, left: Along<'_>) -> bool
-        requires { row ≤ length self.now.entries.items + 2 ^ 16 }
+        requires { row + length self.now.columns.keys.items < length self.now.entries.items }
         ensures { Some result
             ≡ walk (column_of self.now.columns.classes.items self.now.columns.keys.items)
             (length self.now.columns.keys.items) self.now.entries.items row (left_of left.entry) }
     {
+        let entries = self.entries.as_slice();
         let end = self.columns.keys.len();
         let mut row = row;
         let mut left = left;
         'characters: while let Some(c) = left.next() {
-            let column = self.columns.column(c);
-            match entry_at(&self.entries, row, column) {
-                NEXT_ROW => row += end + 1,
-                FOUND => return true,
-                place => row = place,
+            let entry = usize::from(entries[row + self.columns.column(c)]);
+            if entry < NEXT_ROW {
+                row = entry;
+            } else if entry == NEXT_ROW {
+                row += end + 1;
+            } else {
+                return true;
             }
         }
-        entry_at(&self.entries, row, end) == FOUND
+        usize::from(entries[row + end]) == FOUND
     }
 }

@@ -11,6 +11,7 @@ pub mod Insertions
 pub mod Joining
 pub mod LabelRules
 pub mod LastHyphen
+pub mod LongNames
 pub mod Payloads
 pub mod OneText
 pub mod PlaceAll

@@ -1,5 +1,5 @@
 //! Internationalised host names (RFC 5890, section 2.3.2.3).
-ghost use Rattle.std.specs.Prelude.{◌≡◌, ◌+◌, ◌≤◌, ◌↔◌, ◌++◌, List, ℕ, [], ◌∷◌, All, IfOk, IfSome};
+ghost use Rattle.std.specs.Prelude.{◌≡◌, ◌+◌, ◌<◌, ◌≤◌, ◌↔◌, ◌++◌, List, ℕ, [], ◌∷◌, All, IfOk, IfSome};
 ghost use Rattle.std.specs.Prelude.{IfNone, IsTrue, length, map, false, true, option_map};
 ghost use Rattle.std.specs.Prelude.{slice_index, string_bytes};
 ghost use Rattle.std.specs.Char.{IsScalar, to_ascii_lowercase};
@@ -25,6 +25,9 @@ pub(crate) const LONGEST_LABEL: usize = 63;
 
 const LONGEST_HOST_NAME: usize = 253;
 
+/// The most bytes of a host name: it has at most 253 characters, and a character four bytes.
+const MOST_BYTES: usize = 4 * LONGEST_HOST_NAME;
+
 /// The length of `xn--`.
 const PREFIX_LENGTH: usize = 4;
 
@@ -43,15 +46,26 @@ const LONGEST_NAME: usize = 254;
 /// satisfied (RFC 5891, section 4.2, and RFC 5892), over the tables of Unicode 18.0. An A-label is `xn--` and the
 /// Punycode of a U-label.
 ///
-/// The only error is out of memory. A name of NR-LDH labels and full stops alone takes no memory.
+/// The only error is out of memory. A name of NR-LDH labels and full stops alone takes no memory, nor does a text of more
+/// than 1012 bytes or of more than 253 in ASCII.
 pub fn is_valid_idn_hostname(alloc: Global, hostname: &str) -> Result<bool, AllocError>
     ensures { IfOk result (λ valid. IsTrue valid ↔ IsIdnHostName (chars hostname.now)) }
 {
     if is_plain_host_name(hostname.as_bytes()) {
         return Ok(true);
     }
+    if is_too_long(hostname) {
+        return Ok(false);
+    }
     let text: Vec<char> = hostname.chars().collect(alloc)?;
     is_idn_host_name(alloc, &text)
+}
+
+/// Whether a text has too many bytes for a host name, which is known before it is decoded.
+fn is_too_long(text: &str) -> bool
+    ensures { IsTrue result → 253 < length (chars text.now) }
+{
+    MOST_BYTES < text.len() || LONGEST_HOST_NAME < text.len() && text.is_ascii()
 }
 
 /// Whether the text is NR-LDH labels with full stops between them, which makes an internationalised host name. It takes

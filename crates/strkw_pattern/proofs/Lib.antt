@@ -1,4 +1,4 @@
-mod Solid
+mod Clear
 pub mod Items
 pub mod Runs
 pub mod Alternatives

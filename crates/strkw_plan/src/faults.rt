@@ -145,8 +145,8 @@ impl Problem<'_> {
             Problem::NoPlan => PlanFault::NoPlan(kind),
             Problem::UnknownMember(name) => PlanFault::UnknownMember {
                 kind,
-                name: String::from_str(alloc, name)?,
                 nearest: nearest_of(alloc, name, kind.members())?,
+                name: String::from_str(alloc, name)?,
             },
             Problem::NoNames => PlanFault::NoNames,
             Problem::NoEach => PlanFault::NoEach,
@@ -154,8 +154,8 @@ impl Problem<'_> {
             Problem::NoLimits => PlanFault::NoLimits,
             Problem::UnknownLimit(name) => PlanFault::UnknownLimit {
                 kind,
-                name: String::from_str(alloc, name)?,
                 nearest: nearest_of(alloc, name, kind.limits())?,
+                name: String::from_str(alloc, name)?,
             },
             Problem::NoWholeLimit(name) => {
                 PlanFault::NoWholeLimit(String::from_str(alloc, name)?)
@@ -163,9 +163,9 @@ impl Problem<'_> {
             Problem::Empty => PlanFault::Empty(kind),
             Problem::NoObject(name) => PlanFault::NoObject(schema_place(alloc, kind, name)?),
             Problem::UnknownKeyword(draft, name, keyword) => PlanFault::UnknownKeyword {
+                nearest: nearest_name(alloc, kind, draft, keyword)?,
                 place: schema_place(alloc, kind, name)?,
                 keyword: String::from_str(alloc, keyword)?,
-                nearest: nearest_name(alloc, kind, draft, keyword)?,
             },
             Problem::UncheckedKeyword(name, keyword) => PlanFault::UncheckedKeyword {
                 place: schema_place(alloc, kind, name)?,
@@ -193,6 +193,69 @@ impl fmt::Display for Nearest {
     }
 }
 
+// Writes that a plan has no member, or no limit, of this name.
+fn write_unknown<W: fmt::Write>(
+    f: &mut fmt::Formatter<W>,
+    what: &str,
+    name: &str,
+    nearest: Option<&'static str>,
+) -> fmt::Result {
+    let (name, nearest) = (Shown(name), Nearest(nearest));
+    write!(f, "unknown {what} \"{name}\" of the plan{nearest}")
+}
+
+// Writes that a member of the schema object at a place is no keyword.
+fn write_unknown_keyword<W: fmt::Write>(
+    f: &mut fmt::Formatter<W>,
+    place: &Location,
+    keyword: &str,
+    nearest: Option<&'static str>,
+) -> fmt::Result {
+    let (place, keyword) = (Shown(place.as_str()), Shown(keyword));
+    let nearest = Nearest(nearest);
+    write!(f, "unknown keyword \"{keyword}\" at {place}{nearest}")
+}
+
+// Writes that nothing is checked by a keyword of the schema object at a place.
+fn write_unchecked_keyword<W: fmt::Write>(
+    f: &mut fmt::Formatter<W>,
+    place: &Location,
+    keyword: &str,
+) -> fmt::Result {
+    let (place, keyword) = (Shown(place.as_str()), Shown(keyword));
+    write!(
+        f,
+        "keyword \"{keyword}\" at {place} is not checked here: `\"ignore\": [\"{keyword}\"]` lets it pass"
+    )
+}
+
+// Writes which values a member of the plan's own in the schema object at a place may have.
+fn write_own_value<W: fmt::Write>(
+    f: &mut fmt::Formatter<W>,
+    kind: PlanKind,
+    place: &Location,
+    member: &str,
+) -> fmt::Result {
+    let (place, member) = (Shown(place.as_str()), Shown(member));
+    let wrong = match kind {
+        PlanKind::Columns => "not \"skip\"",
+        PlanKind::Places => "neither true nor false",
+    };
+    write!(f, "\"{member}\" at {place} is {wrong}")
+}
+
+// Writes why the schema object at a place is refused.
+fn write_refused<W: fmt::Write>(
+    f: &mut fmt::Formatter<W>,
+    place: &Location,
+    refusal: &CompileError,
+) -> fmt::Result {
+    let place = Shown(place.as_str());
+    let keyword = refusal.location.as_str();
+    let why = Why(&refusal.kind);
+    write!(f, "the schema at {place} is refused at {keyword}: {why}")
+}
+
 impl fmt::Display for PlanFault {
     fn fmt<W: fmt::Write>(&self, f: &mut fmt::Formatter<W>) -> fmt::Result {
         match self {
@@ -204,8 +267,7 @@ impl fmt::Display for PlanFault {
                 )
             }
             PlanFault::UnknownMember { name, nearest, .. } => {
-                let (name, nearest) = (Shown(name), Nearest(*nearest));
-                write!(f, "unknown member \"{name}\" of the plan{nearest}")
+                write_unknown(f, "member", name, *nearest)
             }
             PlanFault::NoNames => f.write_str("`ignore` is to be an array of names of keywords"),
             PlanFault::NoEach => f.write_str("`duplicates` is to be \"each\", or left out"),
@@ -214,8 +276,7 @@ impl fmt::Display for PlanFault {
             }
             PlanFault::NoLimits => f.write_str("`limits` is to be an object of whole numbers"),
             PlanFault::UnknownLimit { name, nearest, .. } => {
-                let (name, nearest) = (Shown(name), Nearest(*nearest));
-                write!(f, "unknown limit \"{name}\" of the plan{nearest}")
+                write_unknown(f, "limit", name, *nearest)
             }
             PlanFault::NoWholeLimit(name) => {
                 let name = Shown(name);
@@ -233,36 +294,16 @@ impl fmt::Display for PlanFault {
                 place,
                 keyword,
                 nearest,
-            } => {
-                let (place, keyword) = (Shown(place.as_str()), Shown(keyword));
-                let nearest = Nearest(*nearest);
-                write!(f, "unknown keyword \"{keyword}\" at {place}{nearest}")
-            }
+            } => write_unknown_keyword(f, place, keyword, *nearest),
             PlanFault::UncheckedKeyword { place, keyword } => {
-                let (place, keyword) = (Shown(place.as_str()), Shown(keyword));
-                write!(
-                    f,
-                    "keyword \"{keyword}\" at {place} is not checked here: `\"ignore\": [\"{keyword}\"]` lets it pass"
-                )
+                write_unchecked_keyword(f, place, keyword)
             }
             PlanFault::NoOwnValue {
                 kind,
                 place,
                 member,
-            } => {
-                let (place, member) = (Shown(place.as_str()), Shown(member));
-                let wrong = match kind {
-                    PlanKind::Columns => "not \"skip\"",
-                    PlanKind::Places => "neither true nor false",
-                };
-                write!(f, "\"{member}\" at {place} is {wrong}")
-            }
-            PlanFault::Refused { place, refusal } => {
-                let place = Shown(place.as_str());
-                let keyword = refusal.location.as_str();
-                let why = Why(&refusal.kind);
-                write!(f, "the schema at {place} is refused at {keyword}: {why}")
-            }
+            } => write_own_value(f, *kind, place, member),
+            PlanFault::Refused { place, refusal } => write_refused(f, place, refusal),
             PlanFault::Memory => f.write_str("out of memory"),
         }
     }

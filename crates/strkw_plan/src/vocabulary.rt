@@ -30,64 +30,59 @@ struct Keywords {
     names: &'static [&'static str],
 }
 
+// The keywords of these names, in these drafts, with what is done with them.
+macro_rules! row {
+    ($first:ident..=$last:ident, $standing:ident, $names:expr) => {
+        Keywords {
+            first: Draft::$first,
+            last: Draft::$last,
+            standing: Standing::$standing,
+            names: $names,
+        }
+    };
+}
+
 // The keywords of JSON Schema Core and JSON Schema Validation in each draft.
 fn vocabulary() -> &'static [Keywords]
     ensures { map row_view result.now ≡ vocabulary }
 {
     &[
-        Keywords {
-            first: Draft::Draft4,
-            last: Draft::Draft202012,
-            standing: Standing::Checked,
-            names: &["format", "minLength", "maxLength", "pattern"],
-        },
-        Keywords {
-            first: Draft::Draft6,
-            last: Draft::Draft7,
-            standing: Standing::Checked,
-            names: &["contentMediaType", "contentEncoding"],
-        },
-        Keywords {
-            first: Draft::Draft201909,
-            last: Draft::Draft202012,
-            standing: Standing::Annotation,
-            names: &["contentMediaType", "contentEncoding", "contentSchema"],
-        },
-        Keywords {
-            first: Draft::Draft4,
-            last: Draft::Draft202012,
-            standing: Standing::Annotation,
-            names: &["title", "description", "default", "$schema", "definitions"],
-        },
-        Keywords {
-            first: Draft::Draft4,
-            last: Draft::Draft4,
-            standing: Standing::Annotation,
-            names: &["id"],
-        },
-        Keywords {
-            first: Draft::Draft6,
-            last: Draft::Draft202012,
-            standing: Standing::Annotation,
-            names: &["$id", "examples"],
-        },
-        Keywords {
-            first: Draft::Draft7,
-            last: Draft::Draft202012,
-            standing: Standing::Annotation,
-            names: &["$comment", "readOnly", "writeOnly"],
-        },
-        Keywords {
-            first: Draft::Draft201909,
-            last: Draft::Draft202012,
-            standing: Standing::Annotation,
-            names: &["$anchor", "$defs", "deprecated"],
-        },
-        Keywords {
-            first: Draft::Draft4,
-            last: Draft::Draft202012,
-            standing: Standing::Unchecked,
-            names: &[
+        row!(
+            Draft4..=Draft202012,
+            Checked,
+            &["format", "minLength", "maxLength", "pattern"]
+        ),
+        row!(
+            Draft6..=Draft7,
+            Checked,
+            &["contentMediaType", "contentEncoding"]
+        ),
+        row!(
+            Draft201909..=Draft202012,
+            Annotation,
+            &["contentMediaType", "contentEncoding", "contentSchema"]
+        ),
+        row!(
+            Draft4..=Draft202012,
+            Annotation,
+            &["title", "description", "default", "$schema", "definitions"]
+        ),
+        row!(Draft4..=Draft4, Annotation, &["id"]),
+        row!(Draft6..=Draft202012, Annotation, &["$id", "examples"]),
+        row!(
+            Draft7..=Draft202012,
+            Annotation,
+            &["$comment", "readOnly", "writeOnly"]
+        ),
+        row!(
+            Draft201909..=Draft202012,
+            Annotation,
+            &["$anchor", "$defs", "deprecated"]
+        ),
+        row!(
+            Draft4..=Draft202012,
+            Unchecked,
+            &[
                 "type",
                 "enum",
                 "multipleOf",
@@ -110,32 +105,20 @@ fn vocabulary() -> &'static [Keywords]
                 "anyOf",
                 "oneOf",
                 "not",
-                "$ref",
-            ],
-        },
-        Keywords {
-            first: Draft::Draft4,
-            last: Draft::Draft201909,
-            standing: Standing::Unchecked,
-            names: &["additionalItems"],
-        },
-        Keywords {
-            first: Draft::Draft6,
-            last: Draft::Draft202012,
-            standing: Standing::Unchecked,
-            names: &["const", "contains", "propertyNames"],
-        },
-        Keywords {
-            first: Draft::Draft7,
-            last: Draft::Draft202012,
-            standing: Standing::Unchecked,
-            names: &["if", "then", "else"],
-        },
-        Keywords {
-            first: Draft::Draft201909,
-            last: Draft::Draft202012,
-            standing: Standing::Unchecked,
-            names: &[
+                "$ref"
+            ]
+        ),
+        row!(Draft4..=Draft201909, Unchecked, &["additionalItems"]),
+        row!(
+            Draft6..=Draft202012,
+            Unchecked,
+            &["const", "contains", "propertyNames"]
+        ),
+        row!(Draft7..=Draft202012, Unchecked, &["if", "then", "else"]),
+        row!(
+            Draft201909..=Draft202012,
+            Unchecked,
+            &[
                 "dependentRequired",
                 "dependentSchemas",
                 "maxContains",
@@ -144,15 +127,14 @@ fn vocabulary() -> &'static [Keywords]
                 "unevaluatedProperties",
                 "$recursiveRef",
                 "$recursiveAnchor",
-                "$vocabulary",
-            ],
-        },
-        Keywords {
-            first: Draft::Draft202012,
-            last: Draft::Draft202012,
-            standing: Standing::Unchecked,
-            names: &["prefixItems", "$dynamicRef", "$dynamicAnchor"],
-        },
+                "$vocabulary"
+            ]
+        ),
+        row!(
+            Draft202012..=Draft202012,
+            Unchecked,
+            &["prefixItems", "$dynamicRef", "$dynamicAnchor"]
+        ),
     ]
 }
 

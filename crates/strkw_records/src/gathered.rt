@@ -1,6 +1,6 @@
 //! The fields of the record at hand.
 
-ghost use Rattle.std.specs.Prelude.{◌≡◌, ◌≢◌, ◌≤◌, ◌<◌, ◌+◌, ◌-◌, ◌^◌, ◌++◌, ◌∷◌, ℕ, List, [], Some, None, true, length, slice_get, slice_index, take, drop, OnOk, IfOk, IfErr, IfSome};
+ghost use Rattle.std.specs.Prelude.{◌≡◌, ◌≢◌, ◌≤◌, ◌<◌, ◌+◌, ◌-◌, ◌^◌, ◌++◌, ◌∷◌, ℕ, List, [], Some, None, false, true, length, slice_get, slice_index, take, drop, OnOk, IfOk, IfErr, IfSome};
 ghost use Rattle.csv.specs.Machine.{Runs, ends_at_end, step};
 ghost use Rattle.csv.specs.Records.{fields_of, partial_of};
 ghost use Rattle.csv.specs.declared.parser.State.TheVariants as st;
@@ -218,14 +218,41 @@ impl Gathered {
             if input.piece.unread().is_empty() {
                 continue;
             }
-            input.take_byte()?;
-            let is_doubled = input.is_quote_next()?;
+            let is_doubled = self.take_quote(input)?;
             if !is_doubled {
                 return Ok(());
             }
-            self.take_run(input, 1)?;
         }
         Err(ReadFault::Memory)
+    }
+
+    // Goes past a quote in quotes. Answers whether another one stands behind it: both are then a quote of the field,
+    // which is taken into it.
+    #[inline(always)]
+    fn take_quote<R: Read>(&mut self, input: &mut Input<R>) -> Result<bool, ReadFault>
+        requires counted { IsCounted self.old }
+        requires some { 0 < length input.old.piece }
+        requires front { slice_index input.old.piece 0 ≡ quote }
+        ensures counted { OnOk result (Counts self.old self.new) }
+        ensures closed { (delimiter : ℕ) (text : List ℕ) → rest_of R.remaining input.old ≡ Some text
+            → IfOk result (λ is_doubled. is_doubled ≡ false
+            → (h : Gathers delimiter R.remaining input.old input.new text
+            st.InQuoted self.old st.AfterQuote self.new) × (slice_get h.rest 0 ≢ Some quote)) }
+        ensures doubled { (delimiter : ℕ) (text : List ℕ)
+            → rest_of R.remaining input.old ≡ Some text
+            → IfOk result (λ is_doubled. is_doubled ≡ true
+            → (h : Gathers delimiter R.remaining input.old input.new text
+            st.InQuoted self.old st.InQuoted self.new) × (h.bytes ≡ quote ∷ quote ∷ [])) }
+        ensures fails { (delimiter : ℕ) (text : List ℕ) → rest_of R.remaining input.old ≡ Some text
+            → IfErr result (FailsOutside delimiter input.old.place st.InQuoted self.old text) }
+    {
+        input.take_byte()?;
+        let is_doubled = input.is_quote_next()?;
+        if !is_doubled {
+            return Ok(false);
+        }
+        self.take_run(input, 1)?;
+        Ok(true)
     }
 
     // Ends the field with these bytes.

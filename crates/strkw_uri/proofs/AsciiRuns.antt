@@ -24,7 +24,7 @@ use Rattle.strkw_uri.specs.declared.part.Part.{Part}
 use Rattle.strkw_uri.specs.declared.part.Part.TheVariants.{RegNameChar, UserinfoChar, PathChar, SegmentNcChar, QueryChar, FragmentChar}
 use Rattle.strkw_uri.specs.declared.scan.Class.{Class}
 use Rattle.strkw_uri.specs.declared.scan.Class.TheVariants.{Letter, SchemeChar, Decimal, NonzeroDecimal, Hexadecimal, ZeroOrOne, VersionLetter, FutureChar}
-use Rattle.strkw_uri.specs.declared.scan.Class.TheVariants.{OperatorChar}
+use Rattle.strkw_uri.specs.declared.scan.Class.TheVariants.{OperatorChar, NameChar}
 use Rattle.strkw_uri.proofs.Encodings.{encoded_char, encoded_pct, first_of_pct}
 use Rattle.strkw_uri.proofs.Paths.{or_other}
 
@@ -374,3 +374,4 @@ class_small ZeroOrOne c h = grind (arith, nat_tests)
 class_small VersionLetter c h = grind (arith, nat_tests)
 class_small FutureChar c h = grind (arith, nat_tests)
 class_small OperatorChar c h = grind (arith, nat_tests)
+class_small NameChar c h = grind (arith, nat_tests)

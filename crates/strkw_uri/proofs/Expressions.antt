@@ -1,20 +1,20 @@
--- Literals and expressions: each is found from its first character, an expression from the first brace that closes.
+-- Literals and expressions: each is found from its first character.
 use Rattle.std.proofs.Common.{◌≡◌, ◌↔◌, ℕ, Bool, false, List, [], ◌∷◌, ◌++◌, refl, sym, ap, ◌∙◌, append_assoc}
-use Rattle.strkw_text.specs.Abnf.{Form, ◌⨾◌, ◌∣◌, Literal, Repeat}
-use Rattle.strkw_text.specs.Delimiters.{Without}
-use Rattle.strkw_text.specs.Fronts.{StartsWith, StartsWithNo, NotFirst}
-use Rattle.strkw_text.proofs.Delimiters.{delimiter_then, no_delimiter_then, delimiter_once}
+use Rattle.strkw_text.specs.Abnf.{Form, ◌⨾◌, ◌∣◌, Literal, Repeat, OneOf}
+use Rattle.strkw_text.specs.Fronts.{StartsWith, StartsWithNo, NotFirst, OptionThen}
+use Rattle.strkw_text.proofs.Delimiters.{delimiter_once}
 use Rattle.strkw_text.proofs.Fronts.{whole_step, whole_end}
 use Rattle.strkw_text.proofs.Laws.{then, assoc, not_first_nil}
 use Rattle.strkw_text.proofs.Runs.{IsPrefixFree, Literal-free, Then-free, either-free, then_start, no_start_first, no_start_second, no_start_either, start_left}
 use Rattle.strkw_text.proofs.Runs.{start_right, literal_start, no_literal_start, differ}
-use Rattle.strkw_uri.specs.Template.{is_literal_char, OperatorAndVariables, InExpression, LiteralOrExpression, IsUriTemplate}
+use Rattle.strkw_uri.specs.Scan.{BehindVariable}
+use Rattle.strkw_uri.specs.Template.{is_literal_char, is_operator, Varspec, OperatorAndVariables, InExpression, LiteralOrExpression, IsUriTemplate}
 use Rattle.strkw_uri.specs.Uri.{Encoded}
 use Rattle.strkw_uri.proofs.Encodings.{encoded_free, other_stops, nothing_stops}
-use Rattle.strkw_uri.proofs.Variables.{brace_low, no_brace}
+use Rattle.strkw_uri.proofs.Variables.{after_operator, brace_low, no_brace}
 
 -- an operator and variables before a closing brace are the inside of an expression at the front
-pub inside_front : (text inside rest : List ℕ) → text ≡ inside ++ 125 ∷ rest → OperatorAndVariables inside → StartsWith InExpression text rest
+inside_front : (text inside rest : List ℕ) → text ≡ inside ++ 125 ∷ rest → OperatorAndVariables inside → StartsWith InExpression text rest
 inside_front text inside rest e b = record {
   front = inside ++ 125 ∷ [];
   is = then inside (125 ∷ []) _ b refl refl;
@@ -26,15 +26,21 @@ inside_front text inside rest e b = record {
 inside_shape : (text rest : List ℕ) → StartsWith InExpression text rest → (OperatorAndVariables ⨾ Literal (125 ∷ []) ⨾ (λ x. x ≡ rest)) text
 inside_shape text rest f = (assoc OperatorAndVariables (Literal (125 ∷ [])) (λ x. x ≡ rest) text).0 (then f.front rest text f.is refl f.joined)
 
--- where the text before the first closing brace is no operator and variables, no inside begins
-pub no_inside_body : (text inside rest : List ℕ) → Without 125 inside → text ≡ inside ++ 125 ∷ rest → (OperatorAndVariables inside → ⊥)
-    → StartsWithNo InExpression text
-no_inside_body text inside rest n e no_body other f =
-    no_body ((delimiter_then 125 brace_low OperatorAndVariables (λ x. x ≡ other) no_brace text inside rest n e).0 (inside_shape text other f)).0
+-- and where a text is these, such an inside begins it
+shape_inside : (text rest : List ℕ) → (OperatorAndVariables ⨾ Literal (125 ∷ []) ⨾ (λ x. x ≡ rest)) text → StartsWith InExpression text rest
+shape_inside text rest h =
+    let behind : h.back ≡ 125 ∷ rest = sym h.second.joined ∙ ap (λ s. s ++ h.second.back) h.second.first ∙ ap (λ s. 125 ∷ s) h.second.second in
+    inside_front text h.front rest (sym h.joined ∙ ap (λ s. h.front ++ s) behind) h.first
 
--- nor does one where there is no closing brace
-pub no_inside : (text : List ℕ) → Without 125 text → StartsWithNo InExpression text
-no_inside text n other f = no_delimiter_then 125 brace_low OperatorAndVariables (λ x. x ≡ other) text n (inside_shape text other f)
+-- such an inside begins a text where a variable, and what follows it up to the rest, is what the operator leaves
+pub inside_found : (text mid rest : List ℕ) → OptionThen (OneOf is_operator) text mid
+    → ((tail : List ℕ) → (Varspec ⨾ BehindVariable tail) mid ↔ (rest ≡ tail)) → StartsWith InExpression text rest
+inside_found text mid rest f found = shape_inside text rest ((after_operator rest text mid f).1 ((found rest).1 refl))
+
+-- and where no variable does, none begins
+pub no_inside : (text mid : List ℕ) → OptionThen (OneOf is_operator) text mid → ((tail : List ℕ) → (Varspec ⨾ BehindVariable tail) mid → ⊥)
+    → StartsWithNo InExpression text
+no_inside text mid f none rest start = none rest ((after_operator rest text mid f).0 (inside_shape text rest start))
 
 -- where the inside of an expression ends is settled by the text
 inside_free : IsPrefixFree InExpression

@@ -1,6 +1,6 @@
 -- What the private functions speak of: the classes that are read, and the grammars from a part on
 -- to the end of the text.
-use Rattle.std.specs.Prelude.{ℕ, Bool, ◌||◌, ◌==◌, false, codes}
+use Rattle.std.specs.Prelude.{◌≡◌, ◌↔◌, ℕ, Bool, ◌||◌, ◌==◌, false, List, codes}
 use Rattle.std.specs.Str.{byte}
 use Rattle.std.specs.Char.{is_ascii_hexdigit, is_ascii_digit, is_ascii_alphabetic}
 use Rattle.strkw_text.specs.Abnf.{Form, ◌⨾◌, ◌∣◌, Literal, Optional, Repeat}
@@ -11,20 +11,19 @@ use Rattle.strkw_uri.specs.Characters.{is_userinfo_char, is_pchar, is_nc_char, i
 use Rattle.strkw_uri.specs.Characters.{is_fragment_char, is_ucschar, is_iprivate}
 use Rattle.strkw_uri.specs.Uri.{Encoded, Userinfo, BracketedAddress, Host, Port, PathAbempty}
 use Rattle.strkw_uri.specs.Uri.{HierPart, QueryAndFragment}
-use Rattle.strkw_uri.specs.Template.{is_literal_char, is_varchar, is_operator}
-use Rattle.strkw_uri.specs.Template.{FurtherVarchar, ModifierLevel4}
+use Rattle.strkw_uri.specs.Template.{is_varchar, is_operator}
+use Rattle.strkw_uri.specs.Template.{Varspec}
 use Rattle.strkw_uri.specs.Pointer.{IsJsonPointer}
 use Rattle.strkw_uri.specs.declared.part.Syntax.{Syntax}
 use Rattle.strkw_uri.specs.declared.part.Syntax.TheVariants.{Rfc3986, Rfc3987}
 use Rattle.strkw_uri.specs.declared.part.Part.{Part}
 use Rattle.strkw_uri.specs.declared.part.Part.TheVariants.{RegNameChar, UserinfoChar, PathChar}
 use Rattle.strkw_uri.specs.declared.part.Part.TheVariants.{SegmentNcChar, QueryChar, FragmentChar}
-use Rattle.strkw_uri.specs.declared.template.Plain.{Plain}
-use Rattle.strkw_uri.specs.declared.template.Plain.TheVariants.{InLiteral, InName}
 use Rattle.strkw_uri.specs.declared.scan.Class.{Class}
 use Rattle.strkw_uri.specs.declared.scan.Class.TheVariants.{Letter, SchemeChar, Decimal}
 use Rattle.strkw_uri.specs.declared.scan.Class.TheVariants.{NonzeroDecimal, Hexadecimal, ZeroOrOne}
-use Rattle.strkw_uri.specs.declared.scan.Class.TheVariants.{VersionLetter, FutureChar, OperatorChar}
+use Rattle.strkw_uri.specs.declared.scan.Class.TheVariants.{VersionLetter, FutureChar}
+use Rattle.strkw_uri.specs.declared.scan.Class.TheVariants.{OperatorChar, NameChar}
 
 abbrev pub alphabet : Syntax → Alphabet
 alphabet Rfc3986 = uri
@@ -43,7 +42,7 @@ is_part_char s SegmentNcChar = is_nc_char (alphabet s)
 is_part_char s QueryChar = is_query_char (alphabet s)
 is_part_char s FragmentChar = is_fragment_char (alphabet s)
 
--- those of them past ASCII
+-- the characters of a part past ASCII
 abbrev pub is_wide_part_char : Syntax → Part → ℕ → Bool
 is_wide_part_char Rfc3986 p c = false
 is_wide_part_char Rfc3987 RegNameChar c = is_ucschar c
@@ -73,19 +72,24 @@ is_class_char ZeroOrOne = is_one_of (codes "01")
 is_class_char VersionLetter = is_one_of (codes "vV")
 is_class_char FutureChar = is_userinfo_char uri
 is_class_char OperatorChar = is_operator
-
--- the characters of a template that stand for themselves in a literal, or in a name
-abbrev pub is_plain : Plain → ℕ → Bool
-is_plain InLiteral = is_literal_char
-is_plain InName = is_varchar
+is_class_char NameChar = is_varchar
 
 -- "#" at the end, or a pointer
 abbrev pub HashOrPointer : Form
 HashOrPointer = Literal (codes "#") ∣ IsJsonPointer
 
--- from within a name of a template's variable on
-abbrev pub InVarspec : Form
-InVarspec = Repeat FurtherVarchar ⨾ Optional ModifierLevel4
+-- further variables of a template's expression, the brace that closes it, and then the tail
+abbrev pub BehindVariable : List ℕ → Form
+BehindVariable tail = Repeat (Literal (codes ",") ⨾ Varspec) ⨾ Literal (codes "}") ⨾ (λ x. x ≡ tail)
+
+-- an A before what follows a variable leaves the rest, whatever the tail is
+abbrev pub LeavesBehind : Form → List ℕ → List ℕ → Type 0
+LeavesBehind A text rest =
+    (tail : List ℕ) → (A ⨾ BehindVariable tail) text ↔ BehindVariable tail rest
+
+-- the text begins with no A before what follows a variable
+abbrev pub BeginsNot : Form → Form
+BeginsNot A text = (tail : List ℕ) → (A ⨾ BehindVariable tail) text → ⊥
 
 -- the rest of a URI from a part on
 module _ (K : Alphabet) where

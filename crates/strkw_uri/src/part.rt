@@ -33,6 +33,9 @@ pub(crate) enum Part {
 // From how many bytes on a text is read by blocks: below, its parts are too short for a block to pay.
 const LONG: usize = 64;
 
+// How many bytes of a long text are read one at a time first: most of its parts may be shorter.
+const FEW: usize = 8;
+
 // Of each part the characters of RFC 3986.
 const REG_NAME: Table = [
     0xa8, 0xfc, 0xf8, 0xf8, 0xfc, 0xf8, 0xfc, 0xfc, 0xfc, 0xfc, 0xf4, 0x5c, 0x54, 0x5c, 0xd4, 0x70,
@@ -69,14 +72,18 @@ fn long_run(bytes: &[u8], part: Part) -> usize
     }
 }
 
-/// How many bytes from the first are characters of the part by RFC 3986 or percent-encoded: by blocks in
-/// a long text, and else one at a time. (The loop stands apart from the blocks, so that it has no frame.)
+/// How many bytes from the first are characters of the part by RFC 3986 or percent-encoded: by blocks where
+/// a long text goes on for some bytes, and else one at a time.
 #[inline(never)]
 fn ascii_run(bytes: &[u8], part: Part) -> usize
     ensures { IsRun (goes_on (is_part_char Rfc3986 part) bytes.now) 0 (length bytes.now) result }
 {
-    if bytes.len() < LONG || bytes[0] >= 128 {
-        plain::run(bytes, part, 0, bytes.len())
+    if bytes.len() < LONG {
+        return plain::run(bytes, part, 0, bytes.len());
+    }
+    let run = plain::run(bytes, part, 0, FEW);
+    if run < FEW {
+        run
     } else {
         long_run(bytes, part)
     }
@@ -94,11 +101,20 @@ pub(crate) fn after_ascii(text: &str, syntax: Syntax, part: Part) -> &str
     &text[run..]
 }
 
+#[inline(always)]
 fn is_ucschar(c: char) -> bool
     ensures { result ≡ is_ucschar c }
 {
+    matches!(c, '\u{A0}'..='\u{D7FF}') || (c > '\u{D7FF}' && is_far_ucschar(c))
+}
+
+/// Whether a character past U+D7FF is one of ucschar.
+fn is_far_ucschar(c: char) -> bool
+    requires { 0xD7FF < c }
+    ensures { result ≡ is_ucschar c }
+{
     matches!(c,
-        '\u{A0}'..='\u{D7FF}' | '\u{F900}'..='\u{FDCF}' | '\u{FDF0}'..='\u{FFEF}'
+        '\u{F900}'..='\u{FDCF}' | '\u{FDF0}'..='\u{FFEF}'
         | '\u{10000}'..='\u{1FFFD}' | '\u{20000}'..='\u{2FFFD}' | '\u{30000}'..='\u{3FFFD}'
         | '\u{40000}'..='\u{4FFFD}' | '\u{50000}'..='\u{5FFFD}' | '\u{60000}'..='\u{6FFFD}'
         | '\u{70000}'..='\u{7FFFD}' | '\u{80000}'..='\u{8FFFD}' | '\u{90000}'..='\u{9FFFD}'

@@ -1,7 +1,7 @@
 //! Readers of the front of a text, the one scan of a part of a URI among them.
-ghost use Rattle.std.specs.Prelude.{◌≡◌, ◌↔◌, ◌<◌, ◌++◌, ◌∷◌, length, IsTrue, MatchOption, IfSome, IsUtf8};
+ghost use Rattle.std.specs.Prelude.{◌≡◌, ◌↔◌, ◌<◌, ◌≤◌, ◌++◌, ◌∷◌, length, IsTrue, MatchOption, IfSome, IsUtf8};
 ghost use Rattle.std.specs.Str.{chars};
-ghost use Rattle.strkw_text.specs.Abnf.{◌⨾◌, Empty, OneOf};
+ghost use Rattle.strkw_text.specs.Abnf.{◌⨾◌, Empty, OneOf, Repeat};
 ghost use Rattle.strkw_text.specs.Characters.{HexDigit};
 ghost use Rattle.strkw_text.specs.Fronts.{StartsWith, StartsWithNo, RunThen, NotFirst, OptionThen};
 ghost use Rattle.strkw_text.specs.Delimiters.{Without};
@@ -71,6 +71,7 @@ pub(crate) enum Class {
     VersionLetter,
     FutureChar,
     OperatorChar,
+    NameChar,
 }
 
 impl Class {
@@ -91,6 +92,7 @@ impl Class {
                 byte,
                 b'+' | b'#' | b'.' | b'/' | b';' | b'?' | b'&' | b'=' | b',' | b'!' | b'@' | b'|'
             ),
+            Class::NameChar => byte.is_ascii_alphanumeric() || byte == b'_',
         }
     }
 }
@@ -111,7 +113,9 @@ pub(crate) fn after_one(text: &str, class: Class) -> Option<&str>
 
 /// What follows a character of the class if one is there, and else the text.
 pub(crate) fn after_optional(text: &str, class: Class) -> &str
-    ensures { OptionThen (OneOf (is_class_char class)) (chars text.now) (chars result.now) }
+    ensures option { OptionThen (OneOf (is_class_char class)) (chars text.now)
+        (chars result.now) }
+    ensures bound { length result.now ≤ length text.now }
 {
     match after_one(text, class) {
         Some(rest) => rest,
@@ -153,7 +157,24 @@ fn skip_wide(text: &str, part: Part) -> &str
         if !is_wide_part_char(c, Syntax::Rfc3987, part) {
             break;
         }
-        rest = after_ascii(after, Syntax::Rfc3987, part);
+        rest = after_ascii(after_wide(after, part), Syntax::Rfc3987, part);
+    }
+    rest
+}
+
+/// What follows the characters of the part at the front that are past ASCII.
+#[inline(always)]
+fn after_wide(text: &str, part: Part) -> &str
+    ensures run { StartsWith (Repeat (Encoded (is_part_char Rfc3987 part))) (chars text.now)
+        (chars result.now) }
+    ensures bound { length result.now ≤ length text.now }
+{
+    let mut rest = text;
+    while let Some((c, after)) = first_char(rest) {
+        if !is_wide_part_char(c, Syntax::Rfc3987, part) {
+            break;
+        }
+        rest = after;
     }
     rest
 }

@@ -1,15 +1,15 @@
 //! URI templates.
-ghost use Rattle.std.specs.Prelude.{◌≡◌, ◌↔◌, ◌<◌, IsTrue, MatchOption, IfSome, IsUtf8, length};
+ghost use Rattle.std.specs.Prelude.{◌≡◌, ◌↔◌, ◌<◌, ◌≤◌, ℕ, List, IsTrue, MatchOption, IfSome, IsUtf8, length};
 ghost use Rattle.std.specs.Str.{chars};
-ghost use Rattle.strkw_text.specs.Abnf.{Optional};
-ghost use Rattle.strkw_text.specs.Fronts.{StartsWith, StartsWithNo};
-ghost use Rattle.strkw_uri.specs.Scan.{InVarspec, is_plain};
+ghost use Rattle.strkw_text.specs.Abnf.{◌⨾◌, Optional};
+ghost use Rattle.strkw_text.specs.Fronts.{StartsWith, StartsWithNo, RunThen};
+ghost use Rattle.strkw_uri.specs.Scan.{BehindVariable, LeavesBehind, BeginsNot};
 ghost use Rattle.strkw_uri.specs.Uri.{Encoded};
-ghost use Rattle.strkw_uri.specs.Template.{is_literal_char, is_varchar, FurtherVarchar, MaxLength, ModifierLevel4, Varspec, VariableList, OperatorAndVariables, InExpression, LiteralOrExpression, IsUriTemplate};
+ghost use Rattle.strkw_uri.specs.Template.{is_literal_char, Varchar, FurtherVarchar, MaxLength, ModifierLevel4, Varspec, InExpression, LiteralOrExpression, IsUriTemplate};
 
 use crate::part::{Part, Syntax, after_ascii};
 use crate::scan::{
-    Class, after_one, after_optional, after_two_hexdigits, first_char, is_end, split_at, strip,
+    Class, after_one, after_optional, after_two_hexdigits, first_char, is_end, strip,
 };
 
 fn is_literal_char(c: char) -> bool
@@ -21,40 +21,16 @@ fn is_literal_char(c: char) -> bool
     )
 }
 
-fn is_varchar(c: char) -> bool
-    ensures { result ≡ is_varchar c }
-{
-    c.is_ascii_alphanumeric() || c == '_'
-}
-
-/// Where a character may stand for itself: in a literal, or in a name.
-#[derive(Clone, Copy)]
-enum Plain {
-    InLiteral,
-    InName,
-}
-
-impl Plain {
-    fn contains(self, c: char) -> bool
-        ensures { result ≡ is_plain self c }
-    {
-        match self {
-            Plain::InLiteral => is_literal_char(c),
-            Plain::InName => is_varchar(c),
-        }
-    }
-}
-
-/// What follows a character that stands for itself, or a percent-encoding.
-fn after_encoded(text: &str, plain: Plain) -> Option<&str>
-    ensures cases { MatchOption result (StartsWithNo (Encoded (is_plain plain)) (chars text.now))
-        (λ rest. StartsWith (Encoded (is_plain plain)) (chars text.now) (chars rest.now)) }
+/// What follows a character of a literal, or a percent-encoding.
+fn after_literal(text: &str) -> Option<&str>
+    ensures cases { MatchOption result (StartsWithNo (Encoded is_literal_char) (chars text.now))
+        (λ rest. StartsWith (Encoded is_literal_char) (chars text.now) (chars rest.now)) }
     ensures shorter { IfSome result (λ rest. length rest.now < length text.now) }
     ensures utf8 { IfSome result (λ rest. IsUtf8 rest.now) }
 {
     match first_char(text) {
         Some((c, rest)) => {
-            if plain.contains(c) {
+            if is_literal_char(c) {
                 Some(rest)
             } else if c == '%' {
                 after_two_hexdigits(rest)
@@ -66,82 +42,114 @@ fn after_encoded(text: &str, plain: Plain) -> Option<&str>
     }
 }
 
+/// What follows a character of a name, or a percent-encoding.
+#[inline]
+fn after_varchar(text: &str) -> Option<&str>
+    ensures cases { MatchOption result (StartsWithNo Varchar (chars text.now))
+        (λ rest. StartsWith Varchar (chars text.now) (chars rest.now)) }
+    ensures shorter { IfSome result (λ rest. length rest.now < length text.now) }
+    ensures utf8 { IfSome result (λ rest. IsUtf8 rest.now) }
+{
+    match after_one(text, Class::NameChar) {
+        Some(rest) => Some(rest),
+        None => match strip(text, b'%') {
+            Some(rest) => after_two_hexdigits(rest),
+            None => None,
+        },
+    }
+}
+
 /// What follows a further character of a name, which a dot may precede.
+#[inline]
 fn after_further_varchar(text: &str) -> Option<&str>
     ensures cases { MatchOption result (StartsWithNo FurtherVarchar (chars text.now))
         (λ rest. StartsWith FurtherVarchar (chars text.now) (chars rest.now)) }
     ensures shorter { IfSome result (λ rest. length rest.now < length text.now) }
     ensures utf8 { IfSome result (λ rest. IsUtf8 rest.now) }
 {
-    match strip(text, b'.') {
-        Some(rest) => after_encoded(rest, Plain::InName),
-        None => after_encoded(text, Plain::InName),
+    match after_varchar(text) {
+        Some(rest) => Some(rest),
+        None => match strip(text, b'.') {
+            Some(rest) => after_varchar(rest),
+            None => None,
+        },
     }
 }
 
-fn is_max_length(text: &str) -> bool
-    ensures { IsTrue result ↔ MaxLength (chars text.now) }
+/// What follows a length, before what follows a variable.
+fn after_max_length(text: &str) -> Option<&str>
+    ensures cases { MatchOption result (BeginsNot MaxLength (chars text.now))
+        (λ rest. LeavesBehind MaxLength (chars text.now) (chars rest.now)) }
+    ensures shorter { IfSome result (λ rest. length rest.now < length text.now) }
+    ensures utf8 { IfSome result (λ rest. IsUtf8 rest.now) }
 {
     match after_one(text, Class::NonzeroDecimal) {
         Some(rest) => {
             let rest = after_optional(rest, Class::Decimal);
             let rest = after_optional(rest, Class::Decimal);
-            let rest = after_optional(rest, Class::Decimal);
-            is_end(rest)
+            Some(after_optional(rest, Class::Decimal))
         }
-        None => false,
+        None => None,
     }
 }
 
-fn is_optional_modifier(text: &str) -> bool
-    ensures { IsTrue result ↔ Optional ModifierLevel4 (chars text.now) }
+/// What follows a modifier or, where there is none, the text, before what follows a variable.
+fn after_optional_modifier(text: &str) -> Option<&str>
+    ensures cases { MatchOption result (BeginsNot (Optional ModifierLevel4) (chars text.now))
+        (λ rest. LeavesBehind (Optional ModifierLevel4) (chars text.now) (chars rest.now)) }
+    ensures bound { IfSome result (λ rest. length rest.now ≤ length text.now) }
+    ensures utf8 { IfSome result (λ rest. IsUtf8 rest.now) }
 {
     match strip(text, b':') {
-        Some(rest) => is_max_length(rest),
+        Some(rest) => after_max_length(rest),
         None => match strip(text, b'*') {
-            Some(rest) => is_end(rest),
-            None => is_end(text),
+            Some(rest) => Some(rest),
+            None => Some(text),
         },
     }
 }
 
-/// From within a name on.
-fn is_in_varspec(text: &str) -> bool
-    ensures { IsTrue result ↔ InVarspec (chars text.now) }
+/// What follows the longest run of further characters of a name.
+fn skip_name(text: &str) -> &str
+    ensures run { RunThen FurtherVarchar (chars text.now) (chars result.now) }
+    ensures bound { length result.now ≤ length text.now }
 {
     let mut rest = text;
     while let Some(after) = after_further_varchar(rest) {
         rest = after;
     }
-    is_optional_modifier(rest)
+    rest
 }
 
-fn is_varspec(text: &str) -> bool
-    ensures { IsTrue result ↔ Varspec (chars text.now) }
+/// What follows a variable, before a comma or a closing brace.
+fn after_varspec(text: &str) -> Option<&str>
+    ensures cases { MatchOption result (BeginsNot Varspec (chars text.now))
+        (λ rest. LeavesBehind Varspec (chars text.now) (chars rest.now)) }
+    ensures shorter { IfSome result (λ rest. length rest.now < length text.now) }
+    ensures utf8 { IfSome result (λ rest. IsUtf8 rest.now) }
 {
-    match after_encoded(text, Plain::InName) {
-        Some(rest) => is_in_varspec(rest),
-        None => false,
+    match after_varchar(text) {
+        Some(rest) => after_optional_modifier(skip_name(rest)),
+        None => None,
     }
 }
 
-fn is_variable_list(text: &str) -> bool
-    ensures { IsTrue result ↔ VariableList (chars text.now) }
+/// What follows the list of variables, and the brace that closes their expression.
+fn after_variables(text: &str) -> Option<&str>
+    ensures cases { MatchOption result (BeginsNot Varspec (chars text.now))
+        (λ rest. (tail : List ℕ) → (Varspec ⨾ BehindVariable tail) (chars text.now)
+        ↔ (chars rest.now ≡ tail)) }
+    ensures shorter { IfSome result (λ rest. length rest.now < length text.now) }
+    ensures utf8 { IfSome result (λ rest. IsUtf8 rest.now) }
 {
     let mut rest = text;
-    while let Some((varspec, after)) = split_at(rest, ',') {
-        if !is_varspec(varspec) {
-            return false;
+    while let Some(after) = after_varspec(rest) {
+        match strip(after, b',') {
+            Some(next) => rest = next,
+            None => return strip(after, b'}'),
         }
-        rest = after;
     }
-    is_varspec(rest)
-}
-
-fn is_operator_and_variables(text: &str) -> bool
-    ensures { IsTrue result ↔ OperatorAndVariables (chars text.now) }
-{
-    is_variable_list(after_optional(text, Class::OperatorChar))
+    None
 }
 
 /// What follows an expression, after the brace that opens it.
@@ -151,16 +159,7 @@ fn after_in_expression(text: &str) -> Option<&str>
     ensures shorter { IfSome result (λ rest. length rest.now < length text.now) }
     ensures utf8 { IfSome result (λ rest. IsUtf8 rest.now) }
 {
-    match split_at(text, '}') {
-        Some((inside, rest)) => {
-            if is_operator_and_variables(inside) {
-                Some(rest)
-            } else {
-                None
-            }
-        }
-        None => None,
-    }
+    after_variables(after_optional(text, Class::OperatorChar))
 }
 
 /// What follows a character of a literal or an expression.
@@ -173,7 +172,7 @@ fn after_literal_or_expression(text: &str) -> Option<&str>
     if let Some(rest) = strip(text, b'{') {
         return after_in_expression(rest);
     }
-    after_encoded(text, Plain::InLiteral)
+    after_literal(text)
 }
 
 /// Whether the text is a URI template: literals and expressions in braces (RFC 6570, section 2). A literal may

@@ -205,6 +205,25 @@ impl LineCheck<'_> {
         }
         Err(Fault::Input(InputFault::TooLong))
     }
+
+    // Writes the messages about the lines of a file, also where a fault ends the check before the end of the file, and
+    // answers how many they are.
+    fn check_file<E: RegexEngine>(
+        &self,
+        alloc: Global,
+        keywords: &StringKeywords<E>,
+        checks: &Checks<'_>,
+        file: &str,
+        lines: &mut Lines,
+        output: &mut Output<'_>,
+    ) -> Result<u64, Fault>
+        requires { IsInUse (keywords_demands E.outcome keywords.now)
+            (lists_of admits accepted encoded decoding checks.now) }
+    {
+        let mut messages = Gathered::new(alloc, output);
+        let checked = self.check_lines(alloc, keywords, checks, file, lines, &mut messages);
+        messages.end(checked)
+    }
 }
 
 impl FileCheck for LineCheck<'_> {
@@ -221,11 +240,9 @@ impl FileCheck for LineCheck<'_> {
         let alloc = rt.alloc();
         let keywords = compile(alloc, &self.rules, self.draft, self.schema)?;
         let mut lines = Lines::new(alloc, file)?;
-        let mut messages = Gathered::new(alloc, output);
+        let name = subject.file.unwrap_or("");
         let checks = &self.rules.checks;
-        let file = subject.file.unwrap_or("");
-        let checked = self.check_lines(alloc, &keywords, checks, file, &mut lines, &mut messages);
-        messages.end(checked)
+        self.check_file(alloc, &keywords, checks, name, &mut lines, output)
     }
 }
 
@@ -233,12 +250,17 @@ impl FileCheck for LineCheck<'_> {
 pub(crate) fn run(rt: &HostRuntime, matches: &ArgMatches<'_>) -> Result<Outcome, Fault> {
     let path = matches.get_str(SCHEMA).unwrap_or("");
     let schema = read_schema(rt, path)?;
+    run_by(rt, matches, &schema)
+}
+
+// Checks the files by a schema.
+fn run_by(rt: &HostRuntime, matches: &ArgMatches<'_>, schema: &Value) -> Result<Outcome, Fault> {
     let draft = draft_of(matches);
     require_keywords(
         rt.alloc(),
         draft,
         matches.get_strs(IGNORE).unwrap_or(&[]),
-        &schema,
+        schema,
     )?;
     let mut formats = Vec::new(rt.alloc());
     for companion in companions_of(draft) {
@@ -246,18 +268,28 @@ pub(crate) fn run(rt: &HostRuntime, matches: &ArgMatches<'_>) -> Result<Outcome,
         let check = Box::new(rt.alloc(), *companion)?;
         formats.push(NamedFormat { name, check })?;
     }
+    check_by(rt, matches, schema, &formats)
+}
+
+// Checks the files by a schema and the checks of these formats.
+fn check_by(
+    rt: &HostRuntime,
+    matches: &ArgMatches<'_>,
+    schema: &Value,
+    formats: &[NamedFormat],
+) -> Result<Outcome, Fault> {
     let mut rules = Rules::new(&EcmaPatterns);
-    rules.checks = checks_of(&formats);
+    rules.checks = checks_of(formats);
     rules.options.ignore_unknown_formats = matches.get_flag(IGNORE_UNKNOWN_FORMATS);
     let mut check = LineCheck {
-        schema: &schema,
-        draft,
+        schema,
+        draft: draft_of(matches),
         rules,
         reads_json: matches.get_flag(JSON),
         form: OutputForm::of(matches),
     };
     // So that a schema that is refused is told of before any file.
-    let _ = compile(rt.alloc(), &check.rules, check.draft, &schema)?;
+    drop(compile(rt.alloc(), &check.rules, check.draft, schema)?);
     check_files(
         rt,
         matches.get_strs(FILE),

@@ -3,7 +3,7 @@
 use crate::building::{Building, subcommand};
 use crate::columns::fault_of_missing;
 use crate::errors::ErrorLines;
-use crate::faults::Fault;
+use crate::faults::{Fault, Reach};
 use crate::files::{FileCheck, check_files};
 use crate::inputs::{InputFile, STANDARD_INPUT};
 use crate::lines::JsonLines;
@@ -21,6 +21,7 @@ use crate::telling::Subject;
 use clap::{Arg, ArgAction, ArgMatches, Command};
 use serde_json::Value;
 use std::alloc::{AllocError, Global};
+use strkw_plan::Shown;
 use strkw_shells::{FileFault, check_csv};
 use strkw_table::{Checked, FieldForm, FieldLines, Reading, TableFault};
 
@@ -160,8 +161,22 @@ impl TableCheck<'_> {
         page: &mut Page,
     ) -> Result<u64, Fault> {
         let mut errors = ErrorLines::new(rt.alloc(), FileReport::new(rt.alloc()));
+        let reported = self.report_by(rt, file, subject, &mut errors, page);
+        drop(errors);
+        reported
+    }
+
+    // The same, with what takes the errors of the file.
+    fn report_by(
+        &self,
+        rt: &HostRuntime,
+        file: InputFile,
+        subject: Subject<'_>,
+        errors: &mut ErrorLines<FileReport>,
+        page: &mut Page,
+    ) -> Result<u64, Fault> {
         let form = JsonLines::about(subject);
-        let checked = self.check_as(rt, file, subject, &mut errors, &form);
+        let checked = self.check_as(rt, file, subject, errors, &form);
         let name = subject.file.unwrap_or("");
         errors
             .taker
@@ -222,19 +237,21 @@ impl TableCheck<'_> {
         &self,
         alloc: Global,
         fault: FileFault,
-        progress: &mut Progress<'_>,
-        output: &mut W,
+        progress: &Progress<'_>,
+        output: &W,
     ) -> Fault {
-        match &fault {
+        let told = match &fault {
             FileFault::Write => output.fault(),
             FileFault::Table(TableFault::Missing(_)) => self.fault_of_names(alloc, progress),
-            _ => Fault::from(fault),
-        }
+            _ => Fault::of_check(alloc, &fault),
+        };
+        drop(fault);
+        told
     }
 
     // The fault of a file that lacks columns.
-    fn fault_of_names(&self, alloc: Global, progress: &mut Progress<'_>) -> Fault {
-        match progress.take_names() {
+    fn fault_of_names(&self, alloc: Global, progress: &Progress<'_>) -> Fault {
+        match progress.names() {
             Some(names) => fault_of_missing(alloc, self.plan, self.reading.header, names),
             None => Fault::Memory,
         }
@@ -283,7 +300,9 @@ fn require_other_path(
     if page != STANDARD_INPUT && page != plan && files.iter().all(|file| *file != page) {
         return Ok(());
     }
-    Err(Fault::Usage(format!(in alloc; "the page cannot be written to `{page}`")?))
+    let page = Shown(page);
+    let words = format!(in alloc; "the page cannot be written to `{page}`");
+    Err(Fault::told(Reach::Run, words))
 }
 
 /// Runs the subcommand.

@@ -115,6 +115,10 @@ fn words_of_search(alloc: Global, pattern: &str) -> Result<String, AllocError> {
             alloc,
             "texts in which the pattern is found: a search by a table, or of at most 5,200 steps for each character",
         ),
+        Ok(engine) if engine.takes_memory() => String::from_str(
+            alloc,
+            "texts in which the pattern is found: a search of at most 5,200 steps for each character, which takes memory",
+        ),
         Ok(_) => String::from_str(
             alloc,
             "texts in which the pattern is found: a search of at most 5,200 steps for each character, without a table",
@@ -187,11 +191,11 @@ struct Explanation {
     message: String,
 }
 
-// What a fault of a schema says. Another fault comes back.
-fn words_of_fault(alloc: Global, fault: Fault) -> Result<String, Fault> {
-    match &fault {
-        Fault::Schema(fault) => Ok(format!(in alloc; "{fault}")?),
-        _ => Err(fault),
+// What a fault says. One that has no words of its own comes back.
+fn words_of_fault(fault: Fault) -> Result<String, Fault> {
+    match fault {
+        Fault::Told { words, .. } => Ok(words),
+        other => Err(other),
     }
 }
 
@@ -200,7 +204,7 @@ fn words_of_other(alloc: Global, draft: Draft, keyword: &str) -> Result<String, 
     let alone = json!(in alloc; {(keyword): null})?;
     match require_keywords(alloc, draft, &[], &alone) {
         Ok(()) => Ok(String::new(alloc)),
-        Err(fault) => words_of_fault(alloc, fault),
+        Err(fault) => words_of_fault(fault),
     }
 }
 
@@ -297,13 +301,23 @@ fn push_schema(
         let check = Box::new(alloc, *companion)?;
         formats.push(NamedFormat { name, check })?;
     }
-    let mut rules = Rules::new(&EcmaPatterns);
-    rules.checks = checks_of(&formats);
-    let keywords = compile(alloc, &rules, draft, schema)?;
-    if keywords.folds_to_false() {
+    if is_folded(alloc, draft, schema, &formats)? {
         push_folded(alloc, form, out)?;
     }
     Ok(())
+}
+
+// Whether no text can be valid by a schema under the checks of these formats.
+fn is_folded(
+    alloc: Global,
+    draft: Draft,
+    schema: &Value,
+    formats: &[NamedFormat],
+) -> Result<bool, Fault> {
+    let mut rules = Rules::new(&EcmaPatterns);
+    rules.checks = checks_of(formats);
+    let keywords = compile(alloc, &rules, draft, schema)?;
+    Ok(keywords.folds_to_false())
 }
 
 // Writes what is said of a schema. The errors are those for which it is refused.

@@ -9,7 +9,7 @@ use crate::options::{OutputForm, output as output_form};
 use crate::outcome::Outcome;
 use crate::output::write_text;
 use clap::{ArgMatches, Command};
-use serde_json::json;
+use serde_json::{Value, json};
 use std::alloc::{AllocError, Global};
 
 /// The name of the subcommand.
@@ -68,18 +68,23 @@ fn push_table(alloc: Global, out: &mut String) -> Result<(), AllocError> {
     Ok(())
 }
 
+// The object about a format.
+fn object_of(alloc: Global, format: KnownFormat) -> Result<Value, AllocError> {
+    let (name, example) = (format.as_str(), format.example());
+    let (first, last) = drafts_of(format);
+    json!(in alloc; {
+        "name": name,
+        "first": first,
+        "last": last,
+        "example": example
+    })
+}
+
 // Appends an object for each format.
 fn push_objects(alloc: Global, out: &mut String) -> Result<(), AllocError> {
     for format in KnownFormat::all(alloc)? {
-        let (name, example) = (format.as_str(), format.example());
-        let (first, last) = drafts_of(format);
-        let row = json!(in alloc; {
-            "name": name,
-            "first": first,
-            "last": last,
-            "example": example
-        })?;
-        push_line(alloc, &row, out)?;
+        let object = object_of(alloc, format)?;
+        push_line(alloc, &object, out)?;
     }
     Ok(())
 }

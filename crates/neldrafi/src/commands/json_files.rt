@@ -74,10 +74,19 @@ impl DocumentCheck<'_> {
     ) -> Result<u64, Fault> {
         match check_json(alloc, self.plan, file, output, form) {
             Ok(errors) => Ok(errors),
-            Err(FileFault::Write) => Err(output.fault()),
-            Err(e) => Err(Fault::from(e)),
+            Err(fault) => Err(fault_of(alloc, fault, output)),
         }
     }
+}
+
+// The fault of a check that wrote to this output.
+fn fault_of(alloc: Global, fault: FileFault, output: &Output<'_>) -> Fault {
+    let told = match &fault {
+        FileFault::Write => output.fault(),
+        _ => Fault::of_check(alloc, &fault),
+    };
+    drop(fault);
+    told
 }
 
 impl FileCheck for DocumentCheck<'_> {

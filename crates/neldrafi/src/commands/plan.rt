@@ -224,11 +224,12 @@ impl Sample {
     // The values of a record, which begins on a line, are seen.
     fn see(&mut self, alloc: Global, line: u64, row: &StringRecord) -> Result<(), Fault> {
         if row.len() != self.names.len() {
-            return Err(Fault::from(TableFault::Fields {
+            let fault = TableFault::Fields {
                 line,
                 expected: self.names.len(),
                 found: row.len(),
-            }));
+            };
+            return Err(Fault::of_table(alloc, fault));
         }
         for (name, value) in self.names.iter().zip(row.iter()) {
             if let Some(column) = self.columns.get_mut(name) {
@@ -238,30 +239,37 @@ impl Sample {
         Ok(())
     }
 
-    // The plan that is proposed.
-    fn plan(&self, alloc: Global, draft: Draft) -> Result<Value, AllocError> {
-        let mut columns = Map::new(alloc);
+    // The schema objects that are proposed, by the names of the columns.
+    fn schemas(&self, alloc: Global) -> Result<Value, AllocError> {
+        let mut schemas = Map::new(alloc);
         for (name, column) in self.columns.iter() {
             let schema = column.schema(alloc)?;
-            drop(columns.insert(name.clone()?, schema)?);
+            drop(schemas.insert(name.clone()?, schema)?);
         }
-        let columns = Value::Object(columns);
+        Ok(Value::Object(schemas))
+    }
+
+    // The plan that is proposed.
+    fn plan(&self, alloc: Global, draft: Draft) -> Result<Value, AllocError> {
+        let columns = self.schemas(alloc)?;
         let draft = draft_number(draft);
+        let mut plan = json!(in alloc; {"draft": draft, "columns": columns})?;
         if self.columns.len() < self.names.len() {
-            return json!(in alloc; {"draft": draft, "columns": columns, "duplicates": "each"});
+            set_text(alloc, &mut plan, "duplicates", "each")?;
         }
-        json!(in alloc; {"draft": draft, "columns": columns})
+        Ok(plan)
     }
 }
 
 // The next record, and the line on which it begins.
 fn next_record(
+    alloc: Global,
     reader: &mut RecordReader<InputFile>,
     row: &mut StringRecord,
 ) -> Result<Option<u64>, Fault> {
     match reader.read(row) {
         Ok(line) => Ok(line),
-        Err(e) => Err(Fault::from(TableFault::from(e))),
+        Err(e) => Err(Fault::of_table(alloc, TableFault::from(e))),
     }
 }
 
@@ -273,7 +281,7 @@ fn reader_of(
 ) -> Result<RecordReader<InputFile>, Fault> {
     let Some(delimiter) = delimiter_of(said.unwrap_or(",")) else {
         let fault = FileFault::of_plan(alloc, PlanFault::NoDelimiter);
-        return Err(Fault::from(fault));
+        return Err(Fault::of_ended(alloc, fault));
     };
     let limits = Limits::none();
     Ok(RecordReader::with_delimiter(alloc, file, limits, delimiter)?)
@@ -287,8 +295,8 @@ fn begin_sample(
     reader: &mut RecordReader<InputFile>,
 ) -> Result<Sample, Fault> {
     let mut first = StringRecord::new(alloc);
-    let Some(line) = next_record(reader, &mut first)? else {
-        return Err(Fault::from(TableFault::NoHeader));
+    let Some(line) = next_record(alloc, reader, &mut first)? else {
+        return Err(Fault::of_table(alloc, TableFault::NoHeader));
     };
     match header {
         Header::First => Sample::new(alloc, draft, first),
@@ -305,7 +313,7 @@ fn see_records(
 ) -> Result<(), Fault> {
     let mut row = StringRecord::new(alloc);
     for _ in 0..most {
-        let Some(line) = next_record(reader, &mut row)? else {
+        let Some(line) = next_record(alloc, reader, &mut row)? else {
             return Ok(());
         };
         sample.see(alloc, line, &row)?;
@@ -333,11 +341,24 @@ fn take_sample(
 
 // The plan that is proposed for a file.
 fn plan_for(alloc: Global, matches: &ArgMatches<'_>, file: InputFile) -> Result<Value, Fault> {
+    let mut reader = reader_of(alloc, file, delimiter_said(matches))?;
+    let plan = plan_by(alloc, matches, &mut reader);
+    drop(reader);
+    plan
+}
+
+// The plan that is proposed for the records of a reader.
+fn plan_by(
+    alloc: Global,
+    matches: &ArgMatches<'_>,
+    reader: &mut RecordReader<InputFile>,
+) -> Result<Value, Fault> {
     let draft = draft_of(matches);
     let most = matches.get_one::<u64>(RECORDS).unwrap_or(SAMPLE);
-    let mut reader = reader_of(alloc, file, delimiter_said(matches))?;
-    let sample = take_sample(alloc, draft, header_said(matches), &mut reader, most)?;
-    Ok(sample.plan(alloc, draft)?)
+    let sample = take_sample(alloc, draft, header_said(matches), reader, most)?;
+    let plan = sample.plan(alloc, draft);
+    drop(sample);
+    Ok(plan?)
 }
 
 // The text of a plan: on one line, where lines of JSON are wanted.

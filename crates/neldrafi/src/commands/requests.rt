@@ -106,16 +106,21 @@ pub(crate) fn run(rt: &HostRuntime, matches: &ArgMatches<'_>) -> Result<Outcome,
     let mut file = InputFile::open(rt, path)?;
     file.skip_mark();
     let mut lines = Lines::new(rt.alloc(), file)?;
+    match answer_file(rt, OutputForm::of(matches), &mut lines) {
+        Ok(()) | Err(Fault::Closed) => Ok(Outcome::AllValid),
+        Err(fault) => Err(fault),
+    }
+}
+
+// Writes the answers to the lines of a file, also where a fault ends them before the end of the file.
+fn answer_file(rt: &HostRuntime, form: OutputForm, lines: &mut Lines) -> Result<(), Fault> {
     let mut output = Output::new(rt, "", Wanted::all());
     let mut answers = Gathered::new(rt.alloc(), &mut output);
     let mut answering = Answering {
         rt,
-        form: OutputForm::of(matches),
+        form,
         made: Vec::new(rt.alloc()),
     };
-    let answered = answering.answer_lines(&mut lines, &mut answers);
-    match answers.end(answered) {
-        Ok(()) | Err(Fault::Closed) => Ok(Outcome::AllValid),
-        Err(fault) => Err(fault),
-    }
+    let answered = answering.answer_lines(lines, &mut answers);
+    answers.end(answered)
 }

@@ -2,7 +2,7 @@
 
 use crate::building::{Building, subcommand};
 use crate::drafts::draft_name;
-use crate::faults::Fault;
+use crate::faults::{Fault, Reach};
 use crate::inputs::{InputFile, Lines, STANDARD_INPUT};
 use crate::known_formats::KnownFormat;
 use crate::lines::push_line;
@@ -10,9 +10,8 @@ use crate::options::{OutputForm, Wanted, draft, draft_of, output as output_form,
 use crate::outcome::Outcome;
 use crate::output::{Gathered, Output};
 use clap::{Arg, ArgMatches, Command};
-use serde_json::json;
+use serde_json::{Value, json};
 use std::alloc::{AllocError, Global};
-use std::fmt;
 use strkw_plan::Shown;
 use strkw_report::Draft;
 use strsim::osa_distance;
@@ -41,26 +40,6 @@ Examples:
 
 // How long a name may be for which a near one is looked for, in bytes.
 const LONGEST_NAME: usize = 64;
-
-/// No format of the draft has this name.
-#[derive(Debug, Drop)]
-pub(crate) struct FormatFault {
-    name: String,
-    draft: Draft,
-    nearest: Option<&'static str>,
-}
-
-impl fmt::Display for FormatFault {
-    fn fmt<W: fmt::Write>(&self, f: &mut fmt::Formatter<W>) -> fmt::Result {
-        let name = Shown(&self.name);
-        let draft = draft_name(self.draft);
-        write!(f, "unknown format \"{name}\" in draft {draft}")?;
-        match self.nearest {
-            Some(nearest) => write!(f, ": did you mean \"{nearest}\"?"),
-            None => Ok(()),
-        }
-    }
-}
 
 /// What the subcommand takes.
 pub(crate) fn command<'a>(alloc: Global) -> Result<Command<'a>, AllocError> {
@@ -101,21 +80,48 @@ fn nearest_format(
     Ok(None)
 }
 
+// That no format of the draft has this name.
+fn unknown(alloc: Global, draft: Draft, name: &str) -> Result<String, AllocError> {
+    let nearest = nearest_format(alloc, draft, name)?;
+    let (name, draft) = (Shown(name), draft_name(draft));
+    match nearest {
+        Some(nearest) => {
+            format!(in alloc;
+                "unknown format \"{name}\" in draft {draft}: did you mean \"{nearest}\"?"
+            )
+        }
+        None => format!(in alloc; "unknown format \"{name}\" in draft {draft}"),
+    }
+}
+
 // The format of a name in a draft.
 fn format_named(alloc: Global, draft: Draft, name: &str) -> Result<KnownFormat, Fault> {
     match KnownFormat::named(draft, name) {
         Some(format) => Ok(format),
-        None => Err(Fault::Format(FormatFault {
-            name: String::from_str(alloc, name)?,
-            draft,
-            nearest: nearest_format(alloc, draft, name)?,
-        })),
+        None => Err(Fault::told(Reach::Run, unknown(alloc, draft, name))),
     }
 }
 
 // Appends a verdict, as text.
 fn push_verdict(valid: bool, out: &mut String) -> Result<(), AllocError> {
     out.push_str(if valid { "valid\n" } else { "invalid\n" })
+}
+
+// A verdict, as an object.
+fn verdict_of(
+    alloc: Global,
+    format: KnownFormat,
+    record: u64,
+    text: &str,
+    valid: bool,
+) -> Result<Value, AllocError> {
+    let format = format.as_str();
+    json!(in alloc; {
+        "record": record,
+        "format": format,
+        "instance": text,
+        "valid": valid
+    })
 }
 
 // The verdicts on texts, and what they come to.
@@ -137,13 +143,7 @@ impl Verdicts<'_, '_> {
         match self.form {
             OutputForm::Text => push_verdict(valid, &mut self.lines.text)?,
             OutputForm::Json => {
-                let format = self.format.as_str();
-                let verdict = json!(in alloc; {
-                    "record": record,
-                    "format": format,
-                    "instance": text,
-                    "valid": valid
-                })?;
+                let verdict = verdict_of(alloc, self.format, record, text, valid)?;
                 push_line(alloc, &verdict, &mut self.lines.text)?;
             }
         }

@@ -1,12 +1,15 @@
 -- The search with its steps counted: at each instruction of the program, backwards and then
 -- forwards, as much as it takes.
-use Rattle.std.specs.Prelude.{◌≡◌, ℕ, ◌+◌, ◌*◌, ◌≤◌, Bool, true, false, List, [], ◌∷◌, length}
-use Rattle.std.specs.Prelude.{Option, Some, None, if◌then◌else◌}
+use Rattle.std.specs.Prelude.{◌≡◌, ℕ, suc, ◌+◌, ◌*◌, ◌≤◌, Bool, true, false, ◌||◌, List, [], ◌∷◌}
+use Rattle.std.specs.Prelude.{◌++◌, length, Option, Some, None, if◌then◌else◌}
 use Rattle.strkw_ecma.specs.Tree.{Pattern}
 use Rattle.strkw_ecma.specs.Front.{Part}
-use Rattle.strkw_ecma.specs.Mirror.{sought, sought_in}
-use Rattle.strkw_ecma.specs.machine.Marks.{marks_of}
-use Rattle.strkw_ecma.specs.machine.Search.{search_from}
+use Rattle.strkw_ecma.specs.Glances.{are_told}
+use Rattle.strkw_ecma.specs.Mirror.{along, sought, sought_in}
+use Rattle.strkw_ecma.specs.machine.Marks.{marks_of, marked}
+use Rattle.strkw_ecma.specs.machine.Search.{search_from, found_in}
+use Rattle.strkw_ecma.specs.machine.Seeking.{Seeking, said}
+use Rattle.strkw_ecma.specs.machine.Slots.{told_by}
 use Rattle.strkw_ecma.specs.Program.{Instruction, program}
 use Rattle.strkw_ecma.specs.Size.{instruction_steps}
 use Rattle.strkw_ecma.specs.machine.Walk.{top, Asked, Walked, Following, begun, back_over, over}
@@ -67,9 +70,54 @@ pub record IsSearchedWithin (most : ℕ) (p : Pattern) (text : List ℕ) : Type 
   pub answer : (searching (program p) (marks_of p) None text).result ≡ search_from p None text
   pub steps : (searching (program p) (marks_of p) None text).steps ≤ most * (length text + 1)
 
+-- The search whose marks are told by rows, with its steps counted: at each place, whether the
+-- pattern ends there.
+module _ (rows : List (List Bool)) (ts : List (Option ℕ)) where
+  abbrev pub ending : Pattern → Option ℕ → List ℕ → Counted (List Bool)
+  ending p last [] =
+      let q = told_by (said rows 0) ts p in
+      let one = walking last None (program q) (marks_of q) in
+      record { result = one.result.leaves ∷ []; steps = one.steps }
+  ending p last (c ∷ cs) =
+      let q = told_by (said rows (suc (length cs))) ts p in
+      let one = walking last (Some c) (program q) (marks_of q) in
+      let rest = ending (marked one.result.marks q) (Some c) cs in
+      record { result = one.result.leaves ∷ rest.result; steps = one.steps + rest.steps }
+
+-- the rows of some, each told by those before it, behind others
+abbrev pub rowing : List (List Bool) → List ℕ → List Seeking → Counted (List (List Bool))
+rowing rows text [] = record { result = rows; steps = 0 }
+rowing rows text (x ∷ xs) =
+    let row = ending rows x.told x.pattern None (along x.backward text) in
+    after row.steps (rowing (rows ++ (row.result ∷ [])) text xs)
+
+-- and of one more, told by them
+abbrev pub seeking_by : List Seeking → Seeking → List ℕ → Counted (List Bool)
+seeking_by xs x text =
+    let rows = rowing [] text xs in
+    after rows.steps (ending rows.result x.told x.pattern None (along x.backward text))
+
+-- one of them holds
+abbrev pub is_any : List Bool → Bool
+is_any [] = false
+is_any (b ∷ bs) = b || is_any bs
+
+-- Some searches, each told by those before it, come to what the definition does, in at most so many
+-- steps for each character and the end of the text.
+pub record IsSoughtWithin (most : ℕ) (p : Pattern) (text : List ℕ) : Type 0 where
+  pub searches : List Seeking
+  pub last : Seeking
+  pub answer : is_any (seeking_by searches last text).result ≡ found_in p text
+  pub steps : (seeking_by searches last text).steps ≤ most * (length text + 1)
+
+-- by whether the next character tells what lookaheads look for
+abbrev pub IsWithin : Bool → ℕ → Pattern → List ℕ → Type 0
+IsWithin true = IsSearchedWithin
+IsWithin false = IsSoughtWithin
+
 -- The same of parts: each within its share of so many steps.
 abbrev pub AreSearchedWithin : ℕ → List Part → List ℕ → Type 0
 AreSearchedWithin most [] text = Unit {0}
 AreSearchedWithin most (x ∷ xs) text = (one : ℕ) × (others : ℕ) × (one + others ≤ most)
-    × IsSearchedWithin one (sought x.pattern) (sought_in x.pattern text)
+    × IsWithin (are_told (sought x.pattern)) one (sought x.pattern) (sought_in x.pattern text)
     × AreSearchedWithin others xs text

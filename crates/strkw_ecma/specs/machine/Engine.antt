@@ -1,29 +1,48 @@
--- What an engine comes to on a text, and whether it reads that off tables.
-use Rattle.std.specs.Prelude.{ℕ, Bool, true, ◌&&◌, List, [], ◌∷◌, is_some}
+-- What an engine comes to on a text, whether it reads that off tables, and whether it takes memory.
+use Rattle.std.specs.Prelude.{ℕ, Bool, true, false, ◌&&◌, ◌||◌, List, [], ◌∷◌, None, is_some}
 use Rattle.strkw_pattern.specs.Matcher.{outcome_of}
 use Rattle.strkw_pattern.specs.declared.engine.Outcome.{Outcome}
+use Rattle.strkw_ecma.specs.Tree.{differ}
+use Rattle.strkw_ecma.specs.Mirror.{along}
 use Rattle.strkw_ecma.specs.machine.Machine.{pattern_of}
-use Rattle.strkw_ecma.specs.machine.Passes.{Pass, are_passes_found}
+use Rattle.strkw_ecma.specs.machine.Search.{search_from}
+use Rattle.strkw_ecma.specs.machine.Seekers.{seeking, seekings}
+use Rattle.strkw_ecma.specs.machine.Seeking.{is_sought}
 use Rattle.strkw_ecma.specs.declared.engine.EcmaMatcher.{EcmaMatcher}
 use Rattle.strkw_ecma.specs.declared.finder.PartFinder.{PartFinder}
+use Rattle.strkw_ecma.specs.declared.finder.Search.{Search}
+use Rattle.strkw_ecma.specs.declared.finder.Search.TheVariants.{Plain, Told}
 
-abbrev pub finder_pass : PartFinder → Pass
-finder_pass f = record {
-  negated = f.negated;
-  backward = f.is_backward;
-  pattern = pattern_of f.finder.program;
-}
+abbrev pub is_found_by : Search → List ℕ → Bool
+is_found_by (Plain backward f) text = search_from (pattern_of f.program) None (along backward text)
+is_found_by (Told asides last) text = is_sought (seekings asides.items) (seeking last) text
 
-abbrev pub finder_passes : List PartFinder → List Pass
-finder_passes [] = []
-finder_passes (f ∷ fs) = finder_pass f ∷ finder_passes fs
+-- whether each is found, or is not, as it is to be
+abbrev pub are_found_by : List PartFinder → List ℕ → Bool
+are_found_by [] text = true
+are_found_by (f ∷ fs) text = differ f.negated (is_found_by f.search text) && are_found_by fs text
 
 abbrev pub engine_outcome : EcmaMatcher → List ℕ → Outcome
-engine_outcome e text = outcome_of (are_passes_found (finder_passes e.parts.items) text)
+engine_outcome e text = outcome_of (are_found_by e.parts.items text)
+
+abbrev pub reads_table : Search → Bool
+reads_table (Plain backward f) = is_some f.table
+reads_table (Told asides last) = false
 
 abbrev pub have_tables : List PartFinder → Bool
 have_tables [] = true
-have_tables (f ∷ fs) = is_some f.finder.table && have_tables fs
+have_tables (f ∷ fs) = reads_table f.search && have_tables fs
 
 abbrev pub has_table : EcmaMatcher → Bool
 has_table e = have_tables e.parts.items
+
+abbrev pub has_rows : Search → Bool
+has_rows (Plain backward f) = false
+has_rows (Told asides last) = true
+
+abbrev pub have_rows : List PartFinder → Bool
+have_rows [] = false
+have_rows (f ∷ fs) = has_rows f.search || have_rows fs
+
+abbrev pub takes_memory : EcmaMatcher → Bool
+takes_memory e = have_rows e.parts.items

@@ -4,7 +4,6 @@ use Rattle.std.specs.Prelude.{◌≡◌, ◌↔◌, ℕ, ◌+◌, ◌<◌, ◌�
 use Rattle.std.specs.Prelude.{◌||◌, not, ◌⊎◌, List, [], ◌∷◌, ◌++◌, length, Option, Some, None}
 use Rattle.strkw_ecma.specs.Tree.{Pattern, empty, class, look, cat, alt, star, plus, lookbehind}
 use Rattle.strkw_ecma.specs.Tree.{lookahead, differ, is_member}
-use Rattle.strkw_ecma.specs.Glances.{is_glance}
 use Rattle.strkw_ecma.specs.Meaning.{Rounds, holds, Matches}
 use Rattle.strkw_ecma.specs.declared.tree.CharSet.{CharSet}
 
@@ -26,31 +25,41 @@ module _ (b a : Option ℕ) where
   sees (lookbehind n p) = true
   sees (lookahead n p) = differ n (sees p)
 
+-- Here `see` says of a lookahead whether what it looks for is there.
+module _ (see : Pattern → Bool) (b a : Option ℕ) where
   -- Between the characters b and a: does a way through the pattern end here that went on from a
   -- mark or, where `enters` holds, began here?
-  abbrev pub leaves : Pattern → Bool → Bool
-  leaves empty enters = enters
-  leaves (class m n rs) enters = m
-  leaves (look l) enters = enters && holds l b a
-  leaves (cat p q) enters = leaves q (leaves p enters)
-  leaves (alt p q) enters = leaves p enters || leaves q enters
-  leaves (star p) enters = enters || leaves p false
-  leaves (plus p) enters = leaves p (enters || leaves p false)
+  abbrev pub leaves_by : Pattern → Bool → Bool
+  leaves_by empty enters = enters
+  leaves_by (class m n rs) enters = m
+  leaves_by (look l) enters = enters && holds l b a
+  leaves_by (cat p q) enters = leaves_by q (leaves_by p enters)
+  leaves_by (alt p q) enters = leaves_by p enters || leaves_by q enters
+  leaves_by (star p) enters = enters || leaves_by p false
+  leaves_by (plus p) enters = leaves_by p (enters || leaves_by p false)
   -- entered at each place
-  leaves (lookbehind n p) enters = enters && differ n (leaves p true)
-  leaves (lookahead n p) enters = enters && differ n (sees p)
+  leaves_by (lookbehind n p) enters = enters && differ n (leaves_by p true)
+  leaves_by (lookahead n p) enters = enters && differ n (see p)
 
   -- the marks after the character a is read
+  abbrev pub step_by : Pattern → Bool → Pattern
+  step_by empty enters = empty
+  step_by (class m n rs) enters = class (enters && reads a n rs) n rs
+  step_by (look l) enters = look l
+  step_by (cat p q) enters = cat (step_by p enters) (step_by q (leaves_by p enters))
+  step_by (alt p q) enters = alt (step_by p enters) (step_by q enters)
+  step_by (star p) enters = star (step_by p (enters || leaves_by p false))
+  step_by (plus p) enters = plus (step_by p (enters || leaves_by p false))
+  step_by (lookbehind n p) enters = lookbehind n (step_by p true)
+  step_by (lookahead n p) enters = lookahead n p
+
+-- where the next character tells what lookaheads look for
+module _ (b a : Option ℕ) where
+  abbrev pub leaves : Pattern → Bool → Bool
+  leaves = leaves_by (sees b a) b a
+
   abbrev pub step : Pattern → Bool → Pattern
-  step empty enters = empty
-  step (class m n rs) enters = class (enters && reads a n rs) n rs
-  step (look l) enters = look l
-  step (cat p q) enters = cat (step p enters) (step q (leaves p enters))
-  step (alt p q) enters = alt (step p enters) (step q enters)
-  step (star p) enters = star (step p (enters || leaves p false))
-  step (plus p) enters = plus (step p (enters || leaves p false))
-  step (lookbehind n p) enters = lookbehind n (step p true)
-  step (lookahead n p) enters = lookahead n p
+  step = step_by (sees b a) b a
 
 -- at place i a way through the pattern goes on from some mark, and ends at j
 abbrev pub Rest : List ℕ → Pattern → ℕ → ℕ → Type 0
@@ -68,18 +77,25 @@ Rest text (lookahead n p) i j = ⊥
 abbrev pub Crosses : List ℕ → Pattern → ℕ → ℕ → Type 0
 Crosses text p i j = (k : ℕ) × (k < i) × (i ≤ j) × Matches text p k j
 
--- the marks within lookbehinds at place i are those of all ways that have begun before i, and each
--- lookahead is told by the next character
-abbrev pub Kept : List ℕ → Pattern → ℕ → Type 0
-Kept text empty i = Unit {0}
-Kept text (class m n rs) i = Unit {0}
-Kept text (look l) i = Unit {0}
-Kept text (cat p q) i = Kept text p i × Kept text q i
-Kept text (alt p q) i = Kept text p i × Kept text q i
-Kept text (star p) i = Kept text p i
-Kept text (plus p) i = Kept text p i
-Kept text (lookbehind n p) i = Kept text p i × ((j : ℕ) → Rest text p i j ↔ Crosses text p i j)
-Kept text (lookahead n p) i = is_glance p ≡ true
+-- Here `see` says at each place of a lookahead whether what it looks for is there.
+module _ (see : ℕ → Pattern → Bool) where
+  -- what is said is so
+  abbrev pub IsToldBy : List ℕ → Pattern → Type 0
+  IsToldBy text p = (i : ℕ) → i ≤ length text
+      → (see i p ≡ true) ↔ ((k : ℕ) × Matches text p i k)
+
+  -- the marks within lookbehinds at place i are those of all ways that have begun before i, and
+  -- what is said of lookaheads is so
+  abbrev pub Kept : List ℕ → Pattern → ℕ → Type 0
+  Kept text empty i = Unit {0}
+  Kept text (class m n rs) i = Unit {0}
+  Kept text (look l) i = Unit {0}
+  Kept text (cat p q) i = Kept text p i × Kept text q i
+  Kept text (alt p q) i = Kept text p i × Kept text q i
+  Kept text (star p) i = Kept text p i
+  Kept text (plus p) i = Kept text p i
+  Kept text (lookbehind n p) i = Kept text p i × ((j : ℕ) → Rest text p i j ↔ Crosses text p i j)
+  Kept text (lookahead n p) i = IsToldBy text p
 
 -- at place k a match is under way, or one begins at k or later
 abbrev pub Later : List ℕ → Pattern → ℕ → Type 0
@@ -121,6 +137,18 @@ is_clean (star p) = is_clean p
 is_clean (plus p) = is_clean p
 is_clean (lookbehind n p) = is_clean p
 is_clean (lookahead n p) = true
+
+-- no class bears a mark, in lookaheads as elsewhere
+abbrev pub unmarked : Pattern → Bool
+unmarked empty = true
+unmarked (class m n rs) = not m
+unmarked (look l) = true
+unmarked (cat p q) = unmarked p && unmarked q
+unmarked (alt p q) = unmarked p && unmarked q
+unmarked (star p) = unmarked p
+unmarked (plus p) = unmarked p
+unmarked (lookbehind n p) = unmarked p
+unmarked (lookahead n p) = unmarked p
 
 -- the marks of a pattern, in the order of its classes
 abbrev pub marks_of : Pattern → List Bool

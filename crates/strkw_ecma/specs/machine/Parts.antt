@@ -28,7 +28,7 @@ use Rattle.strkw_ecma.specs.Syntax.{brace, character, other, token, max_nesting}
 use Rattle.strkw_ecma.specs.Patterns.{one_char, Times, any_times, some_times, once_at_most}
 use Rattle.strkw_ecma.specs.Patterns.{exact_times, least_times, range_times, quantified_pattern}
 use Rattle.strkw_ecma.specs.Patterns.{copies}
-use Rattle.strkw_ecma.specs.Front.{parts, steps_of_parts, are_parts_told}
+use Rattle.strkw_ecma.specs.Front.{parts, steps_of_parts}
 use Rattle.strkw_ecma.specs.Numbers.{max_count, CountToken, digit, comma, closing_brace, no_count}
 use Rattle.strkw_ecma.specs.Numbers.{count_token}
 use Rattle.strkw_ecma.specs.Size.{steps, max_term_steps, max_steps}
@@ -550,11 +550,6 @@ pattern_from s (c ∷ cs) = option_and_then (λ t. pattern_from t cs) (after_cha
 abbrev pub small_pattern : Option Pattern → Option Pattern
 small_pattern None = None
 small_pattern (Some p) = pattern_if (nat_le (steps_of_parts (parts p)) max_steps) p
-
--- the pattern in whose parts each lookahead is told by the next character
-abbrev pub told_pattern : Option Pattern → Option Pattern
-told_pattern None = None
-told_pattern (Some p) = pattern_if (are_parts_told (parts p)) p
 
 abbrev pub no_parts : Parts
 no_parts = record {

@@ -1,16 +1,16 @@
 -- What the code looks for of a pattern: each part along the text, or from its end on.
-use Rattle.std.specs.Prelude.{◌≡◌, ◌↔◌, ℕ, ◌+◌, ◌≤◌, Bool, true, ◌&&◌, List, [], ◌∷◌, Vec, Option}
-use Rattle.std.specs.Prelude.{Some, None}
+use Rattle.std.specs.Prelude.{◌≡◌, ◌↔◌, ℕ, ◌+◌, ◌≤◌, Bool, true, not, ◌&&◌, ◌||◌, List, [], ◌∷◌}
+use Rattle.std.specs.Prelude.{Vec, Option, Some, None}
 use Rattle.std.specs.declared.alloc.Global.{Global}
 use Rattle.strkw_ecma.specs.Tree.{Pattern, differ}
 use Rattle.strkw_ecma.specs.Meaning.{Matches}
 use Rattle.strkw_ecma.specs.Program.{is_class, is_empty, glance, alternatives}
 use Rattle.strkw_ecma.specs.Glances.{is_glance, are_told}
-use Rattle.strkw_ecma.specs.Size.{steps_of, steps, max_steps}
+use Rattle.strkw_ecma.specs.Size.{steps_of, steps, spread, search_steps, max_steps}
 use Rattle.strkw_ecma.specs.Mirror.{along, is_backward, sought}
-use Rattle.strkw_ecma.specs.Front.{Part, parts, are_parts_told, steps_of_parts}
-use Rattle.strkw_ecma.specs.machine.Marks.{is_clean}
-use Rattle.strkw_ecma.specs.machine.Search.{search_from}
+use Rattle.strkw_ecma.specs.Front.{Part, parts, steps_of_parts}
+use Rattle.strkw_ecma.specs.machine.Marks.{unmarked}
+use Rattle.strkw_ecma.specs.machine.Search.{found_in}
 use Rattle.strkw_ecma.specs.machine.Shape.{outlined}
 use Rattle.strkw_ecma.specs.declared.passes.Pass.{Pass as CodePass}
 
@@ -21,7 +21,9 @@ pub record Alike (p q : Pattern) : Type 0 where
   pub class : is_class p ≡ is_class q
   pub sees : is_glance p ≡ is_glance q
   pub told : are_told p ≡ are_told q
-  pub clean : is_clean p ≡ is_clean q
+  pub clean : unmarked p ≡ unmarked q
+  pub apart : steps (spread p) ≡ steps (spread q)
+  pub apart_beside : steps_of (alternatives (spread p)) ≡ steps_of (alternatives (spread q))
   pub steps : are_told q ≡ true → steps p ≡ steps q
   pub beside : are_told q ≡ true → steps_of (alternatives p) ≡ steps_of (alternatives q)
   pub glance_steps : is_glance q ≡ true → steps_of (glance p) ≡ steps_of (glance q)
@@ -35,26 +37,27 @@ pub record Pass : Type 0 where
 abbrev pub are_passes_found : List Pass → List ℕ → Bool
 are_passes_found [] text = true
 are_passes_found (x ∷ xs) text =
-    differ x.negated (search_from x.pattern None (along x.backward text))
-    && are_passes_found xs text
+    differ x.negated (found_in x.pattern (along x.backward text)) && are_passes_found xs text
 
 abbrev pub are_passes_clean : List Pass → Bool
 are_passes_clean [] = true
-are_passes_clean (x ∷ xs) = is_clean x.pattern && are_passes_clean xs
+are_passes_clean (x ∷ xs) = unmarked x.pattern && are_passes_clean xs
 
-abbrev pub are_passes_told : List Pass → Bool
-are_passes_told [] = true
-are_passes_told (x ∷ xs) = are_told x.pattern && are_passes_told xs
+-- only what is told from the end of the text on is looked for from there
+abbrev pub are_passes_faced : List Pass → Bool
+are_passes_faced [] = true
+are_passes_faced (x ∷ xs) = (not x.backward || are_told x.pattern) && are_passes_faced xs
 
 abbrev pub steps_of_passes : List Pass → ℕ
 steps_of_passes [] = 0
-steps_of_passes (x ∷ xs) = steps x.pattern + steps_of_passes xs
+steps_of_passes (x ∷ xs) = search_steps x.pattern + steps_of_passes xs
 
 -- it looks for the part
 pub record IsPass (x : Pass) (part : Part) : Type 0 where
   pub negated : x.negated ≡ part.negated
   pub backward : x.backward ≡ is_backward part.pattern
   pub alike : Alike x.pattern (sought part.pattern)
+  pub steps : search_steps x.pattern ≡ search_steps (sought part.pattern)
 
 -- one for each part
 abbrev pub ArePasses : List Pass → List Part → Type 0
@@ -74,7 +77,6 @@ passes_of (p ∷ ps) = pass_of p ∷ passes_of ps
 pub record AreTaken (ps : List CodePass) (p : Pattern) : Type 0 where
   pub passes : ArePasses (passes_of ps) (parts p)
   pub small : steps_of_parts (parts p) ≤ max_steps
-  pub told : are_parts_told (parts p) ≡ true
 
 abbrev pub ComesTo : Option (Vec CodePass Global) → Option Pattern → Type 0
 ComesTo None None = Unit {0}

@@ -30,7 +30,7 @@ use Rattle.strkw_ecma.specs.Numbers.{number, number_of, max_count, CountToken, d
 use Rattle.strkw_ecma.specs.Numbers.{closing_brace, no_count, count_token}
 use Rattle.strkw_ecma.specs.Size.{steps, max_term_steps, max_steps}
 use Rattle.strkw_ecma.specs.Lookahead.{is_apart}
-use Rattle.strkw_ecma.specs.Front.{parts, steps_of_parts, are_parts_told}
+use Rattle.strkw_ecma.specs.Front.{parts, steps_of_parts}
 use Rattle.strkw_ecma.specs.Patterns.{pattern, atom_pattern, times, copies}
 use Rattle.strkw_ecma.specs.Syntax.{Disjunction, only, either, Alternative, nothing, more, Term}
 use Rattle.strkw_ecma.specs.Syntax.{at_start, at_end, at_boundary, at_no_boundary, once, quantified}
@@ -468,11 +468,6 @@ abbrev pub small_tree : Option Disjunction → Option Disjunction
 small_tree None = None
 small_tree (Some d) = tree_if (nat_le (steps_of_parts (parts (pattern d))) max_steps) d
 
--- the tree in whose parts each lookahead is told by the next character
-abbrev pub told_tree : Option Disjunction → Option Disjunction
-told_tree None = None
-told_tree (Some d) = tree_if (are_parts_told (parts (pattern d))) d
-
 -- the tree of a pattern, where the text is one
 abbrev pub read_pattern : List ℕ → Option Disjunction
-read_pattern source = if is_apart source then told_tree (small_tree (read_short source)) else None
+read_pattern source = if is_apart source then small_tree (read_short source) else None

@@ -1,9 +1,12 @@
 -- The search as a function.
-use Rattle.std.specs.Prelude.{ℕ, Bool, true, ◌||◌, ◌&&◌, List, [], ◌∷◌, Option, Some, None}
+use Rattle.std.specs.Prelude.{ℕ, Bool, true, ◌||◌, ◌&&◌, List, [], ◌∷◌, length, Option, Some, None}
+use Rattle.std.specs.Prelude.{if◌then◌else◌}
 use Rattle.strkw_ecma.specs.Tree.{Pattern, differ}
 use Rattle.strkw_ecma.specs.Front.{Part}
 use Rattle.strkw_ecma.specs.Mirror.{sought, sought_in}
-use Rattle.strkw_ecma.specs.machine.Marks.{leaves, step, is_clean}
+use Rattle.strkw_ecma.specs.Glances.{are_told}
+use Rattle.strkw_ecma.specs.machine.Marks.{leaves, step, unmarked}
+use Rattle.strkw_ecma.specs.machine.Sight.{depth, ends_by, begins_at}
 
 -- whether the pattern is found in the rest of a text, behind the character `last`
 abbrev pub search_from : Pattern → Option ℕ → List ℕ → Bool
@@ -11,9 +14,15 @@ search_from p last [] = leaves last None p true
 search_from p last (c ∷ cs) = leaves last (Some c) p true
     || search_from (step last (Some c) p true) (Some c) cs
 
--- whether the pattern is found in the text, searched along it or from its end on
+-- whether it is found in the text, or where lookaheads look farther than the next character, ends
+-- at some place
+abbrev pub found_in : Pattern → List ℕ → Bool
+found_in p text = if are_told p then search_from p None text
+    else ends_by (begins_at (depth p) text) text p (length text)
+
+-- the same, searched along the text or from its end on
 abbrev pub search : Pattern → List ℕ → Bool
-search p text = search_from (sought p) None (sought_in p text)
+search p text = found_in (sought p) (sought_in p text)
 
 -- whether each part is found in the text, or is not, as it is to be
 abbrev pub are_parts_found : List Part → List ℕ → Bool
@@ -23,4 +32,4 @@ are_parts_found (x ∷ xs) text = differ x.negated (search x.pattern text) && ar
 -- no class of what is looked for bears a mark
 abbrev pub are_parts_clean : List Part → Bool
 are_parts_clean [] = true
-are_parts_clean (x ∷ xs) = is_clean (sought x.pattern) && are_parts_clean xs
+are_parts_clean (x ∷ xs) = unmarked (sought x.pattern) && are_parts_clean xs

@@ -38,6 +38,17 @@ walk column end entries row (c ∷ cs) =
     else walk column end entries (row_after end row (entry_at entries row k)) cs)
     (column c)
 
+-- the entry at a place leads to no row, or to one that is there, from whichever row has the entry
+abbrev pub IsInside : ℕ → List ℕ → ℕ → Type 0
+IsInside end entries i =
+    (get_or entries i 0 < next_row → get_or entries i 0 + end < length entries)
+    × (get_or entries i 0 ≡ next_row → i + 2 * end + 1 < length entries)
+
+-- the first row is there, and so is each that an entry leads to
+pub record AreInside (end : ℕ) (entries : List ℕ) : Type 0 where
+  pub begins : end < length entries
+  pub leads : (i : ℕ) → i < length entries → IsInside end entries i
+
 -- what the search by this table comes to is what the search of the pattern does
 abbrev pub Searches : (ℕ → Option ℕ) → ℕ → List ℕ → Pattern → Type 0
 Searches column end entries p = (text : List ℕ) (b : Bool) → walk column end entries 0 text ≡ Some b

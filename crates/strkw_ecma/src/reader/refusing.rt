@@ -13,7 +13,6 @@ ghost use Rattle.strkw_ecma.specs.machine.RefusalParts.{escape_refusal, depth_re
 use super::{Last, MAX_NESTING, Mode, Reader};
 use crate::counts::Count;
 use crate::lookahead::is_apart;
-use crate::passes::{are_told, passes_for};
 use crate::properties::PropertyPart;
 use crate::refusals::PatternRefusal;
 use crate::tokens::{CountToken, Extension, NameToken};
@@ -137,14 +136,7 @@ impl Reader {
             }
         }
         match self.end(alloc)? {
-            Some(outline) if is_apart(source) => {
-                let passes = passes_for(alloc, outline)?;
-                if are_told(&passes) {
-                    Ok(PatternRefusal::TooLarge)
-                } else {
-                    Ok(PatternRefusal::LookAhead)
-                }
-            }
+            Some(_) if is_apart(source) => Ok(PatternRefusal::TooLarge),
             _ => Ok(PatternRefusal::NotTaken),
         }
     }

@@ -200,7 +200,7 @@ const REFUSALS: &[Refused] = &[
     },
     Refused {
         pattern: "^(a|b)*(?<=ab)(?=cd)",
-        why: Some(PatternRefusal::LookAhead),
+        why: None,
     },
     Refused {
         pattern: "(?<n>a+?|.)\\k<n>",

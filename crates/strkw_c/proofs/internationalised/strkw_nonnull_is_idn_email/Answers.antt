@@ -6,11 +6,11 @@ use Rattle.strkw_mail.specs.IdnMailbox.{IsIdnMailbox}
 use Rattle.strkw_c.proofs.StatusLemmas.{tells}
 use Rattle.strkw_c.proofs.internationalised.strkw_nonnull_is_idn_email.Goals as goal
 
-pub returns-in-Ok : goal.returns-in-Ok
-returns-in-Ok c =
+pub returns-in-Some : goal.returns-in-Some
+returns-in-Some c =
     let text = c.args.text.now in
     let utf8 : IsUtf8 text = search rules in
-    let same : c.in-Ok.text.now ≡ text = search rules in
+    let same : c.in-Some.text.now ≡ text = search rules in
     let answer = c.is_valid_idn_email.result in
     let told = subst (λ x. IfOk answer (λ b. IsTrue b ↔ IsIdnMailbox (chars x))) same c.is_valid_idn_email.ensures in
     tells (IsUtf8 text × IsIdnMailbox (chars text)) answer c.status_of.result

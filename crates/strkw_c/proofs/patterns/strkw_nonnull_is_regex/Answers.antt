@@ -6,11 +6,11 @@ use Rattle.strkw_ecma.specs.Regex.{IsRegex}
 use Rattle.strkw_c.proofs.StatusLemmas.{tells}
 use Rattle.strkw_c.proofs.patterns.strkw_nonnull_is_regex.Goals as goal
 
-pub returns-in-Ok : goal.returns-in-Ok
-returns-in-Ok c =
+pub returns-in-Some : goal.returns-in-Some
+returns-in-Some c =
     let text = c.args.text.now in
     let utf8 : IsUtf8 text = search rules in
-    let same : c.in-Ok.text.now ≡ text = search rules in
+    let same : c.in-Some.text.now ≡ text = search rules in
     let answer = c.is_valid_regex.result in
     let told = subst (λ x. IfOk answer (λ b. IsTrue b ↔ IsRegex (chars x))) same c.is_valid_regex.ensures in
     tells (IsUtf8 text × IsRegex (chars text)) answer c.status_of.result

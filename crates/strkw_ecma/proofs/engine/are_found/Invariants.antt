@@ -1,9 +1,10 @@
-use Rattle.std.proofs.Common.{◌≡◌, drop}
+use Rattle.std.proofs.Common.{◌≡◌, false, drop}
 use Rattle.std.specs.Str.{chars}
-use Rattle.strkw_ecma.specs.machine.Engine.{finder_passes}
-use Rattle.strkw_ecma.specs.machine.Passes.{are_passes_found}
+use Rattle.strkw_ecma.specs.machine.Engine.{are_found_by, have_rows}
 use Rattle.strkw_ecma.proofs.engine.are_found.Given as goal
 
 abbrev pub invariant-loop-part : goal.invariant-loop-part
-invariant-loop-part l = are_passes_found (finder_passes l.parts) (chars l.text)
-    ≡ are_passes_found (finder_passes (drop l.part-index l.parts)) (chars l.text)
+invariant-loop-part l = record {
+  found : are_found_by l.parts (chars l.text) ≡ are_found_by (drop l.part-index l.parts) (chars l.text);
+  memory : have_rows l.parts ≡ false → have_rows (drop l.part-index l.parts) ≡ false;
+}

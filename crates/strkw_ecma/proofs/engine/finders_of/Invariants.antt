@@ -1,15 +1,16 @@
-use Rattle.std.proofs.Common.{◌≡◌, ◌≤◌, ◌++◌, true, length}
+use Rattle.std.proofs.Common.{◌≡◌, ◌≤◌, ◌&&◌, true, ℕ, List, length}
 use Rattle.strkw_ecma.specs.Size.{max_steps}
-use Rattle.strkw_ecma.specs.machine.Engine.{finder_passes}
-use Rattle.strkw_ecma.specs.machine.Passes.{are_passes_clean, are_passes_told, steps_of_passes, passes_of}
+use Rattle.strkw_ecma.specs.machine.Engine.{are_found_by}
+use Rattle.strkw_ecma.specs.machine.Passes.{are_passes_clean, are_passes_faced, are_passes_found, steps_of_passes, passes_of}
 use Rattle.strkw_ecma.proofs.engine.finders_of.Given as goal
 
 abbrev pub invariant-passes : goal.invariant-passes
 invariant-passes l = record {
-  made : finder_passes l.finders.items ++ passes_of l.left.items ≡ passes_of l.fn.passes.items;
+  made : (text : List ℕ) → (are_found_by l.finders.items text && are_passes_found (passes_of l.left.items) text)
+      ≡ are_passes_found (passes_of l.fn.passes.items) text;
   clean : are_passes_clean (passes_of l.left.items) ≡ true;
+  faced : are_passes_faced (passes_of l.left.items) ≡ true;
   small : steps_of_passes (passes_of l.left.items) ≤ max_steps;
-  told : are_passes_told (passes_of l.left.items) ≡ true;
 }
 
 abbrev pub decreases-passes : goal.decreases-passes

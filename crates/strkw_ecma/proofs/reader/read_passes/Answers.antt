@@ -14,4 +14,4 @@ pub returns : goal.returns
 returns c =
     let apart : true ≡ is_apart (chars c.args.source.now) = cc in
     subst (λ q. IfOk c.passes_if_taken.result (λ made. ComesTo made q))
-    (read_whole (chars c.args.source.now) _ _ _ apart c.in_ok-read_short.ensures.tree refl refl) c.passes_if_taken.ensures
+    (read_whole (chars c.args.source.now) _ _ apart c.in_ok-read_short.ensures.tree refl) c.passes_if_taken.ensures

@@ -10,10 +10,10 @@ use Rattle.strkw_uri.proofs.scan.skip_wide.Goals as goal
 pub loop-c-preserved : goal.loop-c-preserved
 loop-c-preserved c =
     let class = is_part_char Rfc3987 c.args.part in
-    let wide = part_from_wide Rfc3987 c.args.part c.in-Some.c (sym c.if-not-is_wide_part_char.ensures) in (
+    let is_wide = part_from_wide Rfc3987 c.args.part c.in-Some.c (sym c.if-not-is_wide_part_char.ensures) in
+    let one = run_push (Encoded class) _ _ _ c.loop-c.invariant.1 (encoded_char class c.in-Some.c _ _ c.in-Some.ensures.cases is_wide) in (
       c.after_ascii-rest-in-Some.utf8,
-      run_more (Encoded class) _ _ _ (run_push (Encoded class) _ _ _ c.loop-c.invariant.1 (encoded_char class c.in-Some.c _ _ c.in-Some.ensures.cases wide))
-          c.after_ascii-rest-in-Some.ensures.run,
+      run_more (Encoded class) _ _ _ (run_more (Encoded class) _ _ _ one c.after_wide.ensures.run) c.after_ascii-rest-in-Some.ensures.run,
       c.after_ascii-rest-in-Some.ensures.stops,
     )
 

@@ -11,7 +11,7 @@ returns-in-Some-clause-cases c =
 
 pub returns-clause-cases : goal.returns-clause-cases
 returns-clause-cases c =
-    MatchOption-map _ _ _ _ c.after_encoded.result
+    MatchOption-map _ _ _ _ c.after_literal.result
     (λ n. no_front _ n c.in_default.ensures.cases)
     (λ x h. literal_front _ _ h)
-    c.after_encoded.ensures.cases
+    c.after_literal.ensures.cases

@@ -3,7 +3,6 @@ use Rattle.std.proofs.lemmas.List.{drop_at, length-replicate, take_all, take_at}
 use Rattle.std.proofs.lemmas.Slice.Eq.{bytes_eq-Decides}
 use Rattle.std.specs.Str.{bytes_eq}
 use Rattle.strkw_coding.specs.Blocks.{code32}
-use Rattle.strkw_coding.proofs.FullBlocks.{read_full}
 use Rattle.strkw_coding.proofs.radix32.Alphabet.decode_block.Goals as goal
 
 pub returns-else-eq-clause-only : goal.returns-else-eq-clause-only
@@ -14,18 +13,6 @@ returns-else-eq-clause-only c = λ p bytes some few is.
     ∙ sym c.as_slice.ensures in
     let yes : bytes_eq c.args.block.now c.as_slice.result.now ≡ true = (bytes_eq-Decides _ _).1 same in
     cc (yes, c.eq.ensures, c.if-eq.false)
-
-pub returns-then-are_letters-clause-found : goal.returns-then-are_letters-clause-found
-returns-then-are_letters-clause-found c =
-    let g = c.group_of-group.ensures in
-    record {
-      some = g.some;
-      few = g.few;
-      five = g.five;
-      are_bytes = g.are_bytes;
-      is_code = read_full c.args.self.now.letters c.args.block.now _ _ c.args.self.now.alphabet c.requires.block
-          (sym c.are_letters.ensures ∙ c.if-are_letters.true) g.value g.len;
-    }
 
 pub returns-then-not-is_zero-clause-only : goal.returns-then-not-is_zero-clause-only
 returns-then-not-is_zero-clause-only c = λ p bytes some few is.

@@ -3,7 +3,7 @@ use Rattle.std.specs.Str.{chars}
 use Rattle.strkw_ecma.specs.Patterns.{pattern}
 use Rattle.strkw_ecma.specs.machine.Passes.{ComesTo}
 use Rattle.strkw_ecma.specs.machine.Reading.{read_pattern}
-use Rattle.strkw_ecma.proofs.Taken.{read_clean, read_told, read_small, read_outcome, comes_some}
+use Rattle.strkw_ecma.proofs.Taken.{read_clean, read_faced, read_small, read_outcome, comes_some}
 use Rattle.strkw_ecma.proofs.engine.EcmaPatternsEngineBuilder.build.Goals as goal
 
 pub of-requires : goal.of-requires
@@ -13,8 +13,8 @@ of-requires c =
     subst (λ o. ComesTo o (option_map pattern tree)) c.in-Ok-Some.field-0-is c.in-Ok-Some.ensures in
     record {
       clean = read_clean c.in-Ok-Some.passes tree read;
+      faced = read_faced c.in-Ok-Some.passes tree read;
       small = read_small c.in-Ok-Some.passes tree read;
-      told = read_told c.in-Ok-Some.passes tree read;
     }
 
 pub returns-in-Ok-clause-built : goal.returns-in-Ok-clause-built

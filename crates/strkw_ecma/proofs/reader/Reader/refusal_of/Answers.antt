@@ -1,15 +1,13 @@
-use Rattle.std.proofs.Common.{◌≡◌, true, false, length, ◌∙◌, sym, ap, Some, option_map, subst, arith}
+use Rattle.std.proofs.Common.{◌≡◌, true, length, ◌∙◌, sym, ap, Some, option_map, subst, arith}
 use Rattle.std.specs.Str.{chars}
 use Rattle.std.proofs.lemmas.Iterator.{YieldsList-from_chars}
 use Rattle.std.proofs.lemmas.List.{length_push}
 use Rattle.std.proofs.lemmas.Iterator.Consumers.{YieldsList-turn, YieldsList-end}
-use Rattle.strkw_ecma.specs.machine.Passes.{are_passes_told, passes_of}
 use Rattle.strkw_ecma.specs.machine.Shape.{outlined}
 use Rattle.strkw_ecma.specs.machine.Parts.{parts_of, after_char, pattern_from, when}
 use Rattle.strkw_ecma.specs.Refusals.{IsReason}
 use Rattle.strkw_ecma.proofs.Parts.{goes_on, whole}
-use Rattle.strkw_ecma.proofs.Taken.{told_same}
-use Rattle.strkw_ecma.proofs.Refused.{Stands, starts, stops_so, goes_so, too_large, looks_ahead_far}
+use Rattle.strkw_ecma.proofs.Refused.{Stands, starts, stops_so, goes_so, too_large}
 use Rattle.strkw_ecma.proofs.reader.Reader.refusal_of.Goals as goal
 
 pub returns-then-not-branch : goal.returns-then-not-branch
@@ -42,23 +40,11 @@ loop-c-init c = record {
   stands = subst (Stands (chars c.args.source.now) 0) (sym c.requires.new) (starts (chars c.args.source.now));
 }
 
-pub returns-then-are_told : goal.returns-then-are_told
-returns-then-are_told c =
-    let text = chars c.args.source.now in
-    let end = YieldsList-end (YieldsList-from_chars c.args.source.now c.utf8.source cc) c.loop-c.yielded _ c.loop-c.yielded_by _ _
-    c.in-None.is c.next.ensures.steps in
-    let at_end = whole (parts_of c.loop-c.self) text (length c.loop-c.yielded) (omega (arith, end.1)) c.requires.short c.loop-c.invariant.way in
-    let told : are_passes_told (passes_of c.in_ok-passes-in-Some-2.passes.items) ≡ true = cc in
-    too_large text (outlined c.in-Some-2.outline) c.requires.short (ap (option_map outlined) (sym c.in-Some-2.is) ∙ c.in_ok-outline.ensures.tree ∙ at_end)
-    (sym c.is_apart.ensures ∙ c.if-is_apart.true)
-    (sym (told_same _ _ c.in_ok-passes-in-Some-2.ensures) ∙ told) c.requires.refused
-
 pub returns-in-Some-2 : goal.returns-in-Some-2
 returns-in-Some-2 c =
     let text = chars c.args.source.now in
     let end = YieldsList-end (YieldsList-from_chars c.args.source.now c.utf8.source cc) c.loop-c.yielded _ c.loop-c.yielded_by _ _
     c.in-None.is c.next.ensures.steps in
     let at_end = whole (parts_of c.loop-c.self) text (length c.loop-c.yielded) (omega (arith, end.1)) c.requires.short c.loop-c.invariant.way in
-    let told : are_passes_told (passes_of c.in_ok-passes-in-Some-2.passes.items) ≡ false = cc in
-    looks_ahead_far text (outlined c.in-Some-2.outline) c.requires.short (ap (option_map outlined) (sym c.in-Some-2.is) ∙ c.in_ok-outline.ensures.tree ∙ at_end)
-    (sym (told_same _ _ c.in_ok-passes-in-Some-2.ensures) ∙ told)
+    too_large text (outlined c.in-Some-2.field-0) c.requires.short (ap (option_map outlined) (sym c.in-Some-2.is) ∙ c.in_ok-end.ensures.tree ∙ at_end)
+    (sym c.is_apart.ensures ∙ c.if-is_apart.true) c.requires.refused

@@ -1,4 +1,4 @@
-use Rattle.std.proofs.Common.{◌≡◌, ◌^◌, ◌+◌, ◌≤◌, length, drop, IsUtf8}
+use Rattle.std.proofs.Common.{◌≡◌, ◌+◌, ◌<◌, length, drop, IsUtf8}
 use Rattle.std.specs.Str.{chars}
 use Rattle.strkw_ecma.specs.machine.Columns.{column_of}
 use Rattle.strkw_ecma.specs.machine.Table.{walk}
@@ -7,7 +7,7 @@ use Rattle.strkw_ecma.proofs.table.Table.is_found.Given as goal
 -- the walk over what is left
 abbrev pub invariant-loop-place : goal.invariant-loop-place
 invariant-loop-place l = record {
-  near : l.row ≤ length l.self.entries.items + 2 ^ 16;
+  inside : l.row + length l.self.columns.keys.items < length l.self.entries.items;
   utf8 : IsUtf8 (drop l.place l.text);
   so_far : walk (column_of l.self.columns.classes.items l.self.columns.keys.items) (length l.self.columns.keys.items) l.self.entries.items l.row
       (chars (drop l.place l.text))

@@ -1,4 +1,4 @@
-use Rattle.std.proofs.Common.{◌≡◌, ◌^◌, ◌+◌, ◌≤◌, length}
+use Rattle.std.proofs.Common.{◌≡◌, ◌+◌, ◌<◌, length}
 use Rattle.strkw_ecma.specs.machine.Along.{left_of}
 use Rattle.strkw_ecma.specs.machine.Columns.{column_of}
 use Rattle.strkw_ecma.specs.machine.Table.{walk}
@@ -7,7 +7,7 @@ use Rattle.strkw_ecma.proofs.table.Table.is_found_from.Given as goal
 -- the walk over what is left
 abbrev pub invariant-characters : goal.invariant-characters
 invariant-characters l = record {
-  near : l.row ≤ length l.self.entries.items + 2 ^ 16;
+  inside : l.row + length l.self.columns.keys.items < length l.self.entries.items;
   so_far : walk (column_of l.self.columns.classes.items l.self.columns.keys.items) (length l.self.columns.keys.items) l.self.entries.items l.row
       (left_of l.left)
       ≡ walk (column_of l.self.columns.classes.items l.self.columns.keys.items) (length l.self.columns.keys.items) l.self.entries.items l.fn.row

@@ -1,0 +1,21 @@
+use Rattle.std.proofs.Common.{◌≡◌, ◌++◌, length}
+use Rattle.std.specs.Str.{chars}
+use Rattle.strkw_ecma.specs.machine.Along.{left_of}
+use Rattle.strkw_ecma.specs.machine.Bits.{bits_of, rows_of}
+use Rattle.strkw_ecma.specs.machine.Machine.{pattern_of}
+use Rattle.strkw_ecma.specs.machine.Marks.{marked}
+use Rattle.strkw_ecma.specs.machine.Seekers.{seeking}
+use Rattle.strkw_ecma.specs.machine.Seeking.{ends_from, row_of}
+use Rattle.strkw_ecma.proofs.seeker.Seeker.ends.Given as goal
+
+-- the answers so far, and those of what is left, are those of the text
+abbrev pub invariant-characters : goal.invariant-characters
+invariant-characters l = record {
+  long : length l.marks ≡ 2600;
+  to_come : l.ahead ≡ length (left_of l.left);
+  so_far : bits_of l.bits ++ ends_from (rows_of l.rows) l.self.told.items (marked l.marks (pattern_of l.self.program)) l.last (left_of l.left)
+      ≡ row_of (rows_of l.rows) (chars l.text) (seeking l.self);
+}
+
+abbrev pub decreases-characters : goal.decreases-characters
+decreases-characters l = length (left_of l.left)

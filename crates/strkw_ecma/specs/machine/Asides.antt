@@ -1,0 +1,103 @@
+-- What the lookaheads of a pattern look for, put aside one after the other.
+use Rattle.std.specs.Prelude.{◌≡◌, ℕ, ◌≤◌, Bool, true, false, not, List, [], ◌∷◌, ◌++◌, slice_get}
+use Rattle.std.specs.Prelude.{Option, Some, None}
+use Rattle.strkw_ecma.specs.Tree.{Pattern, cat, lookbehind, lookahead}
+use Rattle.strkw_ecma.specs.Mirror.{mirror, facing}
+use Rattle.strkw_ecma.specs.Size.{steps, spread, max_steps}
+use Rattle.strkw_ecma.specs.machine.Marks.{unmarked}
+use Rattle.strkw_ecma.specs.machine.Passes.{Alike}
+use Rattle.strkw_ecma.specs.machine.Seeking.{Seeking}
+use Rattle.strkw_ecma.specs.machine.Slots.{aside, spots}
+
+-- a pattern that is looked for along a text, or from its end on
+pub record Quest : Type 0 where
+  pub backward : Bool
+  pub pattern : Pattern
+
+-- that of this number looks from the other end on for the mirror of what the lookahead does
+abbrev pub IsToldAs : List Quest → Bool → Option ℕ → Option Pattern → Type 0
+IsToldAs fs b None None = Unit {0}
+IsToldAs fs b None (Some p) = ⊥
+IsToldAs fs b (Some k) None = ⊥
+IsToldAs fs b (Some k) (Some p) = (f : Quest) × (slice_get fs k ≡ Some f)
+    × (f.backward ≡ not b) × Alike f.pattern (mirror p)
+
+-- and so of each
+abbrev pub AreToldAs : List Quest → Bool → List (Option ℕ) → List (Option Pattern) → Type 0
+AreToldAs fs b [] [] = Unit {0}
+AreToldAs fs b [] (s ∷ ss) = ⊥
+AreToldAs fs b (t ∷ ts) [] = ⊥
+AreToldAs fs b (t ∷ ts) (s ∷ ss) = IsToldAs fs b t s × AreToldAs fs b ts ss
+
+-- it is the quest with its lookaheads put aside, each of which is one of some quests
+pub record IsAside (fs : List Quest) (x : Seeking) (f : Quest) : Type 0 where
+  pub backward : x.backward ≡ f.backward
+  pub bare : unmarked f.pattern ≡ true
+  pub slotted : x.pattern ≡ aside f.pattern
+  pub told : AreToldAs fs f.backward x.told (spots f.pattern)
+
+-- each is one of the quests, whose lookaheads are among those before it
+abbrev pub AreAsides : List Quest → List Seeking → List Quest → Type 0
+AreAsides fs [] [] = Unit {0}
+AreAsides fs [] (g ∷ gs) = ⊥
+AreAsides fs (x ∷ xs) [] = ⊥
+AreAsides fs (x ∷ xs) (g ∷ gs) = IsAside fs x g × AreAsides (fs ++ (g ∷ [])) xs gs
+
+-- with a mark beside what its lookarounds look for, it takes no more steps than may be
+abbrev pub IsSmall : Pattern → Type 0
+IsSmall p = steps (spread p) ≤ max_steps
+
+abbrev pub AreSmall : List Quest → Type 0
+AreSmall [] = Unit {0}
+AreSmall (f ∷ fs) = IsSmall f.pattern × AreSmall fs
+
+-- What putting the lookaheads of a pattern aside adds to quests and asides, and leaves of it. The
+-- pattern that is `made` is like the one that is to be.
+pub record Puts (b : Bool) (sought o : Pattern) (fs : List Quest) (xs : List Seeking)
+    (old new : List (Option ℕ)) : Type 0 where
+  pub added : List Quest
+  pub small : AreSmall added
+  pub asides : AreAsides [] xs (fs ++ added)
+  pub made : Pattern
+  pub alike : Alike made sought
+  pub slotted : o ≡ aside made
+  pub more : List (Option ℕ)
+  pub numbers : new ≡ old ++ more
+  pub told : AreToldAs (fs ++ added) b more (spots made)
+
+-- of a pattern, or of its mirror
+abbrev pub PutsAside : Bool → Pattern → Pattern → List Quest → List Seeking
+    → List (Option ℕ) → List (Option ℕ) → Type 0
+PutsAside b p = Puts b (facing b p)
+
+-- of two, one behind the other, or of their mirrors
+abbrev pub PutsBoth : Bool → Pattern → Pattern → Pattern → List Quest → List Seeking
+    → List (Option ℕ) → List (Option ℕ) → Type 0
+PutsBoth b p q = Puts b (cat (facing b p) (facing b q))
+
+-- of a lookahead or a lookbehind for a pattern, or for its mirror
+abbrev pub PutsLook : Bool → Bool → Bool → Pattern → Pattern → List Quest → List Seeking
+    → List (Option ℕ) → List (Option ℕ) → Type 0
+PutsLook true n b p = Puts b (lookahead n (facing b p))
+PutsLook false n b p = Puts b (lookbehind n (facing b p))
+
+-- a pattern, or its mirror, is set aside
+pub record SetsAside (b : Bool) (p : Pattern) (x : Seeking) (fs : List Quest) (xs : List Seeking)
+    : Type 0 where
+  pub added : List Quest
+  pub small : AreSmall added
+  pub asides : AreAsides [] xs (fs ++ added)
+  pub made : Pattern
+  pub alike : Alike made (facing b p)
+  pub made_small : IsSmall made
+  pub is : IsAside (fs ++ added) x record { backward = b; pattern = made }
+
+-- and has a number
+pub record TellsAside (b : Bool) (p : Pattern) (number : ℕ) (fs : List Quest) (xs : List Seeking)
+    : Type 0 where
+  pub added : List Quest
+  pub small : AreSmall added
+  pub asides : AreAsides [] xs (fs ++ added)
+  pub made : Pattern
+  pub alike : Alike made (facing b p)
+  pub is : slice_get (fs ++ added) number ≡ Some record { backward = b; pattern = made }
