@@ -9,7 +9,7 @@ mod plan;
 mod requests;
 mod text;
 
-use crate::building::Building;
+use crate::building::{Row, made};
 use crate::faults::Fault;
 use crate::options::OutputForm;
 use crate::outcome::Outcome;
@@ -39,22 +39,56 @@ Examples:
 
 Status: 0 all valid, 1 errors, 2 faults";
 
-/// The command with its subcommands.
+// A subcommand.
+#[derive(Clone, Copy)]
+enum Subcommand {
+    Text,
+    Formats,
+    Requests,
+    Csv,
+    Json,
+    Check,
+    Explain,
+    Plan,
+}
+
+// All of them, as help lists them.
+const SUBCOMMANDS: &[Subcommand] = &[
+    Subcommand::Text,
+    Subcommand::Formats,
+    Subcommand::Requests,
+    Subcommand::Csv,
+    Subcommand::Json,
+    Subcommand::Check,
+    Subcommand::Explain,
+    Subcommand::Plan,
+];
+
+impl<'a> Row<Command<'a>> for Subcommand {
+    fn make(&self, alloc: Global) -> Result<Command<'a>, AllocError> {
+        match self {
+            Subcommand::Text => text::command(alloc),
+            Subcommand::Formats => formats::command(alloc),
+            Subcommand::Requests => requests::command(alloc),
+            Subcommand::Csv => csv_files::command(alloc),
+            Subcommand::Json => json_files::command(alloc),
+            Subcommand::Check => check::command(alloc),
+            Subcommand::Explain => explain::command(alloc),
+            Subcommand::Plan => plan::command(alloc),
+        }
+    }
+}
+
+/// The command with its subcommands. The only error is out of memory.
 pub(crate) fn command<'a>(alloc: Global) -> Result<Command<'a>, AllocError> {
+    let subcommands = made(alloc, SUBCOMMANDS)?;
     Command::new(alloc, NAME)
         .about(ABOUT)
         .version(VERSION)
         .after_help(AFTER_HELP)
         .subcommand_required(true)
+        .subcommands(subcommands)?
         .bin_name(NAME)
-        .with_subcommand(text::command(alloc))
-        .with_subcommand(formats::command(alloc))
-        .with_subcommand(requests::command(alloc))
-        .with_subcommand(csv_files::command(alloc))
-        .with_subcommand(json_files::command(alloc))
-        .with_subcommand(check::command(alloc))
-        .with_subcommand(explain::command(alloc))
-        .with_subcommand(plan::command(alloc))
 }
 
 /// The form of output that the words ask for.

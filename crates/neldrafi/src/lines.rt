@@ -1,30 +1,18 @@
 //! Lines of JSON about errors: an object each, whose members are in the order of their names.
 
-ghost use Rattle.std.specs.Prelude.{◌≡◌, ◌++◌, false, IfOk, OnOk, string_bytes};
-ghost use Rattle.serde_json.specs.View.{view};
-ghost use Rattle.serde_json.specs.Written.{has_float};
+ghost use Rattle.std.specs.Prelude.{◌≡◌, ◌++◌, IfOk, OnOk, string_bytes};
 ghost use Rattle.strkw_report.specs.Failures.{kind_failed};
 ghost use Rattle.strkw_report.specs.Kinds.{text_of};
 ghost use Rattle.strkw_plan.specs.Found.{report_found};
 ghost use Rattle.neldrafi.specs.Lines.{document_form, field_broken, field_error, field_form, kind_name, line_error, line_of, place_error, place_told};
 
+use crate::objects::{Datum, push_object};
 use crate::telling::Subject;
-use serde_json::{Value, json};
 use std::alloc::{AllocError, Global};
 use strkw_document::PlaceForm;
 use strkw_plan::{FoundError, MessageForm};
 use strkw_report::Failure;
 use strkw_table::FieldForm;
-
-/// Appends a value on a line.
-pub(crate) fn push_line(alloc: Global, value: &Value, out: &mut String) -> Result<(), AllocError>
-    ensures { OnOk result (has_float (view value.now) ≡ false
-        → string_bytes out.new ≡ string_bytes out.old ++ line_of (view value.now)) }
-{
-    let text = value.to_string(alloc)?;
-    out.push_str(&text)?;
-    out.push_str("\n")
-}
 
 // What a line names the kind of an error.
 fn kind_name(failure: &Failure<'_>) -> &'static str
@@ -52,156 +40,146 @@ fn keyword_of(alloc: Global, error: &FoundError<'_>) -> Result<String, AllocErro
     Ok(place)
 }
 
-// The object about an error of a field, with the place of its keyword, and what is said of it.
-fn field_object(
+// What is said of an error, beside where it is.
+#[derive(Drop)]
+struct Said {
+    // The place of the keyword, as `/format`.
+    keyword: String,
+    // What is wrong.
+    message: String,
+}
+
+impl Said {
+    // What is said of this error.
+    fn of(alloc: Global, error: &FoundError<'_>) -> Result<Said, AllocError>
+        ensures keyword { IfOk result (λ said. string_bytes said.keyword
+            ≡ (report_found error.now).schema_path) }
+        ensures message { IfOk result (λ said. string_bytes said.message
+            ≡ text_of (report_found error.now)) }
+    {
+        let keyword = keyword_of(alloc, error)?;
+        let message = error.message(alloc)?;
+        Ok(Said { keyword, message })
+    }
+}
+
+// Appends a line about an error of a field, of which this is said.
+fn push_field<'x>(
     alloc: Global,
-    file: &str,
+    file: &'x str,
     line: u64,
-    column: &str,
-    error: &FoundError<'_>,
-    keyword: &str,
-    message: &str,
-) -> Result<Value, AllocError>
-    requires keyword { keyword.now ≡ (report_found error.now).schema_path }
-    requires message { message.now ≡ text_of (report_found error.now) }
-    ensures { IfOk result (λ value. view value
-        ≡ field_error file.now line column.now (report_found error.now)) }
+    column: &'x str,
+    error: &'x FoundError<'x>,
+    said: &'x Said,
+    out: &mut String,
+) -> Result<(), AllocError>
+    requires keyword { string_bytes said.now.keyword ≡ (report_found error.now).schema_path }
+    requires message { string_bytes said.now.message ≡ text_of (report_found error.now) }
+    ensures { OnOk result (string_bytes out.new ≡ string_bytes out.old
+        ++ line_of (field_error file.now line column.now (report_found error.now))) }
 {
-    json!(in alloc; {
-        "column": column,
-        "file": file,
-        "instance": error.text,
-        "keyword": keyword,
-        "kind": kind_name(&error.failure),
-        "line": line,
-        "message": message
-    })
+    let members = [
+        ("column", Datum::Text(column)),
+        ("file", Datum::Text(file)),
+        ("instance", Datum::Text(error.text)),
+        ("keyword", Datum::Text(&said.keyword)),
+        ("kind", Datum::Text(kind_name(&error.failure))),
+        ("line", Datum::Number(line)),
+        ("message", Datum::Text(&said.message)),
+    ];
+    push_object(alloc, &members, out)
 }
 
-// The object about an error of a field.
-fn field_error(
+// Appends a line about a field that is not UTF-8.
+fn push_broken<'x>(
     alloc: Global,
-    file: &str,
+    file: &'x str,
     line: u64,
-    column: &str,
-    error: &FoundError<'_>,
-) -> Result<Value, AllocError>
-    ensures { IfOk result (λ value. view value
-        ≡ field_error file.now line column.now (report_found error.now)) }
+    column: &'x str,
+    out: &mut String,
+) -> Result<(), AllocError>
+    ensures { OnOk result (string_bytes out.new ≡ string_bytes out.old
+        ++ line_of (field_broken file.now line column.now)) }
 {
-    let keyword = keyword_of(alloc, error)?;
-    let message = error.message(alloc)?;
-    field_object(alloc, file, line, column, error, &keyword, &message)
+    let members = [
+        ("column", Datum::Text(column)),
+        ("file", Datum::Text(file)),
+        ("kind", Datum::Text("notUtf8")),
+        ("line", Datum::Number(line)),
+        ("message", Datum::Text("not UTF-8")),
+    ];
+    push_object(alloc, &members, out)
 }
 
-// The object about a field that is not UTF-8.
-fn field_broken(alloc: Global, file: &str, line: u64, column: &str) -> Result<Value, AllocError>
-    ensures { IfOk result (λ value. view value ≡ field_broken file.now line column.now) }
-{
-    json!(in alloc; {
-        "column": column,
-        "file": file,
-        "kind": "notUtf8",
-        "line": line,
-        "message": "not UTF-8"
-    })
-}
-
-// The object about an error of a line, with the place of its keyword, and what is said of it.
-fn line_object(
+// Appends a line about an error of a line, of which this is said.
+fn push_line<'x>(
     alloc: Global,
-    file: &str,
+    file: &'x str,
     line: u64,
-    error: &FoundError<'_>,
-    keyword: &str,
-    message: &str,
-) -> Result<Value, AllocError>
-    requires keyword { keyword.now ≡ (report_found error.now).schema_path }
-    requires message { message.now ≡ text_of (report_found error.now) }
-    ensures { IfOk result (λ value. view value
-        ≡ line_error file.now line (report_found error.now)) }
+    error: &'x FoundError<'x>,
+    said: &'x Said,
+    out: &mut String,
+) -> Result<(), AllocError>
+    requires keyword { string_bytes said.now.keyword ≡ (report_found error.now).schema_path }
+    requires message { string_bytes said.now.message ≡ text_of (report_found error.now) }
+    ensures { OnOk result (string_bytes out.new ≡ string_bytes out.old
+        ++ line_of (line_error file.now line (report_found error.now))) }
 {
-    json!(in alloc; {
-        "file": file,
-        "instance": error.text,
-        "keyword": keyword,
-        "kind": kind_name(&error.failure),
-        "line": line,
-        "message": message
-    })
+    let members = [
+        ("file", Datum::Text(file)),
+        ("instance", Datum::Text(error.text)),
+        ("keyword", Datum::Text(&said.keyword)),
+        ("kind", Datum::Text(kind_name(&error.failure))),
+        ("line", Datum::Number(line)),
+        ("message", Datum::Text(&said.message)),
+    ];
+    push_object(alloc, &members, out)
 }
 
-// The object about an error of a line.
-fn line_error(
+// Appends a line about an error of the value at a place, of which this is said.
+fn push_place<'x>(
     alloc: Global,
-    file: &str,
-    line: u64,
-    error: &FoundError<'_>,
-) -> Result<Value, AllocError>
-    ensures { IfOk result (λ value. view value
-        ≡ line_error file.now line (report_found error.now)) }
+    file: &'x str,
+    place: &'x str,
+    error: &'x FoundError<'x>,
+    said: &'x Said,
+    out: &mut String,
+) -> Result<(), AllocError>
+    requires keyword { string_bytes said.now.keyword ≡ (report_found error.now).schema_path }
+    requires message { string_bytes said.now.message ≡ text_of (report_found error.now) }
+    ensures { OnOk result (string_bytes out.new ≡ string_bytes out.old
+        ++ line_of (place_error file.now place.now (report_found error.now))) }
 {
-    let keyword = keyword_of(alloc, error)?;
-    let message = error.message(alloc)?;
-    line_object(alloc, file, line, error, &keyword, &message)
+    let members = [
+        ("file", Datum::Text(file)),
+        ("instance", Datum::Text(error.text)),
+        ("keyword", Datum::Text(&said.keyword)),
+        ("kind", Datum::Text(kind_name(&error.failure))),
+        ("message", Datum::Text(&said.message)),
+        ("place", Datum::Text(place)),
+    ];
+    push_object(alloc, &members, out)
 }
 
-// The object about an error of the value at a place, with the place of its keyword, and what is said of it.
-fn place_object(
+// Appends a line about a place with which something is wrong by no keyword: its kind, and in words.
+fn push_told<'x>(
     alloc: Global,
-    file: &str,
-    place: &str,
-    error: &FoundError<'_>,
-    keyword: &str,
-    message: &str,
-) -> Result<Value, AllocError>
-    requires keyword { keyword.now ≡ (report_found error.now).schema_path }
-    requires message { message.now ≡ text_of (report_found error.now) }
-    ensures { IfOk result (λ value. view value
-        ≡ place_error file.now place.now (report_found error.now)) }
+    file: &'x str,
+    kind: &'x str,
+    words: &'x str,
+    place: &'x str,
+    out: &mut String,
+) -> Result<(), AllocError>
+    ensures { OnOk result (string_bytes out.new ≡ string_bytes out.old
+        ++ line_of (place_told file.now kind.now words.now place.now)) }
 {
-    json!(in alloc; {
-        "file": file,
-        "instance": error.text,
-        "keyword": keyword,
-        "kind": kind_name(&error.failure),
-        "message": message,
-        "place": place
-    })
-}
-
-// The object about an error of the value at a place.
-fn place_error(
-    alloc: Global,
-    file: &str,
-    place: &str,
-    error: &FoundError<'_>,
-) -> Result<Value, AllocError>
-    ensures { IfOk result (λ value. view value
-        ≡ place_error file.now place.now (report_found error.now)) }
-{
-    let keyword = keyword_of(alloc, error)?;
-    let message = error.message(alloc)?;
-    place_object(alloc, file, place, error, &keyword, &message)
-}
-
-// The object about a place with which something is wrong by no keyword: its kind, and in words.
-fn place_told(
-    alloc: Global,
-    file: &str,
-    kind: &str,
-    words: &str,
-    place: &str,
-) -> Result<Value, AllocError>
-    ensures { IfOk result (λ value. view value
-        ≡ place_told file.now kind.now words.now place.now) }
-{
-    json!(in alloc; {
-        "file": file,
-        "kind": kind,
-        "message": words,
-        "place": place
-    })
+    let members = [
+        ("file", Datum::Text(file)),
+        ("kind", Datum::Text(kind)),
+        ("message", Datum::Text(words)),
+        ("place", Datum::Text(place)),
+    ];
+    push_object(alloc, &members, out)
 }
 
 /// The form of JSON, of the errors of this file.
@@ -232,8 +210,8 @@ impl FieldForm for JsonLines<'_> {
         error: &FoundError<'_>,
         out: &mut String,
     ) -> Result<(), AllocError> {
-        let value = field_error(alloc, self.file, line, column, error)?;
-        push_line(alloc, &value, out)
+        let said = Said::of(alloc, error)?;
+        push_field(alloc, self.file, line, column, error, &said, out)
     }
 
     fn push_broken(
@@ -243,8 +221,7 @@ impl FieldForm for JsonLines<'_> {
         column: &str,
         out: &mut String,
     ) -> Result<(), AllocError> {
-        let value = field_broken(alloc, self.file, line, column)?;
-        push_line(alloc, &value, out)
+        push_broken(alloc, self.file, line, column, out)
     }
 }
 
@@ -259,13 +236,12 @@ impl PlaceForm for JsonLines<'_> {
         error: &FoundError<'_>,
         out: &mut String,
     ) -> Result<(), AllocError> {
-        let value = place_error(alloc, self.file, place, error)?;
-        push_line(alloc, &value, out)
+        let said = Said::of(alloc, error)?;
+        push_place(alloc, self.file, place, error, &said, out)
     }
 
     fn push_missing(&self, alloc: Global, place: &str, out: &mut String) -> Result<(), AllocError> {
-        let value = place_told(alloc, self.file, "missing", "missing", place)?;
-        push_line(alloc, &value, out)
+        push_told(alloc, self.file, "missing", "missing", place, out)
     }
 
     fn push_no_string(
@@ -274,8 +250,7 @@ impl PlaceForm for JsonLines<'_> {
         place: &str,
         out: &mut String,
     ) -> Result<(), AllocError> {
-        let value = place_told(alloc, self.file, "notAString", "not a string", place)?;
-        push_line(alloc, &value, out)
+        push_told(alloc, self.file, "notAString", "not a string", place, out)
     }
 }
 
@@ -298,7 +273,7 @@ impl MessageForm for JsonLine<'_> {
         error: &FoundError<'_>,
         out: &mut String,
     ) -> Result<(), AllocError> {
-        let value = line_error(alloc, self.file, self.line, error)?;
-        push_line(alloc, &value, out)
+        let said = Said::of(alloc, error)?;
+        push_line(alloc, self.file, self.line, error, &said, out)
     }
 }

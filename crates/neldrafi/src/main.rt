@@ -15,6 +15,7 @@ mod html;
 mod inputs;
 mod known_formats;
 mod lines;
+mod objects;
 mod options;
 mod outcome;
 mod output;

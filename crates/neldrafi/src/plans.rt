@@ -1,7 +1,7 @@
 //! Plans.
 
 use crate::faults::Fault;
-use serde_json::Value;
+use serde_json::{Value, put};
 use std::alloc::{AllocError, Global};
 use strkw_plan::{PlanKind, read_marked_plan_file};
 use strkw_shells::{FileFault, read_plan};
@@ -49,19 +49,28 @@ fn read_value(rt: &HostRuntime, path: &str) -> Result<Value, Fault> {
     }
 }
 
-/// Puts a text into an object by a name, in place of what it has there. A value that is no object stays as it is.
+/// Puts a value into an object by a name, in place of what it has there. A value that is no object stays as it is.
+pub(crate) fn set_value(
+    alloc: Global,
+    object: &mut Value,
+    name: &str,
+    value: Value,
+) -> Result<(), AllocError> {
+    match object.as_object_mut() {
+        Some(members) => put(members, alloc, name, value),
+        None => Ok(()),
+    }
+}
+
+/// Puts a text into an object by a name, in the same way.
 pub(crate) fn set_text(
     alloc: Global,
     object: &mut Value,
     name: &str,
     text: &str,
 ) -> Result<(), AllocError> {
-    if let Some(members) = object.as_object_mut() {
-        let name = String::from_str(alloc, name)?;
-        let value = Value::String(String::from_str(alloc, text)?);
-        drop(members.insert(name, value)?);
-    }
-    Ok(())
+    let text = Value::try_from_str(alloc, text)?;
+    set_value(alloc, object, name, text)
 }
 
 /// Puts a delimiter into a plan, in place of its own. A value that is no object stays as it is.

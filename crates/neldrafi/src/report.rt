@@ -86,6 +86,17 @@ struct Kind {
     first: Vec<FieldError>,
 }
 
+impl Kind {
+    // Takes one more.
+    fn take(&mut self, error: FieldError) -> Result<(), AllocError> {
+        self.errors = self.errors.saturating_add(1);
+        if self.first.len() < FIRST_ERRORS {
+            self.first.push(error)?;
+        }
+        Ok(())
+    }
+}
+
 /// The errors of a file, as a report tells of them.
 #[derive(Drop)]
 pub(crate) struct FileReport {
@@ -99,16 +110,13 @@ impl TakesErrors for FileReport {
     fn take(&mut self, error: FieldError) -> Result<(), AllocError> {
         self.strip.mark(error.line);
         self.summary.count(&error)?;
+        let (alloc, name) = (self.alloc, error.kind.clone()?);
+        let entry = self.kinds.entry(name)?;
         let none = Kind {
             errors: 0,
-            first: Vec::new(self.alloc),
+            first: Vec::new(alloc),
         };
-        let kind = self.kinds.entry(error.kind.clone()?)?.or_insert(none);
-        kind.errors = kind.errors.saturating_add(1);
-        if kind.first.len() < FIRST_ERRORS {
-            kind.first.push(error)?;
-        }
-        Ok(())
+        entry.or_insert(none).take(error)
     }
 }
 
@@ -225,6 +233,19 @@ impl FileReport {
         out.push_str(TABLE_FOOT)
     }
 
+    // Appends where the errors are, how many there are, and the first of each kind, where there are any.
+    fn push_errors(&self, out: &mut String) -> Result<(), AllocError> {
+        if self.kinds.is_empty() {
+            return Ok(());
+        }
+        self.strip.push(out)?;
+        self.push_groups(out)?;
+        for (name, kind) in self.kinds.iter() {
+            self.push_kind(name, kind, out)?;
+        }
+        Ok(())
+    }
+
     /// Appends what is told of the file: how many records and errors there are or why the check ended early, where the
     /// errors are, how many there are by column and keyword, and the first of each kind.
     pub(crate) fn push_section(
@@ -233,21 +254,15 @@ impl FileReport {
         checked: &Result<Checked, Fault>,
         out: &mut String,
     ) -> Result<(), AllocError> {
-        out.push_str("<section>\n<h2>")?;
-        self.push_text(file, out)?;
-        out.push_str("</h2>\n")?;
-        self.push_totals(checked, out)?;
         if let Ok(checked) = checked {
             // A record has a line at least, and the names have one.
             self.strip.reach(checked.records.saturating_add(1));
         }
-        if !self.kinds.is_empty() {
-            self.strip.push(out)?;
-            self.push_groups(out)?;
-            for (name, kind) in self.kinds.iter() {
-                self.push_kind(name, kind, out)?;
-            }
-        }
+        out.push_str("<section>\n<h2>")?;
+        self.push_text(file, out)?;
+        out.push_str("</h2>\n")?;
+        self.push_totals(checked, out)?;
+        self.push_errors(out)?;
         out.push_str("</section>\n")
     }
 }

@@ -7,7 +7,9 @@ ghost use Rattle.strkw_object.specs.Compiled.{keywords_demands};
 
 use crate::drafts::draft_number;
 use crate::faults::{Fault, Reach};
-use serde_json::{Value, json};
+use crate::objects::{Datum, object};
+use crate::plans::set_value;
+use serde_json::Value;
 use std::alloc::{AllocError, Global};
 use strkw_ecma::why_refused;
 use strkw_object::StringKeywords;
@@ -96,7 +98,8 @@ pub(crate) fn require_keywords(
     if let Some(member) = own_member(ignored, schema) {
         return Err(fault_of_member(alloc, member));
     }
-    let plan = plan_of(alloc, draft, ignored, schema)?;
+    let mut plan = object(alloc, &[("draft", Datum::Number(draft_number(draft)))])?;
+    fill_plan(alloc, ignored, schema, &mut plan)?;
     require_plan(alloc, &plan)
 }
 
@@ -116,17 +119,17 @@ fn fault_of_member(alloc: Global, member: &str) -> Fault {
     Fault::told(Reach::Run, words_of_unknown(alloc, member, None))
 }
 
-// The plan of a schema alone. The only error is out of memory.
-fn plan_of(
+// Puts into a plan the schema, as the only one, and the names that are let pass. The only error is out of memory.
+fn fill_plan(
     alloc: Global,
-    draft: Draft,
     ignored: &[&str],
     schema: &Value,
-) -> Result<Value, AllocError> {
-    let schema = without_own(schema)?;
-    let ignored = names(alloc, ignored)?;
-    let draft = draft_number(draft);
-    json!(in alloc; {"draft": draft, "places": {"": schema}, "ignore": ignored})
+    plan: &mut Value,
+) -> Result<(), AllocError> {
+    set_value(alloc, plan, "ignore", names(alloc, ignored)?)?;
+    let mut places = object(alloc, &[])?;
+    set_value(alloc, &mut places, "", without_own(schema)?)?;
+    set_value(alloc, plan, "places", places)
 }
 
 // A member of a schema that would be the plan's own if it stood in one, and is not let pass.

@@ -2,11 +2,10 @@
 
 use crate::errors::{FieldError, TakesErrors};
 use crate::faults::Fault;
-use crate::lines::push_line;
+use crate::objects::{Datum, push_object};
 use crate::options::OutputForm;
 use crate::output::{FaultyWrite, Output};
 use crate::telling::Subject;
-use serde_json::{Value, json};
 use std::alloc::{AllocError, Global};
 use std::collections::BTreeMap;
 use std::io::Write;
@@ -19,6 +18,33 @@ pub(crate) struct Group {
     pub column: String,
     /// The place of the keyword, as `/format`.
     pub keyword: String,
+}
+
+// Appends the object for the errors of a group.
+fn push_row_object<'x>(
+    alloc: Global,
+    file: &'x str,
+    group: &'x Group,
+    count: Count,
+    out: &mut String,
+) -> Result<(), AllocError> {
+    let members = [
+        ("file", Datum::Text(file)),
+        ("column", Datum::Text(&group.column)),
+        ("keyword", Datum::Text(&group.keyword)),
+        ("errors", Datum::Number(count.errors)),
+        ("first", Datum::Number(count.first)),
+    ];
+    push_object(alloc, &members, out)
+}
+
+impl Group {
+    // Appends the row of the table for the errors of the group.
+    fn push_row(&self, count: Count, out: &mut String) -> Result<(), AllocError> {
+        let (errors, first) = (count.errors, count.first);
+        let (column, keyword) = (Shown(&self.column), Shown(&self.keyword));
+        writeln!(out, "{errors:>10}  {first:>10}  {column}: {keyword}")
+    }
 }
 
 /// The errors of a group.
@@ -75,31 +101,15 @@ impl Summary {
         }
         out.push_str("    errors  first line  column: keyword\n")?;
         for (group, count) in self.counts.iter() {
-            let (errors, first) = (count.errors, count.first);
-            let (column, keyword) = (Shown(&group.column), Shown(&group.keyword));
-            writeln!(out, "{errors:>10}  {first:>10}  {column}: {keyword}")?;
+            group.push_row(*count, out)?;
         }
         Ok(())
-    }
-
-    // The object for a row of the table.
-    fn row(&self, file: &str, group: &Group, count: Count) -> Result<Value, AllocError> {
-        let (errors, first) = (count.errors, count.first);
-        let (column, keyword) = (group.column.as_str(), group.keyword.as_str());
-        json!(in self.alloc; {
-            "file": file,
-            "column": column,
-            "keyword": keyword,
-            "errors": errors,
-            "first": first
-        })
     }
 
     // Appends an object for each row of the table.
     fn push_objects(&self, file: &str, out: &mut String) -> Result<(), AllocError> {
         for (group, count) in self.counts.iter() {
-            let row = self.row(file, group, *count)?;
-            push_line(self.alloc, &row, out)?;
+            push_row_object(self.alloc, file, group, *count, out)?;
         }
         Ok(())
     }

@@ -1,8 +1,8 @@
 //! What is told on standard error: faults, how far a check is, and bad requests; each on one line.
 
+use crate::objects::{Datum, object};
 use crate::options::OutputForm;
-use crate::plans::set_text;
-use serde_json::{Value, json};
+use serde_json::Value;
 use std::alloc::{AllocError, Global};
 use std::fmt::Display;
 
@@ -51,18 +51,18 @@ impl Notice {
 }
 
 // The object that tells of it.
-fn object(
+fn object_of<'x>(
     alloc: Global,
-    subject: Subject<'_>,
+    subject: Subject<'x>,
     notice: Notice,
-    message: &str,
+    message: &'x str,
 ) -> Result<Value, AllocError> {
-    let kind = notice.as_str();
-    let mut object = json!(in alloc; {"kind": kind, "message": message})?;
-    if let Some(file) = subject.file {
-        set_text(alloc, &mut object, "file", file)?;
+    let kind = ("kind", Datum::Text(notice.as_str()));
+    let message = ("message", Datum::Text(message));
+    match subject.file {
+        Some(file) => object(alloc, &[("file", Datum::Text(file)), kind, message]),
+        None => object(alloc, &[kind, message]),
     }
-    Ok(object)
 }
 
 // The line of JSON that tells of it.
@@ -73,7 +73,7 @@ fn json_line<D: Display>(
     what: &D,
 ) -> Result<String, AllocError> {
     let message = format!(in alloc; "{what}")?;
-    object(alloc, subject, notice, &message)?.to_string(alloc)
+    object_of(alloc, subject, notice, &message)?.to_string(alloc)
 }
 
 /// Tells of something about a file, on a line of the standard error. Where it is out of memory, nothing is told.

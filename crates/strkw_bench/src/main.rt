@@ -17,16 +17,20 @@ use std::{env, io};
 
 fn main(rt: HostRuntime) -> io::Result<()> {
     for topic in env::args(&rt)?.skip(1) {
-        match topic.as_str() {
-            "characters" => characters::measure(rt)?,
-            "coding" => coding::measure(rt)?,
-            "forms" => forms::measure(rt)?,
-            "label" => label::measure(rt)?,
-            "patterns" => patterns::measure(rt)?,
-            "time_net" => time_net::measure(rt)?,
-            "uri" => uri::measure(rt)?,
-            _ => println!(rt; "topics: characters, coding, forms, label, patterns, time_net, uri")?,
-        }
+        measure(rt, &topic)?;
     }
     Ok(())
+}
+
+fn measure(rt: HostRuntime, topic: &str) -> io::Result<()> {
+    match topic {
+        "characters" => characters::measure(rt),
+        "coding" => coding::measure(rt),
+        "forms" => forms::measure(rt),
+        "label" => label::measure(rt),
+        "patterns" => patterns::measure(rt),
+        "time_net" => time_net::measure(rt),
+        "uri" => uri::measure(rt),
+        _ => println!(rt; "topics: characters, coding, forms, label, patterns, time_net, uri"),
+    }
 }

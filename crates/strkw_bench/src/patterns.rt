@@ -60,7 +60,15 @@ fn least<S: Search>(
     Ok(least)
 }
 
-fn show(rt: HostRuntime, name: &str, round: Round, searches: u32) -> io::Result<()> {
+// Times so many searches by one of the two, and prints it.
+fn time_search<S: Search>(
+    rt: HostRuntime,
+    name: &str,
+    search: &mut S,
+    text: &str,
+    searches: u32,
+) -> io::Result<()> {
+    let round = least(rt, search, text, searches)?;
     let tenths = round.tenths_a_call(searches);
     print!(rt;
         "\t{name} {}.{} ns, {} found",
@@ -70,44 +78,47 @@ fn show(rt: HostRuntime, name: &str, round: Round, searches: u32) -> io::Result<
     )
 }
 
+// Times the engine here, if it takes the pattern.
+fn time_here(rt: HostRuntime, pattern: &str, text: &str, searches: u32) -> io::Result<()> {
+    match EcmaPatterns.build(rt.alloc(), pattern) {
+        Ok(mut engine) => time_search(rt, "here", &mut engine, text, searches),
+        Err(_) => Ok(()),
+    }
+}
+
+// Times the kit's, if it takes the pattern.
+fn time_regex(rt: HostRuntime, pattern: &str, text: &str, searches: u32) -> io::Result<()> {
+    match Regex::new(rt.alloc(), pattern) {
+        Ok(regex) => time_search(rt, "regex", &mut regex.matcher(rt.alloc())?, text, searches),
+        Err(_) => Ok(()),
+    }
+}
+
 fn time(rt: HostRuntime, pattern: &str, text: &str) -> io::Result<()> {
     let searches = if text.len() < 1000 { 20_000 } else { 1 };
     print!(rt; "{pattern}\t{} bytes", text.len())?;
-    if let Ok(mut engine) = EcmaPatterns.build(rt.alloc(), pattern) {
-        show(
-            rt,
-            "here",
-            least(rt, &mut engine, text, searches)?,
-            searches,
-        )?;
-    }
-    if let Ok(regex) = Regex::new(rt.alloc(), pattern) {
-        let mut matcher = regex.matcher(rt.alloc())?;
-        show(
-            rt,
-            "regex",
-            least(rt, &mut matcher, text, searches)?,
-            searches,
-        )?;
-    }
+    time_here(rt, pattern, text, searches)?;
+    time_regex(rt, pattern, text, searches)?;
     println!(rt; "")
+}
+
+// Times the searches of a line. One with fewer than three fields is left out.
+fn time_line(rt: HostRuntime, line: &str) -> io::Result<()> {
+    let mut fields = line.split('\t');
+    let (Some(pattern), Some(piece), Some(count)) = (fields.next(), fields.next(), fields.next())
+    else {
+        return Ok(());
+    };
+    let count = count.parse::<u32>().unwrap_or(1);
+    let text = repeated(rt.alloc(), "", piece, count, fields.next().unwrap_or(""))?;
+    time(rt, pattern, &text)
 }
 
 /// Times the searches of each line.
 pub fn measure(rt: HostRuntime) -> io::Result<()> {
     let lines = io::read_to_string(rt.alloc(), rt.reader())?;
     for line in lines.lines() {
-        let mut fields = line.split('\t');
-        let (Some(pattern), Some(piece), Some(count)) = (
-            fields.next(),
-            fields.next(),
-            fields.next(),
-        ) else {
-            continue;
-        };
-        let count = count.parse::<u32>().unwrap_or(1);
-        let text = repeated(rt.alloc(), "", piece, count, fields.next().unwrap_or(""))?;
-        time(rt, pattern, text.as_str())?;
+        time_line(rt, line)?;
     }
     Ok(())
 }

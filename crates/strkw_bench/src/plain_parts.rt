@@ -41,9 +41,9 @@ fn classes_of(byte: u8) -> u8 {
     }
 }
 
-fn is_escape_at(bytes: &[u8], at: usize) -> bool {
-    match bytes.get(at..) {
-        Some([b'%', high, low, ..]) => high.is_ascii_hexdigit() && low.is_ascii_hexdigit(),
+fn begins_with_escape(bytes: &[u8]) -> bool {
+    match bytes {
+        [b'%', high, low, ..] => high.is_ascii_hexdigit() && low.is_ascii_hexdigit(),
         _ => false,
     }
 }
@@ -80,7 +80,9 @@ impl PlainParts {
     #[inline(never)]
     fn skip<'a>(&self, bytes: &'a [u8], class: u8) -> &'a [u8] {
         for i in 0..bytes.len() {
-            if self.classes[usize::from(bytes[i])] & class == 0 && !is_escape_at(bytes, i) {
+            if self.classes[usize::from(bytes[i])] & class == 0
+                && !begins_with_escape(&bytes[i..])
+            {
                 return &bytes[i..];
             }
         }

@@ -4,7 +4,5 @@
 
 mod companion;
 pub mod laws;
-#[cfg(test)]
-mod tests;
 
 pub use companion::{Companion, companions_of};

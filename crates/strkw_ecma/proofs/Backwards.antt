@@ -1,5 +1,5 @@
 -- Which lookbehinds are told from the end of a text on, said of patterns of each kind.
-use Rattle.std.proofs.Common.{◌≡◌, ℕ, Bool, true, false, ◌&&◌, ◌||◌, if◌then◌else◌, refl, sym, ap, ◌∙◌}
+use Rattle.std.proofs.Common.{◌≡◌, Bool, true, false, ◌&&◌, ◌||◌, if◌then◌else◌, refl, ap, ◌∙◌}
 use Rattle.strkw_ecma.specs.Tree.{Pattern, cat}
 use Rattle.strkw_ecma.specs.Glances.{is_glance, are_told}
 use Rattle.strkw_ecma.specs.Mirror.{mirror}

@@ -1,9 +1,10 @@
 -- The marks within lookbehinds: at each place they are those of all ways that have begun before it, so that each
 -- lookbehind says there what is so.
-use Rattle.std.proofs.Common.{◌≡◌, ◌⊎◌, ◌↔◌, ℕ, ◌+◌, ◌≤◌, ◌<◌, Bool, true, false, List, slice_get, length, refl, sym, ap, subst, inl, inr, ⊎_elim, true≢false, arith}
+use Rattle.std.proofs.Common.{◌≡◌, ◌⊎◌, ◌↔◌, ℕ, ◌+◌, ◌≤◌, ◌<◌, Bool, true, false, List, slice_get, length, refl, sym, ap, subst, inl, inr, ⊎_elim, true≢false}
+use Rattle.std.proofs.Common.{arith}
 use Rattle.strkw_ecma.specs.Tree.{Pattern, empty, class, look, cat, alt, star, plus, lookbehind, lookahead}
 use Rattle.strkw_ecma.specs.Meaning.{before, Matches}
-use Rattle.strkw_ecma.specs.machine.Marks.{sees, Rest, Crosses, IsToldBy, Kept, is_clean}
+use Rattle.strkw_ecma.specs.machine.Marks.{sees, Rest, Crosses, Kept, is_clean}
 use Rattle.strkw_ecma.specs.Program.{is_empty}
 use Rattle.strkw_ecma.specs.Glances.{is_glance, are_told}
 use Rattle.strkw_ecma.proofs.Steps.{same_meaning, and_left, and_right, or_case, or_left, or_right, forwards, rest_forwards, unless_differs, left, stepped}

@@ -1,9 +1,9 @@
 -- Bits of words: what is put, and what is read.
-use Rattle.std.proofs.Common.{◌≡◌, ◌⊎◌, ℕ, zero, suc, ◌+◌, ◌*◌, ◌-◌, ◌/◌, ◌%◌, ◌^◌, ◌<◌, ◌≤◌, ◌==◌, Bool, true, false, List, [], ◌∷◌, ◌++◌, length, get_or}
-use Rattle.std.proofs.Common.{refl, sym, ap, subst, ◌∙◌, inl, inr, ⊎_elim, append-nil, length-append, pow-add, pow_pos, pow_mono, arith, if◌then◌else◌}
-use Rattle.std.proofs.Common.{slice_get, nat_le}
+use Rattle.std.proofs.Common.{◌≡◌, ℕ, zero, suc, ◌+◌, ◌*◌, ◌-◌, ◌/◌, ◌%◌, ◌^◌, ◌<◌, ◌≤◌, ◌==◌, Bool, true, false, List, [], ◌∷◌, ◌++◌, length, get_or}
+use Rattle.std.proofs.Common.{refl, sym, ap, ◌∙◌, append-nil, length-append, pow-add, pow_pos, pow_mono, arith, if◌then◌else◌}
+use Rattle.std.proofs.Common.{nat_le}
 use Rattle.std.proofs.lemmas.List.{append_assoc, get_or_past, get_or_append_left, get_or-append_right}
-use Rattle.std.proofs.lemmas.Nat.{div-add-mod', mod_below, shr_high, or_shifted, shl_whole}
+use Rattle.std.proofs.lemmas.Nat.{div-add-mod', mod_below, shr_high, shl_whole}
 use Rattle.std.proofs.lemmas.Bool.{leb-true, leb-false}
 use Rattle.std.proofs.Math.Nat.{pow-suc, mul_assoc, mul_comm, div-eq_of_lt}
 use Rattle.strkw_ecma.specs.machine.Bits.{bit, bits_in, bits_of_words}

@@ -1,5 +1,5 @@
 -- What is alike, and that a counted term may keep the order of its copies in a mirror.
-use Rattle.std.proofs.Common.{◌≡◌, ◌⊎◌, ℕ, zero, suc, ◌-◌, ◌+◌, Bool, true, false, ◌&&◌, ◌||◌, List, [], if◌then◌else◌, refl, sym, ap, subst, ◌∙◌, inl, inr}
+use Rattle.std.proofs.Common.{◌≡◌, ℕ, zero, suc, ◌-◌, ◌+◌, Bool, true, false, ◌&&◌, ◌||◌, List, [], if◌then◌else◌, refl, sym, ap, subst, ◌∙◌, inl, inr}
 use Rattle.std.proofs.Common.{subst₂, Result, Ok, Err, IfOk, Box, Global, ⊎_elim, true≢false, arith}
 use Rattle.strkw_ecma.specs.Tree.{Pattern, empty, class, look, cat, alt, star, plus, lookbehind, lookahead}
 use Rattle.strkw_ecma.specs.Meaning.{Rounds, no_round, a_round, Matches}

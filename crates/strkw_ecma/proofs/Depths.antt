@@ -1,5 +1,5 @@
 -- How many lookarounds lie in one another.
-use Rattle.std.proofs.Common.{◌≡◌, ℕ, ◌≤◌, max, Bool, true, false, ◌||◌, if◌then◌else◌, refl, sym, ap, ◌∙◌, suc, arith}
+use Rattle.std.proofs.Common.{◌≡◌, ℕ, ◌≤◌, max, Bool, true, false, ◌||◌, if◌then◌else◌, refl, ap, ◌∙◌, suc, arith}
 use Rattle.strkw_ecma.specs.Tree.{Pattern, empty, class, look, cat, alt, star, plus, lookbehind, lookahead}
 use Rattle.strkw_ecma.specs.Mirror.{mirror}
 use Rattle.strkw_ecma.specs.Program.{is_empty}

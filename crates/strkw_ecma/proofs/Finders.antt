@@ -1,5 +1,5 @@
 -- What looks for parts, one after the other.
-use Rattle.std.proofs.Common.{◌≡◌, ◌<◌, ℕ, Bool, true, false, ◌&&◌, List, [], ◌∷◌, ◌++◌, length, drop, slice_index_or, refl, sym, ap, ◌∙◌, arith}
+use Rattle.std.proofs.Common.{◌≡◌, ◌+◌, ℕ, Bool, true, false, ◌&&◌, List, [], ◌∷◌, ◌++◌, length, refl, sym, ap, ◌∙◌, arith}
 use Rattle.strkw_ecma.specs.Tree.{differ}
 use Rattle.strkw_ecma.specs.Mirror.{along}
 use Rattle.strkw_ecma.specs.machine.Engine.{is_found_by, are_found_by}
@@ -9,10 +9,9 @@ use Rattle.strkw_ecma.specs.machine.Shape.{outlined}
 use Rattle.strkw_ecma.specs.declared.finder.PartFinder.{PartFinder}
 use Rattle.strkw_ecma.specs.declared.passes.Pass.{Pass as CodePass}
 
--- the first of what is left, and the others
-pub first_left : {A : Type 0} (items : List A) (f : A) → 0 < length items → f ≡ slice_index_or items 0 f → items ≡ f ∷ drop 1 items
-first_left [] f h e = absurd (omega (arith, h))
-first_left (x ∷ xs) f h e = ap (λ y. y ∷ xs) (sym e)
+-- where one is taken of what is left, the count of the others is their number
+pub one_taken : {A : Type 0} {items others : List A} {x : A} {n m : ℕ} → items ≡ x ∷ others → m + 1 ≡ n → n ≡ length items → m ≡ length others
+one_taken taken fewer count = let longer = ap length taken in omega (arith, longer, fewer, count)
 
 -- three answers hold together in either grouping
 and_grouped : (a b c : Bool) → ((a && b) && c) ≡ (a && (b && c))

@@ -1,11 +1,11 @@
 -- Searches whose marks are told, with their steps counted: they come to what is defined, within the steps of their patterns.
-use Rattle.std.proofs.Common.{◌≡◌, ◌↔◌, ℕ, suc, ◌+◌, ◌*◌, ◌≤◌, Bool, true, false, ◌||◌, List, [], ◌∷◌, ◌++◌, length, drop, Option, Some, None, IsTrue}
-use Rattle.std.proofs.Common.{append-nil, refl, sym, ap, subst, ◌∙◌, arith}
+use Rattle.std.proofs.Common.{◌≡◌, ℕ, suc, ◌+◌, ◌*◌, Bool, true, false, ◌||◌, List, [], ◌∷◌, ◌++◌, length, drop, Option, Some, None}
+use Rattle.std.proofs.Common.{append-nil, refl, sym, ap, ◌∙◌, arith}
 use Rattle.strkw_ecma.specs.Tree.{Pattern, empty, class, look, cat, alt, star, plus, lookbehind, lookahead}
 use Rattle.strkw_ecma.specs.Mirror.{along}
 use Rattle.strkw_ecma.specs.Program.{program}
 use Rattle.strkw_ecma.specs.Size.{steps_of, steps}
-use Rattle.strkw_ecma.specs.machine.Counted.{Counted, after, walking, ending, rowing, seeking_by, is_any}
+use Rattle.strkw_ecma.specs.machine.Counted.{walking, ending, rowing, seeking_by, is_any}
 use Rattle.strkw_ecma.specs.machine.Marks.{leaves, step, classes, marked, marks_of}
 use Rattle.strkw_ecma.specs.machine.Seeking.{Seeking, said, ends_from, ends_within, row_of, rows_behind, is_sought}
 use Rattle.strkw_ecma.specs.machine.Slots.{told_by}

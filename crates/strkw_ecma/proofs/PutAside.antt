@@ -1,21 +1,19 @@
 -- Lookaheads put aside: what is added to quests and asides, and how the numbers of the marks grow.
-use Rattle.std.proofs.Common.{◌≡◌, ◌⊎◌, ℕ, zero, suc, ◌+◌, ◌-◌, ◌<◌, ◌≤◌, max, Bool, true, false, not, ◌||◌, if◌then◌else◌, List, [], ◌∷◌, ◌++◌, length, Option, Some, None}
-use Rattle.std.proofs.Common.{slice_get, refl, sym, ap, subst, ◌∙◌, append-nil, length-append, true≢false, is_some, ◌==◌, arith}
+use Rattle.std.proofs.Common.{◌≡◌, ℕ, zero, suc, ◌+◌, ◌-◌, max, Bool, true, false, not, ◌||◌, if◌then◌else◌, List, [], ◌∷◌, ◌++◌, length, Option, Some, None}
+use Rattle.std.proofs.Common.{slice_get, refl, sym, ap, subst, ◌∙◌, append-nil, true≢false, is_some, ◌==◌, arith}
 use Rattle.std.proofs.lemmas.List.{append_assoc}
 use Rattle.strkw_ecma.specs.Tree.{start, end, boundary, no_boundary, Pattern, empty, class, look, cat, alt, star, plus, lookbehind, lookahead}
 use Rattle.strkw_ecma.specs.Mirror.{mirror, facing}
 use Rattle.strkw_ecma.specs.Patterns.{Times, any_times, some_times, once_at_most, exact_times, least_times, range_times, repeated, quantified_pattern}
 use Rattle.strkw_ecma.specs.Program.{is_empty, copied}
-use Rattle.strkw_ecma.specs.machine.Asides.{Quest, IsToldAs, AreToldAs, IsAside, AreAsides, IsSmall, AreSmall, Puts, PutsAside, PutsBoth, PutsLook, SetsAside, TellsAside}
+use Rattle.strkw_ecma.specs.machine.Asides.{Quest, IsToldAs, AreToldAs, IsAside, AreAsides, IsSmall, AreSmall, Puts, PutsAside, PutsLook, SetsAside, TellsAside}
 use Rattle.strkw_ecma.specs.machine.Passes.{Alike}
 use Rattle.strkw_ecma.specs.machine.Marks.{unmarked}
 use Rattle.strkw_ecma.specs.machine.Slots.{slot, aside, spots, all_copies}
-use Rattle.strkw_ecma.specs.Size.{steps, spread}
 use Rattle.strkw_ecma.specs.machine.Shape.{is_never}
 use Rattle.strkw_ecma.specs.machine.Seeking.{Seeking}
 use Rattle.strkw_ecma.proofs.Counterparts.{alike_refl, alike_cat, alike_alt, alike_behind, alike_times, counted_mirror, mirror_nothing}
 use Rattle.strkw_ecma.proofs.Shapes.{no_copy}
-use Rattle.strkw_ecma.proofs.Sizes.{cat_steps}
 use Rattle.strkw_ecma.proofs.Spread.{facing_steps}
 use Rattle.strkw_ecma.proofs.Steps.{and_left}
 use Rattle.strkw_ecma.proofs.Unmarked.{facing_unmarked}

@@ -1,10 +1,11 @@
 -- What the code puts aside of an outline: by what the outline stands for, what is asked of its parts, and what is left of it.
-use Rattle.std.proofs.Common.{◌≡◌, ℕ, zero, suc, ◌+◌, ◌-◌, ◌≤◌, Bool, true, false, not, ◌&&◌, ◌||◌, ◌==◌, if◌then◌else◌, List, [], ◌∷◌, ◌++◌, Option, Some, None, Vec, Box, Global}
+use Rattle.std.proofs.Common.{◌≡◌, ℕ, zero, suc, ◌+◌, ◌-◌, ◌≤◌, Bool, true, false, not, ◌&&◌, ◌==◌, if◌then◌else◌, List, [], ◌∷◌, ◌++◌, Option, Some, None, Vec}
+use Rattle.std.proofs.Common.{Box, Global}
 use Rattle.std.proofs.lemmas.Bool.Decides.{nat_tests}
 use Rattle.std.proofs.Common.{refl, sym, ap, subst, ◌∙◌, append-nil, true≢false, arith}
 use Rattle.strkw_ecma.specs.Tree.{start, end, boundary, no_boundary, Look, Pattern, empty, class, look, cat, alt, star, plus, lookbehind, lookahead}
 use Rattle.strkw_ecma.specs.declared.tree.CharSet.{CharSet}
-use Rattle.strkw_ecma.specs.Mirror.{mirror, facing}
+use Rattle.strkw_ecma.specs.Mirror.{facing}
 use Rattle.strkw_ecma.specs.Patterns.{Times, any_times, some_times, once_at_most, exact_times, least_times, range_times, repeated, quantified_pattern}
 use Rattle.strkw_ecma.specs.Program.{is_class, is_empty, alternatives, copied}
 use Rattle.strkw_ecma.specs.Size.{steps_of, steps, spread, max_steps}
@@ -17,12 +18,14 @@ use Rattle.strkw_ecma.specs.declared.outline.Quantifier.{Quantifier}
 use Rattle.strkw_ecma.specs.declared.outline.Outline.{Outline, Outline-F, roll-Outline, fold-roll-Outline}
 use Rattle.strkw_ecma.specs.declared.outline.Outline.TheFolds.{ind-Outline}
 use Rattle.strkw_ecma.specs.declared.outline.Outline.TheVariants.{Class, Start, End, Then, Or, Repeated, Behind, Ahead}
-use Rattle.strkw_ecma.specs.declared.outline.Outline.TheVariants.{rolls-Class, rolls-Start, rolls-End, rolls-Then, rolls-Or, rolls-Repeated, rolls-Behind, rolls-Ahead}
+use Rattle.strkw_ecma.specs.declared.outline.Outline.TheVariants.{rolls-Class, rolls-Start, rolls-End, rolls-Then, rolls-Or, rolls-Repeated, rolls-Behind}
+use Rattle.strkw_ecma.specs.declared.outline.Outline.TheVariants.{rolls-Ahead}
 use Rattle.strkw_ecma.specs.machine.Slots.{slot, aside, spots, all_copies}
 use Rattle.strkw_ecma.proofs.Behind.{nothing_is}
 use Rattle.strkw_ecma.proofs.Counterparts.{alike_refl, option_class, star_class, plus_class, spread_look}
-use Rattle.strkw_ecma.proofs.PutAside.{set_put, none_put, both_put, either_put, times_put, behind_put, ahead_put, alt_facing, times_facing, never_copied, never_spots, behind_faced, ahead_faced}
-use Rattle.strkw_ecma.proofs.Sizes.{cat_steps, alt_steps, option_steps, beside_steps, star_steps, plus_steps}
+use Rattle.strkw_ecma.proofs.PutAside.{set_put, none_put, both_put, either_put, times_put, behind_put, ahead_put, alt_facing, times_facing, never_copied}
+use Rattle.strkw_ecma.proofs.PutAside.{never_spots, behind_faced, ahead_faced}
+use Rattle.strkw_ecma.proofs.Sizes.{cat_steps, alt_steps, beside_steps, star_steps, plus_steps}
 use Rattle.strkw_ecma.proofs.Steps.{and_true, and_left, and_right}
 use Rattle.strkw_ecma.proofs.Widths.{times_if}
 

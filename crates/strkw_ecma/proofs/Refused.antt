@@ -43,7 +43,6 @@ use Rattle.strkw_ecma.proofs.Formed.{IsLevel, IsLast, AreLevels, IsCount, IsName
 use Rattle.strkw_ecma.proofs.Formed.{read_formed}
 use Rattle.strkw_ecma.proofs.Parts.{image, last_image, around, next_image}
 use Rattle.strkw_ecma.proofs.Walks.{at_place}
-use Rattle.strkw_ecma.proofs.Exact.{same_pattern}
 
 -- well-formed open groups and lookbehinds, and a well-formed tree within them, are spelled as what a pattern may begin with
 beginning : (os : List Open) (d : Disjunction) → AreLevels os → IsWellFormed (length os) d → IsBeginning (length os) (outer_spelling os ++ spelling d)

@@ -1,28 +1,25 @@
 -- Each pattern has searches that find it, whatever its lookarounds, and that take no more steps than are counted for it.
-use Rattle.std.proofs.Common.{◌≡◌, ◌↔◌, ℕ, ◌+◌, ◌*◌, ◌≤◌, Bool, true, false, not, ◌&&◌, ◌||◌, List, [], ◌∷◌, ◌++◌, length, Option, Some, None, slice_get}
-use Rattle.std.proofs.Common.{IsTrue, if◌then◌else◌, append-nil, refl, sym, ap, subst, ◌∙◌, true≢false, arith}
+use Rattle.std.proofs.Common.{◌≡◌, ℕ, ◌+◌, ◌*◌, ◌≤◌, Bool, true, false, not, ◌||◌, List, [], ◌∷◌, ◌++◌, length, Option, Some, None, slice_get}
+use Rattle.std.proofs.Common.{if◌then◌else◌, append-nil, refl, sym, ap, subst, ◌∙◌, arith}
 use Rattle.std.proofs.lemmas.List.{append_assoc}
 use Rattle.std.proofs.lemmas.Nat.{mul-le}
-use Rattle.strkw_ecma.specs.declared.tree.CharSet.{CharSet}
-use Rattle.strkw_ecma.specs.Tree.{Look, Pattern, empty, class, look, cat, alt, star, plus, lookbehind, lookahead}
+use Rattle.strkw_ecma.specs.Tree.{Pattern, empty, class, look, cat, alt, star, plus, lookbehind, lookahead}
 use Rattle.strkw_ecma.specs.Meaning.{Found}
-use Rattle.strkw_ecma.specs.Mirror.{mirror, mirror_look, facing, along}
+use Rattle.strkw_ecma.specs.Mirror.{mirror, mirror_look, facing}
 use Rattle.strkw_ecma.specs.Program.{is_empty, is_class, alternatives}
 use Rattle.strkw_ecma.specs.Size.{steps_of, steps, spread}
 use Rattle.strkw_ecma.specs.machine.Asides.{Quest, AreToldAs, IsAside, AreAsides}
-use Rattle.strkw_ecma.specs.machine.Counted.{IsSoughtWithin, seeking_by, is_any}
+use Rattle.strkw_ecma.specs.machine.Counted.{IsSoughtWithin}
 use Rattle.strkw_ecma.specs.machine.Marks.{unmarked}
 use Rattle.strkw_ecma.specs.machine.Passes.{Alike}
-use Rattle.strkw_ecma.specs.machine.Search.{found_in}
-use Rattle.strkw_ecma.specs.machine.Seeking.{Seeking, is_sought}
+use Rattle.strkw_ecma.specs.machine.Seeking.{Seeking}
 use Rattle.strkw_ecma.specs.machine.Slots.{slot, aside, spots}
 use Rattle.strkw_ecma.proofs.Answers.{same_answer}
-use Rattle.strkw_ecma.proofs.Behind.{nothing_is}
-use Rattle.strkw_ecma.proofs.Counterparts.{alike_refl, mirror_nothing, mirror_class, spread_look, spread_nothing, spread_class, both_same}
+use Rattle.strkw_ecma.proofs.Counterparts.{alike_refl, mirror_nothing, mirror_class, spread_look, spread_nothing, spread_class}
 use Rattle.strkw_ecma.proofs.FoundIn.{found_in_right}
 use Rattle.strkw_ecma.proofs.Passed.{total, seeking_answer, seeking_steps}
-use Rattle.strkw_ecma.proofs.PutAside.{at_end, mirror_twice, one_aside, same_count, told_append, told_more}
-use Rattle.strkw_ecma.proofs.Sizes.{cat_steps, alt_steps, beside_steps, star_steps, plus_steps, behind_steps}
+use Rattle.strkw_ecma.proofs.PutAside.{at_end, mirror_twice, one_aside, told_append, told_more}
+use Rattle.strkw_ecma.proofs.Sizes.{cat_steps, beside_steps, behind_steps}
 use Rattle.strkw_ecma.proofs.Sought.{is_sought_right}
 use Rattle.strkw_ecma.proofs.Spread.{aside_nothing, aside_class, fewer_alt, fewer_star, fewer_plus}
 use Rattle.strkw_ecma.proofs.Steps.{and_left, and_right}

@@ -1,5 +1,6 @@
 -- The code's searches whose marks are told: turn by turn they come to what is defined.
-use Rattle.std.proofs.Common.{◌≡◌, ◌↔◌, ℕ, zero, suc, ◌+◌, ◌<◌, ◌≤◌, get_or, arith, Bool, true, false, ◌||◌, List, [], ◌∷◌, ◌++◌, length, Option, Some, None, IsTrue, not}
+use Rattle.std.proofs.Common.{◌≡◌, ◌↔◌, ℕ, zero, suc, ◌<◌, ◌≤◌, get_or, arith, Bool, true, false, ◌||◌, List, [], ◌∷◌, ◌++◌, length, Option, Some, None, IsTrue}
+use Rattle.std.proofs.Common.{not}
 use Rattle.std.proofs.Common.{if◌then◌else◌, refl, sym, ap, subst, ◌∙◌, true≢false}
 use Rattle.std.proofs.lemmas.List.{append_assoc, get_or_past}
 use Rattle.strkw_ecma.specs.Tree.{Pattern}
@@ -13,7 +14,7 @@ use Rattle.strkw_ecma.specs.machine.Passes.{Alike}
 use Rattle.strkw_ecma.specs.machine.Search.{search_from, found_in}
 use Rattle.strkw_ecma.specs.machine.Sight.{depth, ends_by, begins_at}
 use Rattle.strkw_ecma.specs.machine.Seekers.{seeking, seekings, quest, quests, IsFit, AreFit}
-use Rattle.strkw_ecma.specs.machine.Seeking.{Seeking, said, ends_from, ends_within, row_of, rows_behind, is_sought}
+use Rattle.strkw_ecma.specs.machine.Seeking.{Seeking, said, ends_from, ends_within, is_sought}
 use Rattle.strkw_ecma.specs.machine.Slots.{told_by}
 use Rattle.strkw_ecma.specs.declared.asides.Aside.{Aside}
 use Rattle.strkw_ecma.specs.declared.bits.Bits.{Bits}

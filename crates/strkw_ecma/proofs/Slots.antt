@@ -1,5 +1,5 @@
 -- Marks that stand for lookaheads: a pattern with such marks is walked as the pattern is, where each says what is so.
-use Rattle.std.proofs.Common.{◌≡◌, ℕ, zero, suc, ◌+◌, ◌<◌, ◌≤◌, Bool, true, false, ◌&&◌, ◌||◌, List, [], ◌∷◌, ◌++◌, length, drop, get_or, Option, Some, None}
+use Rattle.std.proofs.Common.{◌≡◌, ℕ, suc, ◌+◌, ◌<◌, Bool, true, false, ◌&&◌, ◌||◌, List, [], ◌∷◌, ◌++◌, length, drop, get_or, Option, Some, None}
 use Rattle.std.proofs.Common.{get_or-drop, refl, sym, ap, subst, ◌∙◌, length-append, drop-drop, arith}
 use Rattle.strkw_ecma.specs.Tree.{Pattern, empty, class, look, cat, alt, star, plus, lookbehind, lookahead, differ}
 use Rattle.strkw_ecma.specs.machine.Marks.{reads, leaves, leaves_by, step, step_by, classes, marked}

@@ -1,17 +1,17 @@
 -- A search whose marks are told by rows of answers comes to whether the pattern is found, where those rows are right.
-use Rattle.std.proofs.Common.{◌≡◌, ◌⊎◌, ◌↔◌, ℕ, zero, suc, ◌+◌, ◌-◌, ◌<◌, ◌≤◌, max, get_or, Bool, true, false, not, ◌||◌, List, [], ◌∷◌, ◌++◌, length}
-use Rattle.std.proofs.Common.{reverse, drop, drop-cons, length-drop, length-append, append-nil, Option, Some, None, slice_get, IsTrue, refl, sym, ap, subst, ◌∙◌, inl, inr, ⊎_elim, true≢false, is_some, arith}
+use Rattle.std.proofs.Common.{◌≡◌, ◌⊎◌, ◌↔◌, ℕ, zero, suc, ◌+◌, ◌-◌, ◌<◌, ◌≤◌, get_or, Bool, true, false, not, List, [], ◌∷◌, ◌++◌, length}
+use Rattle.std.proofs.Common.{reverse, drop, drop-cons, length-drop, length-append, append-nil, Option, Some, None, slice_get, IsTrue, refl, sym, ap, subst}
+use Rattle.std.proofs.Common.{◌∙◌, inl, inr, ⊎_elim, true≢false, is_some, arith}
 use Rattle.std.proofs.lemmas.List.{length-reverse, reverse-reverse, append_assoc}
 use Rattle.std.proofs.lemmas.Option.{slice_get-get_or, slice_get_past, slice_get_within}
 use Rattle.strkw_ecma.specs.Tree.{Pattern, empty, class, look, cat, alt, star, plus, lookbehind, lookahead}
 use Rattle.strkw_ecma.specs.Meaning.{before, Matches, Found}
-use Rattle.strkw_ecma.specs.Mirror.{mirror, along}
+use Rattle.strkw_ecma.specs.Mirror.{along}
 use Rattle.strkw_ecma.specs.machine.Asides.{Quest, IsToldAs, AreToldAs, IsAside, AreAsides}
 use Rattle.strkw_ecma.specs.machine.Marks.{leaves, step, unmarked}
-use Rattle.strkw_ecma.specs.machine.Passes.{Alike}
 use Rattle.strkw_ecma.specs.machine.Seeking.{Seeking, said, ends_from, ends_within, row_of, rows_behind, is_sought}
 use Rattle.strkw_ecma.specs.machine.Sight.{depth, marked_at, ends_at, begins_at}
-use Rattle.strkw_ecma.specs.machine.Slots.{told, aside, spots, told_mark, told_by}
+use Rattle.strkw_ecma.specs.machine.Slots.{told, aside, spots, told_by}
 use Rattle.strkw_ecma.proofs.Answers.{same_answer}
 use Rattle.strkw_ecma.proofs.Depths.{less_left, less_right}
 use Rattle.strkw_ecma.proofs.Mirrors.{stays, begins_turned}

@@ -1,18 +1,16 @@
 -- A pattern whose lookaheads are put aside takes no more steps than with a mark beside what each lookaround looks for.
-use Rattle.std.proofs.Common.{◌≡◌, ℕ, ◌+◌, ◌≤◌, Bool, true, false, ◌&&◌, [], refl, sym, ap, ◌∙◌, true≢false, arith}
+use Rattle.std.proofs.Common.{◌≡◌, ℕ, ◌+◌, ◌≤◌, Bool, true, false, ◌&&◌, [], refl, sym, ap, ◌∙◌, arith}
 use Rattle.strkw_ecma.specs.Tree.{Pattern, empty, class, look, cat, alt, star, plus, lookbehind, lookahead}
 use Rattle.strkw_ecma.specs.Program.{is_class, is_empty, alternatives}
 use Rattle.strkw_ecma.specs.Size.{steps_of, steps, spread, max_steps}
 use Rattle.strkw_ecma.specs.Mirror.{facing}
 use Rattle.strkw_ecma.specs.machine.Marks.{unmarked, is_clean}
-use Rattle.strkw_ecma.specs.machine.Passes.{Alike}
 use Rattle.strkw_ecma.specs.machine.Seekers.{IsFit}
 use Rattle.strkw_ecma.specs.machine.Slots.{slot, aside}
 use Rattle.strkw_ecma.proofs.Behind.{nothing_is}
 use Rattle.strkw_ecma.proofs.Counterparts.{both_same, option_class, star_class, plus_class, spread_look, spread_nothing, spread_class, mirror_steps}
 use Rattle.strkw_ecma.proofs.Sizes.{cat_steps, alt_steps, beside_steps, star_steps, plus_steps, behind_steps}
 use Rattle.strkw_ecma.proofs.Steps.{and_true, and_left, and_right}
-use Rattle.strkw_ecma.proofs.Unmarked.{facing_unmarked}
 
 -- it is nothing where that is
 pub aside_nothing : (p : Pattern) → is_empty (aside p) ≡ is_empty p

@@ -1,5 +1,5 @@
 -- What the code looks for of a pattern comes to what is defined for its parts.
-use Rattle.std.proofs.Common.{◌≡◌, ◌↔◌, ℕ, ◌+◌, ◌<◌, ◌≤◌, nat_le, Bool, true, false, not, ◌&&◌, ◌||◌, List, [], ◌∷◌, ◌++◌, length, Vec, Global, Option, Some, None}
+use Rattle.std.proofs.Common.{◌≡◌, ◌↔◌, ℕ, ◌<◌, ◌≤◌, nat_le, Bool, true, false, not, ◌&&◌, ◌||◌, List, [], ◌∷◌, ◌++◌, Vec, Global, Option, Some, None}
 use Rattle.std.proofs.Common.{is_some}
 use Rattle.std.proofs.Common.{option_map, refl, sym, ap, subst, ◌∙◌, arith, le-leb}
 use Rattle.std.proofs.lemmas.Bool.{lt-leb}
@@ -8,12 +8,11 @@ use Rattle.strkw_pattern.specs.Matcher.{outcome_of}
 use Rattle.strkw_ecma.specs.Tree.{Pattern, differ}
 use Rattle.strkw_ecma.specs.Meaning.{Found}
 use Rattle.strkw_ecma.specs.Glances.{are_told}
-use Rattle.strkw_ecma.specs.Size.{steps, search_steps, max_steps}
+use Rattle.strkw_ecma.specs.Size.{search_steps, max_steps}
 use Rattle.strkw_ecma.specs.Syntax.{Disjunction}
 use Rattle.strkw_ecma.specs.Patterns.{pattern}
 use Rattle.strkw_ecma.specs.Mirror.{mirror, facing, along, is_backward, sought, sought_in}
 use Rattle.strkw_ecma.specs.Front.{Part, parts, steps_of_parts}
-use Rattle.strkw_ecma.specs.machine.Fronts.{parts_view}
 use Rattle.strkw_ecma.specs.machine.Marks.{unmarked}
 use Rattle.strkw_ecma.specs.machine.Sizes.{capped}
 use Rattle.strkw_ecma.specs.machine.Parts.{small_pattern, pattern_if}
@@ -23,7 +22,6 @@ use Rattle.strkw_ecma.specs.machine.Engine.{are_found_by, engine_outcome}
 use Rattle.strkw_ecma.specs.machine.Passes.{Alike, Pass, IsPass, ArePasses, ComesTo, are_passes_found, are_passes_clean, are_passes_faced, steps_of_passes}
 use Rattle.strkw_ecma.specs.machine.Passes.{pass_of, passes_of}
 use Rattle.strkw_ecma.specs.declared.engine.EcmaMatcher.{EcmaMatcher}
-use Rattle.strkw_ecma.specs.declared.front.Front.{Front}
 use Rattle.strkw_ecma.specs.declared.passes.Pass.{Pass as CodePass}
 use Rattle.strkw_ecma.proofs.Answers.{same_answer}
 use Rattle.strkw_ecma.proofs.FoundIn.{found_in_right}
@@ -66,11 +64,6 @@ are_passes_append [] ys [] bs u w = w
 are_passes_append [] ys (a ∷ us) bs u w = absurd u
 are_passes_append (x ∷ xs) ys [] bs u w = absurd u
 are_passes_append (x ∷ xs) ys (a ∷ us) bs u w = (u.0, are_passes_append xs ys us bs u.1 w)
-
--- where no front is left, there is no part for one
-pub none_left : (fs : List Front) → length fs ≡ 0 → parts_view fs ≡ []
-none_left [] e = refl
-none_left (f ∷ fs) e = absurd (omega (arith, e))
 
 -- both of two are the same where each is
 both_same : (a b c d : Bool) → a ≡ c → b ≡ d → (a && b) ≡ (c && d)

@@ -1,9 +1,10 @@
 -- How many nodes an outline has: its parts have fewer.
-use Rattle.std.proofs.Common.{◌≡◌, ℕ, ◌+◌, ◌<◌, Bool, Box, Global, sym, ap, ◌∙◌, arith}
+use Rattle.std.proofs.Common.{◌≡◌, ℕ, ◌+◌, Bool, Box, Global, sym, ap, ◌∙◌}
 use Rattle.strkw_ecma.specs.declared.outline.Quantifier.{Quantifier}
 use Rattle.strkw_ecma.specs.declared.outline.Outline.{Outline, Outline-F, roll-Outline, map-Outline, fold-roll-Outline}
 use Rattle.strkw_ecma.specs.declared.outline.Outline.TheFolds.{fold-Outline}
-use Rattle.strkw_ecma.specs.declared.outline.Outline.TheVariants.{Then, Or, Repeated, Behind, Ahead, rolls-Then, rolls-Or, rolls-Repeated, rolls-Behind, rolls-Ahead}
+use Rattle.strkw_ecma.specs.declared.outline.Outline.TheVariants.{Then, Or, Repeated, Behind, Ahead, rolls-Then, rolls-Or, rolls-Repeated, rolls-Behind}
+use Rattle.strkw_ecma.specs.declared.outline.Outline.TheVariants.{rolls-Ahead}
 
 -- of one node, by those of its children
 abbrev weight_node : Outline-F ℕ → ℕ

@@ -1,6 +1,6 @@
 -- The lookaheads at the front of a pattern, behind `^`. Where the next character does not tell what
 -- one looks for, it is looked for by itself: it is a part of the pattern, beside the rest.
-use Rattle.std.specs.Prelude.{ℕ, ◌+◌, Bool, true, false, not, ◌&&◌, List, [], ◌∷◌, ◌++◌}
+use Rattle.std.specs.Prelude.{ℕ, ◌+◌, Bool, true, false, not, List, [], ◌∷◌, ◌++◌}
 use Rattle.std.specs.Prelude.{if◌then◌else◌, ⊤}
 use Rattle.strkw_ecma.specs.Tree.{Look, start, end, boundary, no_boundary, Pattern, empty, class}
 use Rattle.strkw_ecma.specs.Tree.{look, cat, alt, star, plus, lookbehind, lookahead}

@@ -1,9 +1,8 @@
 //! Lookaheads that are looked for by themselves, at each place of a text, before what asks for them.
 
-ghost use Rattle.std.specs.Prelude.{◌≡◌, ◌++◌, [], true, false, List, IfOk, if◌then◌else◌};
+ghost use Rattle.std.specs.Prelude.{◌≡◌, ◌++◌, [], false, List, IfOk, if◌then◌else◌};
 ghost use Rattle.strkw_ecma.specs.Program.{copied};
 ghost use Rattle.strkw_ecma.specs.Tree.{cat, end, look, start};
-ghost use Rattle.strkw_ecma.specs.machine.Marks.{unmarked};
 ghost use Rattle.strkw_ecma.specs.machine.Shape.{outlined, quantifier_of};
 ghost use Rattle.strkw_ecma.specs.machine.Slots.{all_copies, slot as spec_slot};
 
@@ -70,7 +69,7 @@ impl Quantifier {
 }
 
 impl Outline {
-    ghost use Rattle.strkw_ecma.specs.machine.Asides.{AreAsides, IsSmall, PutsAside, PutsBoth, PutsLook, SetsAside, TellsAside, Quest};
+    ghost use Rattle.strkw_ecma.specs.machine.Asides.{AreAsides, MayBePut, PutsAside, PutsBoth, PutsLook, SetsAside, TellsAside, Quest};
     ghost use Rattle.strkw_ecma.specs.machine.Seekers.{quest, quests};
 
     // With a mark for each lookahead, or of its mirror where it is looked for from the end of the text on. What they
@@ -83,8 +82,7 @@ impl Outline {
         asides: &mut Vec<Aside>,
         told: &mut Vec<Option<usize>>,
     ) -> Result<Outline, AllocError>
-        requires bare { unmarked (outlined self) ≡ true }
-        requires small { IsSmall (outlined self) }
+        requires { MayBePut (outlined self) }
         ensures { IfOk result (λ o. (fs : List Quest) → AreAsides [] (quests asides.old.items) fs
             → PutsAside is_backward (outlined self) (outlined o) fs (quests asides.new.items)
             told.old.items told.new.items) }
@@ -139,8 +137,7 @@ impl Outline {
         asides: &mut Vec<Aside>,
         told: &mut Vec<Option<usize>>,
     ) -> Result<Outline, AllocError>
-        requires bare { unmarked (cat (outlined first.value) (outlined second.value)) ≡ true }
-        requires small { IsSmall (cat (outlined first.value) (outlined second.value)) }
+        requires { MayBePut (cat (outlined first.value) (outlined second.value)) }
         ensures { IfOk result (λ o. (fs : List Quest) → AreAsides [] (quests asides.old.items) fs
             → PutsBoth is_backward (outlined first.value) (outlined second.value) (outlined o) fs
             (quests asides.new.items) told.old.items told.new.items) }
@@ -161,8 +158,7 @@ impl Outline {
         asides: &mut Vec<Aside>,
         told: &mut Vec<Option<usize>>,
     ) -> Result<Outline, AllocError>
-        requires bare { unmarked (outlined self) ≡ true }
-        requires small { IsSmall (outlined self) }
+        requires { MayBePut (outlined self) }
         ensures { IfOk result (λ o. (fs : List Quest) → AreAsides [] (quests asides.old.items) fs
             → PutsLook is_ahead negated is_backward (outlined self) (outlined o) fs
             (quests asides.new.items) told.old.items told.new.items) }
@@ -185,8 +181,7 @@ impl Outline {
         is_backward: bool,
         asides: &mut Vec<Aside>,
     ) -> Result<usize, AllocError>
-        requires bare { unmarked (outlined self) ≡ true }
-        requires small { IsSmall (outlined self) }
+        requires { MayBePut (outlined self) }
         ensures { IfOk result (λ number. (fs : List Quest) → AreAsides [] (quests asides.old.items) fs
             → TellsAside is_backward (outlined self) number fs (quests asides.new.items)) }
     {
@@ -205,8 +200,7 @@ impl Outline {
         is_backward: bool,
         asides: &mut Vec<Aside>,
     ) -> Result<Aside, AllocError>
-        requires bare { unmarked (outlined self) ≡ true }
-        requires small { IsSmall (outlined self) }
+        requires { MayBePut (outlined self) }
         ensures { IfOk result (λ x. (fs : List Quest) → AreAsides [] (quests asides.old.items) fs
             → SetsAside is_backward (outlined self) (quest x) fs (quests asides.new.items)) }
     {

@@ -82,10 +82,8 @@ fn finders_of(alloc: Global, passes: Vec<Pass>) -> Result<Vec<PartFinder>, Alloc
     ensures { IfOk result (λ made. (text : List ℕ)
         → are_found_by made.items text ≡ are_passes_found (passes_of passes.items) text) }
 {
-    let mut left = passes;
     let mut finders = Vec::new(alloc);
-    'passes: while !left.is_empty() {
-        let pass = left.remove(0);
+    for pass in passes {
         let finder = PartFinder::of(alloc, pass)?;
         finders.push(finder)?;
     }

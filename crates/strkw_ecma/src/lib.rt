@@ -1,6 +1,6 @@
 //! Patterns of ECMA-262 in Unicode mode: an engine for a part of their syntax, whose answer is their meaning. A caller
-//! hands `EcmaPatterns` in where the keyword `pattern` needs more than literal patterns. Each search is one pass over
-//! the text.
+//! hands `EcmaPatterns` in where the keyword `pattern` needs more than literal patterns. The time of a search is linear
+//! in the text.
 #![tactic(auto)]
 
 mod along;

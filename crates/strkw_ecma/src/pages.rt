@@ -2,7 +2,7 @@
 //! classes of a pattern give the same answers. Each of these runs is asked about once.
 
 ghost use Rattle.std.specs.Prelude.{◌≡◌, ◌*◌, ◌+◌, ◌/◌, ◌≤◌, ◌<◌, ℕ, length, get_or, Some, IsTrue, IfOk, IfSome};
-ghost use Rattle.strkw_ecma.specs.machine.Columns.{column_of, cell_of as spec_cell_of, ShareColumn, ArePaged, ArePages};
+ghost use Rattle.strkw_ecma.specs.machine.Columns.{column_of, cell_of as spec_cell_of, ShareColumn, IsPaged, MayGrow, ArePages};
 ghost use Rattle.strkw_ecma.specs.machine.Table.{IsFront};
 ghost use Rattle.std.specs.Char.{InScalarRange};
 
@@ -63,15 +63,10 @@ pub(crate) struct Pages {
 impl Pages {
     // The column of a character, a new one where no other has its answers; none where there are too many.
     fn column_for(&mut self, classes: &[Vec<CharSet>], c: char) -> Result<Option<u8>, AllocError>
-        requires few { length classes.now ≤ 64 }
-        requires few_pages { length self.old.pages.items < 4352 }
-        requires paged { ArePaged classes.now self.old.keys.items self.old.plain.items
-            self.old.pages.items self.old.cells.items }
+        requires may_grow { MayGrow classes.now self.old }
         ensures column { IfOk result (λ r. IfSome r (λ k.
             column_of classes.now self.new.keys.items c ≡ Some k)) }
-        ensures paged { IfOk result (λ r. IfSome r (λ _.
-            ArePaged classes.now self.new.keys.items self.new.plain.items
-            self.new.pages.items self.new.cells.items)) }
+        ensures paged { IfOk result (λ r. IfSome r (λ _. IsPaged classes.now self.new)) }
         ensures grows { IfOk result (λ r. IfSome r (λ _.
             IsFront self.old.keys.items self.new.keys.items)) }
         ensures pages { self.new.pages ≡ self.old.pages }
@@ -99,10 +94,7 @@ impl Pages {
         run: Run,
         c: u32,
     ) -> Result<Option<Run>, AllocError>
-        requires few { length classes.now ≤ 64 }
-        requires few_pages { length self.old.pages.items < 4352 }
-        requires paged { ArePaged classes.now self.old.keys.items self.old.plain.items
-            self.old.pages.items self.old.cells.items }
+        requires may_grow { MayGrow classes.now self.old }
         requires within { c < 0x110000 }
         requires end { run.end ≤ 0x110000 }
         requires shared { ShareColumn classes.now self.old.keys.items c run.end run.column }
@@ -110,9 +102,7 @@ impl Pages {
             ShareColumn classes.now self.new.keys.items c next.end next.column)) }
         ensures beyond { IfOk result (λ r. IfSome r (λ next. c < next.end)) }
         ensures end { IfOk result (λ r. IfSome r (λ next. next.end ≤ 0x110000)) }
-        ensures paged { IfOk result (λ r. IfSome r (λ _.
-            ArePaged classes.now self.new.keys.items self.new.plain.items
-            self.new.pages.items self.new.cells.items)) }
+        ensures paged { IfOk result (λ r. IfSome r (λ _. IsPaged classes.now self.new)) }
         ensures grows { IfOk result (λ r. IfSome r (λ _.
             IsFront self.old.keys.items self.new.keys.items)) }
         ensures pages { self.new.pages ≡ self.old.pages }
@@ -141,11 +131,8 @@ impl Pages {
         run: Run,
         first: u32,
     ) -> Result<Option<([u8; PAGE], Run)>, AllocError>
-        requires few { length classes.now ≤ 64 }
-        requires few_pages { length self.old.pages.items < 4352 }
+        requires may_grow { MayGrow classes.now self.old }
         requires within { first + 256 ≤ 0x110000 }
-        requires paged { ArePaged classes.now self.old.keys.items self.old.plain.items
-            self.old.pages.items self.old.cells.items }
         requires end { run.end ≤ 0x110000 }
         requires shared { ShareColumn classes.now self.old.keys.items first run.end run.column }
         ensures right { IfOk result (λ r. IfSome r (λ made. (j : ℕ) → j < 256
@@ -154,9 +141,7 @@ impl Pages {
         ensures shared { IfOk result (λ r. IfSome r (λ made.
             ShareColumn classes.now self.new.keys.items (first + 256) made.1.end made.1.column)) }
         ensures end { IfOk result (λ r. IfSome r (λ made. made.1.end ≤ 0x110000)) }
-        ensures paged { IfOk result (λ r. IfSome r (λ _.
-            ArePaged classes.now self.new.keys.items self.new.plain.items
-            self.new.pages.items self.new.cells.items)) }
+        ensures paged { IfOk result (λ r. IfSome r (λ _. IsPaged classes.now self.new)) }
         ensures pages { self.new.pages ≡ self.old.pages }
     {
         let mut page = [0; PAGE];
@@ -183,10 +168,7 @@ impl Pages {
         run: Run,
         first: u32,
     ) -> Result<Option<Run>, AllocError>
-        requires few { length classes.now ≤ 64 }
-        requires few_pages { length self.old.pages.items < 4352 }
-        requires paged { ArePaged classes.now self.old.keys.items self.old.plain.items
-            self.old.pages.items self.old.cells.items }
+        requires may_grow { MayGrow classes.now self.old }
         requires first { first ≡ length self.old.pages.items * 256 }
         requires end { run.end ≤ 0x110000 }
         requires shared { ShareColumn classes.now self.old.keys.items first run.end run.column }
@@ -194,9 +176,7 @@ impl Pages {
             ShareColumn classes.now self.new.keys.items (length self.new.pages.items * 256)
             next.end next.column)) }
         ensures end { IfOk result (λ r. IfSome r (λ next. next.end ≤ 0x110000)) }
-        ensures paged { IfOk result (λ r. IfSome r (λ _.
-            ArePaged classes.now self.new.keys.items self.new.plain.items
-            self.new.pages.items self.new.cells.items)) }
+        ensures paged { IfOk result (λ r. IfSome r (λ _. IsPaged classes.now self.new)) }
         ensures grows { IfOk result (λ r. IfSome r (λ _.
             length self.old.pages.items < length self.new.pages.items)) }
         ensures few { IfOk result (λ r. IfSome r (λ _. length self.new.pages.items ≤ 4352)) }

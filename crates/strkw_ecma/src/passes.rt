@@ -52,10 +52,9 @@ fn with_fronts(
     ensures { (old : List Part) → ArePasses (passes_of passes.items) old
         → IfOk result (λ made. ArePasses (passes_of made.items) (old ++ parts_view fronts.items)) }
 {
-    let mut left = fronts;
     let mut passes = passes;
-    'fronts: while !left.is_empty() {
-        let Front { negated, pattern } = left.remove(0);
+    for front in fronts {
+        let Front { negated, pattern } = front;
         let pass = Pass::of(alloc, negated, pattern)?;
         passes.push(pass)?;
     }

@@ -16,10 +16,8 @@ pub(crate) fn seekers_of(alloc: Global, asides: Vec<Aside>) -> Result<Vec<Seeker
     requires { AreFit asides.items }
     ensures { IfOk result (λ made. seekings made.items ≡ quests asides.items) }
 {
-    let mut left = asides;
     let mut seekers = Vec::new(alloc);
-    'asides: while !left.is_empty() {
-        let aside = left.remove(0);
+    for aside in asides {
         let seeker = Seeker::of(alloc, aside)?;
         seekers.push(seeker)?;
     }

@@ -54,6 +54,14 @@ pub fn is_valid_idn_hostname(alloc: Global, hostname: &str) -> Result<bool, Allo
     if is_plain_host_name(hostname.as_bytes()) {
         return Ok(true);
     }
+    is_decoded_host_name(alloc, hostname)
+}
+
+/// The same of any text. It stands apart, so that the quick way has no frame for it.
+#[inline(never)]
+fn is_decoded_host_name(alloc: Global, hostname: &str) -> Result<bool, AllocError>
+    ensures { IfOk result (λ valid. IsTrue valid ↔ IsIdnHostName (chars hostname.now)) }
+{
     if is_too_long(hostname) {
         return Ok(false);
     }

@@ -1,14 +1,14 @@
 -- Bytes by which no white space begins: where they end, a character does, and none of theirs is white space.
-use Rattle.std.proofs.Common.{◌≡◌, ℕ, ◌<◌, ◌≤◌, ◌+◌, ◌/◌, Bool, true, false, ◌||◌, nat_lt, List, [], ◌∷◌, ◌++◌, length, take, drop, IsTrue, IsUtf8}
+use Rattle.std.proofs.Common.{◌≡◌, ℕ, ◌<◌, ◌≤◌, ◌+◌, ◌/◌, Bool, true, false, ◌&&◌, ◌||◌, nat_lt, List, [], ◌∷◌, ◌++◌, length, take, drop, IsTrue, IsUtf8}
 use Rattle.std.proofs.Common.{slice_index, refl, sym, ap, ◌∙◌, arith}
-use Rattle.std.specs.List.{list_any}
+use Rattle.std.specs.List.{list_all, list_any}
 use Rattle.std.specs.Char.{encode_utf8}
 use Rattle.std.specs.Str.{IsCharBoundary, chars, encode_utf8_all}
 use Rattle.std.proofs.lemmas.Bool.Decides.{nat_tests}
 use Rattle.std.proofs.lemmas.List.{drop-take, take-append-drop, take-take}
 use Rattle.std.proofs.lemmas.List.Folds.{list_any-append}
 use Rattle.std.proofs.lemmas.Str.{IsUtf8-take, chars-append, encodes-chars}
-use Rattle.strkw_pattern.specs.Whitespace.{is_ecma_whitespace, may_begin}
+use Rattle.strkw_pattern.specs.Whitespace.{is_ecma_whitespace, is_solid, may_begin}
 
 -- of two tests of which neither holds, neither holds
 neither : (a b : Bool) → (a || b) ≡ false → (a ≡ false) × (b ≡ false)
@@ -87,3 +87,19 @@ pub one_more_block : (bytes : List ℕ) (n m : ℕ) → list_any may_begin (take
     → list_any may_begin (take (n + m) bytes) ≡ false
 one_more_block bytes n m front more =
     ap (list_any may_begin) (take_on n m bytes) ∙ list_any-append may_begin (take n bytes) (take m (drop n bytes)) ∙ rw (front, more) refl
+
+-- of two tests of which both hold, each holds
+each_of : (a b : Bool) → (a && b) ≡ true → (a ≡ true) × (b ≡ true)
+each_of true b h = (refl, h)
+each_of false b h = (h, absurd (let u : ⊥ = cc in u))
+
+-- by a solid byte no white space begins
+solid_byte : (b : ℕ) → is_solid b ≡ true → may_begin b ≡ false
+solid_byte b h = grind (arith, nat_tests)
+
+-- nor by one of several
+pub solid_bytes : (bytes : List ℕ) → list_all is_solid bytes ≡ true → list_any may_begin bytes ≡ false
+solid_bytes [] h = refl
+solid_bytes (b ∷ bytes) h =
+    let both = each_of (is_solid b) (list_all is_solid bytes) h in
+    rw (solid_byte b both.0, solid_bytes bytes both.1) refl

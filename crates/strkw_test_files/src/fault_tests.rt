@@ -1,18 +1,16 @@
 //! The faults of plans with each growth refused, as the tests beside it.
 
-use crate::tests::json;
+use crate::tests::{json, told};
 use std::alloc::{AllocError, Global};
 use std::test::Fail;
-use strkw_plan::{PlanFault, PlanKind, plan_in};
+use strkw_plan::{PlanKind, plan_in};
 
 // What the fault of a plan of columns says.
-fn describe(alloc: Global, plan: &str) -> Result<String, Fail> {
+fn describe(alloc: Global, plan: &str) -> Result<String, AllocError> {
     let plan = json(alloc, plan)?;
-    match plan_in(alloc, PlanKind::Columns, &plan) {
-        Ok(_) => Err(Fail::new("a plan")),
-        Err(PlanFault::Memory) => Err(AllocError.into()),
-        Err(fault) => Ok(format!(in alloc; "{fault}")?),
-    }
+    let told = told(alloc, plan_in(alloc, PlanKind::Columns, &plan), b"a plan");
+    drop(plan);
+    told
 }
 
 // Where it had memory it tells what is wrong, and what was perhaps meant.

@@ -1,6 +1,6 @@
 //! One instance by one schema of a plan, with each growth refused, as the tests beside it.
 
-use crate::tests::json;
+use crate::tests::{Fault, fault_text, json};
 use serde_json::Value;
 use std::alloc::{AllocError, Global};
 use std::test::Fail;
@@ -28,22 +28,25 @@ fn cases() -> [(&'static str, &'static str); 4] {
 
 const TEXT: &str = "é\u{202e}";
 
-// What a fault says. Out of memory is an error here.
-fn fault_text(alloc: Global, fault: &PlanFault) -> Result<String, Fail> {
-    match fault {
-        PlanFault::Memory => Err(AllocError.into()),
-        _ => Ok(format!(in alloc; "{fault}")?),
+// These lines, or what a fault says.
+fn lines_or_fault<F: Fault>(
+    alloc: Global,
+    pushed: Result<u64, F>,
+    lines: String,
+) -> Result<String, AllocError> {
+    match pushed {
+        Ok(_) => Ok(lines),
+        Err(fault) => fault_text(alloc, fault),
     }
 }
 
 // What `check_instance` appends, where `require_schema` answers `Ok`.
-fn describe(alloc: Global, schema: &str) -> Result<String, Fail> {
+fn describe(alloc: Global, schema: &str) -> Result<String, AllocError> {
     let (schema, rules) = (json(alloc, schema)?, Rules::new(&NoPatterns));
     let mut out = String::new(alloc);
-    match push_lines(alloc, &rules, &schema, &mut out) {
-        Ok(_) => Ok(out),
-        Err(fault) => fault_text(alloc, &fault),
-    }
+    let pushed = push_lines(alloc, &rules, &schema, &mut out);
+    drop(schema);
+    lines_or_fault(alloc, pushed, out)
 }
 
 fn push_lines(
@@ -58,13 +61,12 @@ fn push_lines(
 }
 
 // The same by a schema that is compiled once.
-fn describe_by_compiled(alloc: Global, schema: &str) -> Result<String, Fail> {
+fn describe_by_compiled(alloc: Global, schema: &str) -> Result<String, AllocError> {
     let (schema, rules) = (json(alloc, schema)?, Rules::new(&NoPatterns));
     let mut out = String::new(alloc);
-    match push_lines_by_compiled(alloc, &rules, &schema, &mut out) {
-        Ok(_) => Ok(out),
-        Err(fault) => fault_text(alloc, &fault),
-    }
+    let pushed = push_lines_by_compiled(alloc, &rules, &schema, &mut out);
+    drop(schema);
+    lines_or_fault(alloc, pushed, out)
 }
 
 fn push_lines_by_compiled(
@@ -75,7 +77,9 @@ fn push_lines_by_compiled(
 ) -> Result<u64, PlanFault> {
     let (kind, draft) = (PlanKind::Columns, Draft::Draft7);
     let keywords = compile_schema(alloc, rules, kind, draft, "a", schema)?;
-    Ok(push_messages(alloc, &keywords, &rules.checks, &"a", &TEXT, out)?)
+    let pushed = push_messages(alloc, &keywords, &rules.checks, &"a", &TEXT, out);
+    drop(keywords);
+    Ok(pushed?)
 }
 
 // Where it had memory it appends every line, or tells of the fault.

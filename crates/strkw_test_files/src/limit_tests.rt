@@ -1,20 +1,20 @@
 //! Limits: documents read within one, with each growth refused, and first records of very many columns.
 
-use crate::Unwatched;
-use crate::tests::json;
+use crate::tests::{fault_text, json};
+use crate::{Unwatched, text_of};
+use serde_json::Value;
 use std::alloc::{AllocError, Global};
 use std::test::Fail;
-use strkw_document::{DocumentTextFault, read_document};
+use strkw_document::read_document;
 use strkw_pattern::NoPatterns;
 use strkw_plan::Rules;
-use strkw_table::{TableFault, check_table};
+use strkw_table::check_table;
 
 // What is told of a document's bytes: its text as JSON, or what its fault says.
-fn document(alloc: Global, bytes: &[u8], longest: Option<u64>) -> Result<String, Fail> {
-    match &read_document(alloc, bytes, longest) {
-        Ok(value) => Ok(format!(in alloc; "{value}")?),
-        Err(DocumentTextFault::Memory) => Err(AllocError.into()),
-        Err(fault) => Ok(format!(in alloc; "{fault}")?),
+fn document(alloc: Global, bytes: &[u8], longest: Option<u64>) -> Result<String, AllocError> {
+    match read_document(alloc, bytes, longest) {
+        Ok(value) => text_of(alloc, value),
+        Err(fault) => fault_text(alloc, fault),
     }
 }
 
@@ -62,15 +62,19 @@ fn file_of_columns(alloc: Global, columns: usize) -> Result<String, AllocError> 
 }
 
 // What is told of such a file by a plan: how many errors it has, or what a fault says.
-fn describe(alloc: Global, plan: &str, columns: usize) -> Result<String, Fail> {
-    let (plan, file) = (json(alloc, plan)?, file_of_columns(alloc, columns)?);
+fn describe(alloc: Global, plan: &str, columns: usize) -> Result<String, AllocError> {
+    let file = file_of_columns(alloc, columns)?;
+    let plan = json(alloc, plan)?;
+    let told = describe_file(alloc, &plan, file.as_bytes());
+    drop(plan);
+    told
+}
+
+fn describe_file(alloc: Global, plan: &Value, file: &[u8]) -> Result<String, AllocError> {
     let (mut out, rules) = (Vec::new(alloc), Rules::new(&NoPatterns));
-    let bytes = file.as_bytes();
-    let checked = check_table(alloc, &rules, &plan, bytes, &mut out, &mut Unwatched);
-    match &checked {
-        Ok(checked) => Ok(format!(in alloc; "{} errors", checked.errors)?),
-        Err(TableFault::Memory) => Err(AllocError.into()),
-        Err(fault) => Ok(format!(in alloc; "{fault}")?),
+    match check_table(alloc, &rules, plan, file, &mut out, &mut Unwatched) {
+        Ok(checked) => format!(in alloc; "{} errors", checked.errors),
+        Err(fault) => fault_text(alloc, fault),
     }
 }
 

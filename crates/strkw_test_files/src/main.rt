@@ -21,6 +21,7 @@ mod tests;
 
 use serde_json::Value;
 use std::alloc::{AllocError, Global};
+use std::fmt::Display;
 use std::io;
 use strkw_document::check_document;
 use strkw_pattern::NoPatterns;
@@ -49,18 +50,30 @@ fn answer(alloc: Global, line: &str) -> Result<String, AllocError> {
     if line.is_empty() || line.starts_with('#') {
         return Ok(lines);
     }
-    let mut messages = Vec::new(alloc);
-    let ended = match Value::from_str(alloc, line) {
-        Ok(row) => check_row(alloc, &row, &mut messages)?,
-        Err(_) => String::from_str(alloc, "no JSON")?,
-    };
-    lines.push_str(str::from_utf8(&messages).unwrap_or("messages that are not UTF-8\n"))?;
-    lines.push_str(&ended)?;
-    lines.push_str("\n")?;
+    push_told(alloc, line, &mut lines)?;
     Ok(lines)
 }
 
+// Appends the messages of a row, and how its check ended.
+fn push_told(alloc: Global, line: &str, lines: &mut String) -> Result<(), AllocError> {
+    let mut messages = Vec::new(alloc);
+    let ended = check_line(alloc, line, &mut messages)?;
+    lines.push_str(str::from_utf8(&messages).unwrap_or("messages that are not UTF-8\n"))?;
+    lines.push_str(&ended)?;
+    lines.push_str("\n")
+}
+
 // How the check of a row ended, with its messages appended.
+fn check_line(alloc: Global, line: &str, messages: &mut Vec<u8>) -> Result<String, AllocError> {
+    let parsed = Value::from_str(alloc, line);
+    let ended = match &parsed {
+        Ok(row) => check_row(alloc, row, messages),
+        Err(_) => String::from_str(alloc, "no JSON"),
+    };
+    drop(parsed);
+    ended
+}
+
 fn check_row(alloc: Global, row: &Value, messages: &mut Vec<u8>) -> Result<String, AllocError> {
     let Some(plan) = row.get("plan") else {
         return String::from_str(alloc, "no plan");
@@ -134,7 +147,7 @@ fn of_file(
         &FieldLines,
     ) {
         Ok(Checked { records, errors }) => format!(in alloc; "{records} records, {errors} errors"),
-        Err(fault) => format!(in alloc; "{fault}"),
+        Err(fault) => text_of(alloc, fault),
     }
 }
 
@@ -146,6 +159,11 @@ fn of_document(
 ) -> Result<String, AllocError> {
     match check_document(alloc, &Rules::new(&NoPatterns), plan, document, messages) {
         Ok(errors) => format!(in alloc; "{errors} errors"),
-        Err(fault) => format!(in alloc; "{fault}"),
+        Err(fault) => text_of(alloc, fault),
     }
+}
+
+// The text of what is let go.
+fn text_of<T: Display + Drop>(alloc: Global, told: T) -> Result<String, AllocError> {
+    format!(in alloc; "{told}")
 }

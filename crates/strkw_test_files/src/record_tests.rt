@@ -79,7 +79,9 @@ fn describe<R: Read + Drop>(
 // Whether this is told of a source.
 fn is_told_of<R: Read + Drop>(alloc: Global, source: R, wanted: &str) -> Result<bool, AllocError> {
     let mut reader = RecordReader::new(alloc, source)?;
-    Ok(describe(alloc, &mut reader)?.as_str() == wanted)
+    let told = describe(alloc, &mut reader);
+    drop(reader);
+    Ok(told?.as_str() == wanted)
 }
 
 // The same with limits.
@@ -90,7 +92,9 @@ fn is_told_within<R: Read + Drop>(
     wanted: &str,
 ) -> Result<bool, AllocError> {
     let mut reader = RecordReader::with_limits(alloc, source, limits)?;
-    Ok(describe(alloc, &mut reader)?.as_str() == wanted)
+    let told = describe(alloc, &mut reader);
+    drop(reader);
+    Ok(told?.as_str() == wanted)
 }
 
 // A text, and what is told of it.
@@ -428,8 +432,9 @@ fn is_failure_told(alloc: Global) -> Result<bool, AllocError> {
         fails: true,
     };
     let mut reader = RecordReader::new(alloc, source)?;
-    let told = describe(alloc, &mut reader)?;
-    Ok(told.starts_with("1 StringRecord([\"a\"])\nread failed: "))
+    let told = describe(alloc, &mut reader);
+    drop(reader);
+    Ok(told?.starts_with("1 StringRecord([\"a\"])\nread failed: "))
 }
 
 #[test]

@@ -1,58 +1,59 @@
 //! CSV files under a caller's own rules, with each growth refused, as the tests beside it.
 
 use crate::Unwatched;
-use crate::document_tests::{IGNORING, PLAIN, Set, UNCHECKED, format_of};
-use crate::tests::json;
+use crate::document_tests::{Case, IGNORING, PLAIN, UNCHECKED, format_of};
+use crate::tests::{json, told};
 use std::alloc::{AllocError, Global};
 use std::test::Fail;
 use strkw_keywords::{Checks, NamedFormat};
 use strkw_pattern::NoPatterns;
 use strkw_plan::Rules;
-use strkw_table::{BrokenField, Checked, FieldLines, Reading, TableFault, check_table_with};
+use strkw_table::{BrokenField, FieldLines, Reading, check_table_with};
 
 const FILE: &[u8] = b"a,b,c\nxxx,xxxx,\xff\nxxxx,xxx,c\n";
 
-// A plan, what is set, and the messages, or the text of the fault. The format `even` is registered, for texts of an
-// even number of characters.
-fn cases() -> [(&'static str, Set, &'static str); 6] {
-    [
-        (
-            r#"{"draft":7,"columns":{"a":{"format":"even"},"b":{"format":"even"}}}"#,
-            PLAIN,
-            "2: a: /format: \"xxx\" is not a \"even\"\n3: b: /format: \"xxx\" is not a \"even\"\n",
-        ),
-        (
-            r#"{"draft":202012,"columns":{"b":{"format":"even"}}}"#,
-            PLAIN,
-            "3: b: /format: \"xxx\" is not a \"even\"\n",
-        ),
-        (
-            r#"{"draft":7,"columns":{"a":{"format":"even"},"b":{"format":"odd"}}}"#,
-            PLAIN,
-            "the schema at /columns/b is refused at /format: unknown format \"odd\"",
-        ),
-        (
-            r#"{"draft":7,"columns":{"a":{"format":"even"},"b":{"format":"odd"}}}"#,
-            IGNORING,
-            "2: a: /format: \"xxx\" is not a \"even\"\n",
-        ),
-        (
-            r#"{"draft":7,"columns":{"a":{"format":"even","maxLength":3}}}"#,
-            UNCHECKED,
-            "3: a: /maxLength: \"xxxx\" is longer than 3 characters\n",
-        ),
-        (
-            r#"{"draft":7,"columns":{"c":{"format":"even"}}}"#,
-            PLAIN,
-            "2: c: not UTF-8\n3: c: /format: \"c\" is not a \"even\"\n",
-        ),
-    ]
-}
+// The format `even` is registered, for texts of an even number of characters.
+const CASES: &[Case] = &[
+    Case {
+        plan: r#"{"draft":7,"columns":{"a":{"format":"even"},"b":{"format":"even"}}}"#,
+        set: PLAIN,
+        wanted: "2: a: /format: \"xxx\" is not a \"even\"\n3: b: /format: \"xxx\" is not a \"even\"\n",
+    },
+    Case {
+        plan: r#"{"draft":202012,"columns":{"b":{"format":"even"}}}"#,
+        set: PLAIN,
+        wanted: "3: b: /format: \"xxx\" is not a \"even\"\n",
+    },
+    Case {
+        plan: r#"{"draft":7,"columns":{"a":{"format":"even"},"b":{"format":"odd"}}}"#,
+        set: PLAIN,
+        wanted: "the schema at /columns/b is refused at /format: unknown format \"odd\"",
+    },
+    Case {
+        plan: r#"{"draft":7,"columns":{"a":{"format":"even"},"b":{"format":"odd"}}}"#,
+        set: IGNORING,
+        wanted: "2: a: /format: \"xxx\" is not a \"even\"\n",
+    },
+    Case {
+        plan: r#"{"draft":7,"columns":{"a":{"format":"even","maxLength":3}}}"#,
+        set: UNCHECKED,
+        wanted: "3: a: /maxLength: \"xxxx\" is longer than 3 characters\n",
+    },
+    Case {
+        plan: r#"{"draft":7,"columns":{"c":{"format":"even"}}}"#,
+        set: PLAIN,
+        wanted: "2: c: not UTF-8\n3: c: /format: \"c\" is not a \"even\"\n",
+    },
+];
 
 // What is told of the file, where a field that is not UTF-8 is an error.
-fn describe(alloc: Global, rules: &Rules<'_, NoPatterns>, plan: &str) -> Result<String, Fail> {
-    let plan = json(alloc, plan)?;
+fn describe(
+    alloc: Global,
+    rules: &Rules<'_, NoPatterns>,
+    plan: &str,
+) -> Result<String, AllocError> {
     let mut out = Vec::with_capacity(alloc, 200)?;
+    let plan = json(alloc, plan)?;
     let reading = Reading {
         broken: BrokenField::IsError,
         ..Reading::plainly()
@@ -67,36 +68,29 @@ fn describe(alloc: Global, rules: &Rules<'_, NoPatterns>, plan: &str) -> Result<
         &mut Unwatched,
         &FieldLines,
     );
-    told(alloc, &checked, &out)
+    drop(plan);
+    told(alloc, checked, &out)
 }
 
-// The messages, or what a fault says. Out of memory is an error here.
-fn told(
-    alloc: Global,
-    checked: &Result<Checked, TableFault>,
-    messages: &[u8],
-) -> Result<String, Fail> {
-    match checked {
-        Ok(_) => Ok(String::from_str(alloc, str::from_utf8(messages).unwrap_or("no text"))?),
-        Err(TableFault::Memory) => Err(AllocError.into()),
-        Err(fault) => Ok(format!(in alloc; "{fault}")?),
-    }
+// Whether a case is told as it is to be, with these formats registered.
+fn is_told(alloc: Global, formats: &[NamedFormat], case: &Case) -> Result<bool, AllocError> {
+    let rules = Rules {
+        options: case.set.options(),
+        checks: Checks {
+            formats,
+            media_types: &[],
+            codecs: &[],
+        },
+        builder: &NoPatterns,
+    };
+    Ok(describe(alloc, &rules, case.plan)?.as_str() == case.wanted)
 }
 
-// Whether each case is told as it is to be, with these formats registered.
+// Whether each case is, with these formats registered.
 fn are_told(alloc: Global, formats: &[NamedFormat]) -> Result<(), Fail> {
-    for (plan, set, wanted) in cases() {
-        let rules = Rules {
-            options: set.options(),
-            checks: Checks {
-                formats,
-                media_types: &[],
-                codecs: &[],
-            },
-            builder: &NoPatterns,
-        };
-        if describe(alloc, &rules, plan)?.as_str() != wanted {
-            return Err(Fail::new(plan));
+    for case in CASES {
+        if !is_told(alloc, formats, case)? {
+            return Err(Fail::new(case.plan));
         }
     }
     Ok(())
@@ -105,7 +99,8 @@ fn are_told(alloc: Global, formats: &[NamedFormat]) -> Result<(), Fail> {
 // Where it had memory it checks by the caller's formats, as the caller's options say.
 #[test]
 fn check_table_by_rules_under_refusal(rt: HostRuntime) -> Result<(), Fail> {
-    let alloc = rt.alloc();
-    let formats = [format_of(alloc, "even", "even")?];
-    are_told(alloc, &formats)
+    let formats = [format_of(rt.alloc(), "even", "even")?];
+    let are_told = are_told(rt.alloc(), &formats);
+    drop(formats);
+    are_told
 }

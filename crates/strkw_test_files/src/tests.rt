@@ -4,102 +4,168 @@
 use crate::Unwatched;
 use serde_json::Value;
 use std::alloc::{AllocError, Global};
+use std::fmt::Display;
 use std::test::Fail;
-use strkw_document::{DocumentFault, check_document};
+use strkw_document::{DocumentFault, DocumentTextFault, check_document};
 use strkw_pattern::NoPatterns;
-use strkw_plan::{PlanTextFault, Rules, read_plan};
+use strkw_plan::{PlanFault, PlanTextFault, Rules, read_plan};
 use strkw_table::{Checked, TableFault, check_table};
 
-// The value of a JSON text that is one.
-pub(crate) fn json(alloc: Global, text: &str) -> Result<Value, Fail> {
+// The value of a JSON text, or null where it is none.
+pub(crate) fn json(alloc: Global, text: &str) -> Result<Value, AllocError> {
     match Value::from_str(alloc, text) {
         Ok(value) => Ok(value),
-        Err(error) if error.is_memory() => Err(AllocError.into()),
-        Err(_) => Err(Fail::new("no JSON")),
+        Err(error) if error.is_memory() => Err(AllocError),
+        Err(_) => Ok(Value::Null),
     }
 }
 
-// What was answered and written, where that is what was to be.
-fn is_as_wanted(answer: bool, messages: &[u8], wanted: &str) -> Result<(), Fail> {
-    if answer && messages == wanted.as_bytes() {
-        Ok(())
+// Why a call could not be done. The functions below take any fault, since each function that lets go of one of these
+// proves what all its variants hold.
+pub(crate) trait Fault: Display + Drop {
+    fn is_memory(&self) -> bool;
+}
+
+impl Fault for PlanFault {
+    fn is_memory(&self) -> bool {
+        matches!(self, PlanFault::Memory)
+    }
+}
+
+impl Fault for TableFault {
+    fn is_memory(&self) -> bool {
+        matches!(self, TableFault::Memory)
+    }
+}
+
+impl Fault for DocumentFault {
+    fn is_memory(&self) -> bool {
+        matches!(self, DocumentFault::Memory)
+    }
+}
+
+impl Fault for DocumentTextFault {
+    fn is_memory(&self) -> bool {
+        matches!(self, DocumentTextFault::Memory)
+    }
+}
+
+// What a fault says. Out of memory is an error here.
+pub(crate) fn fault_text<F: Fault>(alloc: Global, fault: F) -> Result<String, AllocError> {
+    if fault.is_memory() {
+        Err(AllocError)
     } else {
-        Err(Fail::new(wanted))
+        format!(in alloc; "{fault}")
+    }
+}
+
+// The messages of a check, or what its fault says.
+pub(crate) fn told<T: Drop, F: Fault>(
+    alloc: Global,
+    checked: Result<T, F>,
+    messages: &[u8],
+) -> Result<String, AllocError> {
+    match checked {
+        Ok(_) => String::from_str(alloc, str::from_utf8(messages).unwrap_or("no text")),
+        Err(fault) => fault_text(alloc, fault),
+    }
+}
+
+// What was counted, if there was no fault. Out of memory is an error here.
+fn counted<T: Drop, F: Fault>(checked: Result<T, F>) -> Result<Option<T>, AllocError> {
+    match checked {
+        Ok(count) => Ok(Some(count)),
+        Err(fault) if fault.is_memory() => Err(AllocError),
+        Err(_) => Ok(None),
     }
 }
 
 // Where it had memory it writes every line.
 #[test]
 fn check_table_under_refusal(rt: HostRuntime) -> Result<(), Fail> {
-    let alloc = rt.alloc();
     let plan = json(
-        alloc,
+        rt.alloc(),
         "{\"draft\":7,\"columns\":{\"a\":{\"format\":\"date\"},\"b\":{\"maxLength\":2}}}",
     )?;
-    let file = "a,b\n2023-02-29,xy\n".as_bytes();
-    let mut out = Vec::with_capacity(alloc, 100)?;
-    let rules = Rules::new(&NoPatterns);
-    let checked = check_table(alloc, &rules, &plan, file, &mut out, &mut Unwatched);
-    is_as_wanted(
-        is_one_error(&checked)?,
-        &out,
-        "2: a: /format: \"2023-02-29\" is not a \"date\"\n",
-    )
+    let wanted = "2: a: /format: \"2023-02-29\" is not a \"date\"\n";
+    let is_written = is_one_error_written(rt.alloc(), &plan, b"a,b\n2023-02-29,xy\n", wanted);
+    drop(plan);
+    if is_written? {
+        Ok(())
+    } else {
+        Err(Fail::new(wanted))
+    }
 }
 
-// Whether one record was checked, and has one error. Out of memory is an error here.
-fn is_one_error(checked: &Result<Checked, TableFault>) -> Result<bool, Fail> {
-    match checked {
-        Ok(checked) => Ok(checked.records == 1 && checked.errors == 1),
-        Err(TableFault::Memory) => Err(AllocError.into()),
-        Err(_) => Err(Fail::new("a fault where there is memory")),
-    }
+// Whether a file has one record with one error, and its message is this.
+fn is_one_error_written(
+    alloc: Global,
+    plan: &Value,
+    file: &[u8],
+    message: &str,
+) -> Result<bool, AllocError> {
+    let mut out = Vec::with_capacity(alloc, 100)?;
+    let rules = Rules::new(&NoPatterns);
+    let checked = check_table(alloc, &rules, plan, file, &mut out, &mut Unwatched);
+    let one = Checked {
+        records: 1,
+        errors: 1,
+    };
+    Ok(counted(checked)? == Some(one) && out.as_slice() == message.as_bytes())
 }
 
 // Where it had memory it writes every line.
 #[test]
 fn check_document_under_refusal(rt: HostRuntime) -> Result<(), Fail> {
-    let alloc = rt.alloc();
     let plan = json(
-        alloc,
+        rt.alloc(),
         "{\"draft\":7,\"places\":{\"/server/name\":{\"maxLength\":2},\"/server/host\":{\"format\":\"ipv4\"},\
          \"/server/port\":{\"string\":true},\"/users/*/~0\":{\"maxLength\":2}}}",
     )?;
+    let wanted =
+        "/server/host: /format: \"::1\" is not a \"ipv4\"\n/server/name: missing\n/server/port: not a string\n\
+         /users/a~1b/~0: /maxLength: \"abc\" is longer than 2 characters\n";
+    let is_written = are_four_errors_written(rt.alloc(), &plan, wanted);
+    drop(plan);
+    if is_written? {
+        Ok(())
+    } else {
+        Err(Fail::new(wanted))
+    }
+}
+
+// Whether a document has four errors, and their messages are these.
+fn are_four_errors_written(
+    alloc: Global,
+    plan: &Value,
+    messages: &str,
+) -> Result<bool, AllocError> {
+    let mut out = Vec::with_capacity(alloc, 200)?;
     let document = json(
         alloc,
         "{\"server\":{\"host\":\"::1\",\"port\":80},\"users\":{\"a/b\":{\"~\":\"abc\"}}}",
     )?;
-    let rules = Rules::new(&NoPatterns);
-    let mut out = Vec::with_capacity(alloc, 200)?;
-    let errors = check_document(alloc, &rules, &plan, &document, &mut out);
-    is_as_wanted(
-        are_four(&errors)?,
-        &out,
-        "/server/host: /format: \"::1\" is not a \"ipv4\"\n/server/name: missing\n/server/port: not a string\n\
-         /users/a~1b/~0: /maxLength: \"abc\" is longer than 2 characters\n",
-    )
-}
-
-// Whether there are four errors. Out of memory is an error here.
-fn are_four(errors: &Result<u64, DocumentFault>) -> Result<bool, Fail> {
-    match errors {
-        Ok(errors) => Ok(*errors == 4),
-        Err(DocumentFault::Memory) => Err(AllocError.into()),
-        Err(_) => Err(Fail::new("a fault where there is memory")),
-    }
+    let errors = check_document(alloc, &Rules::new(&NoPatterns), plan, &document, &mut out);
+    drop(document);
+    Ok(counted(errors)? == Some(4) && out.as_slice() == messages.as_bytes())
 }
 
 // The draft that the text of a plan names, or the name that stands twice in it.
-fn draft_or_name(alloc: Global, text: &str) -> Result<String, Fail> {
-    match read_plan(alloc, text) {
-        Ok(plan) => {
-            let draft = plan.get("draft").and_then(Value::as_u64).unwrap_or(0);
-            Ok(format!(in alloc; "{draft}")?)
-        }
-        Err(PlanTextFault::Twice(name)) => Ok(name),
-        Err(PlanTextFault::Memory) => Err(AllocError.into()),
-        Err(PlanTextFault::NotJson(_)) => Err(Fail::new("no JSON")),
-    }
+fn draft_or_name(alloc: Global, text: &str) -> Result<String, AllocError> {
+    let read = read_plan(alloc, text);
+    let told = match &read {
+        Ok(plan) => draft_of(alloc, plan),
+        Err(PlanTextFault::Twice(name)) => String::from_str(alloc, name),
+        Err(PlanTextFault::Memory) => Err(AllocError),
+        Err(PlanTextFault::NotJson(_)) => String::from_str(alloc, "no JSON"),
+    };
+    drop(read);
+    told
+}
+
+fn draft_of(alloc: Global, plan: &Value) -> Result<String, AllocError> {
+    let draft = plan.get("draft").and_then(Value::as_u64).unwrap_or(0);
+    format!(in alloc; "{draft}")
 }
 
 // Where it had memory it reads a plan, and finds the name that stands twice, however it is written.

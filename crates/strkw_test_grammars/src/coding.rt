@@ -82,6 +82,45 @@ fn is_decoded(found: &Result<Option<String>, DecodeError>, bytes: Option<&[u8]>)
     }
 }
 
+// Asks the decoders of an encoding for these bytes of a text, or for nothing where there are none.
+fn ask_bytes(
+    alloc: Global,
+    of: &str,
+    codec: Codec,
+    text: &str,
+    bytes: Option<&[u8]>,
+    tally: &mut Tally,
+) -> Result<(), AllocError> {
+    let decoded = is_decoded(&decode(alloc, of, text), bytes);
+    tally.count(decoded, text, "decoded otherwise")?;
+    let decoded = is_decoded(&codec.decode(alloc, text), bytes);
+    tally.count(decoded, text, "decoded otherwise by its variant")
+}
+
+// Asks the checks and the decoders of an encoding.
+fn ask_encoding(
+    alloc: Global,
+    of: &str,
+    codec: Codec,
+    text: &str,
+    digits: Option<&str>,
+    tally: &mut Tally,
+) -> Result<(), AllocError> {
+    let checked = is_encoded(alloc, of, text)? == Some(digits.is_some());
+    tally.count(checked, text, "checked otherwise")?;
+    match digits {
+        Some(digits) => ask_bytes(
+            alloc,
+            of,
+            codec,
+            text,
+            Some(&bytes_of(alloc, digits)?),
+            tally,
+        ),
+        None => ask_bytes(alloc, of, codec, text, None, tally),
+    }
+}
+
 /// The encodings of a row: the checks and the decoders are asked.
 pub fn ask_decoded(alloc: Global, row: &Value, tally: &mut Tally) -> Result<(), AllocError> {
     let of = text(row, "of");
@@ -90,18 +129,7 @@ pub fn ask_decoded(alloc: Global, row: &Value, tally: &mut Tally) -> Result<(), 
     };
     for pair in items(row, "rows") {
         let (text, digits) = (text_at(pair, 0), found_at(pair, 1));
-        let checked = is_encoded(alloc, of, text)? == Some(digits.is_some());
-        tally.count(alloc, checked, text, "checked otherwise")?;
-        let all = bytes_of(alloc, digits.unwrap_or(""))?;
-        let bytes = if digits.is_some() {
-            Some(all.as_slice())
-        } else {
-            None
-        };
-        let decoded = is_decoded(&decode(alloc, of, text), bytes);
-        tally.count(alloc, decoded, text, "decoded otherwise")?;
-        let decoded = is_decoded(&codec.decode(alloc, text), bytes);
-        tally.count(alloc, decoded, text, "decoded otherwise by its variant")?;
+        ask_encoding(alloc, of, codec, text, digits, tally)?;
     }
     Ok(())
 }
@@ -124,20 +152,39 @@ fn named(
     }
 }
 
+// Whether a name is that of the variant, or of none.
+fn is_named(
+    alloc: Global,
+    of: &str,
+    name: &str,
+    variant: Option<&str>,
+) -> Result<bool, AllocError> {
+    let found = named(alloc, of, name)?;
+    Ok(match (&found, variant) {
+        (Some((found, its_name)), Some(variant)) => found.as_str() == variant && *its_name == name,
+        (None, None) => true,
+        _ => false,
+    })
+}
+
 /// The names of a row.
 pub fn ask_names(alloc: Global, row: &Value, tally: &mut Tally) -> Result<(), AllocError> {
     for pair in items(row, "rows") {
-        let (name, variant) = (text_at(pair, 0), found_at(pair, 1));
-        let is_expected = match (named(alloc, text(row, "of"), name)?, variant) {
-            (Some((found, its_name)), Some(variant)) => {
-                found.as_str() == variant && its_name == name
-            }
-            (None, None) => true,
-            _ => false,
-        };
-        tally.count(alloc, is_expected, name, "another variant")?;
+        let name = text_at(pair, 0);
+        let is_expected = is_named(alloc, text(row, "of"), name, found_at(pair, 1))?;
+        tally.count(is_expected, name, "another variant")?;
     }
     Ok(())
+}
+
+fn ask_error(
+    alloc: Global,
+    error: &DecodeError,
+    text: Option<&str>,
+    tally: &mut Tally,
+) -> Result<(), AllocError> {
+    let shown = error.to_string(alloc)?;
+    tally.count(text == Some(shown.as_str()), &shown, "another text")
 }
 
 /// The texts of the errors of decoders.
@@ -147,9 +194,7 @@ pub fn ask_errors(alloc: Global, row: &Value, tally: &mut Tally) -> Result<(), A
         .iter()
         .zip(texts)
     {
-        let shown = error.to_string(alloc)?;
-        let is_expected = text.as_str() == Some(shown.as_str());
-        tally.count(alloc, is_expected, &shown, "another text")?;
+        ask_error(alloc, error, text.as_str(), tally)?;
     }
     Ok(())
 }

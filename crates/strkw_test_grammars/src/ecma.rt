@@ -44,7 +44,7 @@ fn ask_search(
         None => "not taken",
     };
     let shown = format!(in alloc; "{answer} in {text:?}")?;
-    tally.count(alloc, answer == wanted, pattern, &shown)
+    tally.count(answer == wanted, pattern, &shown)
 }
 
 /// The searches of a row.
@@ -88,7 +88,7 @@ pub fn ask_tables(alloc: Global, row: &Value, tally: &mut Tally) -> Result<(), A
             Err(_) => None,
         };
         let is_expected = has_table.is_some() && has_table == pair.get(1).and_then(Value::as_bool);
-        tally.count(alloc, is_expected, pattern, "the other")?;
+        tally.count(is_expected, pattern, "the other")?;
     }
     Ok(())
 }
@@ -104,7 +104,7 @@ fn ask_refusal(
         Some(refusal) => format!(in alloc; "{refusal}")?,
         None => String::from_str(alloc, "taken")?,
     };
-    tally.count(alloc, answer.as_str() == wanted, pattern, &answer)
+    tally.count(answer.as_str() == wanted, pattern, &answer)
 }
 
 /// The patterns of a row, and those that are said by their parts, all with one reason.

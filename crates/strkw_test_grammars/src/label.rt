@@ -1,6 +1,6 @@
 //! The rules of labels, and what payloads decode to.
 
-use crate::row::{items, number, text_at};
+use crate::row::{elements, items, number, text_at};
 use crate::tally::Tally;
 use serde_json::Value;
 use std::alloc::{AllocError, Global};
@@ -28,20 +28,31 @@ fn lies_in(character: char, ranges: &[Value]) -> bool {
     false
 }
 
+// A character at a place: it is among the `possible`, if its label is admitted, and else not among the `settled`.
+fn ask_character(
+    alloc: Global,
+    row: &Value,
+    place: &Value,
+    character: char,
+    tally: &mut Tally,
+) -> Result<(), AllocError> {
+    let (before, after) = (text_at(place, 0), text_at(place, 1));
+    let label = format!(in alloc; "{before}{character}{after}")?;
+    let (is_expected, answer) = if admits(alloc, &label)? {
+        (lies_in(character, items(row, "possible")), "admitted")
+    } else {
+        (!lies_in(character, items(row, "settled")), "refused")
+    };
+    tally.count(is_expected, &label, answer)
+}
+
 /// Each character below a bound, at each place of the row.
 pub fn ask_characters(alloc: Global, row: &Value, tally: &mut Tally) -> Result<(), AllocError> {
     for place in items(row, "places") {
-        let (before, after) = (text_at(place, 0), text_at(place, 1));
         for point in 0..number(row, "below") {
             let found = u32::try_from(point).ok().and_then(char::from_u32);
             if let Some(character) = found {
-                let label = format!(in alloc; "{before}{character}{after}")?;
-                let (is_expected, answer) = if admits(alloc, &label)? {
-                    (lies_in(character, items(row, "possible")), "admitted")
-                } else {
-                    (!lies_in(character, items(row, "settled")), "refused")
-                };
-                tally.count(alloc, is_expected, &label, answer)?;
+                ask_character(alloc, row, place, character, tally)?;
             }
         }
     }
@@ -61,16 +72,15 @@ fn encodes(payload: &str, text: Option<&str>) -> bool {
 }
 
 /// The payloads of a row.
-pub fn ask_payloads(alloc: Global, row: &Value, tally: &mut Tally) -> Result<(), AllocError> {
+pub fn ask_payloads(row: &Value, tally: &mut Tally) -> Result<(), AllocError> {
     for row in items(row, "rows") {
-        let payloads = row.as_array().map_or(&[] as &[Value], Vec::as_slice);
-        let Some((last, payloads)) = payloads.split_last() else {
+        let Some((last, payloads)) = elements(row).split_last() else {
             continue;
         };
         for payload in payloads {
             let payload = payload.as_str().unwrap_or("");
             let is_expected = encodes(payload, last.as_str());
-            tally.count(alloc, is_expected, payload, "another text")?;
+            tally.count(is_expected, payload, "another text")?;
         }
     }
     Ok(())

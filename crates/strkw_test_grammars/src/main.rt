@@ -18,42 +18,44 @@ mod time;
 use serde_json::Value;
 use std::alloc::{AllocError, Global};
 use std::io;
-use tally::Tally;
+use tally::{Tally, Totals};
 
 fn main(rt: HostRuntime) -> io::Result<()> {
-    let alloc = rt.alloc();
-    let mut all = Tally::new(alloc);
-    let mut rows = 0u64;
-    for line in rt.lines(alloc) {
-        let line = line?;
-        if line.is_empty() || line.starts_with('#') {
-            print!(rt; "{line}\n")?;
-        } else {
-            let lines = answer(alloc, line.as_str(), &mut all)?;
-            print!(rt; "{lines}")?;
-            rows = rows.wrapping_add(1);
-        }
+    let mut totals = Totals::default();
+    for line in rt.lines(rt.alloc()) {
+        print_line(rt, &line?, &mut totals)?;
     }
-    let (asked, wrong) = (all.asked, all.wrong);
+    let Totals { rows, asked, wrong } = totals;
     print!(rt; "{rows} rows, {asked} answers, {wrong} of them wrong\n")
 }
 
-// What is told of a row, whose answers are added to all.
-fn answer(alloc: Global, line: &str, all: &mut Tally) -> Result<String, AllocError> {
-    let mut tally = Tally::new(alloc);
-    let lines = match Value::from_str(alloc, line) {
-        Ok(row) => {
-            ask(alloc, &row, &mut tally)?;
-            let (what, of) = (row::text(&row, "ask"), row::text(&row, "of"));
-            tally.lines(alloc, what, of)?
-        }
-        Err(_) => tally.lines(alloc, "no JSON", line)?,
-    };
-    all.add(&tally);
-    Ok(lines)
+// Copies a line, or prints what is told of the row that it is.
+fn print_line(rt: HostRuntime, line: &str, totals: &mut Totals) -> io::Result<()> {
+    if line.is_empty() || line.starts_with('#') {
+        return print!(rt; "{line}\n");
+    }
+    print!(rt; "{}", answer(rt.alloc(), line, totals)?)
 }
 
-// Asks what a row asks. An unknown one asks nothing, which is told as wrong.
+// What is told of a row, whose answers are added to the totals.
+fn answer(alloc: Global, line: &str, totals: &mut Totals) -> Result<String, AllocError> {
+    let mut tally = Tally::new(alloc);
+    let read = Value::from_str(alloc, line);
+    let told = match &read {
+        Ok(row) => answer_row(alloc, row, &mut tally),
+        Err(_) => tally.lines(alloc, "no JSON", line),
+    };
+    drop(read);
+    totals.add(&tally);
+    told
+}
+
+fn answer_row(alloc: Global, row: &Value, tally: &mut Tally) -> Result<String, AllocError> {
+    ask(alloc, row, tally)?;
+    tally.lines(alloc, row::text(row, "ask"), row::text(row, "of"))
+}
+
+// Asks what a row asks of grammars, or of the other crates.
 fn ask(alloc: Global, row: &Value, tally: &mut Tally) -> Result<(), AllocError> {
     match row::text(row, "ask") {
         "texts" => texts::ask(alloc, row, tally),
@@ -64,9 +66,21 @@ fn ask(alloc: Global, row: &Value, tally: &mut Tally) -> Result<(), AllocError> 
         "sums" => sweeps::ask_sums(alloc, row, tally),
         "leap years" => time::ask_leap_years(alloc, row, tally),
         "digits" => time::ask_digits(alloc, row, tally),
-        "first labels" => net::ask_first_labels(alloc, row, tally),
+        "first labels" => net::ask_first_labels(row, tally),
         "characters of labels" => label::ask_characters(alloc, row, tally),
-        "payloads" => label::ask_payloads(alloc, row, tally),
+        "payloads" => label::ask_payloads(row, tally),
+        what => ask_of_others(alloc, what, row, tally),
+    }
+}
+
+// Asks what a row asks of encodings, patterns and reports. An unknown one asks nothing, which is told as wrong.
+fn ask_of_others(
+    alloc: Global,
+    what: &str,
+    row: &Value,
+    tally: &mut Tally,
+) -> Result<(), AllocError> {
+    match what {
         "decoded" => coding::ask_decoded(alloc, row, tally),
         "names" => coding::ask_names(alloc, row, tally),
         "decode errors" => coding::ask_errors(alloc, row, tally),
@@ -80,9 +94,9 @@ fn ask(alloc: Global, row: &Value, tally: &mut Tally) -> Result<(), AllocError> 
         "long searches" => ecma::ask_long_searches(alloc, row, tally),
         "tables" => ecma::ask_tables(alloc, row, tally),
         "refusals" => ecma::ask_refusals(alloc, row, tally),
-        "nodes" => report::ask_nodes(alloc, row, tally),
-        "fractions" => report::ask_fractions(alloc, row, tally),
-        "drafts" => report::ask_drafts(alloc, tally),
+        "nodes" => report::ask_nodes(row, tally),
+        "fractions" => report::ask_fractions(row, tally),
+        "drafts" => report::ask_drafts(tally),
         _ => Ok(()),
     }
 }

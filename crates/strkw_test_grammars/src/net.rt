@@ -3,7 +3,7 @@
 use crate::row::{found_at, items, text_at};
 use crate::tally::Tally;
 use serde_json::Value;
-use std::alloc::{AllocError, Global};
+use std::alloc::AllocError;
 use strkw_net::first_label;
 
 fn is_first(text: &str, label: Option<&str>) -> bool {
@@ -15,10 +15,10 @@ fn is_first(text: &str, label: Option<&str>) -> bool {
 }
 
 /// The labels of a row.
-pub fn ask_first_labels(alloc: Global, row: &Value, tally: &mut Tally) -> Result<(), AllocError> {
+pub fn ask_first_labels(row: &Value, tally: &mut Tally) -> Result<(), AllocError> {
     for pair in items(row, "rows") {
         let (text, label) = (text_at(pair, 0), found_at(pair, 1));
-        tally.count(alloc, is_first(text, label), text, "another label")?;
+        tally.count(is_first(text, label), text, "another label")?;
     }
     Ok(())
 }

@@ -9,24 +9,27 @@ use strkw_pattern::{
     EngineFailure, LiteralMatcher, PatternOptimization, RegexEngine, analyze_pattern,
 };
 
-// The kind of an analysis, and its texts, with a `·`, which no literal holds, between two of them.
-fn show(alloc: Global, found: &Option<PatternOptimization>) -> Result<String, AllocError> {
+// Appends the kind of an analysis, and its texts.
+fn push_analysis(found: &Option<PatternOptimization>, out: &mut String) -> Result<(), AllocError> {
     match found {
-        None => String::from_str(alloc, "none"),
-        Some(PatternOptimization::Prefix(text)) => format!(in alloc; "prefix {text}"),
-        Some(PatternOptimization::Exact(text)) => format!(in alloc; "exact {text}"),
-        Some(PatternOptimization::NoWhitespace) => String::from_str(alloc, "no whitespace"),
-        Some(PatternOptimization::Alternation(texts)) => {
-            let mut all = String::from_str(alloc, "alternation ")?;
-            let mut separator = "";
-            for text in texts {
-                all.push_str(separator)?;
-                all.push_str(text.as_str())?;
-                separator = "·";
-            }
-            Ok(all)
-        }
+        None => out.push_str("none"),
+        Some(PatternOptimization::Prefix(text)) => write!(out, "prefix {text}"),
+        Some(PatternOptimization::Exact(text)) => write!(out, "exact {text}"),
+        Some(PatternOptimization::NoWhitespace) => out.push_str("no whitespace"),
+        Some(PatternOptimization::Alternation(texts)) => push_alternation(texts, out),
     }
+}
+
+// Appends texts, with a `·`, which no literal holds, between two of them.
+fn push_alternation(texts: &[String], out: &mut String) -> Result<(), AllocError> {
+    out.push_str("alternation ")?;
+    let mut separator = "";
+    for text in texts {
+        out.push_str(separator)?;
+        out.push_str(text)?;
+        separator = "·";
+    }
+    Ok(())
 }
 
 // Asks for the analysis of a pattern.
@@ -36,8 +39,9 @@ fn ask_analysis(
     expected: &str,
     tally: &mut Tally,
 ) -> Result<(), AllocError> {
-    let found = show(alloc, &analyze_pattern(alloc, pattern)?)?;
-    tally.count(alloc, found.as_str() == expected, pattern, &found)
+    let mut found = String::new(alloc);
+    push_analysis(&analyze_pattern(alloc, pattern)?, &mut found)?;
+    tally.count(found.as_str() == expected, pattern, &found)
 }
 
 /// The patterns of a row, with their analyses.
@@ -48,34 +52,50 @@ pub fn ask_analyses(alloc: Global, row: &Value, tally: &mut Tally) -> Result<(),
     Ok(())
 }
 
+fn are_equal(alloc: Global, one: &str, other: &str) -> Result<bool, AllocError> {
+    Ok(analyze_pattern(alloc, one)? == analyze_pattern(alloc, other)?)
+}
+
 /// The pairs of patterns of a row, by whether their analyses are equal.
 pub fn ask_equal(alloc: Global, row: &Value, tally: &mut Tally) -> Result<(), AllocError> {
     for pair in items(row, "rows") {
         let (one, other) = (text_at(pair, 0), text_at(pair, 1));
-        let are_equal = analyze_pattern(alloc, one)? == analyze_pattern(alloc, other)?;
-        let is_expected = pair.get(2).and_then(Value::as_bool) == Some(are_equal);
-        tally.count(alloc, is_expected, one, other)?;
+        let found = are_equal(alloc, one, other)?;
+        let is_expected = pair.get(2).and_then(Value::as_bool) == Some(found);
+        tally.count(is_expected, one, other)?;
     }
     Ok(())
+}
+
+// A character at a place, which is `taken` or not.
+fn ask_character(
+    alloc: Global,
+    place: &Value,
+    character: char,
+    taken: &str,
+    tally: &mut Tally,
+) -> Result<(), AllocError> {
+    let (before, after) = (text_at(place, 0), text_at(place, 1));
+    let pattern = format!(in alloc; "{before}{character}{after}")?;
+    if taken.contains(character) {
+        let (before, after) = (text_at(place, 2), text_at(place, 3));
+        let with_it = format!(in alloc; "{before}{character}{after}")?;
+        return ask_analysis(alloc, &pattern, &with_it, tally);
+    }
+    let expected = if character == '|' {
+        text_at(place, 4)
+    } else {
+        "none"
+    };
+    ask_analysis(alloc, &pattern, expected, tally)
 }
 
 /// Each ASCII character at each place of the row.
 pub fn ask_characters(alloc: Global, row: &Value, tally: &mut Tally) -> Result<(), AllocError> {
     let (all, taken) = (ascii(alloc)?, text(row, "taken"));
     for place in items(row, "places") {
-        let (before, after) = (text_at(place, 0), text_at(place, 1));
-        let (shown_before, shown_after) = (text_at(place, 2), text_at(place, 3));
         for character in all.chars() {
-            let pattern = format!(in alloc; "{before}{character}{after}")?;
-            let with_it = format!(in alloc; "{shown_before}{character}{shown_after}")?;
-            let expected = if taken.contains(character) {
-                with_it.as_str()
-            } else if character == '|' {
-                text_at(place, 4)
-            } else {
-                "none"
-            };
-            ask_analysis(alloc, &pattern, expected, tally)?;
+            ask_character(alloc, place, character, taken, tally)?;
         }
     }
     Ok(())
@@ -96,12 +116,12 @@ fn ask_matcher(
     for item in items(row, "yes") {
         let text = item.as_str().unwrap_or("");
         let is_expected = answer(alloc, matcher, text) == Ok(true);
-        tally.count(alloc, is_expected, text, "no match")?;
+        tally.count(is_expected, text, "no match")?;
     }
     for item in items(row, "no") {
         let text = item.as_str().unwrap_or("");
         let is_expected = answer(alloc, matcher, text) == Ok(false);
-        tally.count(alloc, is_expected, text, "a match")?;
+        tally.count(is_expected, text, "a match")?;
     }
     Ok(())
 }

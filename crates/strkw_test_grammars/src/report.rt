@@ -3,7 +3,7 @@
 use crate::row::{found_at, items};
 use crate::tally::Tally;
 use serde_json::Value;
-use std::alloc::{AllocError, Global};
+use std::alloc::AllocError;
 use strkw_report::{Draft, Node, TextNode, char_count, holds_fraction};
 
 const DRAFTS: [Draft; 5] = [
@@ -23,46 +23,46 @@ fn is_node<N: Node>(node: &N, text: Option<&str>, length: Option<u64>) -> bool {
     is_text && node.as_text() == text && node.text_length() == length
 }
 
-/// The nodes of a row: a value, its text or `None`, and where it is a text that text too.
-pub fn ask_nodes(alloc: Global, row: &Value, tally: &mut Tally) -> Result<(), AllocError> {
+// Whether a value, its text or `None`, and where it is a text that text too, have this text and so many characters.
+fn are_nodes(value: &Value, text: Option<&str>, length: Option<u64>) -> bool {
+    let of_text = match text {
+        Some(text) => is_node(&text, Some(text), length) && Some(char_count(text)) == length,
+        None => true,
+    };
+    of_text && is_node(value, text, length) && is_node(&text, text, length)
+}
+
+/// The nodes of a row.
+pub fn ask_nodes(row: &Value, tally: &mut Tally) -> Result<(), AllocError> {
     for row in items(row, "rows") {
         let (text, length) = (found_at(row, 1), row.get(2).and_then(Value::as_u64));
-        let of_value = match row.get(0) {
-            Some(value) => is_node(value, text, length),
+        let is_expected = match row.get(0) {
+            Some(value) => are_nodes(value, text, length),
             None => false,
         };
-        let of_text = match text {
-            Some(text) => is_node(&text, Some(text), length) && Some(char_count(text)) == length,
-            None => true,
-        };
-        tally.count(
-            alloc,
-            of_value && of_text && is_node(&text, text, length),
-            text.unwrap_or(""),
-            "another node",
-        )?;
+        tally.count(is_expected, text.unwrap_or(""), "another node")?;
     }
     Ok(())
 }
 
 /// The values of a row that hold a number which is kept neither as a `u64` nor as an `i64`, and those that hold none.
-pub fn ask_fractions(alloc: Global, row: &Value, tally: &mut Tally) -> Result<(), AllocError> {
+pub fn ask_fractions(row: &Value, tally: &mut Tally) -> Result<(), AllocError> {
     for value in items(row, "yes") {
-        tally.count(alloc, holds_fraction(value), "yes", "no fraction")?;
+        tally.count(holds_fraction(value), "yes", "no fraction")?;
     }
     for value in items(row, "no") {
-        tally.count(alloc, !holds_fraction(value), "no", "a fraction")?;
+        tally.count(!holds_fraction(value), "no", "a fraction")?;
     }
     Ok(())
 }
 
 /// The drafts compare as their places do.
-pub fn ask_drafts(alloc: Global, tally: &mut Tally) -> Result<(), AllocError> {
+pub fn ask_drafts(tally: &mut Tally) -> Result<(), AllocError> {
     for (i, a) in DRAFTS.iter().enumerate() {
         for (j, b) in DRAFTS.iter().enumerate() {
             let are_compared = (*a == *b) == (i == j) && (*a < *b) == (i < j);
             let is_expected = are_compared && a.cmp(b) == i.cmp(&j) && a.clone()? == *a;
-            tally.count(alloc, is_expected, "drafts", "another order")?;
+            tally.count(is_expected, "drafts", "another order")?;
         }
     }
     Ok(())

@@ -36,7 +36,15 @@ use serde_json::Value;
 
 /// The items at a key, none where there is no array.
 pub fn items<'v>(row: &'v Value, key: &str) -> &'v [Value] {
-    match row.get(key).and_then(Value::as_array) {
+    match row.get(key) {
+        Some(value) => elements(value),
+        None => &[],
+    }
+}
+
+/// The items of an array, none of another value.
+pub fn elements(value: &Value) -> &[Value] {
+    match value.as_array() {
         Some(items) => items.as_slice(),
         None => &[],
     }

@@ -2,7 +2,7 @@
 
 use crate::row::{flag, items, number, number_at, text, text_at};
 use crate::tally::Tally;
-use crate::texts::{accepts, ask_one};
+use crate::texts::{accepts, ask_made};
 use serde_json::Value;
 use std::alloc::{AllocError, Global};
 
@@ -49,8 +49,8 @@ fn ask_characters_at(
     let (before, after, others) = (text_at(place, 0), text_at(place, 1), text_at(place, 2));
     for character in tried.chars() {
         let expected = accepted.contains(character) || others.contains(character);
-        let text = format!(in alloc; "{before}{letters}{character}{letters}{after}")?;
-        ask_one(alloc, of, &text, expected, tally)?;
+        let text = format!(in alloc; "{before}{letters}{character}{letters}{after}");
+        ask_made(alloc, of, text, expected, tally)?;
     }
     Ok(())
 }
@@ -66,8 +66,8 @@ pub fn ask_numbers(alloc: Global, row: &Value, tally: &mut Tally) -> Result<(), 
         let (before, after) = (text_at(place, 0), text_at(place, 1));
         for count in 0..number(row, "below") {
             let zero = if two_digits && count < 10 { "0" } else { "" };
-            let text = format!(in alloc; "{before}{zero}{count}{after}")?;
-            ask_one(alloc, of, &text, is_within(row, count), tally)?;
+            let text = format!(in alloc; "{before}{zero}{count}{after}");
+            ask_made(alloc, of, text, is_within(row, count), tally)?;
         }
     }
     Ok(())
@@ -80,8 +80,8 @@ pub fn ask_counts(alloc: Global, row: &Value, tally: &mut Tally) -> Result<(), A
         let (before, after) = (text_at(place, 0), text_at(place, 1));
         let mut parts = String::new(alloc);
         for count in 0..number(row, "below") {
-            let text = format!(in alloc; "{before}{parts}{after}")?;
-            ask_one(alloc, of, &text, is_within(row, count), tally)?;
+            let text = format!(in alloc; "{before}{parts}{after}");
+            ask_made(alloc, of, text, is_within(row, count), tally)?;
             parts.push_str(part)?;
         }
     }
@@ -119,7 +119,7 @@ pub fn ask_sums(alloc: Global, row: &Value, tally: &mut Tally) -> Result<(), All
             let is_expected = count == number_at(range, 2) && sum == number_at(range, 3);
             let from = number_at(range, 0);
             let shown = format!(in alloc; "{count} from {from} on, of the sum {sum}")?;
-            tally.count(alloc, is_expected, text_at(place, 0), &shown)?;
+            tally.count(is_expected, text_at(place, 0), &shown)?;
         }
     }
     Ok(())

@@ -1,6 +1,7 @@
 //! What each grammar and each encoding says of a text.
 
-use crate::row::{items, text};
+use crate::ecma::repeated;
+use crate::row::{elements, items, text};
 use crate::tally::Tally;
 use crate::{coding, ecma, label};
 use serde_json::Value;
@@ -15,6 +16,10 @@ use strkw_uri::{
     is_valid_iri, is_valid_iri_reference, is_valid_json_pointer, is_valid_relative_json_pointer,
     is_valid_uri, is_valid_uri_reference, is_valid_uri_template,
 };
+
+fn is_built_without_engine(alloc: Global, pattern: &str) -> bool {
+    !matches!(NoPatterns.build(alloc, pattern), Err(BuildRefusal::Pattern))
+}
 
 // By the grammars of formats, and by two predicates on patterns.
 fn by_grammar(alloc: Global, of: &str, text: &str) -> Option<bool> {
@@ -37,9 +42,7 @@ fn by_grammar(alloc: Global, of: &str, text: &str) -> Option<bool> {
         "json-pointer" => is_valid_json_pointer(text),
         "relative-json-pointer" => is_valid_relative_json_pointer(text),
         "texts with white space" => contains_ecma_whitespace(text),
-        "patterns without an engine" => {
-            !matches!(NoPatterns.build(alloc, text), Err(BuildRefusal::Pattern))
-        }
+        "patterns without an engine" => is_built_without_engine(alloc, text),
         _ => return None,
     };
     Some(says)
@@ -48,13 +51,13 @@ fn by_grammar(alloc: Global, of: &str, text: &str) -> Option<bool> {
 /// Whether a text is one of these; `None` where the name is unknown, or two calls disagree.
 pub fn accepts(alloc: Global, of: &str, text: &str) -> Result<Option<bool>, AllocError> {
     match of {
-        "label" => Ok(Some(label::admits(alloc, text)?)),
-        "idn-hostname" => Ok(Some(is_valid_idn_hostname(alloc, text)?)),
-        "u-label" => Ok(Some(is_valid_u_label(alloc, text)?)),
-        "idn-email" => Ok(Some(is_valid_idn_email(alloc, text)?)),
+        "label" => label::admits(alloc, text).map(Some),
+        "idn-hostname" => is_valid_idn_hostname(alloc, text).map(Some),
+        "u-label" => is_valid_u_label(alloc, text).map(Some),
+        "idn-email" => is_valid_idn_email(alloc, text).map(Some),
         "json" => coding::is_media(alloc, text),
         "patterns of ECMA-262" => Ok(ecma::is_taken(alloc, text)),
-        "patterns of the whole of ECMA-262" => Ok(Some(is_valid_regex(alloc, text)?)),
+        "patterns of the whole of ECMA-262" => is_valid_regex(alloc, text).map(Some),
         "base64" | "base64url" | "base32" | "base32hex" | "base16" => {
             coding::is_encoded(alloc, of, text)
         }
@@ -76,7 +79,18 @@ pub fn ask_one(
         None => "no answer",
     };
     let wanted = if expected { "yes" } else { "no" };
-    tally.count(alloc, answer == wanted, text, answer)
+    tally.count(answer == wanted, text, answer)
+}
+
+/// The same of a text that is made for it.
+pub fn ask_made(
+    alloc: Global,
+    of: &str,
+    text: Result<String, AllocError>,
+    expected: bool,
+    tally: &mut Tally,
+) -> Result<(), AllocError> {
+    ask_one(alloc, of, &text?, expected, tally)
 }
 
 /// The texts of a row.
@@ -95,18 +109,10 @@ pub fn ask(alloc: Global, row: &Value, tally: &mut Tally) -> Result<(), AllocErr
 pub fn ask_long(alloc: Global, row: &Value, tally: &mut Tally) -> Result<(), AllocError> {
     let of = text(row, "of");
     for item in items(row, "yes") {
-        let repeated = ecma::repeated(
-            alloc,
-            item.as_array().map_or(&[], |parts| parts.as_slice()),
-        )?;
-        ask_one(alloc, of, &repeated, true, tally)?;
+        ask_made(alloc, of, repeated(alloc, elements(item)), true, tally)?;
     }
     for item in items(row, "no") {
-        let repeated = ecma::repeated(
-            alloc,
-            item.as_array().map_or(&[], |parts| parts.as_slice()),
-        )?;
-        ask_one(alloc, of, &repeated, false, tally)?;
+        ask_made(alloc, of, repeated(alloc, elements(item)), false, tally)?;
     }
     Ok(())
 }

@@ -2,7 +2,7 @@
 
 use crate::row::items;
 use crate::tally::Tally;
-use crate::texts::ask_one;
+use crate::texts::ask_made;
 use serde_json::Value;
 use std::alloc::{AllocError, Global};
 use strkw_time::{parse_four_digits, parse_two_digits};
@@ -23,8 +23,8 @@ pub fn ask_leap_years(alloc: Global, row: &Value, tally: &mut Tally) -> Result<(
         for year in 0..100u64 {
             let telling = if year == 0 { century } else { year };
             let expected = is_among(telling, items(row, "fourths"));
-            let text = format!(in alloc; "{century:02}{year:02}-02-29")?;
-            ask_one(alloc, "date", &text, expected, tally)?;
+            let text = format!(in alloc; "{century:02}{year:02}-02-29");
+            ask_made(alloc, "date", text, expected, tally)?;
         }
     }
     Ok(())
@@ -68,7 +68,7 @@ pub fn ask_digits(alloc: Global, row: &Value, tally: &mut Tally) -> Result<(), A
                     *hole = byte;
                 }
                 let is_expected = parse_number(&bytes) == plain_number(&bytes);
-                tally.count(alloc, is_expected, digits, "another number")?;
+                tally.count(is_expected, digits, "another number")?;
             }
         }
     }

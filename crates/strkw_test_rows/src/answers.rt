@@ -1,9 +1,26 @@
-//! What the four calls on one instance answered, as lines.
+//! What the four calls on one instance answer, as lines.
 
-use crate::shown::{OUT_OF_MEMORY, errors};
+use crate::shown::{OUT_OF_MEMORY, push_error, push_errors};
 use std::alloc::{AllocError, Global};
-use strkw_keywords::Fault;
-use strkw_report::{ErrorKind, Location, Site, ValidationError, error_at};
+use strkw_keywords::{Checks, Fault};
+use strkw_report::{ErrorKind, Location, Node, Site, ValidationError, error_at};
+
+/// What is compiled: one entry, or a whole object.
+pub trait Asked {
+    /// Whether it is in use with these ranges of the lists.
+    fn is_in_use(&self, checks: &Checks) -> bool;
+
+    /// Appends what its four calls answer of a node, where it is in use with these ranges of the lists; and whether it
+    /// is.
+    fn ask<N: Node>(
+        &self,
+        alloc: Global,
+        node: &N,
+        site: &Site,
+        checks: &Checks,
+        answers: &mut Answers,
+    ) -> Result<bool, AllocError>;
+}
 
 /// The lines of each call.
 #[derive(Drop)]
@@ -16,32 +33,59 @@ pub struct Answers {
 }
 
 impl Answers {
-    /// One word for `is_valid`, and the errors and notes of `evaluate`. Lines follow for `collect_errors` where it has
-    /// other errors, and for `validate` where it has not the first of them.
-    pub fn lines(&self, alloc: Global) -> Result<String, AllocError> {
+    // Nothing is answered yet.
+    fn new(alloc: Global) -> Answers {
+        Answers {
+            is_valid: "",
+            validate: String::new(alloc),
+            collect_errors: String::new(alloc),
+            evaluate: String::new(alloc),
+            notes: String::new(alloc),
+        }
+    }
+
+    // One word for `is_valid`, and the errors and notes of `evaluate`. Lines follow for `collect_errors` where it has
+    // other errors, and for `validate` where it has not the first of them.
+    fn lines(&self, alloc: Global) -> Result<String, AllocError> {
         let (word, errors, notes) = (self.is_valid, &self.evaluate, &self.notes);
         let mut lines = format!(in alloc; "{word}\n{errors}{notes}")?;
-        let collected = self.collect_errors.as_str();
-        if collected != errors.as_str() {
-            push_otherwise(alloc, "collect_errors", collected, &mut lines)?;
+        self.push_others(&mut lines)?;
+        Ok(lines)
+    }
+
+    // Appends what other calls than `evaluate` say, where they say otherwise.
+    fn push_others(&self, lines: &mut String) -> Result<(), AllocError> {
+        let (errors, collected) = (self.evaluate.as_str(), self.collect_errors.as_str());
+        if collected != errors {
+            push_otherwise("collect_errors", collected, lines)?;
         }
         let first = self.validate.as_str();
         if !errors.starts_with(first) || first.is_empty() != errors.is_empty() {
-            push_otherwise(alloc, "validate", first, &mut lines)?;
+            push_otherwise("validate", first, lines)?;
         }
-        Ok(lines)
+        Ok(())
     }
 }
 
 // Appends that a call says otherwise, and what it says.
-fn push_otherwise(
+fn push_otherwise(call: &str, said: &str, lines: &mut String) -> Result<(), AllocError> {
+    write!(lines, "    {call} says otherwise\n{said}")
+}
+
+/// What the four calls answer of a node, as lines.
+pub fn lines<A: Asked, N: Node>(
     alloc: Global,
-    call: &str,
-    said: &str,
-    lines: &mut String,
-) -> Result<(), AllocError> {
-    let told = format!(in alloc; "    {call} says otherwise\n{said}")?;
-    lines.push_str(&told)
+    asked: &A,
+    node: &N,
+    site: &Site,
+    checks: &Checks,
+) -> Result<String, AllocError> {
+    let mut answers = Answers::new(alloc);
+    if asked.ask(alloc, node, site, checks, &mut answers)? {
+        answers.lines(alloc)
+    } else {
+        String::from_str(alloc, "not in use\n")
+    }
 }
 
 /// The word for what `is_valid` answered.
@@ -53,43 +97,62 @@ pub fn word(is_valid: Result<bool, AllocError>) -> &'static str {
     }
 }
 
-/// The error that `validate` answered, if there is one.
-pub fn first_error(alloc: Global, verdict: Result<(), Fault>) -> Result<String, AllocError> {
-    match verdict {
-        Ok(()) => Ok(String::new(alloc)),
-        Err(Fault::Invalid(error)) => errors(alloc, &[error]),
-        Err(Fault::Memory) => String::from_str(alloc, OUT_OF_MEMORY),
-    }
+/// Appends the error that `validate` answered, if there is one.
+pub fn push_first_error(
+    alloc: Global,
+    verdict: Result<(), Fault>,
+    lines: &mut String,
+) -> Result<(), AllocError> {
+    let pushed = match &verdict {
+        Ok(()) => Ok(()),
+        Err(Fault::Invalid(error)) => push_error(alloc, error, lines),
+        Err(Fault::Memory) => lines.push_str(OUT_OF_MEMORY),
+    };
+    drop(verdict);
+    pushed
 }
 
 /// A vector that holds one error, to be lent to `collect_errors`.
 pub fn filled(alloc: Global) -> Result<Vec<ValidationError>, AllocError> {
+    Ok(vec![in alloc; lent(alloc)?]?)
+}
+
+fn lent(alloc: Global) -> Result<ValidationError, AllocError> {
     let site = Site {
         evaluation: Location::root(alloc),
         instance: Location::root(alloc),
     };
     let root = Location::root(alloc);
-    let error = error_at(alloc, ErrorKind::FromUtf8, "k", "lent", &root, &None, &site)?;
-    Ok(vec![in alloc; error]?)
+    error_at(alloc, ErrorKind::FromUtf8, "k", "lent", &root, &None, &site)
 }
 
 const LENT: &str =
     "    /k: \"lent\" does not decode to UTF-8 text\n      FromUtf8, by /k of \"lent\" at ''\n";
 
-/// The errors that `collect_errors` appended to such a vector, or that it was refused and left the vector as it was.
-pub fn append(
+/// Appends the errors that `collect_errors` appended to such a vector, or that it was refused and left the vector as it
+/// was.
+pub fn push_collected(
     alloc: Global,
     outcome: Result<(), AllocError>,
     found: Vec<ValidationError>,
-) -> Result<String, AllocError> {
-    let lines = errors(alloc, &found)?;
-    match (outcome, lines.strip_prefix(LENT)) {
-        (_, None) => String::from_str(alloc, "    the lent error is another\n"),
-        (Ok(()), Some(rest)) => String::from_str(alloc, rest),
-        (Err(AllocError), Some("")) => String::from_str(alloc, OUT_OF_MEMORY),
-        (Err(AllocError), Some(_)) => String::from_str(
-            alloc,
-            "    refused, with errors appended\n",
-        ),
+    lines: &mut String,
+) -> Result<(), AllocError> {
+    let mut all = String::new(alloc);
+    let pushed = push_errors(alloc, &found, &mut all);
+    drop(found);
+    pushed?;
+    push_behind_lent(outcome, &all, lines)
+}
+
+fn push_behind_lent(
+    outcome: Result<(), AllocError>,
+    all: &str,
+    lines: &mut String,
+) -> Result<(), AllocError> {
+    match (outcome, all.strip_prefix(LENT)) {
+        (_, None) => lines.push_str("    the lent error is another\n"),
+        (Ok(()), Some(rest)) => lines.push_str(rest),
+        (Err(AllocError), Some("")) => lines.push_str(OUT_OF_MEMORY),
+        (Err(AllocError), Some(_)) => lines.push_str("    refused, with errors appended\n"),
     }
 }

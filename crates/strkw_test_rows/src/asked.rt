@@ -1,13 +1,15 @@
 //! What is compiled of a row, and what that says of each instance.
 
+use crate::answers::{Asked, lines};
 use crate::lists::parts;
-use crate::{entry, object, row, shown};
+use crate::{entry, row, shown};
 use serde_json::{Map, Value};
 use std::alloc::{AllocError, Global};
-use strkw_keywords::{Checks, Context, Uses, Validate, Validator};
+use strkw_keywords::{Checks, Context, Uses, Validator};
 use strkw_object::{StringKeywords, compile_strings};
+use strkw_pattern::RegexEngine;
 use strkw_report::Site;
-use strkw_test_doubles::{Name, ScriptedBuilder, ScriptedEngine, compile_entry};
+use strkw_test_doubles::{Name, ScriptedBuilder, compile_entry};
 
 /// Appends what is compiled of the object, or of the one entry that the row names, and its answers; and where a pattern
 /// was shown to the builder, how often.
@@ -21,19 +23,19 @@ pub fn push_asked(
     let Some(schema) = row.get("schema").and_then(Value::as_object) else {
         return out.push_str("  no schema\n");
     };
-    match row.get("keyword").and_then(Value::as_str) {
-        Some(name) => push_entry(alloc, row, all, ctx, name, schema, out)?,
-        None => push_object(alloc, row, all, ctx, schema, out)?,
-    }
-    push_calls(alloc, ctx.builder.calls.get(), out)
+    let told = match row.get("keyword").and_then(Value::as_str) {
+        Some(name) => push_entry(alloc, row, all, ctx, name, schema, out),
+        None => push_object(alloc, row, all, ctx, schema, out),
+    };
+    told?;
+    push_calls(ctx.builder.calls.get(), out)
 }
 
-fn push_calls(alloc: Global, calls: u32, out: &mut String) -> Result<(), AllocError> {
+fn push_calls(calls: u32, out: &mut String) -> Result<(), AllocError> {
     if calls == 0 {
         return Ok(());
     }
-    let line = format!(in alloc; "  the builder was asked: {calls}\n")?;
-    out.push_str(&line)
+    write!(out, "  the builder was asked: {calls}\n")
 }
 
 fn push_entry(
@@ -67,10 +69,13 @@ fn push_object(
     schema: &Map<String, Value>,
     out: &mut String,
 ) -> Result<(), AllocError> {
-    match compile_strings(alloc, ctx, schema) {
-        Err(refusal) => shown::push_refusal(alloc, &refusal, out),
-        Ok(keywords) => push_keywords(alloc, row, all, &ctx.checks, &keywords, out),
-    }
+    let compiled = compile_strings(alloc, ctx, schema);
+    let told = match &compiled {
+        Err(refusal) => shown::push_refusal(alloc, refusal, out),
+        Ok(keywords) => push_keywords(alloc, row, all, &ctx.checks, keywords, out),
+    };
+    drop(compiled);
+    told
 }
 
 fn quiet_word(takes_no_memory: bool) -> &'static str {
@@ -81,125 +86,90 @@ fn quiet_word(takes_no_memory: bool) -> &'static str {
     }
 }
 
-fn push_in_use(
+fn push_validator<E: RegexEngine>(
     alloc: Global,
-    ends: &Value,
-    used: bool,
+    row: &Value,
+    all: &Checks<'_>,
+    checks: &Checks<'_>,
+    validator: &Validator<E>,
     out: &mut String,
 ) -> Result<(), AllocError> {
-    let line = format!(in alloc; "  in use with {ends}: {used}\n")?;
-    out.push_str(&line)
+    let (name, (least, greatest)) = (entry::name(validator), validator.interval());
+    let quiet = quiet_word(validator.takes_no_memory());
+    write!(out, "  {name}, {least} to {greatest}{quiet}\n")?;
+    push_compiled(alloc, row, all, checks, validator, out)
+}
+
+fn push_keywords<E: RegexEngine>(
+    alloc: Global,
+    row: &Value,
+    all: &Checks<'_>,
+    checks: &Checks<'_>,
+    keywords: &StringKeywords<E>,
+    out: &mut String,
+) -> Result<(), AllocError> {
+    let folds = keywords.folds_to_false();
+    let quiet = quiet_word(keywords.takes_no_memory());
+    write!(out, "  object, folds: {folds}{quiet}\n")?;
+    push_compiled(alloc, row, all, checks, keywords, out)
+}
+
+// Appends with which ranges of the lists it is in use, and what it says of each instance.
+fn push_compiled<A: Asked>(
+    alloc: Global,
+    row: &Value,
+    all: &Checks<'_>,
+    checks: &Checks<'_>,
+    compiled: &A,
+    out: &mut String,
+) -> Result<(), AllocError> {
+    for ends in row::items(row, "lent") {
+        let used = compiled.is_in_use(&parts(all, ends));
+        write!(out, "  in use with {ends}: {used}\n")?;
+    }
+    push_instances(alloc, row, &row::site(alloc, row)?, checks, compiled, out)
+}
+
+fn push_instances<A: Asked>(
+    alloc: Global,
+    row: &Value,
+    site: &Site,
+    checks: &Checks<'_>,
+    compiled: &A,
+    out: &mut String,
+) -> Result<(), AllocError> {
+    for instance in row::items(row, "instances") {
+        push_instance(alloc, instance, site, checks, compiled, out)?;
+    }
+    Ok(())
+}
+
+fn push_instance<A: Asked>(
+    alloc: Global,
+    instance: &Value,
+    site: &Site,
+    checks: &Checks<'_>,
+    compiled: &A,
+    out: &mut String,
+) -> Result<(), AllocError> {
+    let name = Name {
+        text: instance.as_str(),
+    };
+    let of_value = lines(alloc, compiled, instance, site, checks)?;
+    let of_name = lines(alloc, compiled, &name, site, checks)?;
+    push_answers(instance, &of_value, &of_name, out)
 }
 
 // The answers of an instance. A line follows where a node of another type with the same text has others.
 fn push_answers(
-    alloc: Global,
     instance: &Value,
     lines: &str,
     others: &str,
     out: &mut String,
 ) -> Result<(), AllocError> {
-    let head = format!(in alloc; "  on {instance}: ")?;
-    out.push_str(&head)?;
-    out.push_str(lines)?;
+    write!(out, "  on {instance}: {lines}")?;
     if lines == others {
         return Ok(());
     }
     out.push_str("    a node of another type has another answer\n")
-}
-
-fn push_validator(
-    alloc: Global,
-    row: &Value,
-    all: &Checks<'_>,
-    checks: &Checks<'_>,
-    validator: &Validator<ScriptedEngine<'_>>,
-    out: &mut String,
-) -> Result<(), AllocError> {
-    let (name, (least, greatest)) = (entry::name(validator), validator.interval());
-    let quiet = quiet_word(validator.takes_no_memory());
-    let line = format!(in alloc; "  {name}, {least} to {greatest}{quiet}\n")?;
-    out.push_str(&line)?;
-    for ends in row::items(row, "lent") {
-        push_in_use(alloc, ends, validator.uses(&parts(all, ends)), out)?;
-    }
-    push_of_validator(alloc, row, checks, validator, out)
-}
-
-fn push_of_validator(
-    alloc: Global,
-    row: &Value,
-    checks: &Checks<'_>,
-    validator: &Validator<ScriptedEngine<'_>>,
-    out: &mut String,
-) -> Result<(), AllocError> {
-    let site = row::site(alloc, row)?;
-    for instance in row::items(row, "instances") {
-        push_validator_on(alloc, instance, &site, checks, validator, out)?;
-    }
-    Ok(())
-}
-
-fn push_validator_on(
-    alloc: Global,
-    instance: &Value,
-    site: &Site,
-    checks: &Checks<'_>,
-    validator: &Validator<ScriptedEngine<'_>>,
-    out: &mut String,
-) -> Result<(), AllocError> {
-    let name = Name {
-        text: instance.as_str(),
-    };
-    let lines = entry::lines(alloc, validator, instance, site, checks)?;
-    let others = entry::lines(alloc, validator, &name, site, checks)?;
-    push_answers(alloc, instance, &lines, &others, out)
-}
-
-fn push_keywords(
-    alloc: Global,
-    row: &Value,
-    all: &Checks<'_>,
-    checks: &Checks<'_>,
-    keywords: &StringKeywords<ScriptedEngine<'_>>,
-    out: &mut String,
-) -> Result<(), AllocError> {
-    let folds = keywords.folds_to_false();
-    let quiet = quiet_word(keywords.takes_no_memory());
-    let line = format!(in alloc; "  object, folds: {folds}{quiet}\n")?;
-    out.push_str(&line)?;
-    for ends in row::items(row, "lent") {
-        push_in_use(alloc, ends, keywords.uses(&parts(all, ends)), out)?;
-    }
-    push_of_keywords(alloc, row, checks, keywords, out)
-}
-
-fn push_of_keywords(
-    alloc: Global,
-    row: &Value,
-    checks: &Checks<'_>,
-    keywords: &StringKeywords<ScriptedEngine<'_>>,
-    out: &mut String,
-) -> Result<(), AllocError> {
-    let site = row::site(alloc, row)?;
-    for instance in row::items(row, "instances") {
-        push_keywords_on(alloc, instance, &site, checks, keywords, out)?;
-    }
-    Ok(())
-}
-
-fn push_keywords_on(
-    alloc: Global,
-    instance: &Value,
-    site: &Site,
-    checks: &Checks<'_>,
-    keywords: &StringKeywords<ScriptedEngine<'_>>,
-    out: &mut String,
-) -> Result<(), AllocError> {
-    let name = Name {
-        text: instance.as_str(),
-    };
-    let lines = object::lines(alloc, keywords, instance, site, checks)?;
-    let others = object::lines(alloc, keywords, &name, site, checks)?;
-    push_answers(alloc, instance, &lines, &others, out)
 }

@@ -1,11 +1,11 @@
 //! The validator of one entry, asked.
 
-use crate::answers::{Answers, append, filled, first_error, word};
-use crate::shown::{OUT_OF_MEMORY, errors};
+use crate::answers::{Answers, Asked, filled, push_collected, push_first_error, word};
+use crate::shown::{OUT_OF_MEMORY, push_errors};
 use std::alloc::{AllocError, Global};
 use strkw_keywords::{Checks, Uses, Validate, Validator};
+use strkw_pattern::RegexEngine;
 use strkw_report::{EvaluationResult, Node, Site};
-use strkw_test_doubles::ScriptedEngine;
 
 /// The name of a validator.
 pub fn name<E>(validator: &Validator<E>) -> &'static str {
@@ -30,59 +30,55 @@ pub fn name<E>(validator: &Validator<E>) -> &'static str {
     }
 }
 
-fn annotation(alloc: Global, found: &EvaluationResult) -> Result<String, AllocError> {
-    match &found.annotation {
-        Some(value) => format!(in alloc; "    note: {value}\n"),
-        None => Ok(String::new(alloc)),
+impl<E: RegexEngine> Asked for Validator<E> {
+    fn is_in_use(&self, checks: &Checks) -> bool {
+        self.uses(checks)
+    }
+
+    fn ask<N: Node>(
+        &self,
+        alloc: Global,
+        node: &N,
+        site: &Site,
+        checks: &Checks,
+        answers: &mut Answers,
+    ) -> Result<bool, AllocError> {
+        if !self.uses(checks) {
+            return Ok(false);
+        }
+        answers.is_valid = word(self.is_valid(alloc, node, checks));
+        let mut found = filled(alloc)?;
+        let outcome = self.collect_errors(alloc, node, site, checks, &mut found);
+        push_collected(alloc, outcome, found, &mut answers.collect_errors)?;
+        let verdict = self.validate(alloc, node, site, checks);
+        push_first_error(alloc, verdict, &mut answers.validate)?;
+        push_evaluated(alloc, self.evaluate(alloc, node, site, checks), answers)?;
+        Ok(true)
     }
 }
 
-/// What the four calls of a validator answer of a node, as lines.
-pub fn lines<N: Node>(
-    alloc: Global,
-    validator: &Validator<ScriptedEngine<'_>>,
-    node: &N,
-    site: &Site,
-    checks: &Checks,
-) -> Result<String, AllocError> {
-    match answers(alloc, validator, node, site, checks)? {
-        Some(answers) => answers.lines(alloc),
-        None => String::from_str(alloc, "not in use\n"),
-    }
-}
-
-// The answers, `None` where the lists are not in use.
-fn answers<N: Node>(
-    alloc: Global,
-    validator: &Validator<ScriptedEngine<'_>>,
-    node: &N,
-    site: &Site,
-    checks: &Checks,
-) -> Result<Option<Answers>, AllocError> {
-    if !validator.uses(checks) {
-        return Ok(None);
-    }
-    let mut found = filled(alloc)?;
-    let collected = validator.collect_errors(alloc, node, site, checks, &mut found);
-    let collect_errors = append(alloc, collected, found)?;
-    let validate = first_error(alloc, validator.validate(alloc, node, site, checks))?;
-    let (evaluate, notes) = told(alloc, validator.evaluate(alloc, node, site, checks))?;
-    Ok(Some(Answers {
-        is_valid: word(validator.is_valid(alloc, node, checks)),
-        validate,
-        collect_errors,
-        evaluate,
-        notes,
-    }))
-}
-
-// The lines of the errors and of the notes of `evaluate`.
-fn told(
+// Appends the errors and the note of `evaluate`.
+fn push_evaluated(
     alloc: Global,
     outcome: Result<EvaluationResult, AllocError>,
-) -> Result<(String, String), AllocError> {
-    match outcome {
-        Ok(it) => Ok((errors(alloc, &it.errors)?, annotation(alloc, &it)?)),
-        Err(AllocError) => Ok((String::from_str(alloc, OUT_OF_MEMORY)?, String::new(alloc))),
+    answers: &mut Answers,
+) -> Result<(), AllocError> {
+    let pushed = match &outcome {
+        Ok(evaluation) => push_evaluation(alloc, evaluation, answers),
+        Err(AllocError) => answers.evaluate.push_str(OUT_OF_MEMORY),
+    };
+    drop(outcome);
+    pushed
+}
+
+fn push_evaluation(
+    alloc: Global,
+    evaluation: &EvaluationResult,
+    answers: &mut Answers,
+) -> Result<(), AllocError> {
+    push_errors(alloc, &evaluation.errors, &mut answers.evaluate)?;
+    match &evaluation.annotation {
+        Some(value) => write!(answers.notes, "    note: {value}\n"),
+        None => Ok(()),
     }
 }

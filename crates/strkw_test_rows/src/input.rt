@@ -38,19 +38,15 @@ pub fn push_output(alloc: Global, parts: &[Value], out: &mut String) -> Result<(
         Ok(()) => {}
         Err(fault) => out.push_str(fault.text())?,
     }
-    push_bytes(alloc, sink.bytes(), out)
+    push_bytes(sink.bytes(), out)
 }
 
-fn push_bytes(alloc: Global, bytes: &[u8], out: &mut String) -> Result<(), AllocError> {
+fn push_bytes(bytes: &[u8], out: &mut String) -> Result<(), AllocError> {
     let Ok(text) = str::from_utf8(bytes) else {
         return out.push_str("  no UTF-8\n");
     };
     match text.get(..FRONT) {
-        Some(front) if text.len() > MOST => {
-            let (front, count) = (front, text.len());
-            let line = format!(in alloc; "{front}.. of {count} bytes\n")?;
-            out.push_str(&line)
-        }
+        Some(front) if text.len() > MOST => { write!(out, "{front}.. of {} bytes\n", text.len()) }
         _ => out.push_str(text),
     }
 }

@@ -9,6 +9,7 @@ use serde_json::Value;
 use std::alloc::{AllocError, Global};
 use std::cell::Cell;
 use strkw_keywords::{Checks, Context, NamedCodec, NamedFormat, NamedMediaType};
+use strkw_report::Draft;
 use strkw_test_doubles::{Row, ScriptedBuilder, check_named, codec_named, outcome_named};
 
 /// Appends what a row's schema object says of each of its instances.
@@ -123,13 +124,24 @@ fn push_with_rows(
         engines_have_memory: without != Some("engines"),
         calls: Cell::new(0),
     };
+    push_with_builder(alloc, row, draft, all, &builder, out)
+}
+
+fn push_with_builder(
+    alloc: Global,
+    row: &Value,
+    draft: Draft,
+    all: &Checks<'_>,
+    builder: &ScriptedBuilder<'_>,
+    out: &mut String,
+) -> Result<(), AllocError> {
     let ctx = Context {
         draft,
         location: row::location(alloc, row, "location")?,
         absolute: row::absolute(alloc, row)?,
         options: row::options(row),
         checks: checks_of(row, all),
-        builder: &builder,
+        builder,
     };
     push_asked(alloc, row, all, &ctx, out)
 }

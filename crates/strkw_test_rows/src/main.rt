@@ -31,14 +31,17 @@ fn main(rt: HostRuntime) -> io::Result<()> {
 // A line, and what is answered to the row that it is.
 fn answer(alloc: Global, line: &str) -> Result<String, AllocError> {
     let mut out = format!(in alloc; "{line}\n")?;
-    if line.is_empty() || line.starts_with('#') {
-        return Ok(out);
-    }
-    match Value::from_str(alloc, line) {
-        Ok(row) => push_row(alloc, &row, &mut out)?,
-        Err(_) => out.push_str("  no JSON\n")?,
+    if !line.is_empty() && !line.starts_with('#') {
+        push_line(alloc, line, &mut out)?;
     }
     Ok(out)
+}
+
+fn push_line(alloc: Global, line: &str, out: &mut String) -> Result<(), AllocError> {
+    match Value::from_str(alloc, line) {
+        Ok(row) => push_row(alloc, &row, out),
+        Err(_) => out.push_str("  no JSON\n"),
+    }
 }
 
 fn push_row(alloc: Global, row: &Value, out: &mut String) -> Result<(), AllocError> {
@@ -46,7 +49,7 @@ fn push_row(alloc: Global, row: &Value, out: &mut String) -> Result<(), AllocErr
         return input::push_output(alloc, parts, out);
     }
     if let Some(name) = row.get("format").and_then(Value::as_str) {
-        return tables::push_named(alloc, name, row::items(row, "texts"), out);
+        return tables::push_named(name, row::items(row, "texts"), out);
     }
     lists::push_answers(alloc, row, out)
 }

@@ -1,69 +1,67 @@
 //! A whole schema object, compiled and asked.
 
-use crate::answers::{Answers, append, filled, first_error, word};
-use crate::shown::{OUT_OF_MEMORY, errors};
+use crate::answers::{Answers, Asked, filled, push_collected, push_first_error, word};
+use crate::shown::{OUT_OF_MEMORY, push_errors};
 use std::alloc::{AllocError, Global};
 use strkw_keywords::Checks;
 use strkw_object::{Note, ObjectEvaluation, StringKeywords};
+use strkw_pattern::RegexEngine;
 use strkw_report::{Node, Site};
-use strkw_test_doubles::ScriptedEngine;
 
-fn notes_of(alloc: Global, notes: &[Note]) -> Result<String, AllocError> {
-    let mut lines = String::new(alloc);
-    for note in notes {
-        let (place, value) = (note.schema_path.as_str(), &note.value);
-        let line = format!(in alloc; "    note {place}: {value}\n")?;
-        lines.push_str(&line)?;
+impl<E: RegexEngine> Asked for StringKeywords<E> {
+    fn is_in_use(&self, checks: &Checks) -> bool {
+        self.uses(checks)
     }
-    Ok(lines)
+
+    fn ask<N: Node>(
+        &self,
+        alloc: Global,
+        node: &N,
+        site: &Site,
+        checks: &Checks,
+        answers: &mut Answers,
+    ) -> Result<bool, AllocError> {
+        if !self.uses(checks) {
+            return Ok(false);
+        }
+        answers.is_valid = word(self.is_valid(alloc, node, checks));
+        let mut found = filled(alloc)?;
+        let outcome = self.collect_errors(alloc, node, site, checks, &mut found);
+        push_collected(alloc, outcome, found, &mut answers.collect_errors)?;
+        let verdict = self.validate(alloc, node, site, checks);
+        push_first_error(alloc, verdict, &mut answers.validate)?;
+        push_evaluated(alloc, self.evaluate(alloc, node, site, checks), answers)?;
+        Ok(true)
+    }
 }
 
-/// What the four calls of a compiled object answer of a node, as lines.
-pub fn lines<N: Node>(
-    alloc: Global,
-    keywords: &StringKeywords<ScriptedEngine<'_>>,
-    node: &N,
-    site: &Site,
-    checks: &Checks,
-) -> Result<String, AllocError> {
-    match answers(alloc, keywords, node, site, checks)? {
-        Some(answers) => answers.lines(alloc),
-        None => String::from_str(alloc, "not in use\n"),
-    }
-}
-
-// The answers, `None` where the lists are not in use.
-fn answers<N: Node>(
-    alloc: Global,
-    keywords: &StringKeywords<ScriptedEngine<'_>>,
-    node: &N,
-    site: &Site,
-    checks: &Checks,
-) -> Result<Option<Answers>, AllocError> {
-    if !keywords.uses(checks) {
-        return Ok(None);
-    }
-    let mut found = filled(alloc)?;
-    let collected = keywords.collect_errors(alloc, node, site, checks, &mut found);
-    let collect_errors = append(alloc, collected, found)?;
-    let validate = first_error(alloc, keywords.validate(alloc, node, site, checks))?;
-    let (evaluate, notes) = told(alloc, keywords.evaluate(alloc, node, site, checks))?;
-    Ok(Some(Answers {
-        is_valid: word(keywords.is_valid(alloc, node, checks)),
-        validate,
-        collect_errors,
-        evaluate,
-        notes,
-    }))
-}
-
-// The lines of the errors and of the notes of `evaluate`.
-fn told(
+// Appends the errors and the notes of `evaluate`.
+fn push_evaluated(
     alloc: Global,
     outcome: Result<ObjectEvaluation, AllocError>,
-) -> Result<(String, String), AllocError> {
-    match outcome {
-        Ok(it) => Ok((errors(alloc, &it.errors)?, notes_of(alloc, &it.notes)?)),
-        Err(AllocError) => Ok((String::from_str(alloc, OUT_OF_MEMORY)?, String::new(alloc))),
+    answers: &mut Answers,
+) -> Result<(), AllocError> {
+    let pushed = match &outcome {
+        Ok(evaluation) => push_evaluation(alloc, evaluation, answers),
+        Err(AllocError) => answers.evaluate.push_str(OUT_OF_MEMORY),
+    };
+    drop(outcome);
+    pushed
+}
+
+fn push_evaluation(
+    alloc: Global,
+    evaluation: &ObjectEvaluation,
+    answers: &mut Answers,
+) -> Result<(), AllocError> {
+    push_errors(alloc, &evaluation.errors, &mut answers.evaluate)?;
+    push_notes(&evaluation.notes, &mut answers.notes)
+}
+
+fn push_notes(notes: &[Note], lines: &mut String) -> Result<(), AllocError> {
+    for note in notes {
+        let (place, value) = (note.schema_path.as_str(), &note.value);
+        write!(lines, "    note {place}: {value}\n")?;
     }
+    Ok(())
 }

@@ -1,26 +1,25 @@
 //! Errors and refusals as lines that tell every field.
 
 use std::alloc::{AllocError, Global};
+use std::fmt::Display;
 use strkw_report::{CompileError, CompileErrorKind, ErrorKind, ValidationError};
 
 // What a call without memory is shown as.
 pub const OUT_OF_MEMORY: &str = "    out of memory\n";
 
-fn kind(alloc: Global, kind: &ErrorKind) -> Result<String, AllocError> {
+fn push_kind(kind: &ErrorKind, lines: &mut String) -> Result<(), AllocError> {
     match kind {
-        ErrorKind::MinLength { limit } => format!(in alloc; "MinLength {limit}"),
-        ErrorKind::MaxLength { limit } => format!(in alloc; "MaxLength {limit}"),
-        ErrorKind::Pattern { pattern } => format!(in alloc; "Pattern {pattern}"),
+        ErrorKind::MinLength { limit } => write!(lines, "MinLength {limit}"),
+        ErrorKind::MaxLength { limit } => write!(lines, "MaxLength {limit}"),
+        ErrorKind::Pattern { pattern } => write!(lines, "Pattern {pattern}"),
         ErrorKind::BacktrackLimitExceeded { pattern } => {
-            format!(in alloc; "BacktrackLimitExceeded {pattern}")
+            write!(lines, "BacktrackLimitExceeded {pattern}")
         }
-        ErrorKind::RegexEngineFailure { pattern } => {
-            format!(in alloc; "RegexEngineFailure {pattern}")
-        }
-        ErrorKind::Format { format } => format!(in alloc; "Format {format}"),
-        ErrorKind::ContentEncoding { name } => format!(in alloc; "ContentEncoding {name}"),
-        ErrorKind::ContentMediaType { name } => format!(in alloc; "ContentMediaType {name}"),
-        ErrorKind::FromUtf8 => String::from_str(alloc, "FromUtf8"),
+        ErrorKind::RegexEngineFailure { pattern } => write!(lines, "RegexEngineFailure {pattern}"),
+        ErrorKind::Format { format } => write!(lines, "Format {format}"),
+        ErrorKind::ContentEncoding { name } => write!(lines, "ContentEncoding {name}"),
+        ErrorKind::ContentMediaType { name } => write!(lines, "ContentMediaType {name}"),
+        ErrorKind::FromUtf8 => lines.push_str("FromUtf8"),
     }
 }
 
@@ -33,20 +32,15 @@ fn push_absolute(error: &ValidationError, lines: &mut String) -> Result<(), Allo
     lines.push_str("\n")
 }
 
-// An error: its place and its text, and below them its kind, the instance with its place, and the other places. Where
-// it is displayed as another text, a line says so.
-fn push_error(
+/// Appends an error: its place and its text, and below them its kind, the instance with its place, and the other
+/// places. Where it is displayed as another text, a line says so.
+pub fn push_error(
     alloc: Global,
     error: &ValidationError,
     lines: &mut String,
 ) -> Result<(), AllocError> {
     let text = error.text(alloc)?;
-    push_told(alloc, error, &text, lines)?;
-    push_absolute(error, lines)?;
-    if error.to_string(alloc)?.as_str() == text.as_str() {
-        return Ok(());
-    }
-    lines.push_str("      displayed otherwise\n")
+    push_told(alloc, error, &text, lines)
 }
 
 fn push_told(
@@ -55,54 +49,60 @@ fn push_told(
     text: &str,
     lines: &mut String,
 ) -> Result<(), AllocError> {
-    let kind = kind(alloc, &error.kind)?;
     let (instance, at) = (&error.instance, error.instance_path.as_str());
     let (place, way) = (error.schema_path.as_str(), error.evaluation_path.as_str());
-    let told = format!(in alloc;
-        "    {place}: {text}\n      {kind}, by {way} of {instance} at '{at}'"
-    )?;
-    lines.push_str(&told)
-}
-
-/// Errors in their order.
-pub fn errors(alloc: Global, errors: &[ValidationError]) -> Result<String, AllocError> {
-    let mut lines = String::new(alloc);
-    for error in errors {
-        push_error(alloc, error, &mut lines)?;
+    write!(lines, "    {place}: {text}\n      ")?;
+    push_kind(&error.kind, lines)?;
+    write!(lines, ", by {way} of {instance} at '{at}'")?;
+    push_absolute(error, lines)?;
+    if is_displayed(alloc, error, text)? {
+        return Ok(());
     }
-    Ok(lines)
+    lines.push_str("      displayed otherwise\n")
 }
 
-fn refusal_kind(alloc: Global, kind: &CompileErrorKind) -> Result<String, AllocError> {
+fn is_displayed<D: Display>(alloc: Global, it: &D, text: &str) -> Result<bool, AllocError> {
+    Ok(it.to_string(alloc)?.as_str() == text)
+}
+
+/// Appends errors in their order.
+pub fn push_errors(
+    alloc: Global,
+    errors: &[ValidationError],
+    lines: &mut String,
+) -> Result<(), AllocError> {
+    for error in errors {
+        push_error(alloc, error, lines)?;
+    }
+    Ok(())
+}
+
+fn push_refusal_kind(kind: &CompileErrorKind, out: &mut String) -> Result<(), AllocError> {
     match kind {
-        CompileErrorKind::NotString { value } => format!(in alloc; "NotString {value}"),
-        CompileErrorKind::Size => String::from_str(alloc, "Size"),
+        CompileErrorKind::NotString { value } => write!(out, "NotString {value}"),
+        CompileErrorKind::Size => out.push_str("Size"),
         CompileErrorKind::UnknownFormat {
             name,
             by_dialect: false,
-        } => format!(in alloc; "UnknownFormat {name}"),
+        } => write!(out, "UnknownFormat {name}"),
         CompileErrorKind::UnknownFormat {
             name,
             by_dialect: true,
-        } => format!(in alloc; "UnknownFormat {name}, by the dialect"),
-        CompileErrorKind::Regex { pattern } => format!(in alloc; "Regex {pattern}"),
-        CompileErrorKind::FractionalNumber => String::from_str(alloc, "FractionalNumber"),
-        CompileErrorKind::Memory => String::from_str(alloc, "Memory"),
+        } => write!(out, "UnknownFormat {name}, by the dialect"),
+        CompileErrorKind::Regex { pattern } => write!(out, "Regex {pattern}"),
+        CompileErrorKind::FractionalNumber => out.push_str("FractionalNumber"),
+        CompileErrorKind::Memory => out.push_str("Memory"),
     }
 }
 
-/// A refusal: its place and its text, and below them its kind.
+/// Appends a refusal: its place and its text, and below them its kind.
 pub fn push_refusal(
     alloc: Global,
     refusal: &CompileError,
     out: &mut String,
 ) -> Result<(), AllocError> {
     let text = refusal.text(alloc)?;
-    push_reason(alloc, refusal, &text, out)?;
-    if refusal.to_string(alloc)?.as_str() == text.as_str() {
-        return Ok(());
-    }
-    out.push_str("    displayed otherwise\n")
+    push_reason(alloc, refusal, &text, out)
 }
 
 fn push_reason(
@@ -111,8 +111,12 @@ fn push_reason(
     text: &str,
     out: &mut String,
 ) -> Result<(), AllocError> {
-    let kind = refusal_kind(alloc, &refusal.kind)?;
     let place = refusal.location.as_str();
-    let told = format!(in alloc; "  refused {place}: {text}\n    {kind}\n")?;
-    out.push_str(&told)
+    write!(out, "  refused {place}: {text}\n    ")?;
+    push_refusal_kind(&refusal.kind, out)?;
+    out.push_str("\n")?;
+    if is_displayed(alloc, refusal, text)? {
+        return Ok(());
+    }
+    out.push_str("    displayed otherwise\n")
 }

@@ -40,25 +40,24 @@ pub fn lines(alloc: Global) -> Result<String, AllocError> {
     for keyword in KEYWORDS {
         let (place, name) = (keyword.place(), keyword.as_str());
         let left_out = Options::default().is_overridden(keyword);
-        let line = format!(in alloc; "{place} {name}, left out by default: {left_out}\n")?;
-        out.push_str(&line)?;
+        write!(out, "{place} {name}, left out by default: {left_out}\n")?;
     }
-    push_default(alloc, &mut out)?;
-    push_drafts(alloc, &mut out)?;
-    push_formats(alloc, &mut out)?;
+    push_default(&mut out)?;
+    push_drafts(&mut out)?;
+    push_formats(&mut out)?;
     push_faults(&mut out)?;
     Ok(out)
 }
 
-fn push_default(alloc: Global, out: &mut String) -> Result<(), AllocError> {
+fn push_default(out: &mut String) -> Result<(), AllocError> {
     let options = Options::default();
     let (validate, ignore) = (options.validate_formats, options.ignore_unknown_formats);
     let (by_dialect, json) = (options.formats_by_dialect, options.json_media_type);
     let codecs = options.codecs;
-    let told = format!(in alloc;
+    write!(
+        out,
         "# default options\n{validate:?}, {ignore}, {by_dialect}, {json}, {codecs:?}\n"
-    )?;
-    out.push_str(&told)
+    )
 }
 
 fn hash_of<T: Hash>(value: &T) -> u64 {
@@ -67,60 +66,52 @@ fn hash_of<T: Hash>(value: &T) -> u64 {
     hasher.finish()
 }
 
-fn push_drafts(alloc: Global, out: &mut String) -> Result<(), AllocError> {
+fn push_drafts(out: &mut String) -> Result<(), AllocError> {
     out.push_str("# drafts\n")?;
     let mut place = 0u64;
     for draft in DRAFTS {
         let by_place = hash_of(&draft) == hash_of(&place);
-        let line = format!(in alloc; "{draft:?}, hashed by place: {by_place}\n")?;
-        out.push_str(&line)?;
+        write!(out, "{draft:?}, hashed by place: {by_place}\n")?;
         place = place.wrapping_add(1);
     }
     Ok(())
 }
 
-fn push_formats(alloc: Global, out: &mut String) -> Result<(), AllocError> {
+fn push_formats(out: &mut String) -> Result<(), AllocError> {
     out.push_str("# built-in formats\n")?;
     let mut place = 0u64;
     for format in BuiltinFormat::VARIANTS {
-        push_examples(alloc, *format, out)?;
-        push_order(alloc, place, *format, out)?;
+        push_examples(*format, out)?;
+        push_order(place, *format, out)?;
         place = place.wrapping_add(1);
     }
     Ok(())
 }
 
 // The name, the example, the window and the texts at its ends, with whether each text is valid.
-fn push_examples(alloc: Global, format: BuiltinFormat, out: &mut String) -> Result<(), AllocError> {
+fn push_examples(format: BuiltinFormat, out: &mut String) -> Result<(), AllocError> {
     let (name, example) = (format.as_str(), format.example());
     let (is_valid, empty) = (format.is_valid(example), format.is_valid(""));
-    let told = format!(in alloc;
+    write!(
+        out,
         "{format:?} is {name}\n  {example}: {is_valid}, no text: {empty}\n"
     )?;
-    out.push_str(&told)?;
     if let Some((least, greatest)) = format.length_window() {
-        let line = format!(in alloc; "  {least} to {greatest}\n")?;
-        out.push_str(&line)?;
+        write!(out, "  {least} to {greatest}\n")?;
     }
     match format.window_texts() {
         None => Ok(()),
-        Some((shortest, None)) => push_text(alloc, format, shortest, out),
+        Some((shortest, None)) => push_text(format, shortest, out),
         Some((shortest, Some(longest))) => {
-            push_text(alloc, format, shortest, out)?;
-            push_text(alloc, format, longest, out)
+            push_text(format, shortest, out)?;
+            push_text(format, longest, out)
         }
     }
 }
 
-fn push_text(
-    alloc: Global,
-    format: BuiltinFormat,
-    text: &str,
-    out: &mut String,
-) -> Result<(), AllocError> {
+fn push_text(format: BuiltinFormat, text: &str, out: &mut String) -> Result<(), AllocError> {
     let is_valid = format.is_valid(text);
-    let line = format!(in alloc; "  {text}: {is_valid}\n")?;
-    out.push_str(&line)
+    write!(out, "  {text}: {is_valid}\n")
 }
 
 // Whether a value is less than another, equal or greater; `?` where `cmp`, `<` and `==` do not agree.
@@ -134,19 +125,13 @@ fn sign<T: Ord>(value: &T, other: &T) -> char {
 }
 
 // A sign for each format in order, and whether its hash is that of its place.
-fn push_order(
-    alloc: Global,
-    place: u64,
-    format: BuiltinFormat,
-    out: &mut String,
-) -> Result<(), AllocError> {
+fn push_order(place: u64, format: BuiltinFormat, out: &mut String) -> Result<(), AllocError> {
     out.push_str("  ")?;
     for other in BuiltinFormat::VARIANTS {
         out.push(sign(&format, other))?;
     }
     let by_place = hash_of(&format) == hash_of(&place);
-    let told = format!(in alloc; ", hashed by place: {by_place}\n")?;
-    out.push_str(&told)
+    write!(out, ", hashed by place: {by_place}\n")
 }
 
 fn push_faults(out: &mut String) -> Result<(), AllocError> {
@@ -159,32 +144,25 @@ fn push_faults(out: &mut String) -> Result<(), AllocError> {
 }
 
 /// Appends which built-in format each draft knows by a name, and of which texts it is.
-pub fn push_named(
-    alloc: Global,
-    name: &str,
-    texts: &[Value],
-    out: &mut String,
-) -> Result<(), AllocError> {
+pub fn push_named(name: &str, texts: &[Value], out: &mut String) -> Result<(), AllocError> {
     for draft in DRAFTS {
         let found = builtin_format(draft, name);
-        let line = format!(in alloc; "  {draft:?}: {found:?}\n")?;
-        out.push_str(&line)?;
+        write!(out, "  {draft:?}: {found:?}\n")?;
         if let Some(format) = found {
-            push_verdicts(alloc, format, texts, out)?;
+            push_verdicts(format, texts, out)?;
         }
     }
     Ok(())
 }
 
 fn push_verdicts(
-    alloc: Global,
     format: BuiltinFormat,
     texts: &[Value],
     out: &mut String,
 ) -> Result<(), AllocError> {
     for text in texts {
         out.push_str("  ")?;
-        push_text(alloc, format, text.as_str().unwrap_or(""), out)?;
+        push_text(format, text.as_str().unwrap_or(""), out)?;
     }
     Ok(())
 }

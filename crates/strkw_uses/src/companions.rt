@@ -23,9 +23,18 @@ pub fn is_valid_with_companions(
             check: Box::new(alloc, *companion)?,
         })?;
     }
+    is_valid_with(alloc, &formats, object, text)
+}
+
+fn is_valid_with(
+    alloc: Global,
+    formats: &[NamedFormat],
+    object: &Map<String, Value>,
+    text: &str,
+) -> Result<bool> {
     let mut ctx = Context::new(alloc, Draft::Draft7, &NoPatterns);
     ctx.checks = Checks {
-        formats: &formats,
+        formats,
         media_types: &[],
         codecs: &[],
     };

@@ -36,8 +36,16 @@ fn messages_by(
     document: &str,
 ) -> Result<String> {
     let plan = read_plan(alloc, plan)?;
-    let document = Value::from_str(alloc, document)?;
+    messages_of(alloc, rules, &plan, &Value::from_str(alloc, document)?)
+}
+
+fn messages_of(
+    alloc: Global,
+    rules: &Rules<'_, EcmaPatterns>,
+    plan: &Value,
+    document: &Value,
+) -> Result<String> {
     let mut messages = Vec::new(alloc);
-    check_document(alloc, rules, &plan, &document, &mut messages)?;
+    check_document(alloc, rules, plan, document, &mut messages)?;
     Ok(String::from_utf8(messages)?)
 }

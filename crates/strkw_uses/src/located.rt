@@ -3,7 +3,7 @@
 use anyhow::Result;
 use serde_json::{Map, Value};
 use std::alloc::{AllocError, Global};
-use strkw_keywords::{Context, Options};
+use strkw_keywords::{Checks, Context, Options};
 use strkw_object::compile_strings;
 use strkw_pattern::NoPatterns;
 use strkw_report::{Draft, Location, Site, ValidationError};
@@ -15,13 +15,7 @@ pub fn errors_at_born(
     object: &Map<String, Value>,
     text: &str,
 ) -> Result<Vec<ValidationError>> {
-    let mut options = Options::default();
-    options.validate_formats = Some(true);
-    let mut ctx = Context::new(alloc, Draft::Draft202012, &NoPatterns);
-    ctx.location = Location::root(alloc).join("$defs")?.join("date")?;
-    ctx.absolute = Some(String::from_str(alloc, "https://example.com/person.json")?);
-    ctx.options = options;
-    errors_at(alloc, &ctx, object, &born_site(alloc)?, text)
+    errors_at(alloc, object, &born_site(alloc)?, text)
 }
 
 // Where the text stands, and how evaluation came to it.
@@ -34,6 +28,25 @@ fn born_site(alloc: Global) -> Result<Site, AllocError> {
 }
 
 fn errors_at(
+    alloc: Global,
+    object: &Map<String, Value>,
+    site: &Site,
+    text: &str,
+) -> Result<Vec<ValidationError>> {
+    let mut options = Options::default();
+    options.validate_formats = Some(true);
+    let ctx = Context {
+        draft: Draft::Draft202012,
+        location: Location::root(alloc).join("$defs")?.join("date")?,
+        absolute: Some(String::from_str(alloc, "https://example.com/person.json")?),
+        options,
+        checks: Checks::none(),
+        builder: &NoPatterns,
+    };
+    errors_under(alloc, &ctx, object, site, text)
+}
+
+fn errors_under(
     alloc: Global,
     ctx: &Context<'_, NoPatterns>,
     object: &Map<String, Value>,

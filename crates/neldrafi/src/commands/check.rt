@@ -5,20 +5,19 @@ ghost use Rattle.strkw_keywords.specs.Handed.{lists_of};
 ghost use Rattle.strkw_object.specs.Compiled.{keywords_demands};
 ghost use Rattle.std.specs.Prelude.{decimal};
 
-use crate::building::{Building, subcommand};
+use crate::building::{Argument, Takes, subcommand};
 use crate::faults::Fault;
 use crate::files::{FileCheck, check_files};
 use crate::inputs::{InputFault, InputFile, Lines};
 use crate::lines::JsonLine;
 use crate::options::{
-    FILE, IGNORE, OutputForm, Wanted, color, draft, draft_of, files, ignore, max_errors,
-    output as output_form, quiet, required,
+    COLOR, DRAFT, FILES, IGNORE, MAX_ERRORS, OUTPUT, OutputForm, QUIET, Wanted, draft_of,
 };
 use crate::outcome::Outcome;
 use crate::output::{Gathered, Output};
 use crate::schemas::{compile, read_schema, require_keywords};
 use crate::telling::Subject;
-use clap::{Arg, ArgAction, ArgMatches, Command};
+use clap::{ArgMatches, Command};
 use itoa::Buffer;
 use serde_json::Value;
 use std::alloc::{AllocError, Global};
@@ -59,35 +58,38 @@ Examples:
   neldrafi check --draft 7 schema.json < names.txt
   neldrafi check --json schema.json values.jsonl";
 
-/// What the subcommand takes.
+// What it takes.
+const ARGUMENTS: &[Argument] = &[
+    Argument {
+        name: SCHEMA,
+        takes: Takes::Word,
+        conflicts: &[],
+        help: "The file of the schema object",
+    },
+    FILES,
+    COLOR,
+    DRAFT,
+    IGNORE,
+    Argument {
+        name: IGNORE_UNKNOWN_FORMATS,
+        takes: Takes::Nothing,
+        conflicts: &[],
+        help: "Let every text pass a format that is not known",
+    },
+    Argument {
+        name: JSON,
+        takes: Takes::Nothing,
+        conflicts: &[],
+        help: "Read each line as a JSON value; one that is no string is valid",
+    },
+    MAX_ERRORS,
+    OUTPUT,
+    QUIET,
+];
+
+/// The subcommand.
 pub(crate) fn command<'a>(alloc: Global) -> Result<Command<'a>, AllocError> {
-    subcommand(alloc, NAME, ABOUT, AFTER_HELP)
-        .with(required(alloc, SCHEMA, "The file of the schema object"))
-        .with(files(alloc))
-        .with(color(alloc))
-        .with(draft(alloc))
-        .with(ignore(alloc))
-        .with(ignore_formats(alloc))
-        .with(json(alloc))
-        .with(max_errors(alloc))
-        .with(output_form(alloc))
-        .with(quiet(alloc))
-}
-
-// The option `--json`.
-fn json<'a>(alloc: Global) -> Arg<'a> {
-    Arg::new(alloc, JSON)
-        .long(JSON)
-        .action(ArgAction::SetTrue)
-        .help("Read each line as a JSON value; one that is no string is valid")
-}
-
-// The option `--ignore-unknown-formats`.
-fn ignore_formats<'a>(alloc: Global) -> Arg<'a> {
-    Arg::new(alloc, IGNORE_UNKNOWN_FORMATS)
-        .long(IGNORE_UNKNOWN_FORMATS)
-        .action(ArgAction::SetTrue)
-        .help("Let every text pass a format that is not known")
+    subcommand(alloc, NAME, ABOUT, AFTER_HELP, ARGUMENTS)
 }
 
 // Where a text is: on the line of this number.
@@ -124,6 +126,20 @@ struct FileLine<'a> {
     number: u64,
     // Its text.
     text: &'a str,
+}
+
+impl FileLine<'_> {
+    // The JSON value that its text is.
+    fn value(self, alloc: Global) -> Result<Value, Fault> {
+        match Value::from_str(alloc, self.text) {
+            Ok(value) => Ok(value),
+            Err(error) if error.is_memory() => Err(Fault::Memory),
+            Err(error) => Err(Fault::Input(InputFault::NotJson {
+                line: self.number,
+                error,
+            })),
+        }
+    }
 }
 
 impl LineCheck<'_> {
@@ -169,14 +185,10 @@ impl LineCheck<'_> {
         if !self.reads_json {
             return Ok(self.push(alloc, keywords, checks, at, &at.text, out)?);
         }
-        match Value::from_str(alloc, at.text) {
-            Ok(value) => Ok(self.push(alloc, keywords, checks, at, &value, out)?),
-            Err(error) if error.is_memory() => Err(Fault::Memory),
-            Err(error) => Err(Fault::Input(InputFault::NotJson {
-                line: at.number,
-                error,
-            })),
-        }
+        let value = at.value(alloc)?;
+        let pushed = self.push(alloc, keywords, checks, at, &value, out);
+        drop(value);
+        Ok(pushed?)
     }
 
     // Gathers and writes the messages about the lines of a file, and answers how many they are.
@@ -205,25 +217,6 @@ impl LineCheck<'_> {
         }
         Err(Fault::Input(InputFault::TooLong))
     }
-
-    // Writes the messages about the lines of a file, also where a fault ends the check before the end of the file, and
-    // answers how many they are.
-    fn check_file<E: RegexEngine>(
-        &self,
-        alloc: Global,
-        keywords: &StringKeywords<E>,
-        checks: &Checks<'_>,
-        file: &str,
-        lines: &mut Lines,
-        output: &mut Output<'_>,
-    ) -> Result<u64, Fault>
-        requires { IsInUse (keywords_demands E.outcome keywords.now)
-            (lists_of admits accepted encoded decoding checks.now) }
-    {
-        let mut messages = Gathered::new(alloc, output);
-        let checked = self.check_lines(alloc, keywords, checks, file, lines, &mut messages);
-        messages.end(checked)
-    }
 }
 
 impl FileCheck for LineCheck<'_> {
@@ -240,9 +233,11 @@ impl FileCheck for LineCheck<'_> {
         let alloc = rt.alloc();
         let keywords = compile(alloc, &self.rules, self.draft, self.schema)?;
         let mut lines = Lines::new(alloc, file)?;
-        let name = subject.file.unwrap_or("");
-        let checks = &self.rules.checks;
-        self.check_file(alloc, &keywords, checks, name, &mut lines, output)
+        let mut messages = Gathered::new(alloc, output);
+        let (name, checks) = (subject.file.unwrap_or(""), &self.rules.checks);
+        let checked = self.check_lines(alloc, &keywords, checks, name, &mut lines, &mut messages);
+        // The messages before a fault stay written.
+        messages.end(checked)
     }
 }
 
@@ -259,7 +254,7 @@ fn run_by(rt: &HostRuntime, matches: &ArgMatches<'_>, schema: &Value) -> Result<
     require_keywords(
         rt.alloc(),
         draft,
-        matches.get_strs(IGNORE).unwrap_or(&[]),
+        matches.get_strs(IGNORE.name).unwrap_or(&[]),
         schema,
     )?;
     let mut formats = Vec::new(rt.alloc());
@@ -292,7 +287,7 @@ fn check_by(
     drop(compile(rt.alloc(), &check.rules, check.draft, schema)?);
     check_files(
         rt,
-        matches.get_strs(FILE),
+        matches.get_strs(FILES.name),
         Wanted::of(rt, matches),
         &mut check,
     )

@@ -1,6 +1,6 @@
 //! `neldrafi csv`: checks CSV files by a plan.
 
-use crate::building::{Building, subcommand};
+use crate::building::{Argument, Takes, subcommand};
 use crate::columns::fault_of_missing;
 use crate::errors::ErrorLines;
 use crate::faults::{Fault, Reach};
@@ -8,8 +8,8 @@ use crate::files::{FileCheck, check_files};
 use crate::inputs::{InputFile, STANDARD_INPUT};
 use crate::lines::JsonLines;
 use crate::options::{
-    FILE, MAX_ERRORS, OutputForm, Wanted, color, delimiter, delimiter_said, files, keep_going,
-    max_errors, no_header, output as output_form, quiet, reading_said, required,
+    COLOR, DELIMITER, FILES, KEEP_GOING, MAX_ERRORS, MAX_ERRORS_NAME, NO_HEADER, OUTPUT,
+    OutputForm, QUIET, Wanted, delimiter_said, reading_said,
 };
 use crate::outcome::Outcome;
 use crate::output::{FaultyWrite, Output};
@@ -18,7 +18,7 @@ use crate::progress::Progress;
 use crate::report::{FileReport, Page};
 use crate::summary::Summary;
 use crate::telling::Subject;
-use clap::{Arg, ArgAction, ArgMatches, Command};
+use clap::{ArgMatches, Command};
 use serde_json::Value;
 use std::alloc::{AllocError, Global};
 use strkw_plan::Shown;
@@ -76,52 +76,55 @@ const DELIMITER_HELP: &str =
 const NO_HEADER_HELP: &str =
     "Check the first record too, and name the columns by number: `1`, `2`, `3` and so on";
 
-/// What the subcommand takes.
+// What it takes.
+const ARGUMENTS: &[Argument] = &[
+    Argument {
+        name: PLAN,
+        takes: Takes::Word,
+        conflicts: &[],
+        help: "The file of the plan",
+    },
+    FILES,
+    COLOR,
+    Argument {
+        name: DELIMITER,
+        takes: Takes::Value("CHARACTER"),
+        conflicts: &[],
+        help: DELIMITER_HELP,
+    },
+    KEEP_GOING,
+    MAX_ERRORS,
+    Argument {
+        name: NO_HEADER,
+        takes: Takes::Nothing,
+        conflicts: &[],
+        help: NO_HEADER_HELP,
+    },
+    OUTPUT,
+    Argument {
+        name: PROGRESS,
+        takes: Takes::Nothing,
+        conflicts: &[],
+        help: "Tell of every million records, and of all at the end, on standard error",
+    },
+    QUIET,
+    Argument {
+        name: SUMMARY,
+        takes: Takes::Nothing,
+        conflicts: &[MAX_ERRORS_NAME],
+        help: "Write a table of the errors by column and keyword in place of them",
+    },
+    Argument {
+        name: REPORT,
+        takes: Takes::Value("PAGE"),
+        conflicts: &[SUMMARY, MAX_ERRORS_NAME],
+        help: "Write a page of HTML about the errors to the file PAGE in place of them",
+    },
+];
+
+/// The subcommand.
 pub(crate) fn command<'a>(alloc: Global) -> Result<Command<'a>, AllocError> {
-    subcommand(alloc, NAME, ABOUT, AFTER_HELP)
-        .with(required(alloc, PLAN, "The file of the plan"))
-        .with(files(alloc))
-        .with(color(alloc))
-        .with(delimiter(alloc, DELIMITER_HELP))
-        .with(keep_going(alloc))
-        .with(max_errors(alloc))
-        .with(no_header(alloc, NO_HEADER_HELP))
-        .with(output_form(alloc))
-        .with(progress(alloc))
-        .with(quiet(alloc))
-        .with_made(summary(alloc))
-        .with_made(report(alloc))
-}
-
-// The option `--progress`.
-fn progress<'a>(alloc: Global) -> Arg<'a> {
-    Arg::new(alloc, PROGRESS)
-        .long(PROGRESS)
-        .action(ArgAction::SetTrue)
-        .help("Tell of every million records, and of all at the end, on standard error")
-}
-
-// The option `--summary`.
-fn summary<'a>(alloc: Global) -> Result<Arg<'a>, AllocError> {
-    Ok(
-        Arg::new(alloc, SUMMARY)
-            .long(SUMMARY)
-            .action(ArgAction::SetTrue)
-            .conflicts_with(MAX_ERRORS)?
-            .help("Write a table of the errors by column and keyword in place of them"),
-    )
-}
-
-// The option `--report`.
-fn report<'a>(alloc: Global) -> Result<Arg<'a>, AllocError> {
-    Ok(
-        Arg::new(alloc, REPORT)
-            .long(REPORT)
-            .value_name("PAGE")
-            .conflicts_with(SUMMARY)?
-            .conflicts_with(MAX_ERRORS)?
-            .help("Write a page of HTML about the errors to the file PAGE in place of them"),
-    )
+    subcommand(alloc, NAME, ABOUT, AFTER_HELP, ARGUMENTS)
 }
 
 // Checks a CSV file by a plan.
@@ -308,7 +311,7 @@ fn require_other_path(
 /// Runs the subcommand.
 pub(crate) fn run(rt: &HostRuntime, matches: &ArgMatches<'_>) -> Result<Outcome, Fault> {
     let path = matches.get_str(PLAN).unwrap_or("");
-    let (page, files) = (matches.get_str(REPORT), matches.get_strs(FILE));
+    let (page, files) = (matches.get_str(REPORT), matches.get_strs(FILES.name));
     require_other_path(rt.alloc(), page, path, files)?;
     let plan = read_plan_by(rt, path, delimiter_said(matches))?;
     run_by(rt, matches, &plan)
@@ -316,7 +319,7 @@ pub(crate) fn run(rt: &HostRuntime, matches: &ArgMatches<'_>) -> Result<Outcome,
 
 // Checks the files by a plan.
 fn run_by(rt: &HostRuntime, matches: &ArgMatches<'_>, plan: &Value) -> Result<Outcome, Fault> {
-    let (page, files) = (matches.get_str(REPORT), matches.get_strs(FILE));
+    let (page, files) = (matches.get_str(REPORT), matches.get_strs(FILES.name));
     let mut check = TableCheck {
         plan,
         reading: reading_said(matches),

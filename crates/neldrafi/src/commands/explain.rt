@@ -1,12 +1,10 @@
 //! `neldrafi explain`: what a schema object compiles to, in words.
 
-use crate::building::{Building, subcommand};
+use crate::building::{Argument, Takes, subcommand};
 use crate::faults::Fault;
 use crate::known_formats::KnownFormat;
-use crate::lines::push_line;
-use crate::options::{
-    IGNORE, OutputForm, draft, draft_of, ignore, output as output_form, required,
-};
+use crate::objects::{Datum, push_object};
+use crate::options::{DRAFT, IGNORE, OUTPUT, OutputForm, draft_of};
 use crate::outcome::Outcome;
 use crate::output::write_text;
 use crate::schemas::{compile, read_schema, require_keywords};
@@ -40,13 +38,22 @@ Examples:
   neldrafi explain schema.json
   neldrafi explain --draft 7 --ignore type schema.json";
 
-/// What the subcommand takes.
+// What it takes.
+const ARGUMENTS: &[Argument] = &[
+    Argument {
+        name: SCHEMA,
+        takes: Takes::Word,
+        conflicts: &[],
+        help: "The file of the schema object",
+    },
+    DRAFT,
+    IGNORE,
+    OUTPUT,
+];
+
+/// The subcommand.
 pub(crate) fn command<'a>(alloc: Global) -> Result<Command<'a>, AllocError> {
-    subcommand(alloc, NAME, ABOUT, AFTER_HELP)
-        .with(required(alloc, SCHEMA, "The file of the schema object"))
-        .with(draft(alloc))
-        .with(ignore(alloc))
-        .with(output_form(alloc))
+    subcommand(alloc, NAME, ABOUT, AFTER_HELP, ARGUMENTS)
 }
 
 // A number of characters, as `1 character`.
@@ -241,12 +248,12 @@ impl Explanation {
                 writeln!(out, "{keyword}: {message}")
             }
             OutputForm::Json => {
-                let line = json!(in alloc; {
-                    "keyword": keyword,
-                    "kind": kind,
-                    "message": message
-                })?;
-                push_line(alloc, &line, out)
+                let members = [
+                    ("keyword", Datum::Text(keyword)),
+                    ("kind", Datum::Text(kind)),
+                    ("message", Datum::Text(message)),
+                ];
+                push_object(alloc, &members, out)
             }
         }
     }
@@ -292,7 +299,7 @@ fn push_schema(
     require_keywords(
         alloc,
         draft,
-        matches.get_strs(IGNORE).unwrap_or(&[]),
+        matches.get_strs(IGNORE.name).unwrap_or(&[]),
         schema,
     )?;
     let mut formats = Vec::new(alloc);

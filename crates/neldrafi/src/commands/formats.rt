@@ -1,15 +1,14 @@
 //! `neldrafi formats`: a table of the formats.
 
-use crate::building::{Building, subcommand};
+use crate::building::{Argument, subcommand};
 use crate::drafts::{DRAFTS, draft_name};
 use crate::faults::Fault;
 use crate::known_formats::KnownFormat;
-use crate::lines::push_line;
-use crate::options::{OutputForm, output as output_form};
+use crate::objects::{Datum, push_object};
+use crate::options::{OUTPUT, OutputForm};
 use crate::outcome::Outcome;
 use crate::output::write_text;
 use clap::{ArgMatches, Command};
-use serde_json::{Value, json};
 use std::alloc::{AllocError, Global};
 
 /// The name of the subcommand.
@@ -27,9 +26,12 @@ Examples:
   neldrafi formats
   neldrafi formats --output json";
 
-/// What the subcommand takes.
+// What it takes.
+const ARGUMENTS: &[Argument] = &[OUTPUT];
+
+/// The subcommand.
 pub(crate) fn command<'a>(alloc: Global) -> Result<Command<'a>, AllocError> {
-    subcommand(alloc, NAME, ABOUT, AFTER_HELP).with(output_form(alloc))
+    subcommand(alloc, NAME, ABOUT, AFTER_HELP, ARGUMENTS)
 }
 
 // The names of the first and the last draft that has a format.
@@ -68,23 +70,17 @@ fn push_table(alloc: Global, out: &mut String) -> Result<(), AllocError> {
     Ok(())
 }
 
-// The object about a format.
-fn object_of(alloc: Global, format: KnownFormat) -> Result<Value, AllocError> {
-    let (name, example) = (format.as_str(), format.example());
-    let (first, last) = drafts_of(format);
-    json!(in alloc; {
-        "name": name,
-        "first": first,
-        "last": last,
-        "example": example
-    })
-}
-
 // Appends an object for each format.
 fn push_objects(alloc: Global, out: &mut String) -> Result<(), AllocError> {
     for format in KnownFormat::all(alloc)? {
-        let object = object_of(alloc, format)?;
-        push_line(alloc, &object, out)?;
+        let (first, last) = drafts_of(format);
+        let members = [
+            ("name", Datum::Text(format.as_str())),
+            ("first", Datum::Text(first)),
+            ("last", Datum::Text(last)),
+            ("example", Datum::Text(format.example())),
+        ];
+        push_object(alloc, &members, out)?;
     }
     Ok(())
 }

@@ -1,13 +1,11 @@
 //! `neldrafi json`: checks JSON documents by a plan.
 
-use crate::building::{Building, subcommand};
+use crate::building::{Argument, Takes, subcommand};
 use crate::faults::Fault;
 use crate::files::{FileCheck, check_files};
 use crate::inputs::InputFile;
 use crate::lines::JsonLines;
-use crate::options::{
-    FILE, OutputForm, Wanted, color, files, max_errors, output as output_form, quiet, required,
-};
+use crate::options::{COLOR, FILES, MAX_ERRORS, OUTPUT, OutputForm, QUIET, Wanted};
 use crate::outcome::Outcome;
 use crate::output::{FaultyWrite, Output};
 use crate::plans::read_plan_of;
@@ -45,15 +43,24 @@ Examples:
   neldrafi json --output json plan.json server.json
   neldrafi json --quiet plan.json < server.json";
 
-/// What the subcommand takes.
+// What it takes.
+const ARGUMENTS: &[Argument] = &[
+    Argument {
+        name: PLAN,
+        takes: Takes::Word,
+        conflicts: &[],
+        help: "The file of the plan",
+    },
+    FILES,
+    COLOR,
+    MAX_ERRORS,
+    OUTPUT,
+    QUIET,
+];
+
+/// The subcommand.
 pub(crate) fn command<'a>(alloc: Global) -> Result<Command<'a>, AllocError> {
-    subcommand(alloc, NAME, ABOUT, AFTER_HELP)
-        .with(required(alloc, PLAN, "The file of the plan"))
-        .with(files(alloc))
-        .with(color(alloc))
-        .with(max_errors(alloc))
-        .with(output_form(alloc))
-        .with(quiet(alloc))
+    subcommand(alloc, NAME, ABOUT, AFTER_HELP, ARGUMENTS)
 }
 
 // Checks a JSON document by a plan.
@@ -118,7 +125,7 @@ pub(crate) fn run(rt: &HostRuntime, matches: &ArgMatches<'_>) -> Result<Outcome,
     };
     check_files(
         rt,
-        matches.get_strs(FILE),
+        matches.get_strs(FILES.name),
         Wanted::of(rt, matches),
         &mut check,
     )

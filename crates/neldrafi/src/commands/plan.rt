@@ -1,21 +1,20 @@
 //! `neldrafi plan`: a plan that is proposed for a CSV file, from a sample of its records.
 
-use crate::building::{Building, subcommand};
+use crate::building::{Argument, Takes, subcommand};
 use crate::drafts::draft_number;
 use crate::faults::Fault;
 use crate::inputs::{InputFile, STANDARD_INPUT};
 use crate::known_formats::KnownFormat;
+use crate::objects::{Datum, object};
 use crate::options::{
-    OutputForm, delimiter, delimiter_said, draft, draft_of, header_said, no_header,
-    output as output_form,
+    DELIMITER, DRAFT, NO_HEADER, OUTPUT, OutputForm, delimiter_said, draft_of, header_said,
 };
 use crate::outcome::Outcome;
 use crate::output::write_text;
-use crate::plans::{set_delimiter, set_text};
-use clap::builder::ValueParser;
-use clap::{Arg, ArgMatches, Command};
+use crate::plans::{set_delimiter, set_text, set_value};
+use clap::{ArgMatches, Command};
 use csv::StringRecord;
-use serde_json::{Map, Value, json};
+use serde_json::{Map, Value};
 use std::alloc::{AllocError, Global};
 use std::collections::BTreeMap;
 use strkw_plan::{PlanFault, delimiter_of};
@@ -77,32 +76,39 @@ const PROPOSED: &[&str] = &[
     "iri",
 ];
 
-/// What the subcommand takes.
+// What it takes.
+const ARGUMENTS: &[Argument] = &[
+    Argument {
+        name: FILE,
+        takes: Takes::WordOr(STANDARD_INPUT),
+        conflicts: &[],
+        help: "The CSV file; `-` is standard input, and so is no file",
+    },
+    Argument {
+        name: DELIMITER,
+        takes: Takes::Value("CHARACTER"),
+        conflicts: &[],
+        help: DELIMITER_HELP,
+    },
+    DRAFT,
+    Argument {
+        name: NO_HEADER,
+        takes: Takes::Nothing,
+        conflicts: &[],
+        help: NO_HEADER_HELP,
+    },
+    OUTPUT,
+    Argument {
+        name: RECORDS,
+        takes: Takes::Number("N"),
+        conflicts: &[],
+        help: "Look at the first N records, and not at 10000",
+    },
+];
+
+/// The subcommand.
 pub(crate) fn command<'a>(alloc: Global) -> Result<Command<'a>, AllocError> {
-    subcommand(alloc, NAME, ABOUT, AFTER_HELP)
-        .with(file(alloc))
-        .with(delimiter(alloc, DELIMITER_HELP))
-        .with(draft(alloc))
-        .with(no_header(alloc, NO_HEADER_HELP))
-        .with(output_form(alloc))
-        .with(records(alloc))
-}
-
-// The file of the records.
-fn file<'a>(alloc: Global) -> Arg<'a> {
-    Arg::new(alloc, FILE)
-        .default_value(STANDARD_INPUT)
-        .hide_default_value(true)
-        .help("The CSV file; `-` is standard input, and so is no file")
-}
-
-// The option `--records`.
-fn records<'a>(alloc: Global) -> Arg<'a> {
-    Arg::new(alloc, RECORDS)
-        .long(RECORDS)
-        .value_name("N")
-        .value_parser(ValueParser::unsigned(1, u64::MAX))
-        .help("Look at the first N records, and not at 10000")
+    subcommand(alloc, NAME, ABOUT, AFTER_HELP, ARGUMENTS)
 }
 
 // What was seen of a column.
@@ -127,6 +133,15 @@ fn proposed(alloc: Global, draft: Draft) -> Result<Vec<KnownFormat>, AllocError>
         }
     }
     Ok(formats)
+}
+
+// The schema object of texts of so many characters.
+fn lengths(alloc: Global, least: u64, greatest: u64) -> Result<Value, AllocError> {
+    let members = [
+        ("minLength", Datum::Number(least)),
+        ("maxLength", Datum::Number(greatest)),
+    ];
+    object(alloc, &members)
 }
 
 impl Column {
@@ -164,8 +179,8 @@ impl Column {
     // The schema object that is proposed.
     fn schema(&self, alloc: Global) -> Result<Value, AllocError> {
         match (self.has_others, self.has_empty) {
-            (false, false) => json!(in alloc; {}),
-            (false, true) => json!(in alloc; {"minLength": 0, "maxLength": 0}),
+            (false, false) => object(alloc, &[]),
+            (false, true) => lengths(alloc, 0, 0),
             (true, false) => self.schema_of_others(alloc),
             (true, true) => {
                 let mut schema = self.schema_of_others(alloc)?;
@@ -177,8 +192,7 @@ impl Column {
 
     // The schema object that is proposed for the values that are not empty.
     fn schema_of_others(&self, alloc: Global) -> Result<Value, AllocError> {
-        let (least, greatest) = (self.least, self.greatest);
-        let mut schema = json!(in alloc; {"minLength": least, "maxLength": greatest})?;
+        let mut schema = lengths(alloc, self.least, self.greatest)?;
         if let Some(format) = self.formats.first() {
             set_text(alloc, &mut schema, "format", format.as_str())?;
         }
@@ -188,6 +202,20 @@ impl Column {
 
 // The columns of a file, by their names.
 type Columns = BTreeMap<String, Column>;
+
+// Adds a column for each of these names, of which no value was seen.
+fn push_columns(
+    alloc: Global,
+    draft: Draft,
+    names: &StringRecord,
+    columns: &mut Columns,
+) -> Result<(), AllocError> {
+    for name in names.iter() {
+        let name = String::from_str(alloc, name)?;
+        drop(columns.insert(name, Column::new(alloc, draft)?)?);
+    }
+    Ok(())
+}
 
 // A sample of a file: its names, and what was seen of each column.
 #[derive(Drop)]
@@ -200,10 +228,7 @@ impl Sample {
     // The sample with these names, and no record.
     fn new(alloc: Global, draft: Draft, names: StringRecord) -> Result<Sample, Fault> {
         let mut columns = BTreeMap::new(alloc);
-        for name in names.iter() {
-            let column = Column::new(alloc, draft)?;
-            drop(columns.insert(String::from_str(alloc, name)?, column)?);
-        }
+        push_columns(alloc, draft, &names, &mut columns)?;
         Ok(Sample { names, columns })
     }
 
@@ -251,13 +276,18 @@ impl Sample {
 
     // The plan that is proposed.
     fn plan(&self, alloc: Global, draft: Draft) -> Result<Value, AllocError> {
-        let columns = self.schemas(alloc)?;
-        let draft = draft_number(draft);
-        let mut plan = json!(in alloc; {"draft": draft, "columns": columns})?;
-        if self.columns.len() < self.names.len() {
-            set_text(alloc, &mut plan, "duplicates", "each")?;
-        }
+        let mut plan = object(alloc, &[("draft", Datum::Number(draft_number(draft)))])?;
+        self.fill(alloc, &mut plan)?;
         Ok(plan)
+    }
+
+    // Puts into a plan what it says of the columns.
+    fn fill(&self, alloc: Global, plan: &mut Value) -> Result<(), AllocError> {
+        set_value(alloc, plan, "columns", self.schemas(alloc)?)?;
+        if self.columns.len() < self.names.len() {
+            set_text(alloc, plan, "duplicates", "each")?;
+        }
+        Ok(())
     }
 }
 
@@ -369,16 +399,22 @@ fn text_of(alloc: Global, form: OutputForm, plan: &Value) -> Result<String, Allo
     }
 }
 
+// Writes a plan, with what is said to part the columns.
+fn write_plan(rt: &HostRuntime, matches: &ArgMatches<'_>, plan: &mut Value) -> Result<(), Fault> {
+    if let Some(delimiter) = delimiter_said(matches) {
+        set_delimiter(rt.alloc(), plan, delimiter)?;
+    }
+    let mut text = text_of(rt.alloc(), OutputForm::of(matches), plan)?;
+    text.push_str("\n")?;
+    write_text(rt, &text)
+}
+
 /// Runs the subcommand.
 pub(crate) fn run(rt: &HostRuntime, matches: &ArgMatches<'_>) -> Result<Outcome, Fault> {
-    let alloc = rt.alloc();
     let file = InputFile::open(rt, matches.get_str(FILE).unwrap_or(STANDARD_INPUT))?;
-    let mut plan = plan_for(alloc, matches, file)?;
-    if let Some(delimiter) = delimiter_said(matches) {
-        set_delimiter(alloc, &mut plan, delimiter)?;
-    }
-    let mut text = text_of(alloc, OutputForm::of(matches), &plan)?;
-    text.push_str("\n")?;
-    write_text(rt, &text)?;
+    let mut plan = plan_for(rt.alloc(), matches, file)?;
+    let written = write_plan(rt, matches, &mut plan);
+    drop(plan);
+    written?;
     Ok(Outcome::AllValid)
 }

@@ -1,14 +1,14 @@
 //! `neldrafi requests`: answers requests, one a line.
 
 use crate::bad_requests::why_bad;
-use crate::building::{Building, subcommand};
+use crate::building::{Argument, Takes, subcommand};
 use crate::faults::Fault;
 use crate::inputs::{InputFault, InputFile, LineBytes, Lines, STANDARD_INPUT};
-use crate::options::{OutputForm, Wanted, output as output_form};
+use crate::options::{OUTPUT, OutputForm, Wanted};
 use crate::outcome::Outcome;
 use crate::output::{Gathered, Output};
 use crate::telling::{Notice, Subject, tell};
-use clap::{Arg, ArgMatches, Command};
+use clap::{ArgMatches, Command};
 use std::alloc::{AllocError, Global};
 use strkw_cli::answer;
 
@@ -35,19 +35,20 @@ Examples:
   neldrafi requests requests.jsonl
   neldrafi requests < requests.jsonl";
 
-/// What the subcommand takes.
-pub(crate) fn command<'a>(alloc: Global) -> Result<Command<'a>, AllocError> {
-    subcommand(alloc, NAME, ABOUT, AFTER_HELP)
-        .with(file(alloc))
-        .with(output_form(alloc))
-}
+// What it takes.
+const ARGUMENTS: &[Argument] = &[
+    Argument {
+        name: FILE,
+        takes: Takes::WordOr(STANDARD_INPUT),
+        conflicts: &[],
+        help: "The file of the requests; `-` is standard input, and so is no file",
+    },
+    OUTPUT,
+];
 
-// The file of the requests.
-fn file<'a>(alloc: Global) -> Arg<'a> {
-    Arg::new(alloc, FILE)
-        .default_value(STANDARD_INPUT)
-        .hide_default_value(true)
-        .help("The file of the requests; `-` is standard input, and so is no file")
+/// The subcommand.
+pub(crate) fn command<'a>(alloc: Global) -> Result<Command<'a>, AllocError> {
+    subcommand(alloc, NAME, ABOUT, AFTER_HELP, ARGUMENTS)
 }
 
 // What requests are answered with, and how it is told that a line is none.

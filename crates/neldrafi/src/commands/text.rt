@@ -1,16 +1,15 @@
 //! `neldrafi text`: whether texts are of a format.
 
-use crate::building::{Building, subcommand};
+use crate::building::{Argument, Takes, subcommand};
 use crate::drafts::draft_name;
 use crate::faults::{Fault, Reach};
 use crate::inputs::{InputFile, Lines, STANDARD_INPUT};
 use crate::known_formats::KnownFormat;
-use crate::lines::push_line;
-use crate::options::{OutputForm, Wanted, draft, draft_of, output as output_form, quiet, required};
+use crate::objects::{Datum, push_object};
+use crate::options::{DRAFT, OUTPUT, OutputForm, QUIET, Wanted, draft_of};
 use crate::outcome::Outcome;
 use crate::output::{Gathered, Output};
-use clap::{Arg, ArgMatches, Command};
-use serde_json::{Value, json};
+use clap::{ArgMatches, Command};
 use std::alloc::{AllocError, Global};
 use strkw_plan::Shown;
 use strkw_report::Draft;
@@ -41,25 +40,28 @@ Examples:
 // How long a name may be for which a near one is looked for, in bytes.
 const LONGEST_NAME: usize = 64;
 
-/// What the subcommand takes.
-pub(crate) fn command<'a>(alloc: Global) -> Result<Command<'a>, AllocError> {
-    subcommand(alloc, NAME, ABOUT, AFTER_HELP)
-        .with(required(
-            alloc,
-            FORMAT,
-            "The name of a format, as `neldrafi formats` lists them",
-        ))
-        .with(texts(alloc))
-        .with(draft(alloc))
-        .with(output_form(alloc))
-        .with(quiet(alloc))
-}
+// What it takes.
+const ARGUMENTS: &[Argument] = &[
+    Argument {
+        name: FORMAT,
+        takes: Takes::Word,
+        conflicts: &[],
+        help: "The name of a format, as `neldrafi formats` lists them",
+    },
+    Argument {
+        name: TEXT,
+        takes: Takes::Words,
+        conflicts: &[],
+        help: "Texts to judge; without any, each line of standard input is one",
+    },
+    DRAFT,
+    OUTPUT,
+    QUIET,
+];
 
-// The texts.
-fn texts<'a>(alloc: Global) -> Arg<'a> {
-    Arg::new(alloc, TEXT).num_args(0usize..).help(
-        "Texts to judge; without any, each line of standard input is one",
-    )
+/// The subcommand.
+pub(crate) fn command<'a>(alloc: Global) -> Result<Command<'a>, AllocError> {
+    subcommand(alloc, NAME, ABOUT, AFTER_HELP, ARGUMENTS)
 }
 
 // The first format of the draft to whose name one edit leads, where one does.
@@ -107,23 +109,6 @@ fn push_verdict(valid: bool, out: &mut String) -> Result<(), AllocError> {
     out.push_str(if valid { "valid\n" } else { "invalid\n" })
 }
 
-// A verdict, as an object.
-fn verdict_of(
-    alloc: Global,
-    format: KnownFormat,
-    record: u64,
-    text: &str,
-    valid: bool,
-) -> Result<Value, AllocError> {
-    let format = format.as_str();
-    json!(in alloc; {
-        "record": record,
-        "format": format,
-        "instance": text,
-        "valid": valid
-    })
-}
-
 // The verdicts on texts, and what they come to.
 #[derive(Drop)]
 struct Verdicts<'o, 'a> {
@@ -135,19 +120,32 @@ struct Verdicts<'o, 'a> {
 
 impl Verdicts<'_, '_> {
     // Judges the text of this number.
-    fn judge(&mut self, alloc: Global, record: u64, text: &str) -> Result<(), Fault> {
+    fn judge(&mut self, alloc: Global, record: u64, text: &str) -> Result<(), AllocError> {
         let valid = self.format.is_valid(alloc, text)?;
         if !valid {
             self.outcome = Outcome::Errors;
         }
         match self.form {
-            OutputForm::Text => push_verdict(valid, &mut self.lines.text)?,
-            OutputForm::Json => {
-                let verdict = verdict_of(alloc, self.format, record, text, valid)?;
-                push_line(alloc, &verdict, &mut self.lines.text)?;
-            }
+            OutputForm::Text => push_verdict(valid, &mut self.lines.text),
+            OutputForm::Json => self.push_object(alloc, record, text, valid),
         }
-        Ok(())
+    }
+
+    // Appends a verdict, as an object.
+    fn push_object(
+        &mut self,
+        alloc: Global,
+        record: u64,
+        text: &str,
+        valid: bool,
+    ) -> Result<(), AllocError> {
+        let members = [
+            ("record", Datum::Number(record)),
+            ("format", Datum::Text(self.format.as_str())),
+            ("instance", Datum::Text(text)),
+            ("valid", Datum::Flag(valid)),
+        ];
+        push_object(alloc, &members, &mut self.lines.text)
     }
 
     // Judges each of the texts.

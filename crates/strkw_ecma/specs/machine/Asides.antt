@@ -47,6 +47,11 @@ AreAsides fs (x ∷ xs) (g ∷ gs) = IsAside fs x g × AreAsides (fs ++ (g ∷ [
 abbrev pub IsSmall : Pattern → Type 0
 IsSmall p = steps (spread p) ≤ max_steps
 
+-- and bears no mark, so that its lookaheads may be put aside
+pub record MayBePut (p : Pattern) : Type 0 where
+  pub bare : unmarked p ≡ true
+  pub small : IsSmall p
+
 abbrev pub AreSmall : List Quest → Type 0
 AreSmall [] = Unit {0}
 AreSmall (f ∷ fs) = IsSmall f.pattern × AreSmall fs

@@ -9,6 +9,7 @@ use Rattle.strkw_ecma.specs.Tree.{Pattern, empty, class, look, cat, alt, star, p
 use Rattle.strkw_ecma.specs.Tree.{lookahead, in_sets}
 use Rattle.strkw_ecma.specs.Program.{asks_word}
 use Rattle.strkw_ecma.specs.Sets.{word_characters}
+use Rattle.strkw_ecma.specs.declared.pages.Pages.{Pages}
 use Rattle.strkw_ecma.specs.declared.tree.CharSet.{CharSet}
 
 -- whether the sets of each class have the character, as digits behind those of n
@@ -60,6 +61,17 @@ pub record ArePaged (classes : List (Vec CharSet Global)) (keys plain pages : Li
   pub few_cells : length cells ≤ length keys + length pages
   pub are_plain : ArePlain keys plain cells
   pub are_pages : ArePages classes keys pages cells
+
+-- the pages and columns that are made so far are right
+abbrev pub IsPaged : List (Vec CharSet Global) → Pages → Type 0
+IsPaged classes made =
+    ArePaged classes made.keys.items made.plain.items made.pages.items made.cells.items
+
+-- they are, and there are fewer pages than there will be
+pub record MayGrow (classes : List (Vec CharSet Global)) (made : Pages) : Type 0 where
+  pub few : length classes ≤ 64
+  pub few_pages : length made.pages.items < 4352
+  pub paged : IsPaged classes made
 
 -- the answers tell whether a character is in these sets
 abbrev pub TellsSets : List (Vec CharSet Global) → List CharSet → Type 0

@@ -1,5 +1,5 @@
 -- What the seekers of the code stand for.
-use Rattle.std.specs.Prelude.{◌≡◌, ◌≤◌, ℕ, true, List, [], ◌∷◌}
+use Rattle.std.specs.Prelude.{◌≡◌, ◌≤◌, true, List, [], ◌∷◌}
 use Rattle.strkw_ecma.specs.Tree.{Pattern}
 use Rattle.strkw_ecma.specs.Size.{steps, max_steps}
 use Rattle.strkw_ecma.specs.machine.Machine.{pattern_of}

@@ -1,6 +1,6 @@
 -- Whether what any lookahead looks for is there, as a function: a search for its mirror, from the
 -- end of the text on, tells at which places it is. So do searches for those in it, in turn.
-use Rattle.std.specs.Prelude.{ℕ, zero, suc, ◌+◌, ◌-◌, max, Bool, true, false, ◌||◌, List, length}
+use Rattle.std.specs.Prelude.{ℕ, zero, suc, ◌-◌, max, Bool, true, false, ◌||◌, List, length}
 use Rattle.std.specs.Prelude.{reverse, slice_get}
 use Rattle.strkw_ecma.specs.Tree.{Pattern, empty, class, look, cat, alt, star, plus, lookbehind}
 use Rattle.strkw_ecma.specs.Tree.{lookahead}

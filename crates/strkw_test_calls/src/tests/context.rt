@@ -112,6 +112,11 @@ pub(super) struct Given {
 /// Whether something is answered as it is to be. Out of memory is an error.
 pub(super) type Answer = Result<bool, AllocError>;
 
+/// This answer where something else holds, as that what a call was lent is as it was.
+pub(super) fn only_if(holds: bool, answer: Answer) -> Answer {
+    if holds { answer } else { Ok(false) }
+}
+
 /// What is asked of a schema object in a draft.
 pub(super) trait Asked {
     fn given(&self) -> Given;
@@ -121,13 +126,27 @@ pub(super) trait Asked {
 
 // Whether this is answered in a context as it is to be. The schema object is as it was, whatever was answered.
 fn is_answered_in<A: Asked>(alloc: Global, ctx: &Lent<'_>, asked: &A) -> Answer {
-    let text = asked.given().schema;
-    let (schema, before) = (json(alloc, text)?, json(alloc, text)?);
+    let schema = json(alloc, asked.given().schema)?;
+    let answer = is_answered_by(alloc, ctx, asked, &schema);
+    drop(schema);
+    answer
+}
+
+// The same of its schema object.
+fn is_answered_by<A: Asked>(alloc: Global, ctx: &Lent<'_>, asked: &A, schema: &Value) -> Answer {
     let answer = match schema.as_object() {
         Some(object) => asked.is_answered(alloc, ctx, object),
         None => Ok(false),
     };
-    Ok(schema == before && answer?)
+    only_if(is_json(alloc, schema, asked.given().schema)?, answer)
+}
+
+/// Whether a value is that of a JSON text.
+pub(super) fn is_json(alloc: Global, value: &Value, text: &str) -> Answer {
+    let wanted = json(alloc, text)?;
+    let is_so = *value == wanted;
+    drop(wanted);
+    Ok(is_so)
 }
 
 /// Whether this is answered as it is to be, in a context of its own. The context and the schema object are as they
@@ -138,7 +157,10 @@ pub(super) fn is_answered<A: Asked>(alloc: Global, asked: &A) -> Answer {
     let formats = [even_format(alloc)?];
     let ctx = context(alloc, draft, &builder, &formats)?;
     let answer = is_answered_in(alloc, &ctx, asked);
-    Ok(is_as_made(alloc, &ctx, draft) && answer?)
+    let is_as_lent = is_as_made(alloc, &ctx, draft);
+    drop(ctx);
+    drop(formats);
+    only_if(is_as_lent, answer)
 }
 
 /// Whether a refusal is at this place. One as out of memory is an error here, and stands at the root.
@@ -196,14 +218,15 @@ pub(super) fn collects(
         return Ok(false);
     };
     match collected {
-        Ok(()) => Ok(is_lent(first) && error_lines(alloc, rest)?.as_str() == wanted),
+        Ok(()) if is_lent(first) => are_lines(alloc, rest, wanted),
+        Ok(()) => Ok(false),
         Err(AllocError) if is_lent(first) && rest.is_empty() => Err(AllocError),
         Err(AllocError) => Ok(false),
     }
 }
 
-/// The place and the text of each error.
-pub(super) fn error_lines(alloc: Global, errors: &[ValidationError]) -> Result<String, AllocError> {
+// The place and the text of each error.
+fn error_lines(alloc: Global, errors: &[ValidationError]) -> Result<String, AllocError> {
     let mut lines = String::new(alloc);
     for error in errors {
         push_error(alloc, error, &mut lines)?;
@@ -211,7 +234,13 @@ pub(super) fn error_lines(alloc: Global, errors: &[ValidationError]) -> Result<S
     Ok(lines)
 }
 
-pub(super) fn push_error(
+/// Whether these are the lines of the errors.
+pub(super) fn are_lines(alloc: Global, errors: &[ValidationError], wanted: &str) -> Answer {
+    Ok(error_lines(alloc, errors)?.as_str() == wanted)
+}
+
+// Appends the line of an error.
+fn push_error(
     alloc: Global,
     error: &ValidationError,
     lines: &mut String,
@@ -225,18 +254,23 @@ pub(super) fn push_error(
 /// Whether `validate` answers the first of these lines, or that there is none.
 pub(super) fn gives_the_first(
     alloc: Global,
-    verdict: &Result<(), Fault>,
+    verdict: Result<(), Fault>,
     wanted: &str,
 ) -> Result<bool, AllocError> {
-    match verdict {
+    let is_so = match &verdict {
         Ok(()) => Ok(wanted.is_empty()),
-        Err(Fault::Invalid(error)) => {
-            let mut line = String::new(alloc);
-            push_error(alloc, error, &mut line)?;
-            Ok(wanted.starts_with(line.as_str()))
-        }
+        Err(Fault::Invalid(error)) => is_the_first(alloc, error, wanted),
         Err(Fault::Memory) => Err(AllocError),
-    }
+    };
+    drop(verdict);
+    is_so
+}
+
+// Whether the line of an error begins these.
+fn is_the_first(alloc: Global, error: &ValidationError, lines: &str) -> Answer {
+    let mut line = String::new(alloc);
+    push_error(alloc, error, &mut line)?;
+    Ok(lines.starts_with(line.as_str()))
 }
 
 /// One of the four calls.

@@ -121,16 +121,30 @@ fn a_read_fails(rt: HostRuntime) -> Result<(), Fail> {
 // The lengths of the requests, without their line feeds.
 const LENGTHS: [usize; 5] = [68, 11, 62, 51, 58];
 
-// Whether a run whose lines have this bound answers the lines before the first that is longer, and ends there.
-fn ends_at_the_long_line(alloc: Global, longest: usize) -> Result<bool, AllocError> {
-    let mut source = MemorySource::new(script().to_vec(alloc)?);
+// Whether a run whose lines have a bound ends with this fault or none, and has written this.
+fn ends_so(
+    alloc: Global,
+    longest: usize,
+    lines: Vec<u8>,
+    fault: Option<BoundedRunFault>,
+    written: &[u8],
+) -> bool {
+    let mut source = MemorySource::new(lines);
     let mut sink = MemorySink::new(alloc);
     let ended = run_bounded(alloc, longest, &mut source, &mut sink);
-    let (wanted, end) = match LENGTHS.iter().position(|length| *length > longest) {
-        Some(line) => (Err(BoundedRunFault::LongLine(longest)), ends()[line]),
-        None => (Ok(()), ends()[5]),
+    ended.err() == fault && sink.bytes() == written
+}
+
+// Whether a run whose lines have this bound answers the lines before the first that is longer, and ends there.
+fn ends_at_the_long_line(alloc: Global, longest: usize) -> Result<bool, AllocError> {
+    let (fault, end) = match LENGTHS.iter().position(|length| *length > longest) {
+        Some(line) => (Some(BoundedRunFault::LongLine(longest)), ends()[line]),
+        None => (None, ends()[5]),
     };
-    Ok(ended == wanted && Some(sink.bytes()) == answers().get(..end))
+    let Some(written) = answers().get(..end) else {
+        return Ok(false);
+    };
+    Ok(ends_so(alloc, longest, script().to_vec(alloc)?, fault, written))
 }
 
 #[test]
@@ -166,15 +180,9 @@ const BOUNDS: &[Bound] = &[
 fn ends_at_the_long_piece(alloc: Global, row: &Bound) -> Result<bool, AllocError> {
     let mut lines = vec![in alloc; b' '; 150_001]?;
     lines[0] = b'\n';
-    let mut source = MemorySource::new(lines);
-    let mut sink = MemorySink::new(alloc);
-    let ended = run_bounded(alloc, row.longest, &mut source, &mut sink);
-    let wanted = if row.is_passed {
-        Err(BoundedRunFault::LongLine(row.longest))
-    } else {
-        Ok(())
-    };
-    Ok(ended == wanted && sink.bytes() == row.written)
+    let fault = BoundedRunFault::LongLine(row.longest);
+    let wanted = row.is_passed.then_some(fault);
+    Ok(ends_so(alloc, row.longest, lines, wanted, row.written))
 }
 
 #[test]
@@ -392,18 +400,22 @@ fn ends_at_the_write_of_a_host(
     };
     let mut sink = HostSink::new(&mut writer);
     let ended = run(alloc, &mut source, &mut sink);
-    let has_failed = sink.has_failed();
-    let taken = writer.taken.as_slice();
-    let is_as_wanted = if fails_at < WRITES {
-        let flushes = fails_at + usize::from(matches!(trouble, Trouble::Flush(_)));
+    let is_told = sink.has_failed() == (fails_at < WRITES);
+    Ok(is_told && is_written_so(ended, &writer))
+}
+
+// Whether a run that ended so wrote what comes before the trouble of its writer, and no more, or wrote all.
+fn is_written_so(ended: Result<(), RunFault>, writer: &FailsOnceWriter) -> bool {
+    let (taken, fails_at) = (writer.taken.as_slice(), writer.fails_at);
+    if fails_at < WRITES {
+        let flushes = fails_at + usize::from(matches!(writer.trouble, Trouble::Flush(_)));
         ended == Err(RunFault::Write)
             && answers().starts_with(taken)
             && writer.writes == fails_at + 1
             && writer.flushes == flushes
     } else {
         ended == Ok(()) && taken == answers() && writer.writes == WRITES && writer.flushes == WRITES
-    };
-    Ok(is_as_wanted && has_failed == (fails_at < WRITES))
+    }
 }
 
 // The first write or flush that goes wrong ends the run, an interrupted one too: neither is tried again. Each write is

@@ -3,8 +3,8 @@
 //! as it was.
 
 use super::context::{
-    Answer, Asked, Call, Given, Lent, are_lent, collects, error_lines, gives_the_first,
-    is_answered, is_at, lent_errors, root_site,
+    Answer, Asked, Call, Given, Lent, are_lent, are_lines, collects, gives_the_first, is_answered,
+    is_at, lent_errors, only_if, root_site,
 };
 use serde_json::{Map, Value};
 use std::alloc::{AllocError, Global};
@@ -13,8 +13,8 @@ use strkw_keywords::{Checks, Keyword, Uses, Validate, Values, compile_among};
 use strkw_report::{CompileError, Draft, Site};
 use strkw_test_doubles::compile_entry;
 
-// What a call makes of an entry; nothing where the entry adds nothing. The functions below take any validator: one that
-// names `Validator`, with its many variants, costs a proof of a minute and more.
+// What a call makes of an entry; nothing where the entry adds nothing. The functions below take any validator, and take
+// it over: where a function lets go of a `Validator` by itself, its many variants cost a proof of a minute and more.
 type Made<V> = Option<Result<V, CompileError>>;
 
 // An entry of a schema object, and where it is refused with ample memory.
@@ -134,12 +134,14 @@ struct Compiling {
 }
 
 // Whether an entry was compiled, or refused at its place.
-fn is_made_so<V: Drop>(made: &Made<V>, place: Option<&str>) -> Result<bool, AllocError> {
-    match made {
+fn is_made_so<V: Drop>(made: Made<V>, place: Option<&str>) -> Result<bool, AllocError> {
+    let is_so = match &made {
         Some(Ok(_validator)) => Ok(place.is_none()),
         Some(Err(refusal)) => is_at(refusal, place),
         None => Ok(false),
-    }
+    };
+    drop(made);
+    is_so
 }
 
 impl Asked for Compiling {
@@ -153,13 +155,10 @@ impl Asked for Compiling {
     fn is_answered(&self, alloc: Global, ctx: &Lent<'_>, schema: &Map<String, Value>) -> Answer {
         let (keyword, place) = (self.row.keyword, self.row.place);
         match self.by {
-            Compile::OfKeyword => {
-                let made = compile_entry(alloc, ctx, keyword, schema);
-                is_made_so(&made, place)
-            }
+            Compile::OfKeyword => is_made_so(compile_entry(alloc, ctx, keyword, schema), place),
             Compile::Among => {
-                let made = compile_among(alloc, ctx, &Values::of(schema), keyword);
-                is_made_so(&made, place)
+                let values = Values::of(schema);
+                is_made_so(compile_among(alloc, ctx, &values, keyword), place)
             }
         }
     }
@@ -304,17 +303,20 @@ fn answers<V: Validate<Value>>(
             Err(AllocError) => Err(AllocError),
         },
         Call::Validate => {
-            let verdict = validator.validate(alloc, node, site, checks);
-            gives_the_first(alloc, &verdict, wanted)
+            gives_the_first(alloc, validator.validate(alloc, node, site, checks), wanted)
         }
         Call::CollectErrors => {
             let mut errors = lent_errors(alloc)?;
             let collected = validator.collect_errors(alloc, node, site, checks, &mut errors);
-            collects(alloc, collected, &errors, wanted)
+            let is_so = collects(alloc, collected, &errors, wanted);
+            drop(errors);
+            is_so
         }
         Call::Evaluate => {
             let found = validator.evaluate(alloc, node, site, checks)?;
-            Ok(error_lines(alloc, &found.errors)?.as_str() == wanted)
+            let is_so = are_lines(alloc, &found.errors, wanted);
+            drop(found);
+            is_so
         }
     }
 }
@@ -337,21 +339,25 @@ fn is_answered_so<V: Validate<Value>>(
     let lent = (&node, &site);
     let answer = answers(alloc, asking.call, validator, checks, lent, row.lines);
     let is_as_told = validator.takes_no_memory() == row.is_quiet;
-    Ok(is_as_told && are_lent(&node, row.text, &site) && answer?)
+    let is_as_lent = are_lent(&node, row.text, &site);
+    drop((node, site));
+    only_if(is_as_told && is_as_lent, answer)
 }
 
 // The same of what was made of an entry.
 fn is_told_so<V: Validate<Value> + Drop>(
     alloc: Global,
     asking: &Asking,
-    made: &Made<V>,
+    made: Made<V>,
     checks: &Checks,
 ) -> Result<bool, AllocError> {
-    match made {
+    let is_so = match &made {
         Some(Ok(validator)) => is_answered_so(alloc, asking, validator, checks),
         Some(Err(refusal)) => is_at(refusal, None),
         None => Ok(false),
-    }
+    };
+    drop(made);
+    is_so
 }
 
 impl Asked for Asking {
@@ -364,7 +370,7 @@ impl Asked for Asking {
 
     fn is_answered(&self, alloc: Global, ctx: &Lent<'_>, schema: &Map<String, Value>) -> Answer {
         let made = compile_entry(alloc, ctx, self.row.keyword, schema);
-        is_told_so(alloc, self, &made, &ctx.checks)
+        is_told_so(alloc, self, made, &ctx.checks)
     }
 }
 

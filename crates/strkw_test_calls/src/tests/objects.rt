@@ -3,8 +3,8 @@
 //! that what the refused call was lent is as it was.
 
 use super::context::{
-    Answer, Asked, Call, Given, Lent, are_lent, collects, error_lines, gives_the_first,
-    is_answered, is_at, lent_errors, root_site,
+    Answer, Asked, Call, Given, Lent, are_lent, are_lines, collects, gives_the_first, is_answered,
+    is_at, lent_errors, only_if, root_site,
 };
 use super::devices::{answers, ends, script};
 use serde_json::{Map, Value};
@@ -12,7 +12,7 @@ use std::alloc::{AllocError, Global};
 use std::test::Fail;
 use strkw_cli::{BoundedRunFault, MemorySink, MemorySource, RunFault, Sink, run, run_bounded};
 use strkw_keywords::Checks;
-use strkw_object::{Note, StringKeywords, compile_strings};
+use strkw_object::{Note, ObjectEvaluation, StringKeywords, compile_strings};
 use strkw_report::{CompileError, Draft, Site};
 use strkw_test_doubles::ScriptedEngine;
 
@@ -46,7 +46,7 @@ impl Asked for Asking {
 
     fn is_answered(&self, alloc: Global, ctx: &Lent<'_>, schema: &Map<String, Value>) -> Answer {
         let made = compile_strings(alloc, ctx, schema);
-        is_told_so(alloc, self.question, &made, &ctx.checks)
+        is_told_so(alloc, self.question, made, &ctx.checks)
     }
 }
 
@@ -54,16 +54,18 @@ impl Asked for Asking {
 fn is_told_so(
     alloc: Global,
     question: Question,
-    made: &Result<Keywords, CompileError>,
+    made: Result<Keywords, CompileError>,
     checks: &Checks,
 ) -> Result<bool, AllocError> {
-    match made {
+    let is_so = match &made {
         Ok(keywords) => is_answered_so(alloc, question, keywords, checks),
         Err(refusal) => match question {
             Question::Place(place) => is_at(refusal, place),
             Question::Quietly(..) | Question::Call(..) => is_at(refusal, None),
         },
-    }
+    };
+    drop(made);
+    is_so
 }
 
 // The same of keywords.
@@ -124,11 +126,21 @@ fn answers_quietly(
     (text, valid): (&str, bool),
 ) -> Result<bool, AllocError> {
     let node = Value::try_from_str(alloc, text)?;
-    Ok(
-        keywords.uses(checks)
-            && keywords.takes_no_memory()
-            && keywords.is_valid(alloc, &node, checks) == Ok(valid),
-    )
+    let is_so = finds_quietly(alloc, keywords, checks, &node, valid);
+    drop(node);
+    Ok(is_so)
+}
+
+fn finds_quietly(
+    alloc: Global,
+    keywords: &Keywords,
+    checks: &Checks,
+    node: &Value,
+    valid: bool,
+) -> bool {
+    keywords.uses(checks)
+        && keywords.takes_no_memory()
+        && keywords.is_valid(alloc, node, checks) == Ok(valid)
 }
 
 // Testing a text by these takes no memory: wherever the compilation had enough, there is an answer.
@@ -218,15 +230,25 @@ const OBJECTS: &[Told] = &[
     },
 ];
 
-/// The place and the value of each note.
-pub(super) fn note_lines(alloc: Global, notes: &[Note]) -> Result<String, AllocError> {
+/// Whether these are the lines of the notes.
+pub(super) fn are_notes(alloc: Global, notes: &[Note], wanted: &str) -> Answer {
+    Ok(note_lines(alloc, notes)?.as_str() == wanted)
+}
+
+// The place and the value of each note.
+fn note_lines(alloc: Global, notes: &[Note]) -> Result<String, AllocError> {
     let mut lines = String::new(alloc);
     for note in notes {
-        let (place, value) = (note.schema_path.as_str(), note.value.to_string(alloc)?);
-        let line = format!(in alloc; "{place}: {value}\n")?;
-        lines.push_str(&line)?;
+        push_note(alloc, note, &mut lines)?;
     }
     Ok(lines)
+}
+
+fn push_note(alloc: Global, note: &Note, lines: &mut String) -> Result<(), AllocError> {
+    lines.push_str(note.schema_path.as_str())?;
+    lines.push_str(": ")?;
+    lines.push_str(&note.value.to_string(alloc)?)?;
+    lines.push_str("\n")
 }
 
 // Whether a call answers as it is to; out of memory, by its own name, is an error here.
@@ -244,22 +266,31 @@ fn answers_so(
     match call {
         Call::IsValid => Ok(keywords.is_valid(alloc, node, checks)? == row.errors.is_empty()),
         Call::Validate => {
-            let verdict = keywords.validate(alloc, node, site, checks);
-            gives_the_first(alloc, &verdict, row.errors)
+            gives_the_first(
+                alloc,
+                keywords.validate(alloc, node, site, checks),
+                row.errors,
+            )
         }
         Call::CollectErrors => {
             let mut errors = lent_errors(alloc)?;
             let collected = keywords.collect_errors(alloc, node, site, checks, &mut errors);
-            collects(alloc, collected, &errors, row.errors)
+            let is_so = collects(alloc, collected, &errors, row.errors);
+            drop(errors);
+            is_so
         }
         Call::Evaluate => {
             let found = keywords.evaluate(alloc, node, site, checks)?;
-            Ok(
-                error_lines(alloc, &found.errors)?.as_str() == row.errors
-                    && note_lines(alloc, &found.notes)?.as_str() == row.notes,
-            )
+            let is_so = is_told(alloc, &found, row);
+            drop(found);
+            is_so
         }
     }
+}
+
+// Whether an evaluation tells of the errors and of the notes that it is to.
+fn is_told(alloc: Global, found: &ObjectEvaluation, row: &Told) -> Answer {
+    Ok(are_lines(alloc, &found.errors, row.errors)? && are_notes(alloc, &found.notes, row.notes)?)
 }
 
 // Whether a call answers of a text as it is to. The text and the place are as they were, whatever it answered.
@@ -272,7 +303,9 @@ fn is_call_answered(
 ) -> Result<bool, AllocError> {
     let (node, site) = (Value::try_from_str(alloc, row.text)?, root_site(alloc));
     let answer = answers_so(alloc, call, keywords, checks, (&node, &site), row);
-    Ok(are_lent(&node, row.text, &site) && answer?)
+    let is_as_lent = are_lent(&node, row.text, &site);
+    drop((node, site));
+    only_if(is_as_lent, answer)
 }
 
 fn asked_of_objects(alloc: Global, call: Call) -> Result<(), Fail> {

@@ -2,8 +2,10 @@
 //! growth refused in turn too: then it ends as out of memory, once it has shown that the context is as it was, and that
 //! an object has lost its value at `contentSchema` alone.
 
-use super::context::{Answer, Asked, Given, Lent, is_answered, is_at, json, root_site};
-use super::objects::note_lines;
+use super::context::{
+    Answer, Asked, Given, Lent, is_answered, is_at, is_json, json, only_if, root_site,
+};
+use super::objects::are_notes;
 use serde_json::{Map, Value};
 use std::alloc::{AllocError, Global};
 use std::test::Fail;
@@ -62,8 +64,7 @@ impl Asked for Noted {
 
     fn is_answered(&self, alloc: Global, ctx: &Lent<'_>, _schema: &Map<String, Value>) -> Answer {
         let given = object(alloc, self.schema)?;
-        let made = compile_owned(alloc, ctx, given);
-        is_compiled_so(alloc, self, &made, &ctx.checks)
+        is_compiled_so(alloc, self, compile_owned(alloc, ctx, given), &ctx.checks)
     }
 }
 
@@ -71,13 +72,16 @@ impl Asked for Noted {
 fn is_compiled_so(
     alloc: Global,
     row: &Noted,
-    made: &Result<Keywords, CompileError>,
+    made: Result<Keywords, CompileError>,
     checks: &Checks,
 ) -> Result<bool, AllocError> {
-    match made {
-        Ok(keywords) => Ok(row.place.is_none() && notes(alloc, keywords, checks, row.lines)?),
+    let is_so = match &made {
+        Ok(keywords) if row.place.is_none() => notes(alloc, keywords, checks, row.lines),
+        Ok(_) => Ok(false),
         Err(refusal) => is_at(refusal, row.place),
-    }
+    };
+    drop(made);
+    is_so
 }
 
 // Whether these lines are noted of a text, one by each validator.
@@ -91,8 +95,10 @@ fn notes(
         return Ok(false);
     }
     let found = keywords.evaluate(alloc, &"x", &root_site(alloc), checks)?;
-    let noted = note_lines(alloc, &found.notes)?;
-    Ok(noted.as_str() == lines && keywords.validators().len() == found.notes.len())
+    let is_one_each = keywords.validators().len() == found.notes.len();
+    let are_noted = are_notes(alloc, &found.notes, lines);
+    drop(found);
+    only_if(is_one_each, are_noted)
 }
 
 #[test]
@@ -105,12 +111,12 @@ fn compile_owned_under_refusal(rt: HostRuntime) -> Result<(), Fail> {
     Ok(())
 }
 
-// A schema object, what is left of it, the value that is noted, and whether it is refused with ample memory.
+// A schema object, what is left of it, the value that is noted, and where it is refused with ample memory.
 struct TakenFrom {
     schema: &'static str,
     left: &'static str,
     value: Option<&'static str>,
-    is_refused: bool,
+    place: Option<&'static str>,
 }
 
 const SCHEMAS: &[TakenFrom] = &[
@@ -118,25 +124,25 @@ const SCHEMAS: &[TakenFrom] = &[
         schema: r#"{"contentMediaType":"m","contentSchema":{"b":[1]}}"#,
         left: r#"{"contentMediaType":"m"}"#,
         value: Some("{\"b\":[1]}"),
-        is_refused: false,
+        place: None,
     },
     TakenFrom {
         schema: r#"{"contentSchema":[1]}"#,
         left: "{}",
         value: None,
-        is_refused: false,
+        place: None,
     },
     TakenFrom {
         schema: r#"{"contentMediaType":"m"}"#,
         left: r#"{"contentMediaType":"m"}"#,
         value: None,
-        is_refused: false,
+        place: None,
     },
     TakenFrom {
         schema: r#"{"contentMediaType":"m","contentSchema":1.5}"#,
         left: r#"{"contentMediaType":"m"}"#,
         value: None,
-        is_refused: true,
+        place: Some("/a/contentSchema"),
     },
 ];
 
@@ -150,25 +156,35 @@ impl Asked for TakenFrom {
 
     // Whether a call takes the value at `contentSchema` of an object so, and leaves the rest of it.
     fn is_answered(&self, alloc: Global, ctx: &Lent<'_>, _schema: &Map<String, Value>) -> Answer {
-        let left = json(alloc, self.left)?;
         let mut given = object(alloc, self.schema)?;
         let taken = take_content_schema(alloc, ctx, &mut given);
-        let is_taken = is_taken_so(alloc, self, &taken);
-        Ok(Value::Object(given) == left && is_taken?)
+        let is_taken = is_taken_so(alloc, self, taken);
+        only_if(is_left(alloc, given, self.left)?, is_taken)
     }
 }
 
-// Whether what was taken notes its value, or was refused at `contentSchema`.
+// Whether an object is that of a JSON text.
+fn is_left(alloc: Global, object: Map<String, Value>, text: &str) -> Answer {
+    let left = Value::Object(object);
+    let is_so = is_json(alloc, &left, text);
+    drop(left);
+    is_so
+}
+
+// Whether what was taken notes its value, or was refused at its place.
 fn is_taken_so<V: Uses + Drop>(
     alloc: Global,
     row: &TakenFrom,
-    taken: &Option<Result<V, CompileError>>,
+    taken: Option<Result<V, CompileError>>,
 ) -> Result<bool, AllocError> {
-    match taken {
-        None => Ok(row.value.is_none() && !row.is_refused),
-        Some(Ok(validator)) => Ok(!row.is_refused && is_noted_by(alloc, validator, row.value)?),
-        Some(Err(refusal)) => Ok(is_at(refusal, Some("/a/contentSchema"))? && row.is_refused),
-    }
+    let is_so = match &taken {
+        None => Ok(row.value.is_none() && row.place.is_none()),
+        Some(Ok(_)) if row.place.is_some() => Ok(false),
+        Some(Ok(validator)) => is_noted_by(alloc, validator, row.value),
+        Some(Err(refusal)) => is_at(refusal, row.place),
+    };
+    drop(taken);
+    is_so
 }
 
 // Whether a validator notes this value, or nothing.

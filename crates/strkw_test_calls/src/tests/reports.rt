@@ -128,7 +128,9 @@ fn is_failed_so(alloc: Global, row: &Said) -> Result<bool, AllocError> {
         return Ok(false);
     }
     let error = error_of(alloc, row.failure, row.text)?;
-    is_said(alloc, &error, row.text, row.said)
+    let is_so = is_said(alloc, &error, row.text, row.said);
+    drop(error);
+    is_so
 }
 
 // A row whose name ends in `_under_refusal` is run with ample memory, when it has to pass, and by `tools/refusals.py`
@@ -253,7 +255,9 @@ fn is_told(alloc: Global, refusal: &CompileError, want: &str) -> Result<bool, Al
 // Whether what is refused for this says so.
 fn is_refused_so(alloc: Global, row: &Refused) -> Result<bool, AllocError> {
     let refusal = refusal_of(alloc, row.why)?;
-    is_told(alloc, &refusal, row.told)
+    let is_so = is_told(alloc, &refusal, row.told);
+    drop(refusal);
+    is_so
 }
 
 #[test]

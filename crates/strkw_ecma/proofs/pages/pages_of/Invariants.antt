@@ -1,5 +1,5 @@
 use Rattle.std.proofs.Common.{◌*◌, ◌-◌, ◌≤◌, length}
-use Rattle.strkw_ecma.specs.machine.Columns.{ShareColumn, ArePaged}
+use Rattle.strkw_ecma.specs.machine.Columns.{ShareColumn, IsPaged}
 use Rattle.strkw_ecma.proofs.pages.pages_of.Given as goal
 
 -- the pages so far are right, and the run goes on behind them
@@ -7,7 +7,7 @@ abbrev pub invariant-pages : goal.invariant-pages
 invariant-pages l = record {
   few : length l.made.pages.items ≤ 4352;
   end : l.run.end ≤ 0x110000;
-  paged : ArePaged l.classes l.made.keys.items l.made.plain.items l.made.pages.items l.made.cells.items;
+  paged : IsPaged l.classes l.made;
   shared : ShareColumn l.classes l.made.keys.items (length l.made.pages.items * 256) l.run.end l.run.column;
 }
 

@@ -1,4 +1,4 @@
-use Rattle.std.proofs.Common.{◌≡◌, ◌∙◌, Bool, List, false, get_or, sym, ap}
+use Rattle.std.proofs.Common.{◌∙◌, Bool, List, false, get_or, sym, ap}
 use Rattle.strkw_ecma.proofs.Seekings.{row_there, row_none}
 use Rattle.strkw_ecma.proofs.seeker.is_said.Goals as goal
 

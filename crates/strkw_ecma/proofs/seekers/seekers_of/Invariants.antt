@@ -1,12 +1,11 @@
 use Rattle.std.proofs.Common.{◌≡◌, ◌++◌, length}
+use Rattle.std.specs.Vec.Iter.{into_iter_items, into_iter_len}
 use Rattle.strkw_ecma.specs.machine.Seekers.{AreFit, seekings, quests}
 use Rattle.strkw_ecma.proofs.seekers.seekers_of.Given as goal
 
-abbrev pub invariant-asides : goal.invariant-asides
-invariant-asides l = record {
-  made : seekings l.seekers.items ++ quests l.left.items ≡ quests l.fn.asides.items;
-  fit : AreFit l.left.items;
+abbrev pub invariant-loop-aside : goal.invariant-loop-aside
+invariant-loop-aside l = record {
+  made : seekings l.seekers.items ++ quests (into_iter_items l.aside-iterator) ≡ quests l.fn.asides.items;
+  fit : AreFit (into_iter_items l.aside-iterator);
+  count : into_iter_len l.aside-iterator ≡ length (into_iter_items l.aside-iterator);
 }
-
-abbrev pub decreases-asides : goal.decreases-asides
-decreases-asides l = length l.left.items

@@ -1,4 +1,4 @@
-use Rattle.std.proofs.Common.{◌≡◌, ℕ, ◌%◌, nat_eq, ap, ◌∙◌}
+use Rattle.std.proofs.Common.{ℕ, ◌%◌, nat_eq, ap, ◌∙◌}
 use Rattle.std.proofs.lemmas.Nat.Bits.{shr_and_one}
 use Rattle.strkw_ecma.specs.machine.Bits.{bit}
 use Rattle.strkw_ecma.proofs.Bitted.{word_read}

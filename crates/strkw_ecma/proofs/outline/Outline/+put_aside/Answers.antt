@@ -1,16 +1,18 @@
-use Rattle.std.proofs.Common.{arith, ◌≡◌, ◌∙◌, true, false, List, Option, ℕ, refl, sym, ap, subst}
+use Rattle.std.proofs.Common.{arith, ◌≡◌, ◌∙◌, true, false, refl, sym, ap, subst}
 use Rattle.std.proofs.lemmas.Result.{IfOk-weaker}
-use Rattle.strkw_ecma.specs.Tree.{Pattern, cat, alt, lookbehind, lookahead, look, start, end}
+use Rattle.strkw_ecma.specs.Tree.{alt}
 use Rattle.strkw_ecma.specs.Patterns.{quantified_pattern}
-use Rattle.strkw_ecma.specs.Program.{is_empty}
 use Rattle.strkw_ecma.specs.machine.Shape.{is_never, outlined, quantifier_of}
 use Rattle.strkw_ecma.specs.machine.Asides.{IsSmall}
 use Rattle.strkw_ecma.specs.machine.Marks.{unmarked}
 use Rattle.strkw_ecma.proofs.PutAside.{number_set}
-use Rattle.strkw_ecma.proofs.Putting.{turned_bare, turned_small, cat_bare, cat_small, alt_bare, alt_small, repeated_bare, repeated_small, behind_small, ahead_small}
-use Rattle.strkw_ecma.proofs.Putting.{fresh_set, others_put, start_put, end_put, class_put, never_put, or_put, then_put, repeated_put, behind_found, ahead_found, mark_put, look_put}
+use Rattle.strkw_ecma.proofs.Putting.{turned_bare, turned_small, cat_bare, cat_small, alt_bare, alt_small, repeated_bare, repeated_small, behind_small}
+use Rattle.strkw_ecma.proofs.Putting.{ahead_small}
+use Rattle.strkw_ecma.proofs.Putting.{fresh_set, others_put, start_put, end_put, class_put, never_put, or_put, then_put, repeated_put, behind_found}
+use Rattle.strkw_ecma.proofs.Putting.{ahead_found, mark_put, look_put}
 use Rattle.strkw_ecma.proofs.Seekings.{quests_append, quests_count}
-use Rattle.strkw_ecma.proofs.Shapes.{outlined-Empty, outlined-Start, outlined-End, outlined-Class, outlined-Then, outlined-Or, outlined-Repeated, outlined-Behind, outlined-Ahead}
+use Rattle.strkw_ecma.proofs.Shapes.{outlined-Empty, outlined-Start, outlined-End, outlined-Class, outlined-Then, outlined-Or, outlined-Repeated}
+use Rattle.strkw_ecma.proofs.Shapes.{outlined-Behind, outlined-Ahead}
 use Rattle.strkw_ecma.specs.machine.Seekers.{quests}
 use Rattle.strkw_ecma.proofs.Weights.{weight, weight_then, weight_or, weight_repeated, weight_behind, weight_ahead}
 use Rattle.strkw_ecma.proofs.outline.Outline.+put_aside.Goals as goal
@@ -19,39 +21,39 @@ use Rattle.strkw_ecma.proofs.outline.Outline.+put_aside.Goals as goal
 pub put_aside-put_both-requires : goal.put_aside-put_both-requires
 put_aside-put_both-requires t c = (
   omega (arith, c.decreases, weight_then c.args.self c.in-Then.first c.in-Then.second c.in-Then.is),
-  (
-    turned_bare (outlined c.args.self) _ _ (ap outlined c.in-Then.is ∙ outlined-Then c.in-Then.first c.in-Then.second) c.requires.bare,
-    turned_small (outlined c.args.self) _ _ (ap outlined c.in-Then.is ∙ outlined-Then c.in-Then.first c.in-Then.second) c.requires.small,
-  ),
+  record {
+    bare = turned_bare (outlined c.args.self) _ _ (ap outlined c.in-Then.is ∙ outlined-Then c.in-Then.first c.in-Then.second) c.requires.bare;
+    small = turned_small (outlined c.args.self) _ _ (ap outlined c.in-Then.is ∙ outlined-Then c.in-Then.first c.in-Then.second) c.requires.small;
+  },
 )
 
 pub put_aside-put_both-requires-else-is_backward : goal.put_aside-put_both-requires-else-is_backward
 put_aside-put_both-requires-else-is_backward t c =
     let shape = ap outlined c.in-Then.is ∙ outlined-Then c.in-Then.first c.in-Then.second in (
       omega (arith, c.decreases, weight_then c.args.self c.in-Then.first c.in-Then.second c.in-Then.is),
-      (sym (ap unmarked shape) ∙ c.requires.bare, subst IsSmall shape c.requires.small),
+      record { bare = sym (ap unmarked shape) ∙ c.requires.bare; small = subst IsSmall shape c.requires.small },
     )
 
 pub put_aside-put_aside-requires : goal.put_aside-put_aside-requires
 put_aside-put_aside-requires t c = (
   omega (arith, c.decreases, weight_or c.args.self c.in-Or.one c.in-Or.other c.in-Or.is, ap weight c.into_inner.ensures),
-  (
-    ap (λ o. unmarked (outlined o)) c.into_inner.ensures
-        ∙ (alt_bare (outlined c.args.self) _ _ (ap outlined c.in-Or.is ∙ outlined-Or c.in-Or.one c.in-Or.other) c.requires.bare).0,
-    subst (λ o. IsSmall (outlined o)) (sym c.into_inner.ensures)
-        (alt_small (outlined c.args.self) _ _ (ap outlined c.in-Or.is ∙ outlined-Or c.in-Or.one c.in-Or.other) c.requires.small).0,
-  ),
+  record {
+    bare = ap (λ o. unmarked (outlined o)) c.into_inner.ensures
+        ∙ (alt_bare (outlined c.args.self) _ _ (ap outlined c.in-Or.is ∙ outlined-Or c.in-Or.one c.in-Or.other) c.requires.bare).0;
+    small = subst (λ o. IsSmall (outlined o)) (sym c.into_inner.ensures)
+        (alt_small (outlined c.args.self) _ _ (ap outlined c.in-Or.is ∙ outlined-Or c.in-Or.one c.in-Or.other) c.requires.small).0;
+  },
 )
 
 pub put_aside-put_aside-requires-in-Or : goal.put_aside-put_aside-requires-in-Or
 put_aside-put_aside-requires-in-Or t c = (
   omega (arith, c.decreases, weight_or c.args.self c.in-Or.one c.in-Or.other c.in-Or.is, ap weight c.into_inner-in-Or.ensures),
-  (
-    ap (λ o. unmarked (outlined o)) c.into_inner-in-Or.ensures
-        ∙ (alt_bare (outlined c.args.self) _ _ (ap outlined c.in-Or.is ∙ outlined-Or c.in-Or.one c.in-Or.other) c.requires.bare).1,
-    subst (λ o. IsSmall (outlined o)) (sym c.into_inner-in-Or.ensures)
-        (alt_small (outlined c.args.self) _ _ (ap outlined c.in-Or.is ∙ outlined-Or c.in-Or.one c.in-Or.other) c.requires.small).1,
-  ),
+  record {
+    bare = ap (λ o. unmarked (outlined o)) c.into_inner-in-Or.ensures
+        ∙ (alt_bare (outlined c.args.self) _ _ (ap outlined c.in-Or.is ∙ outlined-Or c.in-Or.one c.in-Or.other) c.requires.bare).1;
+    small = subst (λ o. IsSmall (outlined o)) (sym c.into_inner-in-Or.ensures)
+        (alt_small (outlined c.args.self) _ _ (ap outlined c.in-Or.is ∙ outlined-Or c.in-Or.one c.in-Or.other) c.requires.small).1;
+  },
 )
 
 pub put_aside-put_aside-requires-in-Repeated : goal.put_aside-put_aside-requires-in-Repeated
@@ -60,59 +62,60 @@ put_aside-put_aside-requires-in-Repeated t c =
     let some : is_never times ≡ false = cc in
     let less = weight_repeated c.args.self c.in-Repeated.quantifier c.in-Repeated.body c.in-Repeated.is in (
       omega (arith, c.decreases, less, ap weight c.into_inner-in-Repeated.ensures),
-      (
-        ap (λ o. unmarked (outlined o)) c.into_inner-in-Repeated.ensures
+      record {
+        bare = ap (λ o. unmarked (outlined o)) c.into_inner-in-Repeated.ensures
             ∙ repeated_bare times (outlined c.args.self) _ (ap outlined c.in-Repeated.is ∙ outlined-Repeated c.in-Repeated.quantifier c.in-Repeated.body) some
-            c.requires.bare,
-        subst (λ o. IsSmall (outlined o)) (sym c.into_inner-in-Repeated.ensures)
+            c.requires.bare;
+        small = subst (λ o. IsSmall (outlined o)) (sym c.into_inner-in-Repeated.ensures)
             (repeated_small times (outlined c.args.self) _ (ap outlined c.in-Repeated.is ∙ outlined-Repeated c.in-Repeated.quantifier c.in-Repeated.body) some
-            c.requires.small),
-      ),
+            c.requires.small);
+      },
     )
 
 pub put_aside-put_look-requires : goal.put_aside-put_look-requires
 put_aside-put_look-requires t c = (
   omega (arith, c.decreases, weight_behind c.args.self c.in-Behind.negated c.in-Behind.body c.in-Behind.is, ap weight c.into_inner-body.ensures),
-  (
-    ap (λ o. unmarked (outlined o)) c.into_inner-body.ensures
-        ∙ sym (ap unmarked (ap outlined c.in-Behind.is ∙ outlined-Behind c.in-Behind.negated c.in-Behind.body)) ∙ c.requires.bare,
-    subst (λ o. IsSmall (outlined o)) (sym c.into_inner-body.ensures)
+  record {
+    bare = ap (λ o. unmarked (outlined o)) c.into_inner-body.ensures
+        ∙ sym (ap unmarked (ap outlined c.in-Behind.is ∙ outlined-Behind c.in-Behind.negated c.in-Behind.body)) ∙ c.requires.bare;
+    small = subst (λ o. IsSmall (outlined o)) (sym c.into_inner-body.ensures)
         (behind_small c.in-Behind.negated (outlined c.args.self) _ (ap outlined c.in-Behind.is ∙ outlined-Behind c.in-Behind.negated c.in-Behind.body)
-        c.requires.small),
-  ),
+        c.requires.small);
+  },
 )
 
 pub put_aside-put_look-requires-in-Ahead : goal.put_aside-put_look-requires-in-Ahead
 put_aside-put_look-requires-in-Ahead t c = (
   omega (arith, c.decreases, weight_ahead c.args.self c.in-Ahead.negated c.in-Ahead.body c.in-Ahead.is, ap weight c.into_inner-body-in-Ahead.ensures),
-  (
-    ap (λ o. unmarked (outlined o)) c.into_inner-body-in-Ahead.ensures
-        ∙ sym (ap unmarked (ap outlined c.in-Ahead.is ∙ outlined-Ahead c.in-Ahead.negated c.in-Ahead.body)) ∙ c.requires.bare,
-    subst (λ o. IsSmall (outlined o)) (sym c.into_inner-body-in-Ahead.ensures)
+  record {
+    bare = ap (λ o. unmarked (outlined o)) c.into_inner-body-in-Ahead.ensures
+        ∙ sym (ap unmarked (ap outlined c.in-Ahead.is ∙ outlined-Ahead c.in-Ahead.negated c.in-Ahead.body)) ∙ c.requires.bare;
+    small = subst (λ o. IsSmall (outlined o)) (sym c.into_inner-body-in-Ahead.ensures)
         (ahead_small c.in-Ahead.negated (outlined c.args.self) _ (ap outlined c.in-Ahead.is ∙ outlined-Ahead c.in-Ahead.negated c.in-Ahead.body)
-        c.requires.small),
-  ),
+        c.requires.small);
+  },
 )
 
 pub put_both-put_aside-requires : goal.put_both-put_aside-requires
 put_both-put_aside-requires t c = (
   omega (arith, c.decreases, ap weight c.into_inner.ensures),
-  (
-    ap (λ o. unmarked (outlined o)) c.into_inner.ensures ∙ (cat_bare _ (outlined c.args.first.value) (outlined c.args.second.value) refl c.requires.bare).0,
-    subst (λ o. IsSmall (outlined o)) (sym c.into_inner.ensures)
-        (cat_small _ (outlined c.args.first.value) (outlined c.args.second.value) refl c.requires.small).0,
-  ),
+  record {
+    bare = ap (λ o. unmarked (outlined o)) c.into_inner.ensures
+        ∙ (cat_bare _ (outlined c.args.first.value) (outlined c.args.second.value) refl c.requires.bare).0;
+    small = subst (λ o. IsSmall (outlined o)) (sym c.into_inner.ensures)
+        (cat_small _ (outlined c.args.first.value) (outlined c.args.second.value) refl c.requires.small).0;
+  },
 )
 
 pub put_both-put_aside-requires-2 : goal.put_both-put_aside-requires-2
 put_both-put_aside-requires-2 t c = (
   omega (arith, c.decreases, ap weight c.into_inner-2.ensures),
-  (
-    ap (λ o. unmarked (outlined o)) c.into_inner-2.ensures
-        ∙ (cat_bare _ (outlined c.args.first.value) (outlined c.args.second.value) refl c.requires.bare).1,
-    subst (λ o. IsSmall (outlined o)) (sym c.into_inner-2.ensures)
-        (cat_small _ (outlined c.args.first.value) (outlined c.args.second.value) refl c.requires.small).1,
-  ),
+  record {
+    bare = ap (λ o. unmarked (outlined o)) c.into_inner-2.ensures
+        ∙ (cat_bare _ (outlined c.args.first.value) (outlined c.args.second.value) refl c.requires.bare).1;
+    small = subst (λ o. IsSmall (outlined o)) (sym c.into_inner-2.ensures)
+        (cat_small _ (outlined c.args.first.value) (outlined c.args.second.value) refl c.requires.small).1;
+  },
 )
 
 -- what is left, arm by arm

@@ -1,5 +1,5 @@
 use Rattle.std.proofs.Common.{◌≡◌, ◌-◌, ◌*◌, ◌≤◌, length}
-use Rattle.strkw_ecma.specs.machine.Columns.{ArePaged}
+use Rattle.strkw_ecma.specs.machine.Columns.{IsPaged}
 use Rattle.strkw_ecma.proofs.pages.Pages.add_pages.Given as goal
 
 -- the pages so far are right
@@ -10,7 +10,7 @@ invariant-pages l = record {
   keys : l.self.keys ≡ l.initial.self.keys;
   plain : l.self.plain ≡ l.initial.self.plain;
   cells : l.self.cells ≡ l.initial.self.cells;
-  paged : ArePaged l.classes l.self.keys.items l.self.plain.items l.self.pages.items l.self.cells.items;
+  paged : IsPaged l.classes l.self;
 }
 
 abbrev pub decreases-pages : goal.decreases-pages

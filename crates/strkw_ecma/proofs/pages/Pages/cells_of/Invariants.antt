@@ -1,6 +1,6 @@
 use Rattle.std.proofs.Common.{◌≡◌, ◌+◌, ◌-◌, ◌≤◌, ◌<◌, ℕ, Some, length, get_or}
 use Rattle.std.specs.Char.{InScalarRange}
-use Rattle.strkw_ecma.specs.machine.Columns.{column_of, ShareColumn, ArePaged}
+use Rattle.strkw_ecma.specs.machine.Columns.{column_of, ShareColumn, IsPaged}
 use Rattle.strkw_ecma.proofs.pages.Pages.cells_of.Given as goal
 
 -- the cells up to a place are right, and the run goes on behind them
@@ -9,7 +9,7 @@ invariant-runs l = record {
   within : l.place ≤ 256;
   cells : length l.page ≡ 256;
   pages : l.self.pages ≡ l.fn.self.pages;
-  paged : ArePaged l.classes l.self.keys.items l.self.plain.items l.self.pages.items l.self.cells.items;
+  paged : IsPaged l.classes l.self;
   end : l.run.end ≤ 0x110000;
   shared : ShareColumn l.classes l.self.keys.items (l.first + l.place) l.run.end l.run.column;
   right : (j : ℕ) → j < l.place → InScalarRange (l.first + j) → column_of l.classes l.self.keys.items (l.first + j) ≡ Some (get_or l.page j 0);

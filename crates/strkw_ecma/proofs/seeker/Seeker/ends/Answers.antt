@@ -2,7 +2,7 @@ use Rattle.std.proofs.Common.{◌≡◌, ◌++◌, ◌∙◌, ap, sym, arith, No
 use Rattle.std.specs.Str.{chars}
 use Rattle.std.proofs.lemmas.List.{length-replicate}
 use Rattle.strkw_ecma.specs.machine.Along.{left_of}
-use Rattle.strkw_ecma.specs.machine.Bits.{bits_of, rows_of}
+use Rattle.strkw_ecma.specs.machine.Bits.{rows_of}
 use Rattle.strkw_ecma.specs.machine.Machine.{pattern_of}
 use Rattle.strkw_ecma.specs.machine.Marks.{marked}
 use Rattle.strkw_ecma.specs.machine.Seeking.{ends_from, said}

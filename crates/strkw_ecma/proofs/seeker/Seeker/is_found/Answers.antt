@@ -1,7 +1,6 @@
 use Rattle.std.proofs.Common.{◌≡◌, ◌∙◌, ap, sym, arith, None, false, length, replicate}
 use Rattle.std.specs.Str.{chars}
 use Rattle.std.proofs.lemmas.List.{length-replicate}
-use Rattle.strkw_ecma.specs.Mirror.{along}
 use Rattle.strkw_ecma.specs.machine.Along.{left_of}
 use Rattle.strkw_ecma.specs.machine.Bits.{rows_of}
 use Rattle.strkw_ecma.specs.machine.Machine.{pattern_of}
