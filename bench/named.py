@@ -48,6 +48,8 @@ HERE, CRATE = "Here", "Rust crate"
 HOST_NAMES = {
     "`www.xn--ll-0ea.example`": "mixed host name",
     "labels of 9 and 2 Han characters": "host name of 9 and 2 Han characters",
+    "ASCII, 15 bytes, as `idn-hostname`": "the same as an internationalised one, 15 bytes",
+    "ASCII, 253 bytes, as `idn-hostname`": "the same as an internationalised one, 253 bytes",
     "payload of 59 bytes, 1 insertion": "59-byte payload, 1 insertion",
     "payload of 59 bytes, 59 insertions (17 a piece)": "59-byte payload, 59 insertions",
 }
@@ -151,6 +153,8 @@ TABLES = {
         "No parts": "{}/a plain loop without parts",
     }, {"five usual references of 5 to 58 bytes": "five usual references"}), ratio=(URI, CRATE)),
     "host_names": Entry(topic("label"), "ns", by({HERE: "{}"}, HOST_NAMES), ratio=(HERE, CRATE)),
+    "mail": Entry(topic("mail"), "ns", by({HERE: "{}/is_valid_email", "Plain loops": "{}/plain loops"}),
+                  ratio=(HERE, "Plain loops")),
     "times": Entry(topic("time_net"), "ns", by({HERE: "{}"}, TIMES), ratio=(HERE, CRATE)),
     "encodings": Entry(topic("coding"), "MB/s", by({"Check": "is_{}", "Decoder": "from_{}"})),
     "forms": Entry(topic("forms"), "ns", of_forms, ratio=(HERE, "Compared")),

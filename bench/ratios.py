@@ -32,6 +32,7 @@ class Group(NamedTuple):
 GROUPS = [
     Group("uri", "URI references, to the Rust crate", "`is_valid_uri_reference`", "Rust crate"),
     Group("host_names", "Host names and payloads, to the Rust crate", "Here", "Rust crate"),
+    Group("mail", "Mail addresses, to plain loops", "Here", "Plain loops"),
     Group("times", "Dates, times, addresses, UUIDs, to the Rust crate", "Here", "Rust crate"),
     Group("forms", "Templates, pointers, IRIs, patterns, encodings and JSON, to what the table names"),
     Group("patterns", "Patterns of ECMA-262, to regex"),

@@ -1,16 +1,20 @@
-//! Nanoseconds a call of the host name predicate and of the Punycode decoder.
+//! Nanoseconds a call of the host name predicates and of the Punycode decoder.
 ghost use Rattle.std.specs.Prelude.{◌≤◌, length};
 
+use crate::texts::LONGEST_HOST_NAME;
 use crate::timing::{self, time};
 use std::alloc::Global;
 use std::io;
-use strkw_label::{decode_punycode, is_valid_hostname, validate_unicode_label};
+use strkw_label::{
+    decode_punycode, is_valid_hostname, is_valid_idn_hostname, validate_unicode_label,
+};
 
 const CALLS: u32 = 100_000;
 
 #[derive(Clone, Copy)]
 enum Call {
     HostName,
+    IdnHostName,
     Decode,
     DecodeAndJudge,
 }
@@ -25,9 +29,10 @@ fn is_admitted_payload(payload: &str) -> bool
 }
 
 impl timing::Call for Call {
-    fn accepts(&self, _alloc: Global, text: &str) -> bool {
+    fn accepts(&self, alloc: Global, text: &str) -> bool {
         match self {
             Call::HostName => is_valid_hostname(text),
+            Call::IdnHostName => is_valid_idn_hostname(alloc, text) == Ok(true),
             Call::Decode => text.len() <= 64 && decode_punycode::<64>(text).is_some(),
             Call::DecodeAndJudge => text.len() <= 64 && is_admitted_payload(text),
         }
@@ -50,7 +55,17 @@ const ROWS: &[Row] = &[
     Row {
         name: "ASCII host name, 253 bytes",
         call: Call::HostName,
-        text: "aaaaaaaaaaaaaaaaaaaaaaaaaaaaaaaaaaaaaaaaaaaaaaaaaaaaaaaaaaaaaaa.aaaaaaaaaaaaaaaaaaaaaaaaaaaaaaaaaaaaaaaaaaaaaaaaaaaaaaaaaaaaaaa.aaaaaaaaaaaaaaaaaaaaaaaaaaaaaaaaaaaaaaaaaaaaaaaaaaaaaaaaaaaaaaa.aaaaaaaaaaaaaaaaaaaaaaaaaaaaaaaaaaaaaaaaaaaaaaaaaaaaaaaaaaaaa",
+        text: LONGEST_HOST_NAME,
+    },
+    Row {
+        name: "the same as an internationalised one, 15 bytes",
+        call: Call::IdnHostName,
+        text: "www.example.com",
+    },
+    Row {
+        name: "the same as an internationalised one, 253 bytes",
+        call: Call::IdnHostName,
+        text: LONGEST_HOST_NAME,
     },
     Row {
         name: "mixed host name",

@@ -6,6 +6,7 @@ mod characters;
 mod coding;
 mod forms;
 mod label;
+mod mail;
 mod patterns;
 mod plain_parts;
 mod texts;
@@ -28,9 +29,12 @@ fn measure(rt: HostRuntime, topic: &str) -> io::Result<()> {
         "coding" => coding::measure(rt),
         "forms" => forms::measure(rt),
         "label" => label::measure(rt),
+        "mail" => mail::measure(rt),
         "patterns" => patterns::measure(rt),
         "time_net" => time_net::measure(rt),
         "uri" => uri::measure(rt),
-        _ => println!(rt; "topics: characters, coding, forms, label, patterns, time_net, uri"),
+        _ => println!(rt;
+            "topics: characters, coding, forms, label, mail, patterns, time_net, uri"
+        ),
     }
 }

@@ -1,6 +1,10 @@
-//! Texts of many bytes.
+//! Long texts.
 
 use std::alloc::{AllocError, Global};
+
+/// A host name of 253 bytes, the most that one has.
+pub const LONGEST_HOST_NAME: &str =
+    "aaaaaaaaaaaaaaaaaaaaaaaaaaaaaaaaaaaaaaaaaaaaaaaaaaaaaaaaaaaaaaa.aaaaaaaaaaaaaaaaaaaaaaaaaaaaaaaaaaaaaaaaaaaaaaaaaaaaaaaaaaaaaaa.aaaaaaaaaaaaaaaaaaaaaaaaaaaaaaaaaaaaaaaaaaaaaaaaaaaaaaaaaaaaaaa.aaaaaaaaaaaaaaaaaaaaaaaaaaaaaaaaaaaaaaaaaaaaaaaaaaaaaaaaaaaaa";
 
 /// A piece so often, behind a start and before an end.
 pub fn repeated(

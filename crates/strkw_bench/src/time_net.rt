@@ -1,5 +1,6 @@
 //! Nanoseconds a call of the recognisers of times, addresses, host names and UUIDs, each over its own list of texts.
 
+use crate::texts::LONGEST_HOST_NAME;
 use crate::timing::{self, least};
 use std::alloc::Global;
 use std::io;
@@ -7,9 +8,6 @@ use strkw_net::{is_valid_hostname_rfc1034, is_valid_ipv4, is_valid_ipv6, is_vali
 use strkw_time::{is_valid_date, is_valid_datetime, is_valid_duration, is_valid_time};
 
 const CALLS: u32 = 100_000;
-
-const LONGEST_HOST_NAME: &str =
-    "aaaaaaaaaaaaaaaaaaaaaaaaaaaaaaaaaaaaaaaaaaaaaaaaaaaaaaaaaaaaaaa.aaaaaaaaaaaaaaaaaaaaaaaaaaaaaaaaaaaaaaaaaaaaaaaaaaaaaaaaaaaaaaa.aaaaaaaaaaaaaaaaaaaaaaaaaaaaaaaaaaaaaaaaaaaaaaaaaaaaaaaaaaaaaaa.aaaaaaaaaaaaaaaaaaaaaaaaaaaaaaaaaaaaaaaaaaaaaaaaaaaaaaaaaaaaa";
 
 #[derive(Clone, Copy)]
 enum Call {

@@ -22,6 +22,35 @@ pub trait Asked {
     ) -> Result<bool, AllocError>;
 }
 
+// The body of `ask`. Both types have calls of these names, and no trait has all of them for both.
+macro_rules! ask_each {
+    ($asked:expr, $alloc:expr, $node:expr, $site:expr, $checks:expr, $answers:expr) => {{
+        if !$asked.uses($checks) {
+            return Ok(false);
+        }
+        $answers.is_valid = word($asked.is_valid($alloc, $node, $checks));
+        let mut found = filled($alloc)?;
+        let outcome = $asked.collect_errors($alloc, $node, $site, $checks, &mut found);
+        push_collected($alloc, outcome, found, &mut $answers.collect_errors)?;
+        let verdict = $asked.validate($alloc, $node, $site, $checks);
+        push_first_error($alloc, verdict, &mut $answers.validate)?;
+        push_evaluated(
+            $alloc,
+            $asked.evaluate($alloc, $node, $site, $checks),
+            $answers,
+        )?;
+        Ok(true)
+    }};
+}
+
+pub(crate) use ask_each;
+
+/// What `evaluate` answers.
+pub trait Evaluated: Drop {
+    /// Appends its errors and notes.
+    fn push(&self, alloc: Global, answers: &mut Answers) -> Result<(), AllocError>;
+}
+
 /// The lines of each call.
 #[derive(Drop)]
 pub struct Answers {
@@ -109,6 +138,20 @@ pub fn push_first_error(
         Err(Fault::Memory) => lines.push_str(OUT_OF_MEMORY),
     };
     drop(verdict);
+    pushed
+}
+
+/// Appends what `evaluate` answered.
+pub fn push_evaluated<T: Evaluated>(
+    alloc: Global,
+    outcome: Result<T, AllocError>,
+    answers: &mut Answers,
+) -> Result<(), AllocError> {
+    let pushed = match &outcome {
+        Ok(evaluation) => evaluation.push(alloc, answers),
+        Err(AllocError) => answers.evaluate.push_str(OUT_OF_MEMORY),
+    };
+    drop(outcome);
     pushed
 }
 

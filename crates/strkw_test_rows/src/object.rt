@@ -1,7 +1,10 @@
 //! A whole schema object, compiled and asked.
 
-use crate::answers::{Answers, Asked, filled, push_collected, push_first_error, word};
-use crate::shown::{OUT_OF_MEMORY, push_errors};
+use crate::answers::{
+    Answers, Asked, Evaluated, ask_each, filled, push_collected, push_evaluated, push_first_error,
+    word,
+};
+use crate::shown::push_errors;
 use std::alloc::{AllocError, Global};
 use strkw_keywords::Checks;
 use strkw_object::{Note, ObjectEvaluation, StringKeywords};
@@ -21,41 +24,15 @@ impl<E: RegexEngine> Asked for StringKeywords<E> {
         checks: &Checks,
         answers: &mut Answers,
     ) -> Result<bool, AllocError> {
-        if !self.uses(checks) {
-            return Ok(false);
-        }
-        answers.is_valid = word(self.is_valid(alloc, node, checks));
-        let mut found = filled(alloc)?;
-        let outcome = self.collect_errors(alloc, node, site, checks, &mut found);
-        push_collected(alloc, outcome, found, &mut answers.collect_errors)?;
-        let verdict = self.validate(alloc, node, site, checks);
-        push_first_error(alloc, verdict, &mut answers.validate)?;
-        push_evaluated(alloc, self.evaluate(alloc, node, site, checks), answers)?;
-        Ok(true)
+        ask_each!(self, alloc, node, site, checks, answers)
     }
 }
 
-// Appends the errors and the notes of `evaluate`.
-fn push_evaluated(
-    alloc: Global,
-    outcome: Result<ObjectEvaluation, AllocError>,
-    answers: &mut Answers,
-) -> Result<(), AllocError> {
-    let pushed = match &outcome {
-        Ok(evaluation) => push_evaluation(alloc, evaluation, answers),
-        Err(AllocError) => answers.evaluate.push_str(OUT_OF_MEMORY),
-    };
-    drop(outcome);
-    pushed
-}
-
-fn push_evaluation(
-    alloc: Global,
-    evaluation: &ObjectEvaluation,
-    answers: &mut Answers,
-) -> Result<(), AllocError> {
-    push_errors(alloc, &evaluation.errors, &mut answers.evaluate)?;
-    push_notes(&evaluation.notes, &mut answers.notes)
+impl Evaluated for ObjectEvaluation {
+    fn push(&self, alloc: Global, answers: &mut Answers) -> Result<(), AllocError> {
+        push_errors(alloc, &self.errors, &mut answers.evaluate)?;
+        push_notes(&self.notes, &mut answers.notes)
+    }
 }
 
 fn push_notes(notes: &[Note], lines: &mut String) -> Result<(), AllocError> {
