@@ -105,7 +105,7 @@ COUNTED = [
     ("docs/ARCHITECTURE.md", r"of the (\w+) formats by name", "formats"),
     ("docs/INSIDE.md", r"of each of the (\w+) formats", "formats"),
     ("docs/PROVED.md", r"are the (\w+) formats", "formats"),
-    ("docs/PROVED.md", r"holds (\d+) further ones", "further_bodies"),
+    ("docs/PROVED.md", r"which holds (\d+) of them", "further_bodies"),
     ("docs/PROVED.md", r"There are (\d+) bodies now", "all_bodies"),
     ("docs/PROVED.md", r"tries (\d+) must-fail edits", "edits"),
     ("docs/PROVED.md", r"must-fail edits with (\d+) wrong bodies", "bodies"),

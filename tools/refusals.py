@@ -2,7 +2,7 @@
 """Runs built tests and programs with one call failing at a time: each growth, and each read and write.
 
     python3 tools/refusals.py           on the binaries that the last `rt ci` left in crates/*/out
-    python3 tools/refusals.py --gate    first tools/claims.py and `rt ci` itself, and last
+    python3 tools/refusals.py --gate    first tools/claims.py, `tools/edits.py --check` and `rt ci` itself, and last
                                         `tools/grammar_rows.py --check`, `tools/keyword_rows.py --check`,
                                         tools/programs.py, `tools/sizes.py --bounded`, bindings/test,
                                         bindings/test_calls and tools/test_packages.py; the last line counts all
@@ -287,6 +287,7 @@ def gate():
 
     with tempfile.NamedTemporaryFile() as begun:
         yield asked("tools/claims.py")
+        yield asked("tools/edits.py", "--check")
         os.environ.setdefault("RT_JOBS", str(checks_at_once()))
         yield "rt ci", counted(["rt", "ci"], "`rt ci`")
         yield "tools/refusals.py", refusals()

@@ -6,10 +6,11 @@
     python3 tools/wrong_definitions.py CRATE:NAME ..   single wrong definitions; * stands for any letters
 
 A proof holds a program to its definitions, and nothing of it holds the definitions to their standards. So each file
-tools/wrong_definitions/CRATE/NAME.edit changes a definition, the code and the tables of proofs together. That is to be
-noticed by a row, whose answer is stored and comes from the standard, or else by the check, whose laws say the
-standard's own spelling. `ROWS` says which crates have the rows. `rt try` answers them without a proof, and a row
-notices the change where a line of its answer is not the stored one.
+tools/wrong_definitions/CRATE/NAME.edit changes a definition, the code and the tables of proofs together, or the code
+alone where a document says what the definitions leave open. That is to be noticed by a row, whose answer is stored
+and comes from the standard, or else by the check, whose laws say the standard's own spelling. `ROWS` says which
+crates have the rows. `rt try` answers them without a proof, and a row notices the change where a line of its answer
+is not the stored one.
 
 A file has lines 'file: PATH', the path from the crate's folder, each with pairs of lines 'old: TEXT' and 'new: TEXT'
 behind it. Each old text stands in that file exactly once, where blanks and ends of lines count as one blank. \\n is

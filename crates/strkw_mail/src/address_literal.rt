@@ -46,6 +46,8 @@ fn is_bracketed(bytes: &[u8]) -> bool
 }
 
 /// Whether the text is an address and the bracket that closes, from behind the one that opens.
+// Compiled by itself: else each domain name would pay for the registers that an address takes.
+#[inline(never)]
 pub(crate) fn is_address_literal(bytes: &[u8]) -> bool
     ensures { IsTrue result ↔ (Bracketed ⨾ Literal (codes "]")) bytes.now }
 {

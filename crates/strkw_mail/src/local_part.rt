@@ -28,9 +28,9 @@ fn after_qcontent(bytes: &[u8], charset: Charset) -> Option<&[u8]>
         (λ rest. StartsWith (QcontentOf (qtext charset)) bytes.now rest.now) }
     ensures shorter { IfSome result (λ rest. length rest.now < length bytes.now) }
 {
-    match strip(bytes, b'\\') {
-        Some(escaped) => after_one(escaped, Class::Escaped),
-        None => after_one(bytes, Class::QtextSmtp(charset)),
+    match after_one(bytes, Class::QtextSmtp(charset)) {
+        Some(rest) => Some(rest),
+        None => after_one(strip(bytes, b'\\')?, Class::Escaped),
     }
 }
 
