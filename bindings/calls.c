@@ -12,9 +12,10 @@
 #include <stdlib.h>
 #include <string.h>
 #include <sys/wait.h>
+#include <time.h>
 #include <unistd.h>
 
-enum { THREADS = 8, ROUNDS = 25 };
+enum { THREADS = 8, MORE_THREADS = 24, ROUNDS = 25 };
 
 static bool lists = false;
 static unsigned passed = 0, failed = 0;
@@ -195,6 +196,8 @@ static void call_check_offsets(void) {
         checks_between(4, 0, "{\"minLength\":11}", STRKW_DONE, "\0\0\2\0\0"));
     row_between("refused", "draft 5", checks_between(5, 0, date, STRKW_NO_DRAFT, NULL));
     row_between("refused", "option 8", checks_between(7, 8, date, STRKW_NO_OPTION, NULL));
+    row_between("refused", "draft 5 and option 8", checks_between(5, 8, date, STRKW_NO_DRAFT, NULL));
+    row_between("refused", "option 8 and no object", checks_between(7, 8, "[]", STRKW_NO_OPTION, NULL));
     row_between("refused", "no object", checks_between(7, 0, "[]", STRKW_NO_SCHEMA, NULL));
     row_between("refused", "a limit that is none", checks_between(7, 0, "{\"maxLength\":-1}", STRKW_REFUSED, NULL));
     row_between("right", "two texts", checks_offsets(0, 1, 2, 2, STRKW_DONE));
@@ -236,6 +239,8 @@ static void call_check(void) {
     row("check", "right", "patterns", checks(4, companions, REGEX, STRKW_DONE, "\1\1\2\1\1"));
     row("check", "refused", "patterns with no option", checks(4, 0, REGEX, STRKW_REFUSED, NULL));
     row("check", "refused", "option 8", checks(7, 8, date, STRKW_NO_OPTION, NULL));
+    row("check", "refused", "draft 5 and option 8", checks(5, 8, date, STRKW_NO_DRAFT, NULL));
+    row("check", "refused", "option 8 and no object", checks(7, 8, "[]", STRKW_NO_OPTION, NULL));
     row("check", "refused", "no object", checks(7, 0, "[]", STRKW_NO_SCHEMA, NULL));
     row("check", "refused", "no JSON", checks(7, 0, "{", STRKW_NO_SCHEMA, NULL));
     row("check", "refused", "an unknown format", checks(7, 0, other, STRKW_REFUSED, NULL));
@@ -245,6 +250,9 @@ static void call_check(void) {
     row("check", "refused", "an end past the texts", checks_ends(1, 3, 2, STRKW_NO_ROOM));
     row("check", "refused", "room for one verdict", checks_ends(1, 2, 1, STRKW_NO_ROOM));
     row("check", "refused", "room for three verdicts", checks_ends(1, 2, 3, STRKW_NO_ROOM));
+    row("check", "refused", "other room, draft 5",
+        strkw_check(5, 8, object, 2, object, 2, ends, 1, out, 0) == STRKW_NO_ROOM);
+    row("check", "refused", "no schema, no room", strkw_check(5, 8, NULL, 2, object, 2, ends, 1, out, 0) == STRKW_NULL);
     row("check", "refused", "no schema", strkw_check(7, 0, NULL, 2, object, 2, ends, 1, out, 1) == STRKW_NULL);
     row("check", "refused", "no texts", strkw_check(7, 0, object, 2, NULL, 2, ends, 1, out, 1) == STRKW_NULL);
     row("check", "refused", "no ends", strkw_check(7, 0, object, 2, object, 2, NULL, 1, out, 1) == STRKW_NULL);
@@ -276,6 +284,9 @@ static void call_refusal(void) {
     row("refusal", "refused", "too little room", tells(7, 0, pattern, count - 1, STRKW_NO_ROOM, count, NULL));
     row("refusal", "refused", "draft 5", tells(5, 0, pattern, 99, STRKW_NO_DRAFT, 77, NULL));
     row("refusal", "refused", "option 8", tells(7, 8, pattern, 99, STRKW_NO_OPTION, 77, NULL));
+    row("refusal", "refused", "draft 5 and option 8", tells(5, 8, pattern, 99, STRKW_NO_DRAFT, 77, NULL));
+    row("refusal", "refused", "option 8 and no object", tells(7, 8, "[]", 99, STRKW_NO_OPTION, 77, NULL));
+    row("refusal", "refused", "no object, no room", tells(7, 0, "[]", 0, STRKW_NO_SCHEMA, 77, NULL));
     row("refusal", "refused", "no object", tells(7, 0, "[]", 99, STRKW_NO_SCHEMA, 77, NULL));
     row("refusal", "refused", "no schema", strkw_refusal(7, 0, NULL, 2, out, 1, &written) == STRKW_NULL);
     row("refusal", "refused", "no room", strkw_refusal(7, 0, object, 2, NULL, 1, &written) == STRKW_NULL);
@@ -324,6 +335,10 @@ static void call_errors(void) {
     row("errors", "refused", "draft 5", writes(5, 0, DATE, "a", 99, STRKW_NO_DRAFT, 77, NULL));
     row("errors", "refused", "option 8", writes(7, 8, DATE, "a", 99, STRKW_NO_OPTION, 77, NULL));
     row("errors", "refused", "no UTF-8", writes(7, 0, DATE, "\377", 99, STRKW_NOT_UTF8, 77, NULL));
+    row("errors", "refused", "draft 5 and option 8", writes(5, 8, DATE, "a", 99, STRKW_NO_DRAFT, 77, NULL));
+    row("errors", "refused", "option 8 and no UTF-8", writes(7, 8, DATE, "\377", 99, STRKW_NO_OPTION, 77, NULL));
+    row("errors", "refused", "no UTF-8 and no object", writes(7, 0, "[]", "\377", 99, STRKW_NOT_UTF8, 77, NULL));
+    row("errors", "refused", "an unknown format, no room", writes(7, 0, NO_FORMAT, "a", 0, STRKW_REFUSED, 77, NULL));
     row("errors", "refused", "no object", writes(7, 0, "[]", "a", 99, STRKW_NO_SCHEMA, 77, NULL));
     row("errors", "refused", "an unknown format", writes(7, 0, NO_FORMAT, "a", 99, STRKW_REFUSED, 77, NULL));
     row("errors", "refused", "no schema", strkw_errors(7, 0, NULL, 2, object, 2, out, 1, &written) == STRKW_NULL);
@@ -376,6 +391,8 @@ static void call_schemas(void) {
     row("schema_compile", "wrong", "an unknown format", makes_none(7, 0, NO_FORMAT, STRKW_REFUSED));
     row("schema_compile", "refused", "draft 5", makes_none(5, 0, DATE, STRKW_NO_DRAFT));
     row("schema_compile", "refused", "option 8", makes_none(7, 8, DATE, STRKW_NO_OPTION));
+    row("schema_compile", "refused", "draft 5 and option 8", makes_none(5, 8, DATE, STRKW_NO_DRAFT));
+    row("schema_compile", "refused", "option 8 and no object", makes_none(7, 8, "[]", STRKW_NO_OPTION));
     row("schema_compile", "refused", "no object", makes_none(7, 0, "[]", STRKW_NO_SCHEMA));
     row("schema_compile", "refused", "nowhere", strkw_schema_compile(7, 0, text_of("{}"), 2, NULL) == STRKW_NULL);
     /* The sanitiser of addresses tells of one that is freed twice or not at all. */
@@ -435,17 +452,37 @@ static void *asks_anew(void *slug) {
 }
 
 /* Whether so many threads at once have right answers only. */
-static bool threads_agree(void *(*asks)(void *), strkw_schema *slug) {
-    pthread_t threads[THREADS];
+static bool threads_agree(unsigned count, void *(*asks)(void *), strkw_schema *slug) {
+    pthread_t threads[MORE_THREADS];
     bool agree = true;
-    for (unsigned i = 0; i < THREADS; i++)
+    for (unsigned i = 0; i < count; i++)
         if (pthread_create(&threads[i], NULL, asks, slug) != 0) exit(2);
-    for (unsigned i = 0; i < THREADS; i++) {
+    for (unsigned i = 0; i < count; i++) {
         void *answer = NULL;
         if (pthread_join(threads[i], &answer) != 0) exit(2);
         agree = agree && answer == slug;
     }
     return agree;
+}
+
+/* Whether a hundred checks by a kept schema take less processor time than ten that compile its object, which takes a
+   millisecond and more. */
+static bool compiles_once(void) {
+    static const char *dear = "{\"pattern\":\"a{1000}a{1000}\"}";
+    static const size_t ends[] = {1};
+    const uint8_t *object = (const uint8_t *)dear, *text = (const uint8_t *)"a";
+    uint8_t verdict = 7;
+    strkw_schema *made = NULL;
+    if (strkw_schema_compile(7, 0, object, strlen(dear), &made) != STRKW_DONE) return false;
+    clock_t began = clock();
+    bool are_right = true;
+    for (unsigned i = 0; i < 100; i++)
+        are_right = are_right && strkw_schema_check(made, text, 1, ends, 1, &verdict, 1) == STRKW_DONE && verdict == 0;
+    clock_t kept = clock() - began;
+    for (unsigned i = 0; i < 10; i++)
+        are_right = are_right && strkw_check(7, 0, object, strlen(dear), text, 1, ends, 1, &verdict, 1) == STRKW_DONE;
+    strkw_schema_free(made);
+    return are_right && kept < clock() - began - kept;
 }
 
 /* Whether a forked child has right answers, by a schema that its parent compiled. The process has one thread then. */
@@ -461,9 +498,12 @@ static void call_together(void) {
     strkw_schema *slug = NULL;
     row("schema_compile", "right", "a pattern",
         strkw_schema_compile(7, 0, text_of(SLUG), strlen(SLUG), &slug) == STRKW_DONE);
-    row("schema_check", "right", "eight threads at once", threads_agree(asks_verdicts, slug));
-    row("schema_errors", "right", "eight threads at once", threads_agree(asks_errors, slug));
-    row("check", "right", "eight threads at once", threads_agree(asks_anew, slug));
+    row("schema_check", "right", "eight threads at once", threads_agree(THREADS, asks_verdicts, slug));
+    row("schema_errors", "right", "eight threads at once", threads_agree(THREADS, asks_errors, slug));
+    row("schema_check", "right", "more threads at once than it holds objects for",
+        threads_agree(MORE_THREADS, asks_verdicts, slug));
+    row("schema_check", "right", "no object compiled anew", compiles_once());
+    row("check", "right", "eight threads at once", threads_agree(THREADS, asks_anew, slug));
     row("schema_check", "right", "in a child after a fork", child_agrees(slug));
     row("schema_check", "right", "in the parent after a fork", judges(slug) && tells_slugs(slug));
     strkw_schema_free(slug);

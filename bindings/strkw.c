@@ -1,8 +1,9 @@
 /* The functions that strkw.h declares. Each sees to it that no pointer is NULL, and calls the proved function of
    crates/strkw_c with `nonnull` in its name. Nothing is read or written at what is put for a NULL with a count of 0.
-   A strkw_schema is kept here: the bytes of a schema object, with which each call goes to a proved function. */
+   A strkw_schema is kept here: the bytes of a schema object, and handles in which proved functions have compiled it. */
 #include "strkw.h"
 
+#include <stdatomic.h>
 #include <stdlib.h>
 #include <string.h>
 
@@ -119,40 +120,124 @@ uint8_t strkw_errors(uint32_t draft, uint32_t options, const uint8_t *schema, si
                                 out != NULL ? out : no_room, room, written);
 }
 
+/* What crates/strkw_c keeps a compiled schema object in, as its src/handle.rt has it. One of zeroed memory keeps nothing.
+   One call at a time has a handle. */
+struct handle {
+    bool is_full;
+    void *at;
+};
+
+uint8_t strkw_nonnull_schema_compile(uint32_t draft, uint32_t options, const uint8_t *schema, size_t schema_count,
+                                     struct handle *handle);
+uint8_t strkw_nonnull_schema_check(struct handle *handle, const uint8_t *texts, size_t texts_count, const size_t *ends,
+                                   size_t ends_count, uint8_t *verdicts, size_t room);
+uint8_t strkw_nonnull_schema_errors(struct handle *handle, const uint8_t *text, size_t text_count, uint8_t *out,
+                                    size_t room, size_t *written);
+void strkw_nonnull_schema_free(struct handle *handle);
+
+/* How many handles a schema holds on to: as many calls at once compile nothing. */
+enum { HANDLES = 16 };
+
 struct strkw_schema {
     uint32_t draft;
     uint32_t options;
+    struct handle *_Atomic handles[HANDLES];
     size_t count;
     uint8_t bytes[];
 };
 
+static void free_handle(struct handle *handle) {
+    if (handle == NULL) return;
+    strkw_nonnull_schema_free(handle);
+    free(handle);
+}
+
+/* Makes a handle of a schema object. */
+static uint8_t compile(uint32_t draft, uint32_t options, const uint8_t *schema, size_t count, struct handle **made) {
+    struct handle compiled = {false, NULL};
+    uint8_t status = strkw_nonnull_schema_compile(draft, options, schema, count, &compiled);
+    if (status != STRKW_DONE) return status;
+    struct handle *handle = malloc(sizeof *handle);
+    if (handle == NULL) {
+        strkw_nonnull_schema_free(&compiled);
+        return STRKW_OUT_OF_MEMORY;
+    }
+    *handle = compiled;
+    *made = handle;
+    return STRKW_DONE;
+}
+
+/* Takes a handle of a schema, which no other call has then, or makes one where others have all. NULL: out of memory. */
+static struct handle *take(strkw_schema *schema) {
+    struct handle *handle = NULL;
+    for (size_t i = 0; handle == NULL && i < HANDLES; i++) handle = atomic_exchange(&schema->handles[i], NULL);
+    if (handle == NULL) compile(schema->draft, schema->options, schema->bytes, schema->count, &handle);
+    return handle;
+}
+
+/* Gives a handle back. Where the schema holds on to others already, it is freed. */
+static void give_back(strkw_schema *schema, struct handle *handle) {
+    for (size_t i = 0; handle != NULL && i < HANDLES; i++) {
+        struct handle *none = NULL;
+        if (atomic_compare_exchange_strong(&schema->handles[i], &none, handle)) handle = NULL;
+    }
+    free_handle(handle);
+}
+
+/* The status of a call by a handle, or by an empty one in place of one that there was no memory for. */
+static uint8_t status_by(const struct handle *handle, uint8_t status) {
+    return handle == NULL && status == STRKW_NO_SCHEMA ? STRKW_OUT_OF_MEMORY : status;
+}
+
 uint8_t strkw_schema_compile(uint32_t draft, uint32_t options, const uint8_t *schema, size_t schema_count,
                              strkw_schema **made) {
-    if (made == NULL) return STRKW_NULL;
-    uint8_t status = strkw_check(draft, options, schema, schema_count, NULL, 0, NULL, 0, NULL, 0);
+    if (made == NULL || !leads(schema, schema_count)) return STRKW_NULL;
+    struct handle *handle = NULL;
+    uint8_t status = compile(draft, options, text_at(schema), schema_count, &handle);
     if (status != STRKW_DONE) return status;
-    strkw_schema *kept = malloc(sizeof *kept + schema_count);
-    if (kept == NULL) return STRKW_OUT_OF_MEMORY;
+    strkw_schema *kept = calloc(1, sizeof *kept + schema_count);
+    if (kept == NULL) {
+        free_handle(handle);
+        return STRKW_OUT_OF_MEMORY;
+    }
     kept->draft = draft;
     kept->options = options;
     kept->count = schema_count;
     memcpy(kept->bytes, schema, schema_count);
+    atomic_init(&kept->handles[0], handle);
     *made = kept;
     return STRKW_DONE;
 }
 
 uint8_t strkw_schema_check(const strkw_schema *schema, const uint8_t *texts, size_t texts_count, const size_t *ends,
                            size_t ends_count, uint8_t *verdicts, size_t room) {
-    if (schema == NULL) return STRKW_NULL;
-    return strkw_check(schema->draft, schema->options, schema->bytes, schema->count, texts, texts_count, ends,
-                       ends_count, verdicts, room);
+    uint8_t no_verdicts[1] = {0};
+    struct handle empty = {false, NULL};
+    if (schema == NULL || !leads(texts, texts_count)) return STRKW_NULL;
+    if (!leads(ends, ends_count) || !leads(verdicts, room)) return STRKW_NULL;
+    struct handle *handle = take((strkw_schema *)schema);
+    uint8_t status = strkw_nonnull_schema_check(handle != NULL ? handle : &empty, text_at(texts), texts_count,
+                                                ends != NULL ? ends : no_ends, ends_count,
+                                                verdicts != NULL ? verdicts : no_verdicts, room);
+    give_back((strkw_schema *)schema, handle);
+    return status_by(handle, status);
 }
 
 uint8_t strkw_schema_errors(const strkw_schema *schema, const uint8_t *text, size_t text_count, uint8_t *out,
                             size_t room, size_t *written) {
-    if (schema == NULL) return STRKW_NULL;
-    return strkw_errors(schema->draft, schema->options, schema->bytes, schema->count, text, text_count, out, room,
-                        written);
+    uint8_t no_room[1] = {0};
+    struct handle empty = {false, NULL};
+    if (schema == NULL || !leads(text, text_count)) return STRKW_NULL;
+    if (!leads(out, room) || written == NULL) return STRKW_NULL;
+    struct handle *handle = take((strkw_schema *)schema);
+    uint8_t status = strkw_nonnull_schema_errors(handle != NULL ? handle : &empty, text_at(text), text_count,
+                                                 out != NULL ? out : no_room, room, written);
+    give_back((strkw_schema *)schema, handle);
+    return status_by(handle, status);
 }
 
-void strkw_schema_free(strkw_schema *schema) { free(schema); }
+void strkw_schema_free(strkw_schema *schema) {
+    if (schema == NULL) return;
+    for (size_t i = 0; i < HANDLES; i++) free_handle(atomic_load(&schema->handles[i]));
+    free(schema);
+}

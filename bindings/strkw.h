@@ -7,11 +7,10 @@
    format and are no encoding. NULL with a count of 0 is an empty text, list or buffer everywhere. NULL with another
    count is refused: a format and an encoding answer no, the other functions STRKW_NULL.
 
-   Nothing is kept between calls but a strkw_schema, which no call changes: any number of threads may call at once, also
-   with the same strkw_schema, each with buffers of its own. There is no lock. A fork changes nothing of that. The
-   formats that answer by a bool, and the encodings base32, base32hex and base16, take no memory. All other functions
-   call malloc, realloc and free: call them from no signal handler, nor in the forked child of a process with several
-   threads. */
+   Nothing is kept between calls but a strkw_schema. Any number of threads may call at once, also with the same
+   strkw_schema, each with buffers of its own. There is no lock. A fork changes nothing of that. The formats that answer
+   by a bool, and the encodings base32, base32hex and base16, take no memory. All other functions call malloc, realloc
+   and free: call them from no signal handler, nor in the forked child of a process with several threads. */
 #ifndef STRKW_H
 #define STRKW_H
 
@@ -63,7 +62,9 @@ uint8_t strkw_is_base16(const uint8_t *text, size_t count);
 uint8_t strkw_is_json(const uint8_t *text, size_t count);
 
 /* What the functions below answer. Where several hold, the calls with many texts tell the first of 7, 2, 3, 6, 1, 4,
-   5, strkw_refusal the first of 7, 3, 6, 1, 4, 2, 5, and strkw_errors the first of 7, 3, 6, 8, 1, 4, 5, 2. */
+   5, strkw_refusal the first of 7, 3, 6, 1, 4, 2, 5, and strkw_errors the first of 7, 3, 6, 8, 1, 4, 5, 2.
+   strkw_schema_compile tells the first of 7, 3, 6, 1, 4, 5, strkw_schema_check the first of 7, 2, 1, and
+   strkw_schema_errors the first of 7, 8, 1, 2. */
 enum {
     STRKW_DONE = 0,
     STRKW_OUT_OF_MEMORY = 1, /* nothing was written */
@@ -73,7 +74,7 @@ enum {
     STRKW_REFUSED = 5,       /* the schema object is refused; strkw_refusal tells why */
     STRKW_NO_OPTION = 6,     /* a bit of the options is none of the three below */
     STRKW_NULL = 7,          /* a pointer is NULL, and its count is not 0 */
-    STRKW_NOT_UTF8 = 8       /* the text of strkw_errors is not UTF-8 */
+    STRKW_NOT_UTF8 = 8       /* the one text whose errors are asked for is not UTF-8 */
 };
 
 /* Answers requests, one a line, as the program strkw does. requests, out and written do not overlap.
@@ -137,8 +138,9 @@ uint8_t strkw_refusal(uint32_t draft, uint32_t options, const uint8_t *schema, s
 uint8_t strkw_errors(uint32_t draft, uint32_t options, const uint8_t *schema, size_t schema_count, const uint8_t *text,
                      size_t text_count, uint8_t *out, size_t room, size_t *written);
 
-/* A schema object that is kept, with its draft and options. It holds a copy of the bytes, which each call compiles:
-   hand many texts to one strkw_schema_check. */
+/* A schema object that is compiled and kept, with its draft and options. It holds a compiled object for each call that
+   has run at the same time, 16 at most, and a copy of the bytes. A call has one of the objects to itself. Only where
+   other calls have all of them it compiles the bytes, which takes up to some 12 milliseconds for a pattern. */
 typedef struct strkw_schema strkw_schema;
 
 /* Makes one. STRKW_DONE: it is in *made, for strkw_schema_free. After any other, *made is as it was: made is NULL

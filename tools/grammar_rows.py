@@ -122,6 +122,11 @@ def words(letters, sizes):
     return ["".join(word) for size in sizes for word in itertools.product(letters, repeat=size)]
 
 
+def rows_of(*parts):
+    """The rows that each of these functions makes, in their order."""
+    return itertools.chain.from_iterable(part() for part in parts)
+
+
 # Dates and times: RFC 3339, sections 5.6 and 5.7, with a leap second in the last minute of any day of UTC.
 
 def days_in(year, month):
@@ -1385,14 +1390,8 @@ def u_label_rows():
 def idn_rows():
     """The rows of internationalised host names."""
     yield "internationalised host names: RFC 5890 to 5893"
-    yield from permission_rows()
-    yield from normal_form_rows()
-    yield from label_rules_of_idn()
-    yield from context_rows_of_idn()
-    yield from bidi_rows_of_idn()
-    yield from a_label_rows()
-    yield from size_rows()
-    yield from u_label_rows()
+    yield from rows_of(permission_rows, normal_form_rows, label_rules_of_idn, context_rows_of_idn, bidi_rows_of_idn,
+                       a_label_rows, size_rows, u_label_rows)
     yield ("all code points, by the derived property of another edition of Unicode: between two letters of either "
            "direction; of the first 131,072 first, last and beside the characters that have contextual rules")
     yield from (idn_sums(before, behind) for before, behind in WIDE_PLACES)
@@ -1858,6 +1857,12 @@ def one_character_rows(looking, text, edge):
     yield searches(rows + [[looking("=", edge), text(end), False] for end in LINE_ENDS])
 
 
+def ruled_rows(patterns, sizes):
+    """Rows of each pattern and its rule, in the texts of a and b of these sizes."""
+    for pattern, found in patterns:
+        yield searches([[pattern, text, bool(found(text))] for text in words("ab", sizes)])
+
+
 def look_rows():
     """The rows of lookbehinds."""
     yield ("lookbehinds: `(?<= )` and `(?<! )` with each body, behind each text of a and b; within groups and loops, "
@@ -1867,8 +1872,7 @@ def look_rows():
         stands = stands_before(body, word + "c", len(word))
         rows += [[f"(?<={body})c", word + "c", stands], [f"(?<!{body})c", word + "c", not stands]]
     yield searches(rows)
-    for pattern, found in LOOKS:
-        yield searches([[pattern, text, bool(found(text))] for text in words("ab", range(5))])
+    yield from ruled_rows(LOOKS, range(5))
     yield from one_character_rows(lambda sign, body: f"(?<{sign}{body})a", lambda beside: f"{beside}a", "^")
     yield from look_syntax_rows()
 
@@ -1909,6 +1913,28 @@ def stands_ahead(body, text, place):
     """Whether the body matches the text from a place on."""
     body = body.replace("[^]", "(?s:.)").replace("[]", "(?!)").replace("\\B", "(?!\\b)")
     return re.compile(body).match(text, place) is not None
+
+
+def ahead_of_c(bodies, sizes):
+    """Searches for `c` with each body ahead or not ahead, in `c` before each text of a and b of these sizes."""
+    rows = []
+    for body, word in itertools.product(bodies, words("ab", sizes)):
+        stands = stands_ahead(body, "c" + word, 1)
+        rows += [[f"c(?={body})", "c" + word, stands], [f"c(?!{body})", "c" + word, not stands]]
+    return searches(rows)
+
+
+def ahead_at_front(bodies, sizes, ends):
+    """Searches for each body ahead or not ahead at the front, before each of these ends, in each text of a and b.
+
+    Each end matches whatever of these texts follows.
+    """
+    rows = []
+    for body, word in itertools.product(bodies, words("ab", sizes)):
+        stands = stands_ahead(body, word, 0)
+        for end in ends:
+            rows += [[f"^(?={body}){end}", word, stands], [f"^(?!{body}){end}", word, not stands]]
+    return searches(rows)
 
 
 # Patterns with lookaheads, and in which texts of a and b each is found.
@@ -2058,14 +2084,8 @@ def front_rows():
     """The rows of lookaheads at the front."""
     yield "lookaheads at the front behind `^`, for more than one character: with each body, alone and before `[ab]*$`"
     far = [body for body in FAR if "(?=" not in body and "(?!" not in body]
-    rows = []
-    for body, word in itertools.product(far, words("ab", range(4))):
-        stands = stands_ahead(body, word, 0)
-        for end in ("", "[ab]*$"):
-            rows += [[f"^(?={body}){end}", word, stands], [f"^(?!{body}){end}", word, not stands]]
-    yield searches(rows)
-    for pattern, found in FRONT_LOOKS:
-        yield searches([[pattern, text, bool(found(text))] for text in words("ab", range(5))])
+    yield ahead_at_front(far, range(4), ["", "[ab]*$"])
+    yield from ruled_rows(FRONT_LOOKS, range(5))
     yield searches([[pattern, text, bool(found)] for pattern, told in PASSWORDS for text, found in told.items()])
     yield refusals("taken", NO_FRONTS)
     yield refusals("taken", ["^(?=.{1000}.{300})(?=.{1000}.{297})", "^(?=.{1000}.{1000}.{597})a"])
@@ -2107,13 +2127,8 @@ def far_rows():
     """The rows of lookaheads for more than one character, anywhere."""
     yield ("lookaheads for more than one character: with each body, before each text of a and b; within groups, loops "
            "and one another; beside others at the front")
-    rows = []
-    for body, word in itertools.product(FAR, words("ab", range(4))):
-        stands = stands_ahead(body, "c" + word, 1)
-        rows += [[f"c(?={body})", "c" + word, stands], [f"c(?!{body})", "c" + word, not stands]]
-    yield searches(rows)
-    for pattern, found in FAR_LOOKS:
-        yield searches([[pattern, text, bool(found(text))] for text in words("ab", range(6))])
+    yield ahead_of_c(FAR, range(4))
+    yield from ruled_rows(FAR_LOOKS, range(6))
     far = list(itertools.product(["\u00e9", "\u0800", "\uffff", "\U0001f600"], repeat=2))
     rows = [[f"a(?={one}b)", f"{other}a{other}b{one}", one == other] for one, other in far]
     yield searches(rows + [[f"a(?!{one}b)", f"{other}a{other}b{one}", one != other] for one, other in far])
@@ -2127,8 +2142,7 @@ def far_rows():
 def both_ways_rows():
     """The rows of patterns that look far both ways."""
     yield "lookaheads and lookbehinds for more than one character in one part of a pattern, and in one another"
-    for pattern, found in BOTH_WAYS:
-        yield searches([[pattern, text, bool(found(text))] for text in words("ab", range(7))])
+    yield from ruled_rows(BOTH_WAYS, range(7))
     yield searches([[pattern, text, bool(found)] for pattern, told in BOTH_WAYS_WIDE for text, found in told.items()])
     yield long_searches([
         ([["(?<=ab)(?=ba)", 1]], [["ab", 20_000], ["ba", 1]], True), ([["(?<=ab)(?=ba)", 1]], [["ab", 20_000]], False),
@@ -2144,18 +2158,9 @@ def ahead_rows():
     """The rows of lookaheads."""
     yield ("lookaheads of one character, `(?= )` and `(?! )`, with each body, before each text of a and b; within "
            "groups, loops and lookbehinds")
-    rows = []
-    for body, word in itertools.product(GLANCES, words("ab", range(3))):
-        stands = stands_ahead(body, "c" + word, 1)
-        rows += [[f"c(?={body})", "c" + word, stands], [f"c(?!{body})", "c" + word, not stands]]
-    yield searches(rows)
-    rows = []
-    for body, word in itertools.product(GLANCES, words("ab", range(4))):
-        stands = stands_ahead(body, word, 0)
-        rows += [[f"^(?={body})[ab]*$", word, stands], [f"^(?!{body})[ab]*$", word, not stands]]
-    yield searches(rows)
-    for pattern, found in LOOKS_AHEAD:
-        yield searches([[pattern, text, bool(found(text))] for text in words("ab", range(5))])
+    yield ahead_of_c(GLANCES, range(3))
+    yield ahead_at_front(GLANCES, range(4), ["[ab]*$"])
+    yield from ruled_rows(LOOKS_AHEAD, range(5))
     yield from one_character_rows(lambda sign, body: f"a(?{sign}{body})", lambda beside: f"a{beside}", "$")
     texts_of_letters = ("", "Ab", "aB", "\u00c9a", "\u00e9A", "A")
     yield searches([["^(?=\\p{Lu})\\p{L}+$", text, text[:1] in ("A", "\u00c9")] for text in texts_of_letters])
@@ -2433,15 +2438,8 @@ def whole_rows():
 
 def ecma_rows():
     """The rows of patterns of ECMA-262."""
-    yield from escape_rows()
-    yield from name_rows()
-    yield from class_rows()
-    yield from member_rows()
-    yield from look_rows()
-    yield from ahead_rows()
-    yield from limit_rows()
-    yield from property_rows()
-    yield from whole_rows()
+    return rows_of(escape_rows, name_rows, class_rows, member_rows, look_rows, ahead_rows, limit_rows, property_rows,
+                   whole_rows)
 
 
 # The parts of `stdin`, by their crates.

@@ -1,6 +1,7 @@
 """Texts by a schema object."""
 import ctypes
 import json
+from functools import partial
 from itertools import accumulate
 from typing import Any, Callable, Iterable, Iterator, Literal, Mapping, Optional, Sequence, Union
 
@@ -23,9 +24,13 @@ _FORMATS_AS_DRAFT, _IGNORE_UNKNOWN_FORMATS, _COMPANION_FORMATS = 1, 2, 4
 _VERDICTS = (False, True, None)
 
 _OBJECT = (NUMBER, NUMBER, BYTES, COUNT)
+_TEXTS = (BYTES, COUNT, ctypes.POINTER(COUNT), COUNT, BUFFER, COUNT)
 _REFUSAL = function("refusal", *_OBJECT, *WRITTEN)
-_ERRORS = function("errors", *_OBJECT, BYTES, COUNT, *WRITTEN)
-_CHECK = function("check", *_OBJECT, BYTES, COUNT, ctypes.POINTER(COUNT), COUNT, BUFFER, COUNT)
+_CHECK = function("check", *_OBJECT, *_TEXTS)
+_COMPILE = function("schema-compile", *_OBJECT, ctypes.POINTER(BUFFER))
+_CHECK_BY = function("schema-check", BUFFER, *_TEXTS)
+_ERRORS_BY = function("schema-errors", BUFFER, BYTES, COUNT, *WRITTEN)
+_FREE = function("schema-free", BUFFER, result=None)
 
 
 class ValidationError(ValueError):
@@ -78,26 +83,44 @@ def _options(formats: Any, unknown_formats: Any, companion_formats: Any) -> int:
             | (_COMPANION_FORMATS if companion_formats else 0))
 
 
-def _why(status: int, *compiled: Any) -> str:
-    """Why a schema was not taken."""
+def _require_done(status: int, schema: Sequence[Any]) -> None:
+    """Raises what a status says of a schema, given by its draft, options and bytes."""
+    if status == OUT_OF_MEMORY:
+        raise MemoryError
     if status == REFUSED:
-        _, text = written(_REFUSAL, *compiled, room=256)
-        return f"the schema object is refused at {text.decode()}"
-    return "the schema is no JSON object"
+        _, text = written(_REFUSAL, *schema, room=256)
+        raise ValueError(f"the schema object is refused at {text.decode()}")
+    if status != DONE:
+        raise ValueError("the schema is no JSON object")
 
 
-def _verdicts(compiled: Sequence[Any], texts: Iterable[Text]) -> list[Optional[bool]]:
-    """What the library answers of each text: valid, not valid, or `None` for a text that is not UTF-8."""
+class _Compiled:
+    """A schema object that the library keeps, compiled, and frees with this."""
+
+    def __init__(self, *schema: Any) -> None:
+        self.schema, self.place = schema, BUFFER()
+        _require_done(_COMPILE(*schema, ctypes.byref(self.place)), schema)
+
+    def __del__(self, free: Callable[..., None] = _FREE) -> None:
+        free(self.place)
+
+    def __reduce__(self) -> tuple[Any, ...]:
+        # A copy, also one in another process, is compiled anew.
+        return _Compiled, self.schema
+
+    def check(self, *texts: Any) -> int:
+        """The status of a check, which writes a verdict on each text."""
+        return _CHECK_BY(self.place, *texts)
+
+
+def _verdicts(check: Callable[..., int], schema: Sequence[Any], texts: Iterable[Text]) -> list[Optional[bool]]:
+    """What a check answers of each text: valid, not valid, or `None` for a text that is not UTF-8."""
     if isinstance(texts, (str, bytes, bytearray, memoryview)):
         raise TypeError(f"texts are a list of them, and no {type(texts).__name__}")
     data = [bytes_of(text) for text in texts]
     joined, count = b"".join(data), len(data)
     ends, verdicts = (COUNT * (count + 1))(*accumulate(map(len, data))), ctypes.create_string_buffer(count + 1)
-    status = _CHECK(*compiled, joined, len(joined), ends, count, verdicts, count)
-    if status == OUT_OF_MEMORY:
-        raise MemoryError
-    if status != DONE:
-        raise ValueError(_why(status, *compiled))
+    _require_done(check(joined, len(joined), ends, count, verdicts, count), schema)
     return [_VERDICTS[verdict] for verdict in verdicts.raw[:count]]
 
 
@@ -119,8 +142,8 @@ def check_texts(draft: int, schema: SchemaObject, texts: Iterable[Text], formats
     says why. TypeError where an argument is of another type.
     """
     number, source = _draft_number(draft), _source(schema)
-    options = _options(formats, unknown_formats, companion_formats)
-    return _verdicts((number, options, source, len(source)), texts)
+    compiled = (number, _options(formats, unknown_formats, companion_formats), source, len(source))
+    return _verdicts(partial(_CHECK, *compiled), compiled, texts)
 
 
 class Schema:
@@ -146,8 +169,8 @@ class Schema:
     >>> Schema(7, {"format": "idn-hostname"}, companion_formats=True).are_valid(["b\u00fccher.example", "-a.example"])
     [True, False]
 
-    A schema object is never changed. Threads may share one without a lock, and so may processes after a fork. Each call
-    compiles it, which takes up to 12 milliseconds for a pattern: hand many texts to one are_valid.
+    The schema object is compiled once, and never changed. Threads may share one without a lock, and so may processes
+    after a fork. Of more than 16 calls at once, the others compile it again.
     """
 
     def __init__(self, draft: int, schema: SchemaObject, formats: Formats = "checked",
@@ -160,8 +183,7 @@ class Schema:
             if not isinstance(checks, Mapping):
                 raise TypeError(f"checks are a dict of functions by names, and no {type(checks).__name__}")
             source = self._take_format(source, checks, options & _FORMATS_AS_DRAFT and number in _NOTING_DRAFTS)
-        self._compiled = (number, options, source, len(source))
-        _verdicts(self._compiled, [])
+        self._compiled = _Compiled(number, options, source, len(source))
 
     def _take_format(self, source: bytes, checks: Mapping[str, Check], only_notes: bool) -> bytes:
         """The schema object without a format that the caller registers."""
@@ -188,25 +210,29 @@ class Schema:
 
     def _lines(self, data: bytes, word: str) -> Iterator[tuple[str, str]]:
         """The keyword and what stands behind it, of each line that begins with the word."""
-        status, out = written(_ERRORS, *self._compiled, data, len(data), room=256)
+        status, out = written(_ERRORS_BY, self._compiled.place, data, len(data), room=256)
         assert status == DONE
         for line in out.decode().split("\n")[:-1]:
             kind, place, told = line.split(" ", 2)
             if kind == word:
                 yield place[1:-1], told
 
+    def _verdicts(self, texts: Iterable[Text]) -> list[Optional[bool]]:
+        """What the library answers of each text."""
+        return _verdicts(self._compiled.check, self._compiled.schema, texts)
+
     def is_valid(self, text: Text) -> bool:
         """Whether a text is valid. ValueError where it is not UTF-8, as a lone surrogate."""
         data, characters = self._text(text)
-        return _verdicts(self._compiled, [data])[0] is True and (self._check is None or bool(self._check(characters)))
+        return self._verdicts([data])[0] is True and (self._check is None or bool(self._check(characters)))
 
     def are_valid(self, texts: Iterable[Text]) -> list[Optional[bool]]:
         """Whether each of a list of texts is valid, and None for what is not UTF-8."""
         if self._check is None:
-            return _verdicts(self._compiled, texts)
+            return self._verdicts(texts)
         kept = texts if isinstance(texts, (str, bytes, bytearray, memoryview)) else list(texts)
         return [verdict and bool(self._check(bytes_of(text).decode()))
-                for verdict, text in zip(_verdicts(self._compiled, kept), kept)]
+                for verdict, text in zip(self._verdicts(kept), kept)]
 
     def check_array(self, texts: Buffer, offsets: Buffer, validity: Optional[Buffer] = None, *, offset: int = 0,
                     length: Optional[int] = None, large: bool = False) -> bytearray:
@@ -225,14 +251,14 @@ class Schema:
             verdicts = schema.check_array(texts, offsets, validity, offset=array.offset, length=len(array))
 
         With large=True it is a `large_string`. Without a length all texts are checked from the offset on. No other
-        thread may change the buffers meanwhile.
+        thread may change the buffers meanwhile. Each call compiles the schema object once more.
 
         ValueError where the offsets are not such numbers, are too few, fall, or lead past the texts, or the validity
         has too few bits. TypeError where an argument is of another type.
         """
         found = array_of(texts, offsets, validity, offset, length, large)
         verdicts = bytearray(len(found))
-        status = found.check(self._compiled, verdicts)
+        status = found.check(self._compiled.schema, verdicts)
         if status == OUT_OF_MEMORY:
             raise MemoryError
         if status == NO_ROOM:

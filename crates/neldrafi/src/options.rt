@@ -218,6 +218,14 @@ pub(crate) const IGNORE: Argument = Argument {
     help: "Let a keyword of this name pass, of which nothing is checked",
 };
 
+/// The file of the plan.
+pub(crate) const PLAN: Argument = Argument {
+    name: "PLAN",
+    takes: Takes::Word,
+    conflicts: &[],
+    help: "The file of the plan",
+};
+
 /// The files to check.
 pub(crate) const FILES: Argument = Argument {
     name: "FILE",

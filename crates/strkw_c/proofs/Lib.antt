@@ -1,4 +1,6 @@
+mod KeptLemmas
 mod LineLemmas
+mod PlaceSteps
 mod RegisteredLemmas
 mod StatusLemmas
 mod TextLemmas

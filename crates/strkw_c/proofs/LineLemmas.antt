@@ -1,11 +1,9 @@
 -- Lines that are written one item after another.
-use Rattle.std.proofs.Common.{◌≡◌, ℕ, ◌<◌, ◌+◌, List, [], ◌∷◌, ◌++◌, false, length, get_or, take, map, sym, ap, ◌∙◌, subst, arith}
+use Rattle.std.proofs.Common.{◌≡◌, ℕ, ◌<◌, ◌+◌, List, [], ◌∷◌, ◌++◌, length, get_or, take, map, sym, ap, ◌∙◌, subst, arith}
 use Rattle.std.specs.List.{flat_map}
 use Rattle.std.proofs.lemmas.List.{take_more, flat_map_more, get_or-map, length-map}
 use Rattle.std.proofs.lemmas.List.Folds.{flat_map-map}
 use Rattle.std.proofs.lemmas.List.Elements.{All-get_or}
-use Rattle.serde_json.specs.View.{view}
-use Rattle.serde_json.specs.Written.{has_float}
 use Rattle.strkw_keywords.specs.declared.parts.Note.{Note}
 use Rattle.strkw_keywords.specs.Remarks.{remark_of}
 use Rattle.strkw_object.specs.Printable.{HasText, ArePrintable}
@@ -29,7 +27,7 @@ noted_more notes i note old mid new within is first second =
 
 -- where all notes can be printed, so can each of them
 pub printable_at : (notes : List Note) (i : ℕ) (note : Note) → ArePrintable (map remark_of notes) → i < length notes → note ≡ get_or notes i note
-    → has_float (view note.value) ≡ false
+    → HasText (remark_of note)
 printable_at notes i note printable within is =
     let inside : i < length (map remark_of notes) = omega (arith, within, length-map notes remark_of) in
     subst HasText (get_or-map remark_of notes i note (remark_of note) within ∙ ap remark_of (sym is))

@@ -1,6 +1,8 @@
 pub mod Buffers
 pub mod Errors
 pub mod Judged
+pub mod Kept
+pub mod Owned
 pub mod Refusals
 pub mod Settings
 pub mod Statuses

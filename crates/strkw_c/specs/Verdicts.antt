@@ -28,12 +28,19 @@ abbrev pub HasFirstRefusal : Settings → List ℕ → Option Refusal → Type 0
 HasFirstRefusal s bytes first =
     (schema : Members) × IsSchema bytes (Some schema) × FirstRefusal s schema first
 
--- why the bytes of a schema have no verdicts; what is refused can be told in words
-abbrev pub Fails : Failure → Settings → List ℕ → Type 0
-Fails Memory s bytes = ⊤
-Fails NoSchema s bytes = IsSchema bytes None
-Fails (Refused why) s bytes =
+-- Why nothing is made under settings, of the bytes of a schema, or of an object that was compiled
+-- before. What is refused can be told in words.
+abbrev pub FailsOn : Failure → Settings → Option (List ℕ) → Type 0
+FailsOn Memory s bytes = ⊤
+FailsOn NoSchema s None = ⊥
+FailsOn NoSchema s (Some bytes) = IsSchema bytes None
+FailsOn (Refused why) s None = ⊥
+FailsOn (Refused why) s (Some bytes) =
     HasFirstRefusal s bytes (Some (refusal_of why)) × (prints_float (reason_of why.kind) ≡ false)
+
+-- why the bytes of a schema have no verdicts
+abbrev pub Fails : Failure → Settings → List ℕ → Type 0
+Fails failure s bytes = FailsOn failure s (Some bytes)
 
 -- why a schema object has none
 abbrev pub FailsObject : Failure → Settings → Members → Type 0

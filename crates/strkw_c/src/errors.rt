@@ -1,23 +1,18 @@
 //! The errors of one text by a schema object, and what is noted of it.
 
-ghost use Rattle.std.specs.Prelude.{◌≡◌, ◌≢◌, ◌⊎◌, ◌↔◌, ◌≤◌, ℕ, List, Some, None, IsSome, IfOk, IfErr};
+ghost use Rattle.std.specs.Prelude.{◌≡◌, ◌≢◌, ◌⊎◌, ◌↔◌, ◌≤◌, ℕ, List, Some, None, IsSome};
 ghost use Rattle.std.specs.Str.{IsUtf8};
 ghost use Rattle.strkw_report.specs.Drafts.{draft_numbered};
 ghost use Rattle.strkw_report.specs.Refusals.{Refusal};
-ghost use Rattle.strkw_report.specs.Standings.{root_site};
-ghost use Rattle.strkw_keywords.specs.Demands.{IsInUse};
-ghost use Rattle.strkw_keywords.specs.Handed.{lists_of};
 ghost use Rattle.strkw_keywords.specs.Object.{Settings};
-ghost use Rattle.strkw_object.specs.Compiled.{keywords_demands, keywords_remarks};
-ghost use Rattle.strkw_object.specs.Printable.{ArePrintable};
 ghost use Rattle.strkw_c.specs.Buffers.{IsPut, IsTooLong};
-ghost use Rattle.strkw_c.specs.Errors.{HasLines, AreLinesOf};
+ghost use Rattle.strkw_c.specs.Errors.{HasLines};
 ghost use Rattle.strkw_c.specs.Settings.{choices_of, settings_of};
 ghost use Rattle.strkw_c.specs.Verdicts.{IsSchema, HasFirstRefusal};
 ghost use Rattle.strkw_c.specs.declared.statuses.TheConstants.{DONE, NO_DRAFT, NO_OPTION, NO_ROOM, NO_SCHEMA, NOT_UTF8, REFUSED};
 
 use crate::buffers::put;
-use crate::lines::{push_errors, push_notes};
+use crate::lines::lines_on;
 use crate::questions::{Question, answer_to};
 use crate::schemas::Failure;
 use crate::settings::choices_of;
@@ -32,8 +27,7 @@ use strkw_object::laws::{
     compiled_errors_are_those_of_the_object, compiled_notes_are_those_of_the_object,
     notes_have_texts,
 };
-use strkw_pattern::RegexEngine;
-use strkw_report::{Location, Site, draft_numbered};
+use strkw_report::draft_numbered;
 
 /// Writes the errors of one text by a schema object, and then what the object notes of it, under a draft and options as
 /// `strkw_nonnull_check` has them. Status 0: at the head of `out` stands a line for each, and the count of bytes is in
@@ -96,10 +90,10 @@ pub extern "C" fn strkw_nonnull_errors(
     }
 }
 
-// What is asked: the lines of a text.
+/// What is asked: the lines of a text.
 #[derive(Clone, Copy)]
-struct LinesOf<'a> {
-    text: &'a str,
+pub(crate) struct LinesOf<'a> {
+    pub(crate) text: &'a str,
 }
 
 impl Question for LinesOf<'_> {
@@ -120,35 +114,5 @@ impl Question for LinesOf<'_> {
         compiled_notes_are_those_of_the_object::<EcmaMatcher>();
         notes_have_texts();
         lines_on(alloc, keywords, checks, self.text)
-    }
-}
-
-// The lines of a text by a compiled object.
-fn lines_on<E: RegexEngine>(
-    alloc: Global,
-    keywords: &StringKeywords<E>,
-    checks: &Checks,
-    text: &str,
-) -> Result<Vec<u8>, AllocError>
-    requires in_use { IsInUse (keywords_demands E.outcome keywords.now)
-        (lists_of admits accepted encoded decoding checks.now) }
-    requires printable { ArePrintable (keywords_remarks keywords.now) }
-    ensures { IfOk result (λ lines. AreLinesOf E.outcome keywords.now
-        (lists_of admits accepted encoded decoding checks.now) text.now lines.items) }
-{
-    let found = keywords.evaluate(alloc, &text, &root_site(alloc), checks)?;
-    let mut lines = Vec::new(alloc);
-    push_errors(alloc, &found.errors, &mut lines)?;
-    push_notes(alloc, &found.notes, &mut lines)?;
-    Ok(lines)
-}
-
-// The place of a schema object and of a text that are whole documents.
-fn root_site(alloc: Global) -> Site
-    ensures { result ≡ root_site }
-{
-    Site {
-        evaluation: Location::root(alloc),
-        instance: Location::root(alloc),
     }
 }

@@ -5,23 +5,32 @@
 
 mod answers;
 mod buffers;
+mod companions;
 mod encodings;
 mod errors;
 mod formats;
-mod internationalised;
+mod handle;
+mod handles;
+mod keeping;
+mod kept;
 mod lines;
 mod offsets;
-mod patterns;
+mod place;
 mod questions;
 mod refusals;
 mod schemas;
 mod settings;
 mod statuses;
+mod tasks;
 mod texts;
+mod unboxed;
 mod utf8;
 mod verdicts;
 
 pub use answers::strkw_nonnull_answer;
+pub use companions::{
+    strkw_nonnull_is_idn_email, strkw_nonnull_is_idn_hostname, strkw_nonnull_is_regex,
+};
 pub use encodings::{
     strkw_nonnull_is_base16, strkw_nonnull_is_base32, strkw_nonnull_is_base32hex,
     strkw_nonnull_is_base64, strkw_nonnull_is_base64url, strkw_nonnull_is_json,
@@ -35,8 +44,10 @@ pub use formats::{
     strkw_nonnull_is_relative_json_pointer, strkw_nonnull_is_time, strkw_nonnull_is_uri,
     strkw_nonnull_is_uri_reference, strkw_nonnull_is_uri_template, strkw_nonnull_is_uuid,
 };
-pub use internationalised::{strkw_nonnull_is_idn_email, strkw_nonnull_is_idn_hostname};
+pub use handles::{
+    strkw_nonnull_schema_check, strkw_nonnull_schema_compile, strkw_nonnull_schema_errors,
+    strkw_nonnull_schema_free,
+};
 pub use offsets::{strkw_nonnull_check_offsets, strkw_nonnull_check_offsets32};
-pub use patterns::strkw_nonnull_is_regex;
 pub use refusals::strkw_nonnull_refusal;
 pub use verdicts::strkw_nonnull_check;

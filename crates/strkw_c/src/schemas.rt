@@ -13,7 +13,7 @@ ghost use Rattle.strkw_c.specs.Settings.{settings_by};
 ghost use Rattle.strkw_c.specs.Verdicts.{IsSchema, Fails, FailsObject};
 
 use serde_json::{Map, Value};
-use std::alloc::{AllocError, AllocFailed, Global};
+use std::alloc::{AllocError, Global};
 use strkw_ecma::{EcmaMatcher, EcmaPatterns};
 use strkw_json::read_value;
 use strkw_keywords::{Checks, Context, Options};
@@ -31,18 +31,11 @@ pub(crate) enum Failure {
     Refused(CompileError),
 }
 
-impl From<AllocError> for Failure {
+// Out of memory, with or without what was to be stored.
+impl<E: Into<AllocError> + Drop> From<E> for Failure {
     ghost from_gives = { λ _ failure. failure ≡ Memory };
 
-    fn from(_: AllocError) -> Failure {
-        Failure::Memory
-    }
-}
-
-impl<T: Drop> From<AllocFailed<T>> for Failure {
-    ghost from_gives = { λ _ failure. failure ≡ Memory };
-
-    fn from(_: AllocFailed<T>) -> Failure {
+    fn from(_: E) -> Failure {
         Failure::Memory
     }
 }

@@ -126,12 +126,12 @@ pub(crate) fn check_from(
     }
 }
 
-// What is asked: a verdict on each of the texts from a start on that have these ends.
+/// What is asked: a verdict on each of the texts from a start on that have these ends.
 #[derive(Clone, Copy)]
-struct VerdictsOn<'a> {
-    texts: &'a [u8],
-    start: usize,
-    ends: &'a Ends<'a>,
+pub(crate) struct VerdictsOn<'a> {
+    pub(crate) texts: &'a [u8],
+    pub(crate) start: usize,
+    pub(crate) ends: &'a Ends<'a>,
 }
 
 impl Question for VerdictsOn<'_> {

@@ -1,9 +1,14 @@
 -- Bytes of a text that are characters, and their columns.
-use Rattle.std.proofs.Common.{◌≡◌, ℕ, ◌+◌, ◌<◌, ◌≤◌, List, ◌∷◌, ◌++◌, Vec, Global, Some, length, get_or, drop, IsUtf8, encode_utf8, sym, ap, ◌∙◌, arith}
+use Rattle.std.proofs.Common.{◌≡◌, ⊎_elim, ℕ, ◌+◌, ◌*◌, ◌/◌, ◌%◌, ◌<◌, ◌≤◌, List, ◌∷◌, ◌++◌, Vec, Global, Some, length, get_or, drop, IsUtf8}
+use Rattle.std.proofs.Common.{encode_utf8, length-drop, get_or-drop, drop-drop, subst, sym, ap, ◌∙◌, arith}
+use lib.Utf8.{scalar_cases}
+use Rattle.std.specs.Char.{IsScalar}
+use Rattle.std.specs.Str.Pattern.{StartsWithChar}
 use Rattle.std.specs.Str.{chars}
+use Rattle.std.proofs.iter.FirstChar.{wide, in_one, in_two, in_three, in_four}
 use Rattle.std.proofs.lemmas.List.{drop_more}
 use Rattle.std.proofs.lemmas.Str.{chars_past_char, IsUtf8-past_char, encode_ascii}
-use Rattle.strkw_ecma.specs.machine.Columns.{answers, column_of}
+use Rattle.strkw_ecma.specs.machine.Columns.{answers, column_of, IsColumnAt}
 use Rattle.strkw_ecma.specs.declared.columns.Columns.{Columns}
 use Rattle.strkw_ecma.specs.declared.tree.CharSet.{CharSet}
 use Rattle.strkw_ecma.proofs.Alike.{place_is}
@@ -52,3 +57,87 @@ module _ (t : Columns) (text bytes columns : List ℕ) (all : bytes ≡ text) (a
     is = right;
     within = column_within t.classes.items t.keys.items b column right;
   }
+
+-- where a character of so many bytes stands at a place of a text, it is the first from there on, and the others follow
+pub reads_char : (text bytes : List ℕ) (k c width : ℕ) → bytes ≡ text → IsUtf8 (drop k text) → StartsWithChar (drop k bytes) c width
+    → (chars (drop k text) ≡ c ∷ chars (drop (k + width) text)) × IsUtf8 (drop (k + width) text)
+reads_char text bytes k c width all utf8 starts =
+    let here = subst (λ (l : List ℕ). StartsWithChar (drop k l) c width) all starts in
+    let rest = drop-drop width k text in (
+      chars_past_char (drop k text) (drop width (drop k text)) c utf8 here.0 ∙ ap (λ (l : List ℕ). c ∷ chars l) rest,
+      subst IsUtf8 rest here.4,
+    )
+
+-- at a place of a text stands a character, whose first byte tells how many bytes it has
+module _ (text : List ℕ) (k : ℕ) (within : k < length text) (utf8 : IsUtf8 (drop k text)) where
+  -- something stands there
+  some : 0 < length (drop k text)
+  some = omega (arith, within, length-drop k text)
+
+  -- the bytes there are those of the text from the place on
+  byte : (i : ℕ) → get_or (drop k text) i 0 ≡ get_or text (k + i) 0
+  byte i = get_or-drop k text i 0
+
+  first : get_or (drop k text) 0 0 ≡ get_or text k 0
+  first = let same : k + 0 ≡ k = omega arith in byte 0 ∙ ap (λ (n : ℕ). get_or text n 0) same
+
+  -- so many more stand behind the first
+  pub one_more : 128 ≤ get_or text k 0 → k + 1 < length text
+  one_more low = omega (arith, (wide (drop k text) utf8 some).0 (omega (arith, first, low)), length-drop k text)
+
+  pub two_more : 224 ≤ get_or text k 0 → k + 2 < length text
+  two_more low = omega (arith, (wide (drop k text) utf8 some).1 (omega (arith, first, low)), length-drop k text)
+
+  pub three_more : 240 ≤ get_or text k 0 → k + 3 < length text
+  three_more low = omega (arith, (wide (drop k text) utf8 some).2 (omega (arith, first, low)), length-drop k text)
+
+  -- the page of a character of so many bytes, by those before the last
+  abbrev pub page_of_two : ℕ
+  page_of_two = get_or text k 0 % 32
+
+  abbrev pub page_of_three : ℕ
+  page_of_three = get_or text k 0 % 16 * 64 + get_or text (k + 1) 0 % 64
+
+  abbrev pub page_of_four : ℕ
+  page_of_four = (get_or text k 0 % 8 * 64 + get_or text (k + 1) 0 % 64) * 64 + get_or text (k + 2) 0 % 64
+
+  -- a scalar value is less than this
+  most : (c : ℕ) → IsScalar c → c < 1114112
+  most c scalar = ⊎_elim (λ low. omega (arith, low)) (λ high. high.1) (scalar_cases c scalar)
+
+  -- so its page is one of those that there are
+  pub few_pages : 240 ≤ get_or text k 0 → page_of_four < 17408
+  few_pages low =
+      let here = in_four (drop k text) utf8 some (omega (arith, first, low)) in
+      let at : ℕ → ℕ = λ i. get_or (drop k text) i 0 in
+      let below = most (at 0 % 8 * 262144 + at 1 % 64 * 4096 + at 2 % 64 * 64 + at 3 % 64) here.0 in
+      omega (arith, below, first, byte 1, byte 2)
+
+  module _ (t : Columns) (column : ℕ) where
+    -- the characters of a page whose last byte is this have the column
+    abbrev IsColumnIn : ℕ → ℕ → Type 0
+    IsColumnIn page last = (c : ℕ) → IsScalar c → c / 64 ≡ page → c % 64 ≡ last % 64 → column_of t.classes.items t.keys.items c ≡ Some column
+
+    -- and so does the character that stands there, where that is its page and its last byte
+    abbrev IsColumnHere : ℕ → Type 0
+    IsColumnHere width = IsColumnAt t.classes.items t.keys.items text k column width
+
+    pub one_byte : get_or text k 0 < 128 → IsColumnIn (get_or text k 0 / 64) (get_or text k 0) → IsColumnHere 1
+    one_byte high right =
+        let here = in_one (drop k text) utf8 some (omega (arith, first, high)) in
+        (_, here.0, here.1, right _ here.0 (omega (arith, first)) (omega (arith, first)))
+
+    pub two_bytes : 128 ≤ get_or text k 0 → get_or text k 0 < 224 → IsColumnIn page_of_two (get_or text (k + 1) 0) → IsColumnHere 2
+    two_bytes low high right =
+        let here = in_two (drop k text) utf8 some (omega (arith, first, low)) (omega (arith, first, high)) in
+        (_, here.0, here.1, right _ here.0 (omega (arith, first)) (omega (arith, byte 1)))
+
+    pub three_bytes : 224 ≤ get_or text k 0 → get_or text k 0 < 240 → IsColumnIn page_of_three (get_or text (k + 2) 0) → IsColumnHere 3
+    three_bytes low high right =
+        let here = in_three (drop k text) utf8 some (omega (arith, first, low)) (omega (arith, first, high)) in
+        (_, here.0, here.1, right _ here.0 (omega (arith, first, byte 1)) (omega (arith, byte 2)))
+
+    pub four_bytes : 240 ≤ get_or text k 0 → IsColumnIn page_of_four (get_or text (k + 3) 0) → IsColumnHere 4
+    four_bytes low right =
+        let here = in_four (drop k text) utf8 some (omega (arith, first, low)) in
+        (_, here.0, here.1, right _ here.0 (omega (arith, first, byte 1, byte 2)) (omega (arith, byte 3)))

@@ -1,6 +1,6 @@
 -- What the instructions of a program have of the pattern that they are written for.
-use Rattle.std.proofs.Common.{◌≡◌, ℕ, zero, suc, ◌+◌, ◌≤◌, ◌<◌, nat_lt, Bool, true, false, ◌||◌, List, [], ◌∷◌, ◌++◌, Vec, Global, length, Option, slice_get}
-use Rattle.std.proofs.Common.{refl, ap, subst, ◌∙◌, true≢false, arith}
+use Rattle.std.proofs.Common.{◌≡◌, ℕ, zero, suc, ◌+◌, ◌≤◌, ◌<◌, nat_lt, Bool, true, false, ◌||◌, List, [], ◌∷◌, ◌++◌, Vec, Global, length, slice_get}
+use Rattle.std.proofs.Common.{refl, ap, subst, ◌∙◌, arith}
 use Rattle.std.specs.List.{All, AllByRecursion}
 use Rattle.std.proofs.lemmas.Bool.{ltb-true}
 use Rattle.std.proofs.lemmas.Bool.Decides.{nat_tests}
@@ -16,9 +16,8 @@ use Rattle.strkw_ecma.specs.machine.Marks.{classes}
 use Rattle.strkw_ecma.specs.machine.Columns.{TellsSets, sees_boundary, has_boundary, TellsGlance, Tells}
 use Rattle.strkw_ecma.specs.Sets.{word_characters}
 use Rattle.strkw_ecma.specs.Program.{Instruction, read, assert, peek, fork, other, join, star_begin, star_end, plus_begin, plus_end, look_begin, look_end}
-use Rattle.strkw_ecma.specs.Program.{glance, program, alternatives, has_loop, read_count, asks_word, asks_boundary}
+use Rattle.strkw_ecma.specs.Program.{glance, program, alternatives, read_count, asks_word, asks_boundary}
 use Rattle.strkw_ecma.specs.Size.{instruction_steps, steps_of, steps}
-use Rattle.strkw_ecma.specs.machine.Walk.{asked, below}
 use Rattle.strkw_ecma.specs.machine.Shape.{turned, reading, peeking, instructions, are_within}
 use Rattle.strkw_ecma.proofs.Steps.{and_left, and_right, or_left, or_right}
 use Rattle.strkw_ecma.proofs.Programs.{by_class, by_option}
@@ -191,14 +190,6 @@ boundary_is_asked p =
       of_ahead = λ n q. first_asks (glance q) (look_end n ∷ []) _ (glance_asks q) refl;
     })
     p).0
-
--- with no loop nothing is kept of one
-pub no_loops : (b a : Option ℕ) (is : List Instruction) (ms : List Bool) → has_loop is ≡ false → (asked b a is ms).again ≡ []
-no_loops b a [] ms h = refl
-no_loops b a (star_begin ∷ is) ms h = absurd (true≢false h)
-no_loops b a (plus_begin ∷ is) ms h = absurd (true≢false h)
-no_loops b a (read again optional n rs ∷ is) ms h = no_loops b a is (below ms) h
-no_loops b a (_ ∷ is) ms h = no_loops b a is ms h
 
 -- the answers of the classes tell whether a character is read
 abbrev pub IsTold : List (Vec CharSet Global) → Instruction → Type 0

@@ -1,13 +1,17 @@
 -- Walks of the code over its instructions, from one to the next.
-use Rattle.std.proofs.Common.{◌≡◌, ℕ, zero, suc, ◌+◌, ◌<◌, ◌≤◌, nat_lt, Bool, true, false, ◌&&◌, ◌||◌, List, [], ◌∷◌, length, drop, drop-cons}
-use Rattle.std.proofs.Common.{drop_of_length-le, get_or, get_or-set_same, get_or-set_other, set, ne_of_lt, Option, Some, None, slice_get, refl, sym, ap, ◌∙◌}
+use Rattle.std.proofs.Common.{◌≡◌, ℕ, zero, suc, ◌+◌, ◌<◌, ◌≤◌, nat_lt, Bool, true, false, ◌&&◌, ◌||◌, List, [], ◌∷◌, ◌++◌, length, drop, drop-cons}
+use Rattle.std.proofs.Common.{drop_of_length-le, get_or, get_or-set_same, get_or-set_other, set, ne_of_lt, Option, Some, None, slice_get, take, true≢false}
+use Rattle.std.proofs.Common.{refl, sym, ap, subst, ◌∙◌}
 use Rattle.std.proofs.Common.{arith}
+use Rattle.std.proofs.Math.Seq.{get_or-append_seam}
 use Rattle.std.proofs.lemmas.Bool.{ltb-true}
+use Rattle.std.proofs.lemmas.List.{get_or_append_left}
+use Rattle.std.proofs.lemmas.Option.{none-some, same_Some}
 use Rattle.strkw_ecma.specs.declared.tree.CharSet.{CharSet}
 use Rattle.strkw_ecma.specs.machine.Marks.{reads, classes}
-use Rattle.strkw_ecma.specs.Program.{Instruction, read, peek, read_count}
+use Rattle.strkw_ecma.specs.Program.{Instruction, read, peek, star_begin, plus_begin, read_count, is_loop, has_loop}
 use Rattle.strkw_ecma.specs.Size.{max_steps}
-use Rattle.strkw_ecma.specs.machine.Walk.{top, Asked, back_over, asked, marks_behind, Following, Walked, over, left_by, followed}
+use Rattle.strkw_ecma.specs.machine.Walk.{top, below, Asked, back_over, asked, marks_behind, Following, Walked, over, left_by, followed}
 use Rattle.strkw_ecma.specs.machine.Shape.{turned, reading, peeking, instructed, instructions, are_within}
 use Rattle.strkw_ecma.specs.machine.Machine.{pattern_of, program_of, class_reads}
 use Rattle.strkw_ecma.specs.declared.code.Class.{Class}
@@ -82,6 +86,52 @@ pub fewer_reads : (k : ℕ) (is : List Instruction) → read_count (drop k is) �
 fewer_reads zero is = omega arith
 fewer_reads (suc k) [] = omega arith
 fewer_reads (suc k) (i ∷ is) = omega (arith, fewer_reads k is, more_reads i is)
+
+-- where neither of two holds, the first does not, and the second does not
+neither_first : (x y : Bool) → (x || y) ≡ false → x ≡ false
+neither_first true y h = absurd (true≢false h)
+neither_first false y h = refl
+
+neither_second : (x y : Bool) → (x || y) ≡ false → y ≡ false
+neither_second true y h = absurd (true≢false h)
+neither_second false y h = h
+
+-- neither of two that do not hold
+pub neither : (x y : Bool) → x ≡ false → y ≡ false → (x || y) ≡ false
+neither true y h g = absurd (true≢false h)
+neither false y h g = g
+
+-- no loop stands before the next place, where none stands before this one and at it
+pub none_before_next : (cs : List Class) (is : List CodeInstruction) (k : ℕ) (d : CodeInstruction) → k < length is
+    → has_loop (take k (instructions cs is)) ≡ false → is_loop (instructed cs (get_or is k d)) ≡ false
+    → has_loop (take (suc k) (instructions cs is)) ≡ false
+none_before_next cs [] k d h before none = absurd (omega (arith, h))
+none_before_next cs (i ∷ is) zero d h before none = neither _ _ none refl
+none_before_next cs (i ∷ is) (suc k) d h before none =
+    neither _ _ (neither_first _ _ before) (none_before_next cs is k d (omega (arith, h)) (neither_second (is_loop (instructed cs i)) _ before) none)
+
+-- the marks behind the first
+drop_below : (n : ℕ) (ms : List Bool) → drop n (below ms) ≡ drop (suc n) ms
+drop_below zero [] = refl
+drop_below (suc n) [] = refl
+drop_below n (m ∷ ms) = refl
+
+-- what is known of the loops is known at each place before the first
+pub known_before_loops : (b a : Option ℕ) (is : List Instruction) (ms : List Bool) (n k at : ℕ) → has_loop (take n is) ≡ false → k ≤ n
+    → at + read_count (drop k is) ≡ read_count is → (asked b a (drop k is) (drop at ms)).again ≡ (asked b a is ms).again
+known_before_loops b a is ms n zero at none before counted =
+    let first : at ≡ 0 = omega (arith, counted) in
+    ap (λ (j : ℕ). (asked b a is (drop j ms)).again) first
+known_before_loops b a [] ms n (suc k) at none before counted = refl
+known_before_loops b a (i ∷ is) ms zero (suc k) at none before counted = absurd (omega (arith, before))
+known_before_loops b a (star_begin ∷ is) ms (suc n) (suc k) at none before counted = absurd (true≢false none)
+known_before_loops b a (plus_begin ∷ is) ms (suc n) (suc k) at none before counted = absurd (true≢false none)
+known_before_loops b a (read again optional x rs ∷ is) ms (suc n) (suc k) zero none before counted =
+    absurd (omega (arith, counted, fewer_reads k is))
+known_before_loops b a (read again optional x rs ∷ is) ms (suc n) (suc k) (suc at) none before counted =
+    ap (λ (l : List Bool). (asked b a (drop k is) l).again) (sym (drop_below at ms))
+    ∙ known_before_loops b a is (below ms) n k at none (omega (arith, before)) (omega (arith, counted))
+known_before_loops b a (_ ∷ is) ms (suc n) (suc k) at none before counted = known_before_loops b a is ms n k at none (omega (arith, before)) counted
 
 -- no more instructions read than there are
 pub reads_within : (is : List Instruction) → read_count is ≤ length is
@@ -162,6 +212,25 @@ one_more_class next cs rs n answer c here is long before =
     one_more (λ (k : ℕ). get_or (set rs n answer) k false ≡ class_reads next (slice_get cs k)) n
     (get_or-set_same rs n answer false long ∙ is ∙ sym (ap (class_reads next) here))
     (λ k h. get_or-set_other rs n k answer false (ne_of_lt h) ∙ before k h)
+
+-- and so is one where the answers become one more
+pub one_more_answer : (next : Option ℕ) (cs : List Class) (rs : List Bool) (n : ℕ) (answer : Bool) (c : Class) → slice_get cs n ≡ Some c
+    → answer ≡ reads next c.negated c.sets.items → length rs ≡ n
+    → ((k : ℕ) → k < n → get_or rs k false ≡ class_reads next (slice_get cs k))
+    → (k : ℕ) → k < n + 1 → get_or (rs ++ answer ∷ []) k false ≡ class_reads next (slice_get cs k)
+one_more_answer next cs rs n answer c here is long before =
+    one_more (λ (k : ℕ). get_or (rs ++ answer ∷ []) k false ≡ class_reads next (slice_get cs k)) n
+    (ap (λ (k : ℕ). get_or (rs ++ answer ∷ []) k false) (sym long) ∙ get_or-append_seam rs answer [] false ∙ is ∙ sym (ap (class_reads next) here))
+    (λ k h. get_or_append_left rs (answer ∷ []) false k (omega (arith, h, long)) ∙ before k h)
+
+-- what holds of each of a list and its place, and of what is added to it
+-- holds of each of the longer list
+pub one_pushed : {A : Type 0} (P : ℕ → A → Type 0) (xs : List A) (x : A) → ((k : ℕ) (y : A) → slice_get xs k ≡ Some y → P k y) → P (length xs) x
+    → (k : ℕ) (y : A) → slice_get (xs ++ x ∷ []) k ≡ Some y → P k y
+one_pushed P [] x before last zero y there = subst (P 0) (same_Some _ _ there) last
+one_pushed P [] x before last (suc k) y there = absurd (none-some y there)
+one_pushed P (z ∷ xs) x before last zero y there = before 0 y there
+one_pushed P (z ∷ xs) x before last (suc k) y there = one_pushed (λ (n : ℕ). P (suc n)) xs x (λ n w h. before (suc n) w h) last k y there
 
 module _ (b a : Option ℕ) where
   -- backwards over a class

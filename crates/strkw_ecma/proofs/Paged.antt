@@ -68,10 +68,6 @@ module _ (classes : List (Vec CharSet Global)) (keys later : List ℕ) (front : 
   column_stays c k is =
       subst (λ (l : List ℕ). place_of l (answers 0 classes c) ≡ Some k) (sym front.1) (place_stays keys front.0 (answers 0 classes c) k is)
 
-  -- characters that share a column share it where more follow
-  pub share_stays : (c end column : ℕ) → ShareColumn classes keys c end column → ShareColumn classes later c end column
-  share_stays c end column share d from before is = column_stays d column (share d from before is)
-
 module _ (classes : List (Vec CharSet Global)) (keys later plain more_plain pages more_pages : List ℕ) (cells more_cells : List (List ℕ))
     (was : ArePaged classes keys plain pages cells) (keys_stay : IsFront keys later) (plain_stays : IsFront plain more_plain)
     (pages_stay : IsFront pages more_pages) (cells_stay : IsFront cells more_cells) where
@@ -84,13 +80,13 @@ module _ (classes : List (Vec CharSet Global)) (keys later plain more_plain page
       omega (arith, has, long, same)
 
   -- and in them each character its column
-  page_right : (c : ℕ) → c / 256 < length pages → InScalarRange c → column_of classes later c ≡ Some (cell_of more_pages more_cells c)
+  page_right : (c : ℕ) → c / 64 < length pages → InScalarRange c → column_of classes later c ≡ Some (cell_of more_pages more_cells c)
   page_right c within is =
-      let page = get_front pages more_pages (c / 256) 0 pages_stay within in
-      let here = get_front cells more_cells (get_or pages (c / 256) 0) [] cells_stay (was.are_pages.within (c / 256) within) in
+      let page = get_front pages more_pages (c / 64) 0 pages_stay within in
+      let here = get_front cells more_cells (get_or pages (c / 64) 0) [] cells_stay (was.are_pages.within (c / 64) within) in
       column_stays classes keys later keys_stay c (cell_of pages cells c) (was.are_pages.right c within is)
-      ∙ ap (λ (l : List ℕ). Some (get_or l (c % 256) 0)) (sym here)
-      ∙ ap (λ (k : ℕ). Some (get_or (get_or more_cells k []) (c % 256) 0)) (sym page)
+      ∙ ap (λ (l : List ℕ). Some (get_or l (c % 64) 0)) (sym here)
+      ∙ ap (λ (k : ℕ). Some (get_or (get_or more_cells k []) (c % 64) 0)) (sym page)
 
   -- the cells of each column that is there are cells
   plain_within : (k : ℕ) → k < length plain → get_or more_plain k 0 < length more_cells
@@ -101,7 +97,7 @@ module _ (classes : List (Vec CharSet Global)) (keys later plain more_plain page
       omega (arith, has, long, same)
 
   -- and are this column throughout
-  plain_throughout : (k j : ℕ) → k < length plain → j < 256 → get_or (get_or more_cells (get_or more_plain k 0) []) j 0 ≡ k
+  plain_throughout : (k j : ℕ) → k < length plain → j < 64 → get_or (get_or more_cells (get_or more_plain k 0) []) j 0 ≡ k
   plain_throughout k j within inside =
       let page = get_front plain more_plain k 0 plain_stays within in
       let here = get_front cells more_cells (get_or plain k 0) [] cells_stay (was.are_plain.within k within) in
@@ -110,7 +106,7 @@ module _ (classes : List (Vec CharSet Global)) (keys later plain more_plain page
 -- one more column, with cells that are this column throughout
 pub column_added : (classes : List (Vec CharSet Global)) (keys later plain more_plain pages : List ℕ) (cells more_cells : List (List ℕ)) (key : ℕ)
     (page : List ℕ) → ArePaged classes keys plain pages cells → length keys < 255 → later ≡ keys ++ key ∷ [] → more_plain ≡ plain ++ length cells ∷ []
-    → more_cells ≡ cells ++ page ∷ [] → page ≡ replicate 256 (length keys) → ArePaged classes later more_plain pages more_cells
+    → more_cells ≡ cells ++ page ∷ [] → page ≡ replicate 64 (length keys) → ArePaged classes later more_plain pages more_cells
 column_added classes keys later plain more_plain pages cells more_cells key page was few keys_are plain_is cells_are throughout =
     let keys_stay : IsFront keys later = (key ∷ [], keys_are) in
     let plain_stays : IsFront plain more_plain = (length cells ∷ [], plain_is) in
@@ -143,7 +139,7 @@ column_added classes keys later plain more_plain pages cells more_cells key page
             ap (λ (i : ℕ). get_or more_plain i 0) last ∙ stands_last plain more_plain (length cells) 0 plain_is in
             ap (λ (i : ℕ). get_or (get_or more_cells i []) j 0) is
             ∙ ap (λ (l : List ℕ). get_or l j 0) (stands_last cells more_cells page [] cells_are ∙ throughout)
-            ∙ get_or-replicate 256 j (length keys) 0 inside ∙ sym (last ∙ so_many))
+            ∙ get_or-replicate 64 j (length keys) 0 inside ∙ sym (last ∙ so_many))
             (below_or_same k (length plain) (omega (arith, h, one_plain)));
       };
       are_pages = record {
@@ -151,69 +147,6 @@ column_added classes keys later plain more_plain pages cells more_cells key page
         right = page_right classes keys later plain more_plain pages pages cells more_cells was keys_stay plain_stays pages_stay cells_stay;
       };
     }
-
--- one more page whose cells are right, which may be new
-pub page_added : (classes : List (Vec CharSet Global)) (keys plain pages more_pages : List ℕ) (cells more_cells : List (List ℕ)) (number : ℕ)
-    → ArePaged classes keys plain pages cells → more_pages ≡ pages ++ number ∷ [] → IsFront cells more_cells → length more_cells ≤ length cells + 1
-    → number < length more_cells
-    → ((j : ℕ) → j < 256 → InScalarRange (length pages * 256 + j)
-    → column_of classes keys (length pages * 256 + j) ≡ Some (get_or (get_or more_cells number []) j 0))
-    → ArePaged classes keys plain more_pages more_cells
-page_added classes keys plain pages more_pages cells more_cells number was pages_are cells_stay few within right =
-    let keys_stay : IsFront keys keys = ([], sym (append-nil keys)) in
-    let plain_stays : IsFront plain plain = ([], sym (append-nil plain)) in
-    let pages_stay : IsFront pages more_pages = (number ∷ [], pages_are) in
-    let one_page = longer pages more_pages number pages_are in
-    record {
-      few_columns = was.few_columns;
-      few_cells = let were = was.few_cells in omega (arith, were, one_page, few);
-      are_plain = record {
-        so_many = was.are_plain.so_many;
-        within = plain_within classes keys keys plain plain pages more_pages cells more_cells was keys_stay plain_stays pages_stay cells_stay;
-        throughout = plain_throughout classes keys keys plain plain pages more_pages cells more_cells was keys_stay plain_stays pages_stay cells_stay;
-      };
-      are_pages = record {
-        within = λ k h.
-            ⊎_elim
-            (λ before.
-            page_within classes keys keys plain plain pages more_pages cells more_cells was keys_stay plain_stays pages_stay cells_stay k before)
-            (λ last.
-            let is : get_or more_pages k 0 ≡ number = ap (λ (i : ℕ). get_or more_pages i 0) last ∙ stands_last pages more_pages number 0 pages_are in
-            omega (arith, is, within))
-            (below_or_same k (length pages) (omega (arith, h, one_page)));
-        right = λ c h is.
-            ⊎_elim
-            (λ before. page_right classes keys keys plain plain pages more_pages cells more_cells was keys_stay plain_stays pages_stay cells_stay c before is)
-            (λ last.
-            let here : c ≡ length pages * 256 + c % 256 = omega (arith, last) in
-            let page : get_or more_pages (c / 256) 0 ≡ number = ap (λ (i : ℕ). get_or more_pages i 0) last ∙ stands_last pages more_pages number 0 pages_are in
-            ap (λ (d : ℕ). column_of classes keys d) here ∙ right (c % 256) (omega arith) (subst InScalarRange here is)
-            ∙ ap (λ (i : ℕ). Some (get_or (get_or more_cells i []) (c % 256) 0)) (sym page))
-            (below_or_same (c / 256) (length pages) (omega (arith, h, one_page)));
-      };
-    }
-
--- a page of new cells
-pub cells_added : (classes : List (Vec CharSet Global)) (keys plain pages more_pages : List ℕ) (cells more_cells : List (List ℕ)) (page : List ℕ)
-    → ArePaged classes keys plain pages cells → more_pages ≡ pages ++ length cells ∷ [] → more_cells ≡ cells ++ page ∷ []
-    → ((j : ℕ) → j < 256 → InScalarRange (length pages * 256 + j) → column_of classes keys (length pages * 256 + j) ≡ Some (get_or page j 0))
-    → ArePaged classes keys plain more_pages more_cells
-cells_added classes keys plain pages more_pages cells more_cells page was pages_are cells_are right =
-    let one = longer cells more_cells page cells_are in
-    let last : get_or more_cells (length cells) [] ≡ page = stands_last cells more_cells page [] cells_are in
-    page_added classes keys plain pages more_pages cells more_cells (length cells) was pages_are (page ∷ [], cells_are) (omega (arith, one))
-    (omega (arith, one)) (λ j inside is. right j inside is ∙ ap (λ (l : List ℕ). Some (get_or l j 0)) (sym last))
-
--- a page whose characters share a column
-pub plain_added : (classes : List (Vec CharSet Global)) (keys plain pages more_pages : List ℕ) (cells : List (List ℕ)) (column end : ℕ)
-    → ArePaged classes keys plain pages cells → column < length plain → more_pages ≡ pages ++ get_or plain column 0 ∷ []
-    → length pages * 256 + 256 ≤ end → ShareColumn classes keys (length pages * 256) end column → ArePaged classes keys plain more_pages cells
-plain_added classes keys plain pages more_pages cells column end was within pages_are before share =
-    page_added classes keys plain pages more_pages cells cells (get_or plain column 0) was pages_are ([], sym (append-nil cells)) (omega arith)
-    (was.are_plain.within column within)
-    (λ j inside is.
-    share (length pages * 256 + j) (omega arith) (omega (arith, inside, before)) is
-    ∙ ap Some (sym (was.are_plain.throughout column j within inside)))
 
 -- the cells of a page up to an end, where those up to a place were right, and the others are of characters that share a column
 pub cells_filled : (classes : List (Vec CharSet Global)) (keys later page filled : List ℕ) (first place end last column : ℕ) → IsFront keys later
@@ -228,6 +161,6 @@ cells_filled classes keys later page filled first place end last column front ri
 
 -- the columns of bytes are right where they are those of their cells
 pub ascii_right : (classes : List (Vec CharSet Global)) (keys pages ascii : List ℕ) (cells : List (List ℕ)) → ArePages classes keys pages cells
-    → length pages ≡ 4352 → length ascii ≤ 128 → ((c : ℕ) → c < length ascii → get_or ascii c 0 ≡ cell_of pages cells c) → AreColumns classes keys ascii
+    → length pages ≡ 17408 → length ascii ≤ 128 → ((c : ℕ) → c < length ascii → get_or ascii c 0 ≡ cell_of pages cells c) → AreColumns classes keys ascii
 ascii_right classes keys pages ascii cells are all few same c within =
     are.right c (omega (arith, all, few, within)) (inl (omega (arith, few, within))) ∙ ap Some (sym (same c within))

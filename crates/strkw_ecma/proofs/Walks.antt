@@ -1,12 +1,12 @@
 -- The walk over a table, character by character: what it comes to is what the search does.
-use Rattle.std.proofs.Common.{◌≡◌, ◌≤◌, ℕ, suc, ◌+◌, ◌<◌, ◌==◌, Bool, true, false, ◌||◌, List, [], ◌∷◌, length, get_or, drop, drop-cons, Option}
-use Rattle.std.proofs.Common.{Some, None, option_and_then, if◌then◌else◌, refl, sym, ap, ◌∙◌, true≢false, arith, rules}
+use Rattle.std.proofs.Common.{◌≡◌, ℕ, suc, ◌<◌, ◌==◌, Bool, true, false, ◌||◌, List, [], ◌∷◌, length, get_or, drop, drop-cons, Option}
+use Rattle.std.proofs.Common.{Some, None, option_and_then, if◌then◌else◌, refl, sym, ap, ◌∙◌, true≢false}
 use Rattle.std.specs.Prelude.{is_some}
 use Rattle.std.proofs.lemmas.Bool.{eq-eqb}
 use Rattle.strkw_ecma.specs.Tree.{Pattern}
 use Rattle.strkw_ecma.specs.machine.Marks.{leaves, step}
 use Rattle.strkw_ecma.specs.machine.Search.{search_from}
-use Rattle.strkw_ecma.specs.machine.Table.{entry_at, found, next_row, row_after, walk, AreInside}
+use Rattle.strkw_ecma.specs.machine.Table.{entry_at, found, row_after, walk}
 
 -- from its place on a text is the character there, and what stands from the next place on
 pub at_place : (text : List ℕ) (k next c : ℕ) → k < length text → c ≡ get_or text k c → next ≡ suc k → drop k text ≡ c ∷ drop next text
@@ -16,18 +16,6 @@ at_place text k next c within is follows =
 -- what is the same as options is the same
 some_is : {A : Type 0} (x y : A) → Some x ≡ Some y → x ≡ y
 some_is x y e = cc
-
--- what an entry is: the place of a row is less than what leads to the row behind, and than what says that the pattern is found
-module _ (entry : ℕ) where
-  pub not_next : entry < 65534 → (entry == next_row) ≡ false
-  not_next h = search rules
-
-  pub not_found : entry < 65534 → (entry == found) ≡ false
-  not_found h = search rules
-
-  -- and what is no less and not the one is the other
-  pub else_found : 65534 ≤ entry → (entry ≡ 65534 → ⊥) → entry < 65536 → entry ≡ found
-  else_found low other high = omega (arith, low, other, high)
 
 -- one turn of the walk over a text, at its first character
 module _ (column : ℕ → Option ℕ) (end : ℕ) (entries text rest : List ℕ) (row c k entry : ℕ) (answer : Option Bool)
@@ -51,17 +39,9 @@ module _ (column : ℕ → Option ℕ) (end : ℕ) (entries text rest : List ℕ
   turn_found e = sym (rw (eq-eqb _ _ e) refl) ∙ here
 
   -- where it does not, the walk from the row that it leads to comes to the answer
-  after : (to : ℕ) → to ≡ row_after end row entry → (entry == found) ≡ false → walk column end entries to rest ≡ answer
+  pub turn_goes : (to : ℕ) → to ≡ row_after end row entry → (entry == found) ≡ false → walk column end entries to rest ≡ answer
   unfolding Turn
-  after to f e = ap (λ (r : ℕ). walk column end entries r rest) f ∙ sym (rw e refl) ∙ here
-
-  -- the same where that is the row behind its own
-  pub turn_next : entry ≡ next_row → (to : ℕ) → to ≡ row + (end + 1) → walk column end entries to rest ≡ answer
-  turn_next e to f = after to (f ∙ sym (ap (row_after end row) e)) (ap (λ (x : ℕ). x == found) e)
-
-  -- and where the entry is the row
-  pub turn_goes : (entry == next_row) ≡ false → (entry == found) ≡ false → (to : ℕ) → to ≡ entry → walk column end entries to rest ≡ answer
-  turn_goes e f to g = after to (rw e g) f
+  turn_goes to f e = ap (λ (r : ℕ). walk column end entries r rest) f ∙ sym (rw e refl) ∙ here
 
 -- at the end of the text the entry of the last column tells the answer
 pub walk_ends : (column : ℕ → Option ℕ) (end : ℕ) (entries text : List ℕ) (row entry : ℕ) (answer : Option Bool)
@@ -69,20 +49,11 @@ pub walk_ends : (column : ℕ → Option ℕ) (end : ℕ) (entries text : List �
 walk_ends column end entries text row entry answer so_far none is =
     ap (λ (x : ℕ). Some (x == found)) is ∙ sym (ap (walk column end entries row) none) ∙ so_far
 
--- a look at a row of a table, whose entries lead to rows that are there
-module _ (end : ℕ) (entries : List ℕ) (all : AreInside end entries) (row k entry : ℕ) (inside : row + end < length entries) (column : k < end)
-    (entry_is : entry ≡ entry_at entries row k) where
-  -- there is an entry
-  pub has_entry : row + k < length entries
-  has_entry = omega (arith, inside, column)
-
-  -- where it is the place of a row, that row is there
-  pub row_inside : entry < next_row → entry + end < length entries
-  row_inside h = rw entry_is ((all.leads (row + k) has_entry).0 (rw (sym entry_is) h))
-
-  -- and where it leads to the row behind its own, that one is
-  pub next_inside : entry ≡ next_row → row + (end + 1) + end < length entries
-  next_inside e = let more = (all.leads (row + k) has_entry).1 (sym entry_is ∙ e) in omega (arith, more)
+-- a walk over the rows that a search has at hand is one over those of the table
+pub walk_of_rows : (column : ℕ → Option ℕ) (row : ℕ) (text : List ℕ) {end end' : ℕ} {entries entries' : List ℕ} → end ≡ end' → entries ≡ entries'
+    → walk column end entries row text ≡ walk column end' entries' row text
+walk_of_rows column row text {end} {end'} {entries} {entries'} same_end same_entries =
+    ap (λ (n : ℕ). walk column n entries row text) same_end ∙ ap (λ (es : List ℕ). walk column end' es row text) same_entries
 
 -- a relation of rows to states of the search that each entry keeps
 module _ (column : ℕ → Option ℕ) (end : ℕ) (entries : List ℕ) (At : ℕ → Pattern → Option ℕ → Type 0)

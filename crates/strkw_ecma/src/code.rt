@@ -1,8 +1,9 @@
 //! Instructions one behind another, as they are written for a pattern.
 
-ghost use Rattle.std.specs.Prelude.{◌≡◌, ◌≤◌, ◌+◌, ◌-◌, ◌++◌, [], ◌∷◌, length, take, drop, IfOk};
-ghost use Rattle.strkw_ecma.specs.Program.{read, peek as spec_peek, copied, read_count as spec_read_count, has_loop, asks_boundary};
-ghost use Rattle.strkw_ecma.specs.machine.Shape.{turned};
+ghost use Rattle.std.specs.Prelude.{◌≡◌, ◌≤◌, ◌+◌, ◌-◌, ◌++◌, [], ◌∷◌, List, false, length, take, drop, IfOk};
+ghost use Rattle.strkw_ecma.specs.Program.{read, peek as spec_peek, copied, read_count as spec_read_count, is_loop, has_loop, asks_boundary};
+ghost use Rattle.strkw_ecma.specs.machine.Shape.{turned, instructed};
+ghost use Rattle.strkw_ecma.specs.declared.code.Class.{Class};
 
 use crate::tree::CharSet;
 use std::alloc::{AllocError, Global};
@@ -48,6 +49,14 @@ pub(crate) enum Instruction {
     /// Whether the class of this number has the next character, which is not read.
     Peek(usize),
     Turn(Turn),
+}
+
+impl Instruction {
+    fn begins_loop(&self) -> bool
+        ensures { (classes : List Class) → result ≡ is_loop (instructed classes self.now) }
+    {
+        matches!(self, Instruction::Turn(Turn::StarBegin | Turn::PlusBegin))
+    }
 }
 
 #[derive(Drop)]
@@ -161,18 +170,16 @@ impl Code {
         count
     }
 
-    pub(crate) fn has_loops(&self) -> bool
-        ensures { result ≡ has_loop (written self.now) }
+    /// How many instructions stand before the first loop.
+    pub(crate) fn before_loops(&self) -> usize
+        ensures { has_loop (take result (written self.now)) ≡ false }
     {
-        for instruction in &self.instructions {
-            if matches!(
-                instruction,
-                Instruction::Turn(Turn::StarBegin | Turn::PlusBegin)
-            ) {
-                return true;
+        for (place, instruction) in self.instructions.as_slice().iter().enumerate() {
+            if instruction.begins_loop() {
+                return place;
             }
         }
-        false
+        self.instructions.len()
     }
 
     /// Whether `\b` or `\B` stands in it.

@@ -1,7 +1,9 @@
 //! The columns of a table: characters about which the classes of a pattern give the same answers share one.
 
-ghost use Rattle.std.specs.Prelude.{◌≡◌, ◌≤◌, ◌<◌, length, Some, IsTrue, IfSome};
-ghost use Rattle.strkw_ecma.specs.machine.Columns.{answers as spec_answers, place_of as spec_place_of, column_of, AreColumns, ArePages, TellsSets, Tells};
+ghost use Rattle.std.specs.Prelude.{◌≡◌, ◌≤◌, ◌<◌, ◌/◌, ◌%◌, ℕ, length, drop, Some, IsTrue, IfSome};
+ghost use Rattle.std.specs.Char.{IsScalar};
+ghost use Rattle.std.specs.Str.{IsUtf8};
+ghost use Rattle.strkw_ecma.specs.machine.Columns.{answers as spec_answers, place_of as spec_place_of, column_of, AreColumns, ArePages, TellsSets, Tells, IsColumnAt};
 ghost use Rattle.strkw_ecma.specs.machine.Machine.{pattern_of};
 
 use crate::marks::contains;
@@ -55,7 +57,7 @@ pub(crate) struct Columns {
     ghost few_columns: { length keys.items < 256 },
     ghost few_ascii: { length ascii.items ≤ 128 },
     ghost right_ascii: { AreColumns classes.items keys.items ascii.items },
-    ghost all_pages: { length pages.items ≡ 4352 },
+    ghost all_pages: { length pages.items ≡ 17408 },
     ghost right_pages: { ArePages classes.items keys.items pages.items cells.items },
 }
 
@@ -66,6 +68,43 @@ impl Columns {
         ensures within { result < 256 }
     {
         usize::from(cell_of(&self.pages, &self.cells, u32::from(c)))
+    }
+
+    /// The column of the character at a place of a text, and how many bytes the character has. Each byte behind the
+    /// first bears six bits, as many as tell a cell: so the last tells the cell, and the others the page. Inlined, a
+    /// loop over a text looks up the next column while it waits for a row.
+    #[inline(always)]
+    pub(crate) fn column_at(&self, text: &[u8], place: usize) -> (usize, usize)
+        requires within { place < length text.now }
+        requires utf8 { IsUtf8 (drop place text.now) }
+        ensures { IsColumnAt self.now.classes.items self.now.keys.items text.now place
+            result.0 result.1 }
+    {
+        let first = usize::from(text[place]);
+        if first < 0x80 {
+            return (self.column_in(first / PAGE, text[place]), 1);
+        }
+        if first < 0xE0 {
+            return (self.column_in(first % 32, text[place + 1]), 2);
+        }
+        let second = usize::from(text[place + 1]) % 64;
+        if first < 0xF0 {
+            return (self.column_in(first % 16 * 64 + second, text[place + 2]), 3);
+        }
+        let high = first % 8 * 64 + second;
+        let third = usize::from(text[place + 2]) % 64;
+        (self.column_in(high * 64 + third, text[place + 3]), 4)
+    }
+
+    // The column of the character of a page whose last byte is this.
+    #[inline(always)]
+    fn column_in(&self, page: usize, last: u8) -> usize
+        requires { page < 17408 }
+        ensures { (c : ℕ) → IsScalar c → c / 64 ≡ page → c % 64 ≡ last % 64
+            → column_of self.now.classes.items self.now.keys.items c ≡ Some result }
+    {
+        let cells = &self.cells[usize::from(self.pages[page])];
+        usize::from(cells[usize::from(last) % PAGE])
     }
 }
 

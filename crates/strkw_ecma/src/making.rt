@@ -4,16 +4,17 @@ ghost use Rattle.std.specs.Prelude.{◌≡◌, ◌+◌, ◌==◌, ◌≤◌, ◌
 ghost use Rattle.std.specs.Prelude.{IsTrue, IfOk, MatchOption};
 ghost use Rattle.strkw_ecma.specs.machine.Columns.{answers as spec_answers};
 ghost use Rattle.strkw_ecma.specs.machine.Marks.{classes as spec_classes, is_clean};
-ghost use Rattle.strkw_ecma.specs.machine.Machine.{pattern_of};
+ghost use Rattle.strkw_ecma.specs.machine.Machine.{pattern_of, AreReadsOfAll};
 ghost use Rattle.strkw_ecma.specs.machine.Searches.{IsSearchedBy};
 ghost use Rattle.strkw_ecma.specs.machine.Table.{found, AreRows, IsDraft, IsTable};
 
 use crate::columns::{MOST_COLUMNS, answers, tells};
-use crate::program::{Program, Room};
+use crate::program::Program;
 use crate::runs::mark_runs;
 use crate::samples::{Sampled, sampled_of};
 use crate::states::{State, entry_of};
 use crate::table::{FOUND, Table, are_inside};
+use crate::walk::Walk;
 use std::alloc::{AllocError, Global};
 
 /// The most rows and entries of a table. The state of an entry is looked for among those before it.
@@ -39,6 +40,22 @@ fn most_rows(program: &Program, columns: usize) -> usize {
         .min(MOST_ROWS)
 }
 
+// For each character that stands for a column, and for the end of a text, whether each class has it.
+fn reads_of(
+    alloc: Global,
+    program: &Program,
+    samples: &[char],
+) -> Result<Vec<Vec<bool>>, AllocError>
+    ensures { IfOk result (λ all. AreReadsOfAll program.now samples.now all.items) }
+{
+    let mut all = Vec::new(alloc);
+    for sample in samples {
+        all.push(program.reads(alloc, Some(*sample))?)?;
+    }
+    all.push(program.reads(alloc, None)?)?;
+    Ok(all)
+}
+
 /// A table that is made: the states that are known, and the rows of the first of them.
 #[derive(Drop)]
 struct Draft {
@@ -53,12 +70,14 @@ impl Draft {
         &mut self,
         alloc: Global,
         program: &Program,
-        room: &mut Room,
+        walk: &mut Walk,
         at_hand: &mut [bool],
         samples: &[char],
+        all_reads: &[Vec<bool>],
         number: usize,
     ) -> Result<bool, AllocError>
         requires fits { spec_classes (pattern_of program.now) ≤ length at_hand.old }
+        requires reads { AreReadsOfAll program.now samples.now all_reads.now }
         requires few { length samples.now < 256 }
         requires there { number < length self.old.states.items }
         requires draft { IsDraft (pattern_of program.now) samples.now self.old.entries.items
@@ -69,12 +88,16 @@ impl Draft {
             self.new.states.items (number + 1)) }
     {
         let end = samples.len();
-        for sample in samples {
+        for (column, sample) in samples.iter().enumerate() {
+            let Some(reads) = all_reads.get(column) else {
+                return Ok(false);
+            };
             match entry_of(
                 alloc,
                 &mut self.states,
                 program,
-                room,
+                walk,
+                reads,
                 at_hand,
                 number,
                 end,
@@ -87,7 +110,10 @@ impl Draft {
         let Some(state) = self.states.get(number) else {
             return Ok(false);
         };
-        let Some(ends) = state.step(program, room, at_hand, None) else {
+        let Some(reads) = all_reads.get(end) else {
+            return Ok(false);
+        };
+        let Some(ends) = state.step(program, walk, reads, at_hand, None) else {
             return Ok(false);
         };
         self.entries.push(end_entry(ends))?;
@@ -109,12 +135,21 @@ impl Draft {
             → AreRows (pattern_of program.now) samples.now self.new.entries.items
             self.new.states.items) }
     {
-        let mut room = Room::new();
+        let mut walk = Walk::new();
+        let all_reads = reads_of(alloc, program, samples)?;
         let mut at_hand = vec![in alloc; false; program.marks]?;
         let mut number = 0;
         'rows: while number < self.states.len() {
             if self.states.len() > most_rows
-                || !self.add_row(alloc, program, &mut room, &mut at_hand, samples, number)?
+                || !self.add_row(
+                    alloc,
+                    program,
+                    &mut walk,
+                    &mut at_hand,
+                    samples,
+                    &all_reads,
+                    number,
+                )?
             {
                 return Ok(false);
             }

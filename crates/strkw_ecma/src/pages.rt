@@ -12,7 +12,7 @@ use crate::tree::CharSet;
 use std::alloc::{AllocError, Global};
 
 /// How many code points are a page.
-pub(crate) const PAGE: usize = 256;
+pub(crate) const PAGE: usize = 64;
 
 /// How many pages there are.
 pub(crate) const PAGES: usize = UNICODE_END as usize / PAGE;
@@ -22,8 +22,8 @@ const SURROGATES_END: u32 = 0xE000;
 
 /// The column of a code point.
 pub(crate) fn cell_of(pages: &[u16], cells: &[[u8; PAGE]], c: u32) -> u8
-    requires page { c / 256 < length pages.now }
-    requires cells { get_or pages.now (c / 256) 0 < length cells.now }
+    requires page { c / 64 < length pages.now }
+    requires cells { get_or pages.now (c / 64) 0 < length cells.now }
     ensures { result ≡ spec_cell_of pages.now cells.now c }
 {
     let c = c as usize;
@@ -33,7 +33,7 @@ pub(crate) fn cell_of(pages: &[u16], cells: &[[u8; PAGE]], c: u32) -> u8
 // Gives the cells of a page from one place up to another a column.
 fn fill(page: &mut [u8; PAGE], from: usize, end: usize, column: u8)
     requires order { from ≤ end }
-    requires within { end ≤ 256 }
+    requires within { end ≤ 64 }
     ensures filled { (j : ℕ) → from ≤ j → j < end → get_or page.new j 0 ≡ column }
     ensures before { (j : ℕ) → j < from → get_or page.new j 0 ≡ get_or page.old j 0 }
 {
@@ -132,14 +132,14 @@ impl Pages {
         first: u32,
     ) -> Result<Option<([u8; PAGE], Run)>, AllocError>
         requires may_grow { MayGrow classes.now self.old }
-        requires within { first + 256 ≤ 0x110000 }
+        requires within { first + 64 ≤ 0x110000 }
         requires end { run.end ≤ 0x110000 }
         requires shared { ShareColumn classes.now self.old.keys.items first run.end run.column }
-        ensures right { IfOk result (λ r. IfSome r (λ made. (j : ℕ) → j < 256
+        ensures right { IfOk result (λ r. IfSome r (λ made. (j : ℕ) → j < 64
             → InScalarRange (first + j) → column_of classes.now self.new.keys.items (first + j)
             ≡ Some (get_or made.0 j 0))) }
         ensures shared { IfOk result (λ r. IfSome r (λ made.
-            ShareColumn classes.now self.new.keys.items (first + 256) made.1.end made.1.column)) }
+            ShareColumn classes.now self.new.keys.items (first + 64) made.1.end made.1.column)) }
         ensures end { IfOk result (λ r. IfSome r (λ made. made.1.end ≤ 0x110000)) }
         ensures paged { IfOk result (λ r. IfSome r (λ _. IsPaged classes.now self.new)) }
         ensures pages { self.new.pages ≡ self.old.pages }
@@ -169,17 +169,17 @@ impl Pages {
         first: u32,
     ) -> Result<Option<Run>, AllocError>
         requires may_grow { MayGrow classes.now self.old }
-        requires first { first ≡ length self.old.pages.items * 256 }
+        requires first { first ≡ length self.old.pages.items * 64 }
         requires end { run.end ≤ 0x110000 }
         requires shared { ShareColumn classes.now self.old.keys.items first run.end run.column }
         ensures shared { IfOk result (λ r. IfSome r (λ next.
-            ShareColumn classes.now self.new.keys.items (length self.new.pages.items * 256)
+            ShareColumn classes.now self.new.keys.items (length self.new.pages.items * 64)
             next.end next.column)) }
         ensures end { IfOk result (λ r. IfSome r (λ next. next.end ≤ 0x110000)) }
         ensures paged { IfOk result (λ r. IfSome r (λ _. IsPaged classes.now self.new)) }
         ensures grows { IfOk result (λ r. IfSome r (λ _.
             length self.old.pages.items < length self.new.pages.items)) }
-        ensures few { IfOk result (λ r. IfSome r (λ _. length self.new.pages.items ≤ 4352)) }
+        ensures few { IfOk result (λ r. IfSome r (λ _. length self.new.pages.items ≤ 17408)) }
     {
         let Some(run) = self.run_of(classes, ends, run, first)? else {
             return Ok(None);
@@ -197,9 +197,7 @@ impl Pages {
             return Ok(None);
         };
         let cells = *cells;
-        'pages: while (self.pages.len() + 1) * PAGE <= run.end as usize {
-            self.pages.push(cells)?;
-        }
+        self.pages.resize(run.end as usize / PAGE, cells)?;
         Ok(Some(run))
     }
 }
@@ -208,7 +206,7 @@ impl Pages {
 pub(crate) fn pages_of(alloc: Global, classes: &[Vec<CharSet>]) -> Result<Option<Pages>, AllocError>
     requires few { length classes.now ≤ 64 }
     ensures few { IfOk result (λ r. IfSome r (λ made. length made.keys.items < 256)) }
-    ensures all { IfOk result (λ r. IfSome r (λ made. length made.pages.items ≡ 4352)) }
+    ensures all { IfOk result (λ r. IfSome r (λ made. length made.pages.items ≡ 17408)) }
     ensures right { IfOk result (λ r. IfSome r (λ made.
         ArePages classes.now made.keys.items made.pages.items made.cells.items)) }
 {

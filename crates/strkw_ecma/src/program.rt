@@ -1,6 +1,6 @@
 //! The program of a pattern, and a step of a search over it.
 
-ghost use Rattle.std.specs.Prelude.{◌≡◌, ◌≤◌, true, false, [], length, IfOk};
+ghost use Rattle.std.specs.Prelude.{◌≡◌, ◌≤◌, true, false, length, take, IfOk};
 ghost use Rattle.strkw_ecma.specs.machine.Columns.{has_boundary as spec_has_boundary};
 ghost use Rattle.strkw_ecma.specs.machine.Marks.{leaves, step, marked, classes as spec_classes};
 ghost use Rattle.strkw_ecma.specs.Program.{program, has_loop};
@@ -24,13 +24,13 @@ pub(crate) struct Program {
     pub(crate) outline: Outline,
     pub(crate) code: Code,
     pub(crate) marks: usize,
-    has_loops: bool,
+    before_loops: usize,
     pub(crate) has_boundary: bool,
     ghost within: { are_within (length code.classes.items) code.instructions.items ≡ true },
     ghost right: { instructions code.classes.items code.instructions.items
         ≡ program (outlined outline) },
     ghost counted: { marks ≡ spec_classes (outlined outline) },
-    ghost loops: { has_loops ≡ has_loop (program (outlined outline)) },
+    ghost loops: { has_loop (take before_loops (program (outlined outline))) ≡ false },
     ghost boundary: { has_boundary ≡ spec_has_boundary (outlined outline) },
     ghost few: { length code.instructions.items ≤ max_steps },
     ghost few_classes: { length code.classes.items ≤ max_steps },
@@ -67,7 +67,7 @@ impl Room {
 }
 
 impl Program {
-    ghost use Rattle.strkw_ecma.specs.machine.Machine.{pattern_of, program_of, answers_of, AreReads};
+    ghost use Rattle.strkw_ecma.specs.machine.Machine.{pattern_of, program_of, answers_of, AreReads, AreReadsOf};
 
     /// The program of what was read.
     pub(crate) fn of(alloc: Global, outline: Outline) -> Result<Program, AllocError>
@@ -78,7 +78,7 @@ impl Program {
         outline.write(alloc, &mut code)?;
         Ok(Program {
             marks: code.read_count(),
-            has_loops: code.has_loops(),
+            before_loops: code.before_loops(),
             has_boundary: code.has_boundary(),
             outline,
             code,
@@ -94,7 +94,18 @@ impl Program {
         work
     }
 
-    // Backwards over the instructions, for what is known of the loops.
+    /// Whether each class has the next character.
+    pub(crate) fn reads(&self, alloc: Global, next: Option<char>) -> Result<Vec<bool>, AllocError>
+        ensures { IfOk result (λ reads. AreReadsOf self.now next reads.items) }
+    {
+        let mut reads = Vec::new(alloc);
+        for class in &self.code.classes {
+            reads.push(reads_class(next, class.negated, &class.sets))?;
+        }
+        Ok(reads)
+    }
+
+    // Backwards over the instructions up to the first loop, for what is known of the loops.
     fn ask(
         &self,
         walk: &mut Walk,
@@ -113,7 +124,7 @@ impl Program {
         let instructions = self.code.instructions.as_slice();
         let mut at = self.marks;
         let mut place = instructions.len();
-        'back: while place > 0 {
+        'back: while place > self.before_loops {
             place -= 1;
             match instructions[place] {
                 Instruction::Read { optional, .. } => {
@@ -156,8 +167,11 @@ impl Program {
                     optional,
                 } => {
                     let mark = marks[at];
-                    marks[at] = (enters | (again & mark)) & reads[class];
-                    enters = (optional & enters) | mark;
+                    // Elsewhere nothing changes, as in most copies of a counted term.
+                    if enters | mark {
+                        marks[at] = (enters | again) & reads[class];
+                        enters = optional | mark;
+                    }
                     at += 1;
                 }
                 Instruction::Peek(class) => enters &= reads[class],
@@ -183,11 +197,26 @@ impl Program {
         ensures length { length marks.new ≡ length marks.old }
     {
         room.look(&self.code.classes, next);
-        if self.has_loops {
-            self.ask(&mut room.walk, &room.reads, marks, last, next);
-        } else {
-            room.walk.again.clear();
-        }
-        self.follow(&mut room.walk, &room.reads, marks, last, next)
+        self.step_by(&mut room.walk, &room.reads, marks, last, next)
+    }
+
+    /// The same, where it is known whether each class has the next character.
+    pub(crate) fn step_by(
+        &self,
+        walk: &mut Walk,
+        reads: &[bool],
+        marks: &mut [bool],
+        last: Option<char>,
+        next: Option<char>,
+    ) -> bool
+        requires fits { spec_classes (pattern_of self.now) ≤ length marks.old }
+        requires reads { AreReadsOf self.now next reads.now }
+        ensures left { result ≡ leaves last next (marked marks.old (pattern_of self.now)) true }
+        ensures marks { marked marks.new (pattern_of self.now)
+            ≡ step last next (marked marks.old (pattern_of self.now)) true }
+        ensures length { length marks.new ≡ length marks.old }
+    {
+        self.ask(walk, reads, marks, last, next);
+        self.follow(walk, reads, marks, last, next)
     }
 }

@@ -58,8 +58,8 @@ fn set_count(classes: &[Vec<CharSet>]) -> usize {
 
 // The columns of the characters that are one byte.
 fn ascii_of(alloc: Global, pages: &Pages) -> Result<Vec<u8>, AllocError>
-    requires all { length pages.now.pages.items ≡ 4352 }
-    requires within { (k : ℕ) → k < 4352
+    requires all { length pages.now.pages.items ≡ 17408 }
+    requires within { (k : ℕ) → k < 17408
         → get_or pages.now.pages.items k 0 < length pages.now.cells.items }
     ensures few { IfOk result (λ ascii. length ascii.items ≤ 128) }
     ensures right { IfOk result (λ ascii. (c : ℕ) → c < length ascii.items

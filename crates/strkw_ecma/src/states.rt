@@ -4,13 +4,14 @@ ghost use Rattle.std.specs.Prelude.{◌≡◌, ◌*◌, ◌+◌, ◌≤◌, ◌<
 ghost use Rattle.std.specs.Prelude.{ℕ, length, true, false, IsTrue, IfOk, IfSome, None, Some, get_or, slice_get};
 ghost use Rattle.strkw_ecma.specs.machine.Marks.{classes as spec_classes, leaves, step as spec_step, marked};
 ghost use Rattle.strkw_ecma.specs.Meaning.{is_word as spec_is_word, is_edge as spec_is_edge};
-ghost use Rattle.strkw_ecma.specs.machine.Machine.{pattern_of};
+ghost use Rattle.strkw_ecma.specs.machine.Machine.{pattern_of, AreReadsOf};
 ghost use Rattle.strkw_ecma.specs.machine.Columns.{has_boundary as spec_has_boundary};
 ghost use Rattle.strkw_ecma.specs.machine.Table.{next_row, marks_in, IsStateOf, IsEntry, IsFront};
 
 use crate::marks::{are_same_marks, are_unmarked, is_word};
-use crate::program::{Program, Room};
+use crate::program::Program;
 use crate::table::{FOUND, NEXT_ROW};
+use crate::walk::Walk;
 use std::alloc::{AllocError, Global};
 
 /// A state of the search between two characters: the marks, and a character that may stand for the last. States of
@@ -56,15 +57,18 @@ impl State {
     }
 
     /// A step of the search from here: whether the pattern is found before the next character. The marks at hand
-    /// become those behind it. None where they are another number.
+    /// become those behind it. The classes have the next character or not as `reads` says. None where the marks are
+    /// another number.
     pub(crate) fn step(
         &self,
         program: &Program,
-        room: &mut Room,
+        walk: &mut Walk,
+        reads: &[bool],
         at_hand: &mut [bool],
         next: Option<char>,
     ) -> Option<bool>
         requires fits { spec_classes (pattern_of program.now) ≤ length at_hand.old }
+        requires reads { AreReadsOf program.now next reads.now }
         ensures length { length at_hand.new ≡ length at_hand.old }
         ensures found { IfSome result (λ is_found. is_found
             ≡ leaves self.now.last next (marks_in (pattern_of program.now) self.now) true) }
@@ -75,7 +79,7 @@ impl State {
             return None;
         }
         at_hand.copy_from_slice(&self.marks);
-        Some(program.step(room, at_hand, self.last, next))
+        Some(program.step_by(walk, reads, at_hand, self.last, next))
     }
 }
 
@@ -137,13 +141,15 @@ pub(crate) fn entry_of(
     alloc: Global,
     states: &mut Vec<State>,
     program: &Program,
-    room: &mut Room,
+    walk: &mut Walk,
+    reads: &[bool],
     at_hand: &mut [bool],
     number: usize,
     end: usize,
     c: char,
 ) -> Result<Option<u16>, AllocError>
     requires fits { spec_classes (pattern_of program.now) ≤ length at_hand.old }
+    requires reads { AreReadsOf program.now (Some c) reads.now }
     requires few { end < 256 }
     ensures length { length at_hand.new ≡ length at_hand.old }
     ensures grows { IfOk result (λ made. IsFront states.old.items states.new.items) }
@@ -154,7 +160,7 @@ pub(crate) fn entry_of(
     let Some(state) = states.get(number) else {
         return Ok(None);
     };
-    let Some(is_found) = state.step(program, room, at_hand, Some(c)) else {
+    let Some(is_found) = state.step(program, walk, reads, at_hand, Some(c)) else {
         return Ok(None);
     };
     if is_found {

@@ -1,11 +1,10 @@
 //! The search by a table: one look at it for each character.
 
-ghost use Rattle.std.specs.Prelude.{◌≡◌, ◌+◌, ◌<◌, Some, length, IsTrue};
+ghost use Rattle.std.specs.Prelude.{◌≡◌, ◌+◌, ◌<◌, ◌==◌, true, false, Some, length, IsTrue, IfSome, MatchOption};
 ghost use Rattle.std.specs.Str.{chars};
 ghost use Rattle.strkw_ecma.specs.Mirror.{along};
-ghost use Rattle.strkw_ecma.specs.machine.Along.{left_of};
 ghost use Rattle.strkw_ecma.specs.machine.Columns.{column_of};
-ghost use Rattle.strkw_ecma.specs.machine.Table.{walk, AreInside};
+ghost use Rattle.strkw_ecma.specs.machine.Table.{walk, found, entry_at, row_after, AreInside};
 
 use crate::along::Along;
 use crate::columns::Columns;
@@ -44,7 +43,59 @@ pub(crate) struct Table {
     ghost inside: { AreInside (length columns.keys.items) entries.items },
 }
 
+/// The entries of a table and the number of the last column, which a search has at hand at each character.
+#[derive(Clone, Copy)]
+struct Rows<'a> {
+    entries: &'a [u16],
+    end: usize,
+}
+
+impl Rows<'_> {
+    // The row behind a character of this column; none where the pattern is found. The entries are taken from the column
+    // on first, since the row is known last.
+    #[inline(always)]
+    fn behind(self, row: usize, column: usize) -> Option<usize>
+        requires all { AreInside self.end self.entries.now }
+        requires row { row + self.end < length self.entries.now }
+        requires column { column < self.end }
+        ensures leads { MatchOption result (entry_at self.entry.entries.now row column ≡ found)
+            (λ to. (to ≡ row_after self.entry.end row (entry_at self.entry.entries.now row column))
+            × ((entry_at self.entry.entries.now row column == found) ≡ false)) }
+        ensures inside { IfSome result (λ to. to + self.entry.end < length self.entry.entries.now) }
+    {
+        let entry = usize::from(self.entries[column..][row]);
+        if entry < NEXT_ROW {
+            Some(entry)
+        } else if entry == NEXT_ROW {
+            Some(row + (self.end + 1))
+        } else {
+            None
+        }
+    }
+
+    // Whether the pattern is found at the end of a text, in the row of its last character.
+    #[inline(always)]
+    fn is_found_at_end(self, row: usize) -> bool
+        requires { row + self.end < length self.entries.now }
+        ensures { result ≡ (entry_at self.entry.entries.now row self.entry.end == found) }
+    {
+        usize::from(self.entries[row + self.end]) == FOUND
+    }
+}
+
 impl Table {
+    #[inline(always)]
+    fn rows(&self) -> Rows<'_>
+        ensures entries { result.entries.now ≡ self.now.entries.items }
+        ensures end { result.end ≡ length self.now.columns.keys.items }
+        ensures all { AreInside result.end result.entries.now }
+    {
+        Rows {
+            entries: &self.entries,
+            end: self.columns.keys.len(),
+        }
+    }
+
     /// Whether the pattern is found in the text. Inlined, its loop would lie across a border of 32 bytes in some
     /// callers, where each turn takes twice as long.
     #[inline(never)]
@@ -54,23 +105,41 @@ impl Table {
             (length self.now.columns.keys.items) self.now.entries.items 0 (chars text.now) }
     {
         let columns = self.columns.ascii.as_slice();
-        let entries = self.entries.as_slice();
-        let end = self.columns.keys.len();
+        let rows = self.rows();
         let mut row = 0;
         for (place, byte) in text.as_bytes().iter().enumerate() {
             let Some(column) = columns.get(usize::from(*byte)) else {
                 return self.is_found_behind(row, &text[place..]);
             };
-            let entry = usize::from(entries[row + usize::from(*column)]);
-            if entry < NEXT_ROW {
-                row = entry;
-            } else if entry == NEXT_ROW {
-                row += end + 1;
-            } else {
+            let Some(next) = rows.behind(row, usize::from(*column)) else {
                 return true;
-            }
+            };
+            row = next;
         }
-        usize::from(entries[row + end]) == FOUND
+        rows.is_found_at_end(row)
+    }
+
+    // The same for what is left of a text, from a row on, where a character may have several bytes.
+    #[inline(never)]
+    fn is_found_behind(&self, row: usize, left: &str) -> bool
+        requires { row + length self.now.columns.keys.items < length self.now.entries.items }
+        ensures { Some result
+            ≡ walk (column_of self.now.columns.classes.items self.now.columns.keys.items)
+            (length self.now.columns.keys.items) self.now.entries.items row (chars left.now) }
+    {
+        let bytes = left.as_bytes();
+        let rows = self.rows();
+        let mut row = row;
+        let mut place = 0;
+        'characters: while place < bytes.len() {
+            let (column, width) = self.columns.column_at(bytes, place);
+            let Some(next) = rows.behind(row, column) else {
+                return true;
+            };
+            row = next;
+            place += width;
+        }
+        rows.is_found_at_end(row)
     }
 
     /// Whether it is found in the text, or where it is looked for backward, in the text turned round.
@@ -81,44 +150,27 @@ impl Table {
             (along is_backward (chars text.now)) }
     {
         if is_backward {
-            return self.is_found_from(0, Along::new(text, true));
+            return self.is_found_back(text);
         }
         self.is_found(text)
     }
 
-    // The same for what is left of a text, from a row on.
-    #[inline(never)]
-    fn is_found_behind(&self, row: usize, left: &str) -> bool
-        requires { row + length self.now.columns.keys.items < length self.now.entries.items }
+    // The same from the end of a text on.
+    fn is_found_back(&self, text: &str) -> bool
         ensures { Some result
             ≡ walk (column_of self.now.columns.classes.items self.now.columns.keys.items)
-            (length self.now.columns.keys.items) self.now.entries.items row (chars left.now) }
+            (length self.now.columns.keys.items) self.now.entries.items 0
+            (along true (chars text.now)) }
     {
-        self.is_found_from(row, Along::new(left, false))
-    }
-
-    // The same in a direction that the caller knows: inlined, each has a loop of its own.
-    #[inline(always)]
-    fn is_found_from(&self, row: usize, left: Along<'_>) -> bool
-        requires { row + length self.now.columns.keys.items < length self.now.entries.items }
-        ensures { Some result
-            ≡ walk (column_of self.now.columns.classes.items self.now.columns.keys.items)
-            (length self.now.columns.keys.items) self.now.entries.items row (left_of left.entry) }
-    {
-        let entries = self.entries.as_slice();
-        let end = self.columns.keys.len();
-        let mut row = row;
-        let mut left = left;
+        let rows = self.rows();
+        let mut row = 0;
+        let mut left = Along::new(text, true);
         'characters: while let Some(c) = left.next() {
-            let entry = usize::from(entries[row + self.columns.column(c)]);
-            if entry < NEXT_ROW {
-                row = entry;
-            } else if entry == NEXT_ROW {
-                row += end + 1;
-            } else {
+            let Some(next) = rows.behind(row, self.columns.column(c)) else {
                 return true;
-            }
+            };
+            row = next;
         }
-        usize::from(entries[row + end]) == FOUND
+        rows.is_found_at_end(row)
     }
 }

@@ -5,40 +5,41 @@ use std::alloc::{AllocError, Global};
 use strkw_keywords::{Checks, Fault};
 use strkw_report::{ErrorKind, Location, Node, Site, ValidationError, error_at};
 
+/// By what a node is asked about: what memory is taken of, where the node stands, and the ranges of the lists.
+#[derive(Clone, Copy)]
+pub struct Setting<'a> {
+    pub alloc: Global,
+    pub site: &'a Site,
+    pub checks: &'a Checks<'a>,
+}
+
 /// What is compiled: one entry, or a whole object.
 pub trait Asked {
+    /// Appends a line that tells what it is.
+    fn push_kind(&self, out: &mut String) -> Result<(), AllocError>;
+
     /// Whether it is in use with these ranges of the lists.
     fn is_in_use(&self, checks: &Checks) -> bool;
 
     /// Appends what its four calls answer of a node, where it is in use with these ranges of the lists; and whether it
     /// is.
-    fn ask<N: Node>(
-        &self,
-        alloc: Global,
-        node: &N,
-        site: &Site,
-        checks: &Checks,
-        answers: &mut Answers,
-    ) -> Result<bool, AllocError>;
+    fn ask<N: Node>(&self, node: &N, by: &Setting, out: &mut Answers) -> Result<bool, AllocError>;
 }
 
 // The body of `ask`. Both types have calls of these names, and no trait has all of them for both.
 macro_rules! ask_each {
-    ($asked:expr, $alloc:expr, $node:expr, $site:expr, $checks:expr, $answers:expr) => {{
-        if !$asked.uses($checks) {
+    ($asked:expr, $node:expr, $by:expr, $out:expr) => {{
+        let (alloc, site, checks) = ($by.alloc, $by.site, $by.checks);
+        if !$asked.uses(checks) {
             return Ok(false);
         }
-        $answers.is_valid = word($asked.is_valid($alloc, $node, $checks));
-        let mut found = filled($alloc)?;
-        let outcome = $asked.collect_errors($alloc, $node, $site, $checks, &mut found);
-        push_collected($alloc, outcome, found, &mut $answers.collect_errors)?;
-        let verdict = $asked.validate($alloc, $node, $site, $checks);
-        push_first_error($alloc, verdict, &mut $answers.validate)?;
-        push_evaluated(
-            $alloc,
-            $asked.evaluate($alloc, $node, $site, $checks),
-            $answers,
-        )?;
+        $out.is_valid = word($asked.is_valid(alloc, $node, checks));
+        let mut found = filled(alloc)?;
+        let outcome = $asked.collect_errors(alloc, $node, site, checks, &mut found);
+        push_collected(alloc, outcome, found, &mut $out.collect_errors)?;
+        let verdict = $asked.validate(alloc, $node, site, checks);
+        push_first_error(alloc, verdict, &mut $out.validate)?;
+        push_evaluated(alloc, $asked.evaluate(alloc, $node, site, checks), $out)?;
         Ok(true)
     }};
 }
@@ -102,18 +103,12 @@ fn push_otherwise(call: &str, said: &str, lines: &mut String) -> Result<(), Allo
 }
 
 /// What the four calls answer of a node, as lines.
-pub fn lines<A: Asked, N: Node>(
-    alloc: Global,
-    asked: &A,
-    node: &N,
-    site: &Site,
-    checks: &Checks,
-) -> Result<String, AllocError> {
-    let mut answers = Answers::new(alloc);
-    if asked.ask(alloc, node, site, checks, &mut answers)? {
-        answers.lines(alloc)
+pub fn lines<A: Asked, N: Node>(asked: &A, node: &N, by: &Setting) -> Result<String, AllocError> {
+    let mut answers = Answers::new(by.alloc);
+    if asked.ask(node, by, &mut answers)? {
+        answers.lines(by.alloc)
     } else {
-        String::from_str(alloc, "not in use\n")
+        String::from_str(by.alloc, "not in use\n")
     }
 }
 

@@ -1,14 +1,12 @@
 //! What is compiled of a row, and what that says of each instance.
 
-use crate::answers::{Asked, lines};
+use crate::answers::{Asked, Setting, lines};
 use crate::lists::parts;
-use crate::{entry, row, shown};
+use crate::{row, shown};
 use serde_json::{Map, Value};
 use std::alloc::{AllocError, Global};
-use strkw_keywords::{Checks, Context, Uses, Validator};
-use strkw_object::{StringKeywords, compile_strings};
-use strkw_pattern::RegexEngine;
-use strkw_report::Site;
+use strkw_keywords::{Checks, Context};
+use strkw_object::compile_strings;
 use strkw_test_doubles::{Name, ScriptedBuilder, compile_entry};
 
 /// Appends what is compiled of the object, or of the one entry that the row names, and its answers; and where a pattern
@@ -54,7 +52,7 @@ fn push_entry(
     let told = match &compiled {
         None => out.push_str("  adds nothing\n"),
         Some(Err(refusal)) => shown::push_refusal(alloc, refusal, out),
-        Some(Ok(validator)) => push_validator(alloc, row, all, &ctx.checks, validator, out),
+        Some(Ok(validator)) => push_compiled(alloc, row, all, &ctx.checks, validator, out),
     };
     // By a call: an arm that drops it is proved with the parts of every validator written out.
     drop(compiled);
@@ -72,49 +70,13 @@ fn push_object(
     let compiled = compile_strings(alloc, ctx, schema);
     let told = match &compiled {
         Err(refusal) => shown::push_refusal(alloc, refusal, out),
-        Ok(keywords) => push_keywords(alloc, row, all, &ctx.checks, keywords, out),
+        Ok(keywords) => push_compiled(alloc, row, all, &ctx.checks, keywords, out),
     };
     drop(compiled);
     told
 }
 
-fn quiet_word(takes_no_memory: bool) -> &'static str {
-    if takes_no_memory {
-        ", takes no memory"
-    } else {
-        ""
-    }
-}
-
-fn push_validator<E: RegexEngine>(
-    alloc: Global,
-    row: &Value,
-    all: &Checks<'_>,
-    checks: &Checks<'_>,
-    validator: &Validator<E>,
-    out: &mut String,
-) -> Result<(), AllocError> {
-    let (name, (least, greatest)) = (entry::name(validator), validator.interval());
-    let quiet = quiet_word(validator.takes_no_memory());
-    write!(out, "  {name}, {least} to {greatest}{quiet}\n")?;
-    push_compiled(alloc, row, all, checks, validator, out)
-}
-
-fn push_keywords<E: RegexEngine>(
-    alloc: Global,
-    row: &Value,
-    all: &Checks<'_>,
-    checks: &Checks<'_>,
-    keywords: &StringKeywords<E>,
-    out: &mut String,
-) -> Result<(), AllocError> {
-    let folds = keywords.folds_to_false();
-    let quiet = quiet_word(keywords.takes_no_memory());
-    write!(out, "  object, folds: {folds}{quiet}\n")?;
-    push_compiled(alloc, row, all, checks, keywords, out)
-}
-
-// Appends with which ranges of the lists it is in use, and what it says of each instance.
+// Appends what it is, with which ranges of the lists it is in use, and what it says of each instance.
 fn push_compiled<A: Asked>(
     alloc: Global,
     row: &Value,
@@ -123,40 +85,54 @@ fn push_compiled<A: Asked>(
     compiled: &A,
     out: &mut String,
 ) -> Result<(), AllocError> {
+    compiled.push_kind(out)?;
+    push_uses(row, all, compiled, out)?;
+    let site = row::site(alloc, row)?;
+    let setting = Setting {
+        alloc,
+        site: &site,
+        checks,
+    };
+    push_instances(row, &setting, compiled, out)
+}
+
+// Appends with which ranges of the lists it is in use.
+fn push_uses<A: Asked>(
+    row: &Value,
+    all: &Checks<'_>,
+    compiled: &A,
+    out: &mut String,
+) -> Result<(), AllocError> {
     for ends in row::items(row, "lent") {
         let used = compiled.is_in_use(&parts(all, ends));
         write!(out, "  in use with {ends}: {used}\n")?;
     }
-    push_instances(alloc, row, &row::site(alloc, row)?, checks, compiled, out)
+    Ok(())
 }
 
 fn push_instances<A: Asked>(
-    alloc: Global,
     row: &Value,
-    site: &Site,
-    checks: &Checks<'_>,
+    by: &Setting,
     compiled: &A,
     out: &mut String,
 ) -> Result<(), AllocError> {
     for instance in row::items(row, "instances") {
-        push_instance(alloc, instance, site, checks, compiled, out)?;
+        push_instance(instance, by, compiled, out)?;
     }
     Ok(())
 }
 
 fn push_instance<A: Asked>(
-    alloc: Global,
     instance: &Value,
-    site: &Site,
-    checks: &Checks<'_>,
+    by: &Setting,
     compiled: &A,
     out: &mut String,
 ) -> Result<(), AllocError> {
     let name = Name {
         text: instance.as_str(),
     };
-    let of_value = lines(alloc, compiled, instance, site, checks)?;
-    let of_name = lines(alloc, compiled, &name, site, checks)?;
+    let of_value = lines(compiled, instance, by)?;
+    let of_name = lines(compiled, &name, by)?;
     push_answers(instance, &of_value, &of_name, out)
 }
 

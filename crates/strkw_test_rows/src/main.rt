@@ -5,10 +5,9 @@
 
 mod answers;
 mod asked;
-mod entry;
+mod compiled;
 mod input;
 mod lists;
-mod object;
 mod row;
 mod shown;
 mod tables;

@@ -10,14 +10,13 @@ const VALID: u8 = 1;
 
 /// A schema object of one draft, and the texts that are checked by it.
 ///
-/// Threads may share one: no call changes it. It keeps the bytes of the object, and each call compiles them, which
-/// takes up to some 12 milliseconds for a pattern. Hand many texts to one [`Schema::are_valid`].
+/// Threads may share one. The object is compiled once; of more than 16 calls at once, the others compile it again.
 #[derive(Debug)]
 pub struct Schema {
     kept: NonNull<strkw_schema>,
 }
 
-// No call of the library changes what is kept, and there is no other state.
+// A call takes what is compiled by an atomic exchange, so that no other call has it, and there is no other state.
 unsafe impl Send for Schema {}
 unsafe impl Sync for Schema {}
 
@@ -62,7 +61,7 @@ impl Schema {
         Ok(self.are_valid(&[text])? == [true])
     }
 
-    /// Whether each text is valid, in one call that compiles the object once.
+    /// Whether each text is valid, in one call.
     pub fn are_valid<T: AsRef<str>>(&self, texts: &[T]) -> Result<Vec<bool>, OutOfMemory> {
         let joined: String = texts.iter().map(AsRef::as_ref).collect();
         let ends: Vec<usize> = texts

@@ -9,7 +9,7 @@ use crate::inputs::{InputFile, STANDARD_INPUT};
 use crate::lines::JsonLines;
 use crate::options::{
     COLOR, DELIMITER, FILES, KEEP_GOING, MAX_ERRORS, MAX_ERRORS_NAME, NO_HEADER, OUTPUT,
-    OutputForm, QUIET, Wanted, delimiter_said, reading_said,
+    OutputForm, PLAN, QUIET, Wanted, delimiter_said, reading_said,
 };
 use crate::outcome::Outcome;
 use crate::output::{FaultyWrite, Output};
@@ -27,9 +27,6 @@ use strkw_table::{Checked, FieldForm, FieldLines, Reading, TableFault};
 
 /// The name of the subcommand.
 pub(crate) const NAME: &str = "csv";
-
-// The argument for the file of the plan.
-const PLAN: &str = "PLAN";
 
 // The option by which it tells how far it is.
 const PROGRESS: &str = "progress";
@@ -78,12 +75,7 @@ const NO_HEADER_HELP: &str =
 
 // What it takes.
 const ARGUMENTS: &[Argument] = &[
-    Argument {
-        name: PLAN,
-        takes: Takes::Word,
-        conflicts: &[],
-        help: "The file of the plan",
-    },
+    PLAN,
     FILES,
     COLOR,
     Argument {
@@ -310,7 +302,7 @@ fn require_other_path(
 
 /// Runs the subcommand.
 pub(crate) fn run(rt: &HostRuntime, matches: &ArgMatches<'_>) -> Result<Outcome, Fault> {
-    let path = matches.get_str(PLAN).unwrap_or("");
+    let path = matches.get_str(PLAN.name).unwrap_or("");
     let (page, files) = (matches.get_str(REPORT), matches.get_strs(FILES.name));
     require_other_path(rt.alloc(), page, path, files)?;
     let plan = read_plan_by(rt, path, delimiter_said(matches))?;

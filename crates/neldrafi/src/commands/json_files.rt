@@ -1,11 +1,11 @@
 //! `neldrafi json`: checks JSON documents by a plan.
 
-use crate::building::{Argument, Takes, subcommand};
+use crate::building::{Argument, subcommand};
 use crate::faults::Fault;
 use crate::files::{FileCheck, check_files};
 use crate::inputs::InputFile;
 use crate::lines::JsonLines;
-use crate::options::{COLOR, FILES, MAX_ERRORS, OUTPUT, OutputForm, QUIET, Wanted};
+use crate::options::{COLOR, FILES, MAX_ERRORS, OUTPUT, OutputForm, PLAN, QUIET, Wanted};
 use crate::outcome::Outcome;
 use crate::output::{FaultyWrite, Output};
 use crate::plans::read_plan_of;
@@ -19,9 +19,6 @@ use strkw_shells::{FileFault, check_json};
 
 /// The name of the subcommand.
 pub(crate) const NAME: &str = "json";
-
-// The argument for the file of the plan.
-const PLAN: &str = "PLAN";
 
 // What it does.
 const ABOUT: &str = "Checks JSON documents by a plan: a schema object for each place";
@@ -44,19 +41,7 @@ Examples:
   neldrafi json --quiet plan.json < server.json";
 
 // What it takes.
-const ARGUMENTS: &[Argument] = &[
-    Argument {
-        name: PLAN,
-        takes: Takes::Word,
-        conflicts: &[],
-        help: "The file of the plan",
-    },
-    FILES,
-    COLOR,
-    MAX_ERRORS,
-    OUTPUT,
-    QUIET,
-];
+const ARGUMENTS: &[Argument] = &[PLAN, FILES, COLOR, MAX_ERRORS, OUTPUT, QUIET];
 
 /// The subcommand.
 pub(crate) fn command<'a>(alloc: Global) -> Result<Command<'a>, AllocError> {
@@ -117,7 +102,7 @@ impl FileCheck for DocumentCheck<'_> {
 
 /// Runs the subcommand.
 pub(crate) fn run(rt: &HostRuntime, matches: &ArgMatches<'_>) -> Result<Outcome, Fault> {
-    let path = matches.get_str(PLAN).unwrap_or("");
+    let path = matches.get_str(PLAN.name).unwrap_or("");
     let plan = read_plan_of(rt, PlanKind::Places, path)?;
     let mut check = DocumentCheck {
         plan: &plan,

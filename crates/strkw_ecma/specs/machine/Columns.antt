@@ -1,9 +1,10 @@
 -- Columns of a table: characters about which the classes of a pattern give the same answers share
 -- one.
 use Rattle.std.specs.Prelude.{◌≡◌, ℕ, suc, ◌+◌, ◌*◌, ◌/◌, ◌%◌, ◌≤◌, ◌<◌, ◌==◌, Bool, true, false}
-use Rattle.std.specs.Prelude.{◌||◌, List, [], ◌∷◌, length, get_or, Vec, Option, Some, None}
+use Rattle.std.specs.Prelude.{◌||◌, List, [], ◌∷◌, length, drop, get_or, Vec, Option, Some, None}
 use Rattle.std.specs.Prelude.{option_map, if◌then◌else◌}
-use Rattle.std.specs.Char.{InScalarRange}
+use Rattle.std.specs.Char.{InScalarRange, IsScalar}
+use Rattle.std.specs.Str.Pattern.{StartsWithChar}
 use Rattle.std.specs.declared.alloc.Global.{Global}
 use Rattle.strkw_ecma.specs.Tree.{Pattern, empty, class, look, cat, alt, star, plus, lookbehind}
 use Rattle.strkw_ecma.specs.Tree.{lookahead, in_sets}
@@ -31,27 +32,32 @@ abbrev pub AreColumns : List (Vec CharSet Global) → List ℕ → List ℕ → 
 AreColumns classes keys columns = (c : ℕ) → c < length columns
     → column_of classes keys c ≡ Some (get_or columns c 0)
 
+-- at a place of a text stands a character of so many bytes, which has this column
+abbrev pub IsColumnAt : List (Vec CharSet Global) → List ℕ → List ℕ → ℕ → ℕ → ℕ → Type 0
+IsColumnAt classes keys text place column width = (c : ℕ) × IsScalar c
+    × StartsWithChar (drop place text) c width × (column_of classes keys c ≡ Some column)
+
 -- from a code point up to an end the characters share a column
 abbrev pub ShareColumn : List (Vec CharSet Global) → List ℕ → ℕ → ℕ → ℕ → Type 0
 ShareColumn classes keys c end column = (d : ℕ) → c ≤ d → d < end → InScalarRange d
     → column_of classes keys d ≡ Some column
 
--- 256 code points are a page, which has a cell for each of them
+-- 64 code points are a page, which has a cell for each of them
 abbrev pub cell_of : List ℕ → List (List ℕ) → ℕ → ℕ
-cell_of pages cells c = get_or (get_or cells (get_or pages (c / 256) 0) []) (c % 256) 0
+cell_of pages cells c = get_or (get_or cells (get_or pages (c / 64) 0) []) (c % 64) 0
 
 -- each page has cells, and in them each character its column
 pub record ArePages (classes : List (Vec CharSet Global)) (keys pages : List ℕ)
     (cells : List (List ℕ)) : Type 0 where
   pub within : (k : ℕ) → k < length pages → get_or pages k 0 < length cells
-  pub right : (c : ℕ) → c / 256 < length pages → InScalarRange c
+  pub right : (c : ℕ) → c / 64 < length pages → InScalarRange c
       → column_of classes keys c ≡ Some (cell_of pages cells c)
 
 -- the cells that are those of a column throughout, column by column
 pub record ArePlain (keys plain : List ℕ) (cells : List (List ℕ)) : Type 0 where
   pub so_many : length plain ≡ length keys
   pub within : (k : ℕ) → k < length plain → get_or plain k 0 < length cells
-  pub throughout : (k j : ℕ) → k < length plain → j < 256
+  pub throughout : (k j : ℕ) → k < length plain → j < 64
       → get_or (get_or cells (get_or plain k 0) []) j 0 ≡ k
 
 -- pages are being made, and columns with them
@@ -70,7 +76,7 @@ IsPaged classes made =
 -- they are, and there are fewer pages than there will be
 pub record MayGrow (classes : List (Vec CharSet Global)) (made : Pages) : Type 0 where
   pub few : length classes ≤ 64
-  pub few_pages : length made.pages.items < 4352
+  pub few_pages : length made.pages.items < 17408
   pub paged : IsPaged classes made
 
 -- the answers tell whether a character is in these sets

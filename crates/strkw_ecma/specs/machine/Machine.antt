@@ -1,6 +1,7 @@
 -- What a program of the code stands for, and what a walk over it has at hand.
 use Rattle.std.specs.Prelude.{◌≡◌, ℕ, ◌<◌, ◌≤◌, ◌+◌, Bool, true, false, List, ◌++◌, length, drop}
-use Rattle.std.specs.Prelude.{get_or, slice_get, Option, Some, None}
+use Rattle.std.specs.Prelude.{get_or, slice_get, Vec, Option, Some, None}
+use Rattle.std.specs.declared.alloc.Global.{Global}
 use Rattle.strkw_ecma.specs.Tree.{Pattern}
 use Rattle.strkw_ecma.specs.machine.Marks.{reads}
 use Rattle.strkw_ecma.specs.Program.{Instruction}
@@ -64,3 +65,13 @@ class_reads next (Some c) = reads next c.negated c.sets.items
 abbrev pub AreReads : Option ℕ → List Class → List Bool → Type 0
 AreReads next classes rs = (k : ℕ) → k < length classes
     → get_or rs k false ≡ class_reads next (slice_get classes k)
+
+-- of each class of a program, and there are no fewer answers
+abbrev pub AreReadsOf : Program → Option ℕ → List Bool → Type 0
+AreReadsOf p next rs = AreReads next p.code.classes.items rs
+    × (length p.code.classes.items ≤ length rs)
+
+-- of each class about each of these characters and, behind them, about the end of a text
+abbrev pub AreReadsOfAll : Program → List ℕ → List (Vec Bool Global) → Type 0
+AreReadsOfAll p samples all = (k : ℕ) (rs : Vec Bool Global) → slice_get all k ≡ Some rs
+    → AreReadsOf p (slice_get samples k) rs.items

@@ -5,11 +5,11 @@ use Rattle.strkw_ecma.proofs.pages.pages_of.Given as goal
 -- the pages so far are right, and the run goes on behind them
 abbrev pub invariant-pages : goal.invariant-pages
 invariant-pages l = record {
-  few : length l.made.pages.items ≤ 4352;
+  few : length l.made.pages.items ≤ 17408;
   end : l.run.end ≤ 0x110000;
   paged : IsPaged l.classes l.made;
-  shared : ShareColumn l.classes l.made.keys.items (length l.made.pages.items * 256) l.run.end l.run.column;
+  shared : ShareColumn l.classes l.made.keys.items (length l.made.pages.items * 64) l.run.end l.run.column;
 }
 
 abbrev pub decreases-pages : goal.decreases-pages
-decreases-pages l = 4352 - length l.made.pages.items
+decreases-pages l = 17408 - length l.made.pages.items

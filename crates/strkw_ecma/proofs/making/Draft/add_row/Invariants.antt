@@ -3,7 +3,7 @@ use Rattle.strkw_ecma.specs.machine.Table.{AreEntries}
 use Rattle.strkw_ecma.proofs.making.Draft.add_row.Given as goal
 
 -- the entries so far are right
-abbrev pub invariant-loop-sample : goal.invariant-loop-sample
-invariant-loop-sample l =
+abbrev pub invariant-loop-column : goal.invariant-loop-column
+invariant-loop-column l =
     AreEntries (pattern_of l.program) l.samples l.initial.self.entries.items l.self.entries.items l.initial.self.states.items l.self.states.items l.number
-    l.sample-index
+    l.column

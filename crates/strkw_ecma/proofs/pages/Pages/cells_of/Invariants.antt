@@ -6,8 +6,8 @@ use Rattle.strkw_ecma.proofs.pages.Pages.cells_of.Given as goal
 -- the cells up to a place are right, and the run goes on behind them
 abbrev pub invariant-runs : goal.invariant-runs
 invariant-runs l = record {
-  within : l.place ≤ 256;
-  cells : length l.page ≡ 256;
+  within : l.place ≤ 64;
+  cells : length l.page ≡ 64;
   pages : l.self.pages ≡ l.fn.self.pages;
   paged : IsPaged l.classes l.self;
   end : l.run.end ≤ 0x110000;
@@ -16,4 +16,4 @@ invariant-runs l = record {
 }
 
 abbrev pub decreases-runs : goal.decreases-runs
-decreases-runs l = 256 - l.place
+decreases-runs l = 64 - l.place

@@ -1,10 +1,10 @@
-use Rattle.std.proofs.Common.{◌≡◌, ◌≤◌, ◌<◌, ◌+◌, ◌-◌, ℕ, suc, false, Bool, List, [], ◌∷◌, length, drop, drop-cons, get_or, slice_get, sym, ap, ◌∙◌, arith}
+use Rattle.std.proofs.Common.{◌≡◌, ◌≤◌, ◌<◌, ◌+◌, ◌-◌, ℕ, suc, false, Bool, List, [], ◌∷◌, length, drop, take, drop-cons, get_or, slice_get, sym, ap, ◌∙◌, arith}
 use Rattle.strkw_ecma.specs.declared.code.Instruction.TheVariants.{Read, Turn}
-use Rattle.strkw_ecma.specs.Program.{Instruction, read_count}
+use Rattle.strkw_ecma.specs.Program.{Instruction, read_count, has_loop}
 use Rattle.strkw_ecma.specs.machine.Shape.{turned, reading, peeking}
 use Rattle.strkw_ecma.specs.machine.Walk.{Asked, asked}
 use Rattle.strkw_ecma.specs.machine.Machine.{program_of}
-use Rattle.strkw_ecma.proofs.Machines.{there, from_class, from_peek, from_turn, from_end, one_read, none_peeked, none_read, one_mark_less, marks_are_reads}
+use Rattle.strkw_ecma.proofs.Machines.{there, from_class, from_peek, from_turn, from_end, one_read, none_peeked, none_read, one_mark_less, marks_are_reads, known_before_loops}
 use Rattle.strkw_ecma.proofs.Machines.{peeked_within, asked_reading, asked_peeking, asked_turned}
 use Rattle.strkw_ecma.proofs.program.Program.ask.Goals as goal
 
@@ -148,9 +148,8 @@ back-preserved c =
 
 pub returns : goal.returns
 returns c =
-    let zero_place : c.back.place ≡ 0 = omega (arith, c.back-test.false) in
-    let all_marks : c.back.at ≡ 0 =
-    omega (arith, c.back.invariant.counted, marks_are_reads c.args.self.now, ap (λ (k : ℕ). read_count (drop k (program_of c.args.self.now))) zero_place) in
+    let p = c.args.self.now in
     ap (λ (s : Asked). s.again) c.back.invariant.asked
-    ∙ ap (λ (k : ℕ). (asked c.args.last c.args.next (drop k (program_of c.args.self.now)) (drop c.back.at c.args.marks.now)).again) zero_place
-    ∙ ap (λ (k : ℕ). (asked c.args.last c.args.next (program_of c.args.self.now) (drop k c.args.marks.now)).again) all_marks
+    ∙ known_before_loops c.args.last c.args.next (program_of p) c.args.marks.now p.before_loops c.back.place c.back.at
+    (ap (λ (is : List Instruction). has_loop (take p.before_loops is)) p.right ∙ p.loops) (omega (arith, c.back-test.false))
+    (c.back.invariant.counted ∙ marks_are_reads p)

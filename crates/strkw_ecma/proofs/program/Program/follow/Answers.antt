@@ -1,6 +1,6 @@
 use Rattle.std.proofs.Common.{◌≡◌, ◌≤◌, ◌<◌, ◌+◌, ℕ, suc, true, false, Bool, ◌&&◌, ◌||◌, List, [], ◌∷◌, length, drop, drop-cons, take, set, take-suc-set}
-use Rattle.std.proofs.Common.{drop-set-lt, take-append-drop, get_or, slice_get, Option, refl, sym, ap, ◌∙◌, arith}
-use Rattle.std.proofs.lemmas.List.{append_assoc}
+use Rattle.std.proofs.Common.{drop-set-lt, take-append-drop, get_or, slice_get, Option, refl, sym, ap, subst, ◌∙◌, true≢false, arith}
+use Rattle.std.proofs.lemmas.List.{append_assoc, set-get_or}
 use Rattle.strkw_ecma.specs.declared.code.Instruction.{Instruction as CodeInstruction}
 use Rattle.strkw_ecma.specs.declared.code.Instruction.TheVariants.{Read, Peek, Turn}
 use Rattle.strkw_ecma.specs.declared.tree.CharSet.{CharSet}
@@ -15,7 +15,7 @@ use Rattle.strkw_ecma.specs.machine.Machine.{pattern_of, program_of, class_reads
 use Rattle.strkw_ecma.proofs.Programs.{with_marks}
 use Rattle.strkw_ecma.proofs.Machines.{there, one_mark_more, from_class, from_peek, from_turn, from_end, none_peeked, none_read, marks_are_reads}
 use Rattle.strkw_ecma.proofs.Machines.{few_marks, within_at, peeked_within, followed_reading, followed_peeking, followed_turned}
-use Rattle.strkw_ecma.proofs.program.Program.follow.Goals.{in-Read, in-Peek, in-Turn}
+use Rattle.strkw_ecma.proofs.program.Program.follow.Goals.{in-Read, in-Peek, in-Turn, then-enters-mark, else-enters-mark}
 use Rattle.strkw_ecma.proofs.program.Program.follow.Goals as goal
 
 pub loop-instruction-init : goal.loop-instruction-init
@@ -61,8 +61,8 @@ bounds-marks-at c =
     c.in-Read.class c.in-Read.again c.in-Read.optional c.in-Read.is c.loop-instruction.at c.loop-instruction.invariant.counted
     (length c.loop-instruction.marks) (omega (arith, c.loop-instruction.auto.marks, c.requires.fits))
 
-pub bounds-marks-at-in-Read : goal.bounds-marks-at-in-Read
-bounds-marks-at-in-Read c =
+pub bounds-marks-at-then-enters-mark : goal.bounds-marks-at-then-enters-mark
+bounds-marks-at-then-enters-mark c =
     has_mark c.args.self.now c.loop-instruction.instruction-index _ c.deref-instruction-items.ensures.value c.loop-instruction-test.true
     c.in-Read.class c.in-Read.again c.in-Read.optional c.in-Read.is c.loop-instruction.at c.loop-instruction.invariant.counted
     (length c.loop-instruction.marks) (omega (arith, c.loop-instruction.auto.marks, c.requires.fits))
@@ -79,6 +79,39 @@ pub over-enters-requires : goal.over-enters-requires
 over-enters-requires c =
     let end = ap length c.deref-instruction-items.ensures.value in
     record { around = omega (arith, end, c.args.self.now.few, c.loop-instruction.invariant.around, c.loop-instruction-test.true) }
+
+-- where a way comes to a class or goes on from its mark, that it comes again need not ask for the mark
+comes_again : (enters mark again : Bool) → (enters || mark) ≡ true → (enters || again) ≡ (enters || (again && mark))
+comes_again true mark again some = refl
+comes_again false true true some = refl
+comes_again false true false some = refl
+comes_again false false again some = absurd (true≢false (sym some))
+
+-- and that it goes behind the class need not ask whether it comes
+goes_behind : (enters mark optional : Bool) → (enters || mark) ≡ true → (optional || mark) ≡ ((optional && enters) || mark)
+goes_behind true mark true some = refl
+goes_behind true mark false some = refl
+goes_behind false true true some = refl
+goes_behind false true false some = refl
+goes_behind false false optional some = absurd (true≢false (sym some))
+
+-- where neither is so, the class has no mark, and gets none
+no_mark : (enters mark : Bool) → (enters || mark) ≡ false → mark ≡ false
+no_mark true mark none = absurd (true≢false none)
+no_mark false mark none = none
+
+none_comes : (enters mark again reads_it : Bool) → (enters || mark) ≡ false → false ≡ ((enters || (again && mark)) && reads_it)
+none_comes true mark again reads_it none = absurd (true≢false none)
+none_comes false true again reads_it none = absurd (true≢false none)
+none_comes false false true reads_it none = refl
+none_comes false false false reads_it none = refl
+
+-- and none goes behind it
+goes_nowhere : (enters mark optional : Bool) → (enters || mark) ≡ false → enters ≡ ((optional && enters) || mark)
+goes_nowhere true mark optional none = absurd (true≢false none)
+goes_nowhere false true optional none = absurd (true≢false none)
+goes_nowhere false false true none = refl
+goes_nowhere false false false none = refl
 
 -- one instruction more is followed
 module _ (p : Program) (k at : ℕ) (within : k < length p.code.instructions.items) (last next : Option ℕ) (enters : Bool) (old : CodeWalk) (all : Walked)
@@ -137,6 +170,31 @@ module _ (p : Program) (k at : ℕ) (within : k < length p.code.instructions.ite
       ∙ ap (λ (ms : List Bool). with_marks last next (take (suc at) (set marks at behind)) (followed last next rest (following_of comes new) ms))
       (sym (drop-set-lt (suc at) marks at behind (omega arith))))
 
+  -- where a way comes to a class, or goes on from it
+  pub class_come_to : (class : ℕ) (again optional reads_it : Bool) → get_or p.code.instructions.items k (Read 0 false false) ≡ Read class again optional
+      → reads_it ≡ class_reads next (slice_get p.code.classes.items class) → (enters || get_or marks at false) ≡ true → at < length marks
+      → all ≡ with_marks last next (take (at + 1) (set marks at ((enters || again) && reads_it)))
+      (followed last next (drop (k + 1) (program_of p)) (following_of (optional || get_or marks at false) old)
+      (drop (at + 1) (set marks at ((enters || again) && reads_it))))
+  class_come_to class again optional reads_it here reads_is some marked =
+      let mark = get_or marks at false in
+      class_followed class again optional reads_it ((enters || again) && reads_it) (optional || mark) old here
+      (λ n rs. ap (λ (b : Bool). following_of b old) (goes_behind enters mark optional some)) reads_is
+      (ap (λ (b : Bool). b && reads_it) (comes_again enters mark again some)) marked
+
+  -- and where none does
+  pub class_passed : (class : ℕ) (again optional reads_it : Bool) → get_or p.code.instructions.items k (Read 0 false false) ≡ Read class again optional
+      → reads_it ≡ class_reads next (slice_get p.code.classes.items class) → (enters || get_or marks at false) ≡ false → at < length marks
+      → all ≡ with_marks last next (take (at + 1) marks)
+      (followed last next (drop (k + 1) (program_of p)) (following_of enters old) (drop (at + 1) marks))
+  class_passed class again optional reads_it here reads_is none marked =
+      let mark = get_or marks at false in
+      let same : set marks at false ≡ marks = ap (set marks at) (sym (no_mark enters mark none)) ∙ set-get_or marks at false in
+      subst (λ (ms : List Bool). all ≡ with_marks last next (take (at + 1) ms)
+      (followed last next (drop (k + 1) (program_of p)) (following_of enters old) (drop (at + 1) ms))) same
+      (class_followed class again optional reads_it false enters old here (λ n rs. ap (λ (b : Bool). following_of b old) (goes_nowhere enters mark optional none))
+      reads_is (none_comes enters mark again reads_it none) marked)
+
 pub loop-instruction-preserved : goal.loop-instruction-preserved
 loop-instruction-preserved c =
     let p = c.args.self.now in
@@ -160,11 +218,18 @@ loop-instruction-preserved c =
           (record {
             counted = ap (λ (n : ℕ). at + 1 + read_count (drop n (program_of p))) next ∙ more;
             followed =
-                class_followed p k at within c.args.last c.args.next c.loop-instruction.enters c.loop-instruction.walk _ c.loop-instruction.marks
-                c.loop-instruction.invariant.followed
-                w.in-Read.class w.in-Read.again w.in-Read.optional (get_or c.args.reads.now w.in-Read.class false) _ _ c.loop-instruction.walk here
-                (λ n rs. refl)
-                (c.requires.reads w.in-Read.class there_is) refl marked;
+                elim w.if-enters-mark.branch [
+                  | then-enters-mark v ↦
+                      rw (v.enters-is, v.marks-is)
+                      (class_come_to p k at within c.args.last c.args.next c.loop-instruction.enters c.loop-instruction.walk _ c.loop-instruction.marks
+                      c.loop-instruction.invariant.followed w.in-Read.class w.in-Read.again w.in-Read.optional
+                      (get_or c.args.reads.now w.in-Read.class false) here (c.requires.reads w.in-Read.class there_is) v.if-enters-mark.true marked)
+                  | else-enters-mark v ↦
+                      rw (v.enters-is, v.marks-is)
+                      (class_passed p k at within c.args.last c.args.next c.loop-instruction.enters c.loop-instruction.walk _ c.loop-instruction.marks
+                      c.loop-instruction.invariant.followed w.in-Read.class w.in-Read.again w.in-Read.optional
+                      (get_or c.args.reads.now w.in-Read.class false) here (c.requires.reads w.in-Read.class there_is) v.if-enters-mark.false marked)
+                ];
             around = omega (arith, c.loop-instruction.invariant.around);
           })
       | in-Peek w ↦

@@ -1,4 +1,4 @@
-use Rattle.std.proofs.Common.{◌≡◌, ◌≤◌, ◌++◌, List, length, sym, ap, ◌∙◌, arith}
+use Rattle.std.proofs.Common.{◌≡◌, ◌≤◌, ◌++◌, List, length, take, sym, ap, ◌∙◌, arith}
 use Rattle.strkw_ecma.specs.Program.{Instruction, program, read_count, has_loop, asks_boundary}
 use Rattle.strkw_ecma.specs.machine.Shape.{outlined}
 use Rattle.strkw_ecma.specs.Size.{max_steps}
@@ -22,7 +22,7 @@ invariant_of-result c =
       within = writes.within c.new-code.ensures.within;
       right = right;
       counted = c.read_count.ensures ∙ ap read_count right ∙ reads_are_classes p;
-      loops = c.has_loops.ensures ∙ ap has_loop right;
+      loops = ap (λ (is : List Instruction). has_loop (take c.before_loops.result is)) (sym right) ∙ c.before_loops.ensures;
       boundary = c.has_boundary.ensures ∙ ap asks_boundary right ∙ boundary_is_asked p;
       few = few;
       few_classes = omega (arith, few, none, c.new-code.ensures.classes, writes.classes);

@@ -7,9 +7,9 @@ use Rattle.strkw_ecma.proofs.table.Table.is_found.Given as goal
 -- the walk over what is left
 abbrev pub invariant-loop-place : goal.invariant-loop-place
 invariant-loop-place l = record {
-  inside : l.row + length l.self.columns.keys.items < length l.self.entries.items;
+  inside : l.row + l.rows.end < length l.rows.entries.now;
   utf8 : IsUtf8 (drop l.place l.text);
-  so_far : walk (column_of l.self.columns.classes.items l.self.columns.keys.items) (length l.self.columns.keys.items) l.self.entries.items l.row
+  so_far : walk (column_of l.self.columns.classes.items l.self.columns.keys.items) l.rows.end l.rows.entries.now l.row
       (chars (drop l.place l.text))
-      ≡ walk (column_of l.self.columns.classes.items l.self.columns.keys.items) (length l.self.columns.keys.items) l.self.entries.items 0 (chars l.text);
+      ≡ walk (column_of l.self.columns.classes.items l.self.columns.keys.items) l.rows.end l.rows.entries.now 0 (chars l.text);
 }

@@ -6,7 +6,7 @@ use Rattle.strkw_ecma.proofs.table.Table.is_found_along.Goals as goal
 
 pub returns-then-is_backward : goal.returns-then-is_backward
 returns-then-is_backward c =
-    c.is_found_from.ensures ∙ ap (walk _ _ _ 0) (c.new.ensures ∙ ap (λ b. along b (chars c.args.text.now)) (sym c.if-is_backward.true))
+    c.is_found_back.ensures ∙ ap (walk _ _ _ 0) (ap (λ b. along b (chars c.args.text.now)) (sym c.if-is_backward.true))
 
 pub returns : goal.returns
 returns c = c.is_found.ensures ∙ ap (walk _ _ _ 0) (ap (λ b. along b (chars c.args.text.now)) (sym c.if-is_backward.false))
