@@ -117,6 +117,7 @@ BUILDING = {
     "the HTML standard's address, 24 bytes": PATTERNS[6],
     "250 groups with `*`, one in the other, around `ab`, 2,000 letters": PATTERNS[10],
 }
+SEARCHED = {"the HTML standard's address": PATTERNS[6]}
 URI, COUNT, OF_RUST = "`is_valid_uri_reference`", "`char_count`", "of Rust's"
 PYTHON = ["In one call", "One a call", "In jsonschema", "jsonschema's own", "`re`"]
 SIZES = list(takers.growth.SIZES)
@@ -130,8 +131,8 @@ def of_forms(row, column):
 
 
 def of_patterns(row, column):
-    """The pattern stands between backquotes."""
-    return by({HERE: "{}/here", "`regex`": "{}/regex"}, {row: row[1:-1]})(row, column)
+    """The pattern stands between backquotes, where SEARCHED has no other."""
+    return by({HERE: "{}/here", "`regex`": "{}/regex"}, {row: SEARCHED.get(row, row[1:-1])})(row, column)
 
 
 def of_characters(row, column):
@@ -166,6 +167,12 @@ TABLES = {
     "characters": Entry(topic("characters"), "ns", of_characters, ratio=(COUNT, OF_RUST)),
     "records": Entry(None, {"MB": "MB", "Here, ms": "ms", "`csv::Reader`, ms": "ms"},
                      ratio=("Here, ms", "`csv::Reader`, ms")),
+    "files": Entry(takers.FILES, {
+        "Seconds": "s", "Records a second": "a second", "MB a second": "MB/s", "Instructions a record": "instructions",
+    }, by({"Seconds": "{}/seconds", "Records a second": "{}/records", "MB a second": "{}/MB",
+           "To `StringRecord`": "{}/ratio", "Instructions a record": "{}/instructions"})),
+    "files_phases": Entry(takers.FILES, "%", by({"Share, %": "{}/share"})),
+    "files_memory": Entry(takers.FILES, "MB", by({"Memory, MB": "{}/memory"})),
     "requests": Entry(takers.REQUEST_LINES, {
         "Bytes a line": "bytes", "Requests a second": "a second", "MB a second": "MB/s",
     }, by({"Requests a second": "{}/requests", "MB a second": "{}/MB", RATIO: "{}/ratio"}, REQUEST_KINDS)),

@@ -9,6 +9,7 @@ import sys
 from pathlib import Path
 from typing import Callable, NamedTuple
 
+import files
 import growth
 from figures import cells_of
 from tables import PATTERNS
@@ -56,13 +57,14 @@ def topic_figures(topic):
 
 
 def pattern_figures():
-    """The figures of the topic `patterns`: PATTERN/here and PATTERN/regex."""
+    """The figures of the topic `patterns`: PATTERN/here and PATTERN/regex. A dash stands for what is not taken."""
     found = {}
     for line in output_of([TOP / "crates/strkw_bench/out/strkw_bench", "patterns"], TOP / "bench/patterns.tsv"):
         pattern, _, *engines = line.split("\t")
         for engine in engines:
             name, value = engine.split(" ")[:2]
-            found[f"{pattern}/{name}"] = float(value)
+            if value != "-":
+                found[f"{pattern}/{name}"] = float(value)
     return found
 
 
@@ -94,6 +96,11 @@ def growth_figures(options):
     return growth.figures(options.up_to)
 
 
+def file_figures(options):
+    """The figures of files.py, of the built program."""
+    return files.figures(TOP / "crates/strkw_csv/out/strkw_csv")
+
+
 def best(figures, better):
     """The best figure of each name in some runs."""
     runs = [figures() for _ in range(RUNS)]
@@ -110,4 +117,5 @@ PATTERN_SEARCHES = Run(("strkw_bench",), lambda options: best(pattern_figures, m
 BUILDING_OF_TABLES = Run(("strkw_csv",), building_figures)
 REQUEST_LINES = Run(("strkw",), request_figures)
 PYTHON_CHECKS = Run(("bindings",), python_figures)
+FILES = Run(("strkw_csv",), file_figures)
 GROWTH = Run(growth.CRATES, growth_figures)

@@ -422,6 +422,17 @@ def idn_mail_rows(texts_of_ascii):
         yield counts("idn-email", part, 0, 62 // octets, 40, [['"', '"@b']])
     yield texts("idn-email", [f"a@{label}" for label in wide_labels(5, 63)], lambda text: True)
     yield texts("idn-email", [f"a@{label}" for label in wide_labels(64, 70)], never)
+    yield "labels in ASCII beside a U-label"
+    labels = ["é", "日本", "b", "b-c", "1", "xn--a", "a" * 63, "b_c", "-b", "b-", "", "b c", "b!", "b\u0000", "b(",
+              "a" * 64]
+    pairs = itertools.product(labels, repeat=2)
+    wide_domains = [f"{one}{dot}{other}" for one, other in pairs for dot in (".", ".b.")]
+    is_label = whole(rf"{LABEL}|é|日本")
+    yield texts("idn-email", [f"a@{domain}" for domain in wide_domains if not domain.isascii()],
+                lambda text: all(map(is_label, text[2:].split("."))))
+    places = [["a@é.", ""], ["a@", ".é"], ["a@é.", ".b"], ["a@é.b", "c", "-."], ["a@b", "c.é", "-."], ["a@é.", "b"],
+              ["a@b", ".é"]]
+    yield characters("idn-email", LETTERS + DIGITS, places)
     rest = ".".join(["a" * 63] * 3)
     long_domains = [f"a@é.{rest}.{'a' * size}" for size in range(1, 64)]
     yield texts("idn-email", long_domains, lambda text: len(text.encode()) <= 257)
@@ -520,6 +531,14 @@ def paths_of_uris():
             yield f"{head}{one}{other}"
 
 
+def ends_of_authorities():
+    """What ends an authority, and behind it what an authority would have read in another way."""
+    parts = (("a://", "//"), ("", "u@"), ("", "h", "[::1]"), ("", ":", ":8"))
+    starts = ["".join(some) for some in itertools.product(*parts)]
+    tails = [":a", ":8:a", "a@b:c", "@", "a:b@[", "[::1]", "//", "?", "#", "\u00e9:a"]
+    return [start + end + tail for start in starts for end in "/?#" for tail in tails]
+
+
 def ends(ranges):
     """The ends of ranges, and the characters beside them."""
     beside = {at + step for low, high in ranges for at in (low, high) for step in (-1, 0, 1)}
@@ -576,6 +595,15 @@ def uri_length_rows():
             broken = [["/", escape], ["/", escape + "g" * 40], ["?", escape], ["#", escape], ["//", escape + "@b"]]
             yield counts(of, "a", 1, 0, 100, broken)
         yield counts(of, "a", 0, 99, 100, whole_ones)
+    yield "an escape in a block, and behind it, at each place, what ends the part or stands in none"
+    filled = "b" * 70
+    ended = [["/%41", f"?{filled}"], ["/%41", f"#{filled}"], ["?%41", f"#{filled}"], ["//%41", f"/{filled}"],
+             ["//%41", f":8/{filled}"], ["//%41", f"@{filled}"], ["//b:%41", f"@{filled}"]]
+    heads = ("/%41", "?%41", "#%41", "//%41")
+    spoilt = [[before, f"{other}{filled}"] for before in heads for other in ("[", "%g4", "%%41")]
+    for of in ("uri-reference", "iri-reference"):
+        yield counts(of, "a", 0, 99, 100, ended)
+        yield counts(of, "a", 1, 0, 100, spoilt)
 
 
 def uri_rows():
@@ -585,6 +613,9 @@ def uri_rows():
     authorities, paths = list(parts_of_uris()), list(paths_of_uris())
     for step, of in enumerate(("uri", "uri-reference", "iri", "iri-reference")):
         yield texts(of, authorities[step::4] + paths[step::4], URI_RULES[of])
+    yield "what ends an authority, and what stands behind it"
+    for of, rule in URI_RULES.items():
+        yield texts(of, ends_of_authorities(), rule)
     yield from uri_character_rows()
     yield from uri_length_rows()
     yield from template_rows()
@@ -612,6 +643,8 @@ def templates():
         yield from (f"{{{name}{modifier}}}", f"{{?b,{name}{modifier}}}", f"{{{name}{modifier},b:3}}")
     yield from ("{a}{b}", "{a}}", "{{a}}", "{a", "a}", "{a{b}}", "x{a}y%20{+b}", "{a},{b}", "{a,,b}", "{,a,}", "{a\n}")
     yield from ("%", "%4", "%4g", "\ufeff{a}", "'")
+    yield from (f"a%{one}{other}" for one in "1[]!~" for other in "1[]!~")
+    yield from (f"{{a:{length}}}" for length in words("019", (1, 2, 3, 4, 5)))
 
 
 def template_rows():
@@ -733,6 +766,12 @@ def coding_rows():
         rows = codes_of(of)
         for at in range(0, len(rows), 1500):
             yield decoded(of, rows[at:at + 1500])
+    yield "each character of ASCII first and last in a block of letters, and in a block with padding"
+    for of, (_, block) in ENCODERS.items():
+        letter = ALPHABETS[of][0]
+        forms = [f"{{}}{letter * (block - 1)}", f"{letter * (block - 1)}{{}}", f"{letter}{{}}{'=' * (block - 2)}"]
+        blocks = in_forms(forms, ASCII)
+        yield decoded(of, [[text, by_trial(of, text)] for text in sorted(set(blocks))])
     yield "one byte that is not zero"
     for of, (encode, _) in ENCODERS.items():
         yield decoded(of, [[encode(sample).decode(), sample.hex()] for sample in single_bytes()])
@@ -781,6 +820,8 @@ def pattern_rows():
         of_each = [[f"{'a' * at}{sign}{'a' * (length - at)}" for at in places for sign in signs]
                    for signs in (NO_WHITE_SPACE, WHITE_SPACE)]
         yield matches("^\\S*$", *of_each)
+    yield "all code points: which are white space"
+    yield sums("texts with white space", [["a", ""]], lambda point: chr(point) in WHITE_SPACE, 0x1000)
 
 
 # Labels and host names: RFC 5890 to 5892 as the crate's README says them.
@@ -827,6 +868,8 @@ def digit_rows():
     digits = [chr(at) for at in (0x660, 0x661, 0x669, 0x6F0, 0x6F1, 0x6F9)] + ["a", "\u0628"]
     has_one, has_other = re.compile("[\u0660-\u0669]").search, re.compile("[\u06f0-\u06f9]").search
     labels = words(digits, (1, 2, 3)) + words(digits[::2], (4,))
+    beside = [chr(at) for at in (0x65F, 0x660, 0x669, 0x66E, 0x6EF, 0x6F0, 0x6F9, 0x6FA)]
+    labels += [f"\u0628{one}{other}" for one in beside for other in beside]
     yield texts("label", labels, lambda text: not (has_one(text) and has_other(text)))
 
 
@@ -1215,6 +1258,9 @@ def permission_rows():
         yield from idn_characters(beside_wide, near(ranges))
     yield "each ASCII character beside a character past ASCII"
     yield from idn_characters(beside_wide + [["xn-", "\u00fc"], ["\u00fcn-", "a"]], ASCII)
+    yield "each ASCII character in a label of its own, alone and beside a U-label"
+    places = [["", ""], ["a", "b"], ["a.", ".b"], ["", ".\u00fc"], ["\u00fc.", ""], ["a", "b.\u00fc"], ["\u00fc.a", "b"]]
+    yield from idn_characters(places, ASCII)
 
 
 MAPPED = ("\u00aa\u00b2\u00b5\u00ba\u00bc\u00c0\u00e0\u00de\u00fe\u00df\u1e9e\u0130\u0131\u0149\u017f\u01c4\u01c5\u01c6"
@@ -1276,6 +1322,7 @@ def context_rows_of_idn():
                  "Hiragana": middle_dots, "Katakana": middle_dots, "Han": middle_dots}
     for script, places in places_of.items():
         yield from idn_characters(places, near(SCRIPT_RANGES[script]))
+    yield from idn_characters([["\u0375", ""], *middle_dots], "\U00020000\U00030000\U0003d000\U0003fc3f\U0003fc40")
 
 
 def bidi_rows_of_idn():
@@ -1395,8 +1442,9 @@ def idn_rows():
     yield ("all code points, by the derived property of another edition of Unicode: between two letters of either "
            "direction; of the first 131,072 first, last and beside the characters that have contextual rules")
     yield from (idn_sums(before, behind) for before, behind in WIDE_PLACES)
-    places = (["", "\u4e00"], ["\u05d0", ""], ["\u05d0.\u4e00", ""], ["\u0375", ""], ["\u05d0", "\u05f3"],
-              ["\u30fb", ""], ["\u4e00", "\u200d\u4e00"], ["\u0628", "\u200c\u0628"], ["\u0628\u200c", "\u0628"])
+    places = (["", "\u4e00"], ["\u05d0", ""], ["\u05d0.\u4e00", ""], ["\u0375", ""], ["\u05d0\u0375", ""],
+              ["\u05d0", "\u05f3"], ["\u30fb", ""], ["\u05d0\u30fb", ""], ["\u4e00", "\u200d\u4e00"],
+              ["\u0628", "\u200c\u0628"], ["\u0628\u200c", "\u0628"])
     for before, behind in places:
         yield idn_sums(before, behind, 0x20000)
 
@@ -1790,8 +1838,34 @@ def space_searches():
         yield searches(rows)
 
 
+def spellings(character):
+    """A character of ASCII as it may be written in a pattern."""
+    number = ord(character)
+    found = [form.format(number) for form in ("\\x{:02x}", "\\u{:04X}", "\\u{{{:x}}}", "[\\x{:02X}]")]
+    if 1 < number < 127:
+        found.append(f"[^\\0-\\x{number - 1:02x}\\x{number + 1:02x}-\\u{{10FFFF}}]")
+    if character in SYNTAX:
+        found += [f"\\{character}", f"[\\{character}]", f"[\\{character}-\\{character}]"]
+    if character not in SYNTAX or character == "/":
+        found += [character, f"(?:{character})"]
+    if character not in "\\]^":
+        found += [f"[{character}]", f"[^{character}]"]
+    return found
+
+
+def spelled_searches():
+    """Each character of ASCII by each of its spellings, in itself and in two others."""
+    rows = []
+    for character in ASCII:
+        for form, other in itertools.product(spellings(character), (character, chr(ord(character) ^ 1), "\u00e9")):
+            rows.append([f"^{form}$", other, (other == character) != (form == f"[^{character}]")])
+    return searches(rows)
+
+
 def member_rows():
     """The rows of sets of characters and of assertions."""
+    yield "each character of ASCII by each of its spellings, in itself and in others"
+    yield spelled_searches()
     yield ("each ASCII character and others: `\\d`, `\\w`, `.`, and word boundaries beside them; `$` and `^` beside "
            "ends of lines")
     tried = ASCII + ("\u0080\u0085\u00a0\u00e9\u017f\u2027\u2028\u2029\u202a\u212a\u0660\ufeff\uff10\U0001d7ce"
@@ -2208,7 +2282,24 @@ STEPS = {
     "(?:(?<!ab)c)": 5, "(?:(?<=a|b))": 7, "(?:(?<!))": 2, "(?:(?<=a{7}))": 9, "(?:(?<=(?<!a)))": 5, "(?:(?=a))": 3,
     "(?:(?!a)c)": 4, "(?:(?=a|b))": 7, "(?:(?!))": 2, "(?:(?=\\p{L}))": 4, "(?:(?=a?))": 6, "(?:(?=(?!a)))": 5,
     "(?:(?=a|b|c))": 11, "(?:(?=$))": 3}
-MOST_STEPS, MOST_TIMES = 2000, 1000
+MOST_STEPS, MOST_STEPS_OF_ALL, MOST_TIMES = 2000, 2600, 1000
+
+
+# How many steps a term with a quantifier takes: those of its copies, and of a loop or of what may be missing.
+STEPS_OF_TERMS = {
+    "x*": 1, "x+": 1, "x?": 1, "x{5,}": 6, "x{0,}": 1, "x{0}": 0, "x{1}": 1, "x{2,5}": 5, "x{0,3}": 3, "x{3,3}": 3,
+    "x{5,}?": 6, "x{2,5}?": 5, "(?:xy)*": 4, "(?:xy)+": 4, "(?:xy)?": 5, "(?:xy){5,}": 14, "(?:xy){0,}": 4,
+    "(?:xy){1,}": 6, "(?:xy){2,5}": 19, "(?:xy){0,2}": 10, "(?:xy){3,3}": 6, "(?:x|y){2,}": 17, "(?:x|y|z)+": 9,
+    "(?:x|y){0,2}": 16, "\\p{L}{5,}": 12, "\\p{L}{2,5}": 10, "(?:(?:xy)*){2,}": 14, "(?:x*)*": 3,
+    "(?=x{0})": 2, "(?=x{0,0})": 2, "(?=x?)": 6, "(?=)": 2, "(?=^)": 3, "(?!\\p{L})": 4, "(?<=xy)": 4, "(?<!x{5})": 7}
+
+
+def limits_of_terms():
+    """Each term at the most steps of a whole pattern, and a step more."""
+    for term, steps in STEPS_OF_TERMS.items():
+        for more in (0, 1):
+            yield f"a{{1000}}a{{1000}}{term}b{{{MOST_STEPS_OF_ALL - 2000 - steps + more}}}", not more
+            yield f"a{{1000}}{term}b{{{MOST_STEPS_OF_ALL - 2000 - steps + more}}}c{{1000}}", not more
 
 
 def limits_of_atoms():
@@ -2261,6 +2352,9 @@ def refusal_rows():
         yield refusals(why, in_forms(forms, character))
     yield refusals(NOT_TAKEN, [f"[\\{character}]" for character in NEEDLESSLY_ESCAPED if character != "-"])
     yield refusals(NOT_TAKEN, in_forms(forms, "agyzAGYZ \u00e9\n"))
+    told = SYNTAX + NEEDLESSLY_ESCAPED + DIGITS + "bBdDfknrsStvwW"
+    others = [character for character in ASCII if character not in told]
+    yield refusals(NOT_TAKEN, in_forms(("\\{}", "(a)\\{}", "(?:\\{})", "a|\\{}"), others))
     yield refusals("taken", in_forms(forms, "/^$.*+?()[]{}|\\"))
     forms = ("(?{}a)", "a(?{})", "(?:(?{}))", "(?<n>(?{}a))", "a|(?{}b)", "(?<=(?{}a))", "(?<!a)(?{}b)")
     yield refusals("taken", in_forms(forms, ("=", "!", "<=", "<!")))
@@ -2274,6 +2368,23 @@ def refusal_rows():
              "x", "_", "gc=x")
     forms = ("\\p{{{}}}", "\\P{{{}}}", "[\\p{{{}}}]", "a\\p{{{}}}b")
     yield refusals("it has a property that is not known here", in_forms(forms, names))
+    for letters, why in ((LETTERS + DIGITS + "_", "it has a property that is not known here"),
+                         (but(LETTERS + DIGITS + "_=}"), NOT_TAKEN)):
+        yield refusals(why, in_forms(("\\p{{a{}}}", "[\\P{{a{}b}}]", "\\p{{gc=a{}}}"), letters))
+    above = [(atom, count + 1) for atom, count in most.items() if count < MOST_TIMES]
+    yield refusals("a counted term takes more than 2000 steps", [f"{atom}{{{n},{n}}}" for atom, n in above])
+    yield refusals(NOT_TAKEN, [pattern for pattern, is_taken in BRACES.items() if not is_taken])
+    names = ("a=b", "a!b", "", "a b", "1", "a=", "\\x61", "\\u{}", "\\u006", "\\", "a\\", "a\\u", "a\\u{61", "-", "a-")
+    broken = [f"(?<{name}" for name in names] + ["(?", "(?a", "(?i", "(?;", "(?9a)", "(?\"a)"]
+    yield refusals(NOT_TAKEN, [*broken, *(f"{pattern}>x)" for pattern in broken)])
+    unfinished = [text[:end] for text, least in UNFINISHED for end in range(least, len(text))]
+    yield refusals(NOT_TAKEN, unfinished)
+    ends = ("(*", "(+a)", "(]", "(a", "(?a)", "(?:*", "(?=+", "(?<n>*", "(?<=*", "(?<1>", "(?<>a)")
+    for groups in (248, 249):
+        yield refusals(NOT_TAKEN, ["(" * groups + end for end in ends])
+    deeper = ("(*", "(+a)", "(]", "(a", "()", "(?:*", "(?=+", "(?!a)", "(?<n>*", "(?<=*", "(?<!a)")
+    yield refusals("its groups are more than 250 deep", ["(" * 250 + end for end in deeper])
+    yield refusals(NOT_TAKEN, ["(" * 250 + end for end in ("(?a)", "(?<1>", "(?<>a)", "*", "]", "a")])
 
 
 # Braces and quantifiers, and whether the pattern is taken.
@@ -2292,6 +2403,8 @@ def limit_rows():
     yield ("limits, each at it and one off: counts, steps of a counted term and of the whole, characters, groups "
            "in one another")
     limits = dict(limits_of_atoms())
+    yield texts(PATTERNS, limits, limits.get)
+    limits = dict(limits_of_terms())
     yield texts(PATTERNS, limits, limits.get)
     yield long_searches(limits_of_patterns())
     yield from refusal_rows()
@@ -2436,10 +2549,135 @@ def whole_rows():
     yield {"ask": "long texts", "of": WHOLE_PATTERNS, "yes": right, "no": wrong}, len(right) + len(wrong)
 
 
+HEXADECIMAL = DIGITS + "ABCDEFabcdef"
+UNFIT = "([{\\)]}"
+
+
+def but(left_out):
+    """The characters of ASCII without these."""
+    return "".join(character for character in ASCII if character not in left_out)
+
+
+# What may stand behind a backslash and is whole.
+WHOLE_ESCAPES = SYNTAX + "dDsSwWfnrtvbB"
+CLASS_ESCAPES = SYNTAX + "dDsSwWfnrtvb-"
+# What stands before a character and behind it, and the characters of ASCII that make a pattern there (section 22.2.1).
+PLACES_OF_PATTERNS = (
+    ("", "", but(UNFIT + "*+?")), ("a", "", but(UNFIT)), ("a*", "", but(UNFIT + "*+")), ("a+", "", but(UNFIT + "*+")),
+    ("a?", "", but(UNFIT + "*+")), ("a{1}", "", but(UNFIT + "*+")), ("a*?", "", but(UNFIT + "*+?")),
+    ("a{1}?", "", but(UNFIT + "*+?")), ("(?=a)", "", but(UNFIT + "*+?")), ("(?<=a)", "", but(UNFIT + "*+?")),
+    ("^", "", but(UNFIT + "*+?")), ("$", "", but(UNFIT + "*+?")), ("\\b", "", but(UNFIT + "*+?")),
+    ("(?:a)", "", but(UNFIT)), ("[a]", "", but(UNFIT)), ("(", ")", but(UNFIT + "*+?")), ("a|", "", but(UNFIT + "*+?")),
+    ("(?", "a)", ":=!"), ("(?<", "a)", "=!"), ("(?<", ">a)", LETTERS + "$_=!"),
+    ("(?<a", ">b)", LETTERS + DIGITS + "$_>"), ("(?<a", "b)", ">"), ("(?", "=a)", ":=!<"), ("(?", "n>a)", ":=!<"),
+    ("(?<", "u0061>b)", LETTERS + "$_=!\\"), ("(?<a", "u0061>b)", LETTERS + DIGITS + "$_\\>"),
+    ("(?<\\", "0061>b)", "u"), ("(?<\\u00", "1>b)", "4567CDEFcdef"), ("(?<\\u{61", ">b)", "}"),
+    ("a{", "}", DIGITS), ("a{1", "", "}"), ("a{1", "}", DIGITS + ","), ("a{1,", "}", DIGITS[1:]), ("a{1,2", "", "}"),
+    ("a{1,2", "}", DIGITS), ("a{,", "}", ""), ("\\x", "4", HEXADECIMAL), ("\\x4", "", HEXADECIMAL),
+    ("\\u", "041", HEXADECIMAL), ("\\u004", "", HEXADECIMAL), ("\\u{", "}", HEXADECIMAL), ("\\u{4", "", "}"),
+    ("\\u{4", "}", HEXADECIMAL), ("\\c", "", LETTERS), ("\\0", "", but(UNFIT + DIGITS)), ("\\p", "{L}", ""),
+    ("\\p{", "}", "CLMNPSZ"), ("\\P{L", "}", "Clmotu"), ("\\p{L", "", "}"), ("\\p{gc=", "}", "CLMNPSZ"),
+    ("\\p{gc", "L}", "="), ("[", "]", but("\\]")), ("[a", "]", but("\\]")), ("[^", "]", but("\\]")),
+    ("[a-", "]", span(0x61, 0x7F)), ("[", "-m]", span(0, 0x6D).replace("]", "")), ("[\\c", "]", LETTERS),
+    ("[\\x", "4]", HEXADECIMAL), ("[\\x4", "]", HEXADECIMAL), ("[\\u", "041]", HEXADECIMAL),
+    ("[\\u{", "}]", HEXADECIMAL), ("[\\u{4", "]", "}"), ("[\\p{", "}]", "CLMNPSZ"), ("[\\P", "{L}]", ""),
+    ("\\", "41", WHOLE_ESCAPES + "x"), ("\\", "0041", WHOLE_ESCAPES + "xu"), ("\\", "A", WHOLE_ESCAPES + "0c"),
+    ("\\", "{41}", WHOLE_ESCAPES.replace("b", "").replace("B", "") + "0u"), ("\\", "{L}", "pP"), ("\\u", "41}", "{"),
+    ("\\p", "L}", "{"), ("[\\", "41]", CLASS_ESCAPES + "x"), ("[\\", "0041]", CLASS_ESCAPES + "xu"),
+    ("[\\", "A]", CLASS_ESCAPES + "0c"), ("[\\", "{41}]", CLASS_ESCAPES + "0u"), ("[\\", "{L}]", CLASS_ESCAPES + "0pP"),
+    ("a", "1}", "{"), ("a{1", "2}", DIGITS + ","), ("[b", "a]", but("\\]-")), ("[\\d", "a]", but("\\]-")),
+    ("[b-", "|c", "]"), ("[", "-A]", span(0, 0x41) + "\\^"), ("[", "", "]"), ("[^", "", "]"), ("[a-", "", "]"),
+    *((f"a{before}", behind, but(UNFIT + "*+?")) for before, behind in (
+        ("^", ""), ("$", ""), ("\\b", ""), ("\\B", ""), ("(?=a)", ""), ("(?<!a)", ""), ("|", ""), ("(", ")"),
+        ("(?:", ")"), ("(?=", ")"), ("(?<=", ")"), ("(?<n>", ")"))),
+    *((before, "", "") for before in (
+        "(?", "(?<", "(?<a", "(?<\\", "(?<\\u", "(?<\\u{", "(?<a\\u0", "[\\", "[\\x", "[\\x4", "[\\u", "[\\u{",
+        "[\\u004", "[\\p", "[\\p{", "[\\p{L", "[\\c", "\\x", "\\u", "\\u{", "\\u00", "\\p", "\\p{", "\\p{L=", "a{")))
+# The same of what `EcmaPatterns` takes alone: a surrogate stands in a pair.
+PLACES_OF_PAIRS = (("\\ud83d\\", "de00", "u"), ("\\ud83d", "ude00", "\\"), ("[\\ud83d", "ude00]", "\\"),
+                   ("\\ud83d\\u", "e00", "Dd"), ("\\ud83d\\ud", "00", "CDEFcdef"), ("\\ud", "3d\\ude00", "89ABab"),
+                   ("\\", "<a>(?<a>)", WHOLE_ESCAPES + "0"))
+# The same of what `EcmaPatterns` does not take: back references, and surrogates alone.
+PLACES_OF_WHOLE_PATTERNS = (
+    ("(a)\\1", "", but(UNFIT + DIGITS)), ("()" * 10 + "\\1", "", but(UNFIT + DIGITS[1:])), ("\\k", "a>(?<a>)", "<"),
+    ("\\k<", ">(?<a>)", "a"), ("\\k<a", "(?<a>)", ">"), ("\\k<a", ">(?<a>)(?<ab>)", ">b"),
+    ("(?<a>)\\k<\\", "0061>", "u"), ("\\ud83d\\", "de00", SYNTAX + "dDsSwWfnrtvbB0cxu"),
+    ("\\ud83d", "ude00", but("([{)]}")), ("[\\ud83d", "ude00]", but("]-")), ("\\", "<a>(?<a>)", WHOLE_ESCAPES + "01k"),
+    ("()" * 100 + "\\", "", WHOLE_ESCAPES + DIGITS),
+    *((before, "", "") for before in ("\\k", "\\k<", "(?<a>)\\k<\\", "(?<a>)\\k<\\u")))
+# Ranges whose ends are signs of a class, sets or escapes, and classes that do not end.
+RANGES = {
+    "[^-A]": 1, "[^-\\d]": 1, "[^-\\x41]": 1, "[_-A]": 0, "[--,]": 0, "[---]": 1, "[--.]": 1, "[,--]": 1, "[.--]": 0,
+    "[\\x2d--]": 1, "[\\x2e--]": 0, "[a-c-b]": 1, "[a-c--]": 1, "[a-c-]": 1, "[\\0-\\d]": 0, "[\\0-\\w]": 0,
+    "[\\0-\\p{L}]": 0, "[\\d-\\w]": 0, "[\\b-\\x08]": 1, "[\\x08-\\b]": 1, "[\\x09-\\b]": 0, "[\\b-\\x07]": 0,
+    "[\\a": 0, "[\\B": 0, "[\\k": 0, "[\\a|b": 0, "[\\B|b": 0, "[a-\\uD83D\\uDE00-b]": 1, "[a-\\u{1F600}-b]": 1}
+RANGES_OF_SURROGATES = {
+    "[a-\\uD83D-b]": 1, "[a-\\u{D83D}-b]": 1, "[\\d\\uDC00-\\uFFFF]": 1, "[a\\uDC00-\\uFFFF]": 1,
+    "[-\\uDC00-\\uFFFF]": 1, "[\\uD800\\d]": 1, "[\\uD800\\d-\\u{10FFFF}]": 0, "[\\uD800\\d-\\uFFFF]": 0,
+    "[\\0-\\uD83D]": 1, "[\\0-\\uD83D\\d]": 1, "[\\uD83E-\\uD83D\\d]": 0}
+REFERENCES = {"(a)\\2\\1": 0, "\\2\\1(a)": 0, "\\3\\1\\2(a)(b)": 0, "(a)\\1\\1": 1, "(a)(b)\\1\\2\\1": 1,
+              "(a)(b)\\3\\1": 0}
+# No text in front of a whole one of these, from so many characters on, is a pattern.
+UNFINISHED = (("[^a-z\\x41\\u0041\\u{41}\\p{gc=Lu}\\cA\\-\\0]", 1), ("(?<a\\u0062\\u{63}c>x)", 1), ("(?<=a)", 1),
+              ("(?<!a)", 1), ("(?=a)", 1), ("(?!a)", 1), ("(?:a)", 1), ("\\p{General_Category=Lu}", 1), ("\\x41", 1),
+              ("\\u0041", 1), ("\\u{1F600}", 1), ("\\cA", 1), ("a{12,34}", 2), ("(a|b)", 1), ("[\\P{L}]", 1))
+# Classes of ranges about the ends of the surrogates: a leading one makes one character of a class with a trailing one
+# behind it, and all others stand for themselves.
+PAIRS_IN_CLASSES = {
+    "[\\uD7FF\\uDC00-\\uFFFF]": 1, "[\\uD800\\uDC00-\\uFFFF]": 0, "[\\uDBFF\\uDC00-\\uFFFF]": 0,
+    "[\\uDC00\\uDC00-\\uFFFF]": 1, "[\\uD800\\uDBFF-\\uFFFF]": 1, "[\\uD800\\uDFFF-\\uFFFF]": 0,
+    "[\\uD800\\uE000-\\uFFFF]": 1, "[\\uDBFF\\uDBFF-\\uFFFF]": 1, "[\\uDBFF\\uE000-\\uFFFF]": 1,
+    "[\\uDBFF\\uDFFF-\\uFFFF]": 0, "[\\u{D800}\\uDC00-\\uFFFF]": 1, "[\\uD800\\u{DC00}-\\uFFFF]": 1,
+    "[\\uFFFF-\\uD7FF\\uDC00]": 0, "[\\uFFFF-\\uD800\\uDC00]": 1, "[\\uFFFF-\\uDBFF\\uDFFF]": 1,
+    "[\\uFFFF-\\uDC00\\uDFFF]": 0, "[\\uFFFF-\\uD800\\uDBFF]": 0, "[\\uFFFF-\\uD800\\uE000]": 0}
+
+
+def is_taken_pair(one, other):
+    """Whether both units are no surrogates, or are those of one character, the first the leading one."""
+    is_alone = [not "D800" <= unit <= "DFFF" for unit in (one, other)]
+    return all(is_alone) or "D800" <= one <= "DBFF" and "DC00" <= other <= "DFFF"
+
+
+def place_rows():
+    """What may stand at each place of what is read, and what ends within it."""
+    yield "each character of ASCII at each place of what a pattern is read by (section 22.2.1)"
+    for of, more in ((PATTERNS, PLACES_OF_PAIRS), (WHOLE_PATTERNS, PLACES_OF_WHOLE_PATTERNS)):
+        places = PLACES_OF_PATTERNS + more
+        for before, behind, accepted in places:
+            yield characters(of, accepted, [[before, behind]])
+    yield "patterns that end within a term"
+    unfinished = [text[:end] for text, least in UNFINISHED for end in range(least, len(text))]
+    unordered = [f"[b-{end}" for end in ("a", "\\x61", "\\cA", "\\0", "\\d", "\\p{L}", "a|c", "a]", "\\b]", "\\d]")]
+    for of in (PATTERNS, WHOLE_PATTERNS):
+        yield texts(of, unfinished + unordered, never)
+        yield texts(of, [text for text, _ in UNFINISHED], lambda text: True)
+    yield "ranges by their ends"
+    controls = {f"\\c{letter}": ord(letter) % 32 for letter in LETTERS}
+    ranges = {f"[{one}-\\x{number + step:02x}]": step >= 0 for one, number in controls.items() for step in (-1, 0, 1)}
+    ranges |= {f"[\\x{number + step:02x}-{one}]": step <= 0 for one, number in controls.items() for step in (-1, 0, 1)}
+    for of in (PATTERNS, WHOLE_PATTERNS):
+        yield texts(of, RANGES, RANGES.get)
+        yield texts(of, ranges, ranges.get)
+    yield "the whole grammar: ranges by their ends, surrogates among them, and back references above the last"
+    for line in class_rows():
+        if not isinstance(line, str) and line[0]["ask"] == "texts":
+            yield {**line[0], "of": WHOLE_PATTERNS}, line[1]
+    yield texts(WHOLE_PATTERNS, RANGES_OF_SURROGATES, RANGES_OF_SURROGATES.get)
+    yield texts(WHOLE_PATTERNS, REFERENCES, REFERENCES.get)
+    yield "pairs of surrogates: one unit of each kind beside one of each kind"
+    units = ("0041", "D7FF", "D800", "DBFF", "DC00", "DFFF", "E000", "FFFF")
+    pairs = {f"\\u{one}\\u{other}": is_taken_pair(one, other) for one in units for other in units}
+    yield texts(PATTERNS, pairs, pairs.get)
+    yield texts(PATTERNS, [f"[{pair}]" for pair in pairs], lambda text: pairs[text[1:-1]])
+    yield texts(WHOLE_PATTERNS, [*pairs, *(f"[{pair}]" for pair in pairs)], lambda text: True)
+    yield "the whole grammar: ranges about the ends of the surrogates"
+    yield texts(WHOLE_PATTERNS, PAIRS_IN_CLASSES, PAIRS_IN_CLASSES.get)
+
+
 def ecma_rows():
     """The rows of patterns of ECMA-262."""
     return rows_of(escape_rows, name_rows, class_rows, member_rows, look_rows, ahead_rows, limit_rows, property_rows,
-                   whole_rows)
+                   whole_rows, place_rows)
 
 
 # The parts of `stdin`, by their crates.

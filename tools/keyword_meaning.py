@@ -52,6 +52,16 @@ def compact(value):
     return json.dumps(value, ensure_ascii=False)
 
 
+def printed(value):
+    """The compact JSON text of a value, with the members of an object sorted by the bytes of their keys."""
+    if isinstance(value, (list, tuple)):
+        return "[" + ",".join(map(printed, value)) + "]"
+    if isinstance(value, dict):
+        members = sorted(value.items(), key=lambda it: it[0].encode())
+        return "{" + ",".join(compact(name) + ":" + printed(it) for name, it in members) + "}"
+    return compact(value)
+
+
 def holds_fraction(value):
     """Whether a value holds, at any depth, a number that is no whole number of 64 bits."""
     if isinstance(value, Number):
@@ -103,7 +113,7 @@ def string_at(keyword, value):
         return value
     if holds_fraction(value):
         raise Refusal(keyword, "FractionalNumber", FRACTION)
-    raise Refusal(keyword, f"NotString {compact(value)}", f'{compact(value)} is not of type "string"')
+    raise Refusal(keyword, f"NotString {printed(value)}", f'{printed(value)} is not of type "string"')
 
 
 def lists_of(row):
@@ -427,13 +437,13 @@ def failure_lines(row, failure, text):
 def note_line(row, entry, is_alone):
     """The line of a note, with its place where the entry is not alone."""
     where = "" if is_alone else " " + place([*row.get("location", ()), entry.keyword])
-    return f"    note{where}: {compact(entry.note)}"
+    return f"    note{where}: {printed(entry.note)}"
 
 
 def instance_lines(row, entries, instance, is_alone):
     """What stands below an instance. Only texts are looked at."""
     failures = [it for entry in entries for it in entry.failures(instance)] if isinstance(instance, str) else []
-    lines = [f"  on {compact(instance)}: {'invalid' if failures else 'valid'}"]
+    lines = [f"  on {printed(instance)}: {'invalid' if failures else 'valid'}"]
     for failure in failures:
         lines += failure_lines(row, failure, instance)
     if isinstance(instance, str):
@@ -447,13 +457,24 @@ def is_in_use(row, entry, ends):
     return all((first_named(lent[kind], name) or [None])[0] == position for kind, position, name in entry.rows)
 
 
+def lengths_left(entries):
+    """The least and the greatest number of characters that entries leave to a text."""
+    return max([0] + [it.window[0] for it in entries]), min([MOST] + [it.window[1] for it in entries])
+
+
+def folds(entries):
+    """Whether no length is left, as a word."""
+    least, greatest = lengths_left(entries)
+    return str(greatest < least).lower()
+
+
 def head(row, entries, is_alone):
     """The line on what was compiled: the lengths that are left, and whether a test takes memory."""
     quiet = "" if any(it.takes_memory for it in entries) else ", takes no memory"
-    least, greatest = max([0] + [it.window[0] for it in entries]), min([MOST] + [it.window[1] for it in entries])
     if is_alone:
+        least, greatest = lengths_left(entries)
         return f"  {entries[0].validator}, {least} to {greatest}{quiet}"
-    return f"  object, folds: {str(greatest < least).lower()}{quiet}"
+    return f"  object, folds: {folds(entries)}{quiet}"
 
 
 def compiled_lines(row):
@@ -506,7 +527,32 @@ def answer(row, instance):
     except Refusal as it:
         return [f"refused /{it.keyword}: {one_line(it.words)}", "end"]
     failures = [it for entry in entries for it in entry.failures(instance)] if isinstance(instance, str) else []
-    lines = [f"error /{it.keyword}: {one_line(it.words)}" for it in failures] or ["valid"]
+    lines = [f"fold {folds(entries)}"] if row.get("fold", False) else []
+    lines += [f"error /{it.keyword}: {one_line(it.words)}" for it in failures] or ["valid"]
     if isinstance(instance, str):
-        lines += [f"note /{it.keyword}: {one_line(compact(it.note))}" for it in entries if it.note is not NOTHING]
+        lines += [f"note /{it.keyword}: {one_line(printed(it.note))}" for it in entries if it.note is not NOTHING]
     return lines + ["end"]
+
+
+# The members of a request, and which values each may have. The first three have to stand there.
+MEMBERS = {
+    "draft": lambda it: isinstance(it, Number) and it.written in map(str, DRAFTS),
+    "schema": lambda it: isinstance(it, dict),
+    "instance": lambda it: True,
+    "validate_formats": lambda it: isinstance(it, bool),
+    "ignore_unknown_formats": lambda it: isinstance(it, bool),
+    "fold": lambda it: isinstance(it, bool),
+}
+
+
+def is_request(value):
+    """Whether a value is a request: an object of these members and of no other (docs/PROGRAMS.md)."""
+    return (isinstance(value, dict) and set(list(MEMBERS)[:3]) <= set(value) <= set(MEMBERS)
+            and all(MEMBERS[name](it) for name, it in value.items()))
+
+
+def answer_to_line(value):
+    """The lines that `run` answers to a line that is the JSON text of this value."""
+    if not is_request(value):
+        return ["bad request", "end"]
+    return answer({**value, "draft": int(value["draft"].written)}, value["instance"])

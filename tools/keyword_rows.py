@@ -13,7 +13,8 @@ from dataclasses import dataclass
 from itertools import combinations, product
 from pathlib import Path
 
-from keyword_meaning import KEYWORDS, Number, answer, compact, named_lines, parsed, said
+from keyword_meaning import (KEYWORDS, MEMBERS, Number, answer, answer_to_line, compact, named_lines, parsed,
+                             place, said)
 from keyword_texts import (DRAFTS, ENCODERS, FORMAT_NAMES, FORMATS, JSON_TEXTS, MOST, NO_ENCODINGS, NO_JSON_TEXTS,
                            UNKNOWN_CODECS, UNKNOWN_FORMATS, UNKNOWN_MEDIA_TYPES, encoded_bytes, encodings, format_in,
                            near)
@@ -22,6 +23,8 @@ CRATE = Path(__file__).resolve().parent.parent / "crates" / "strkw_test_rows"
 MARK = "# by tools/keyword_rows.py"
 CHECKED = {"validate_formats": True, "ignore_unknown_formats": False}
 JSON = "application/json"
+# Of a longer output of `run` the program shows the beginning and how long it is.
+LONGEST_SHOWN = 2000
 
 
 @dataclass
@@ -72,12 +75,26 @@ def requested(draft, schema, instance, **more):
     return made(compact({"input": [line]}), answer(row, numbered(instance)))
 
 
+def lined(*values):
+    """The row of an input to `run` whose lines are the JSON texts of values; of a pair so many stand in turn."""
+    turns = [it if isinstance(it, tuple) else (it, 1) for it in values]
+    turns = [(numbered(value), times) for value, times in turns]
+    told = "\n".join(line for value, times in turns for line in answer_to_line(value) * times)
+    if len(told) >= LONGEST_SHOWN:
+        assert told.isascii()
+        told = f"{told[:60]}.. of {len(told) + 1} bytes"
+    parts = [[compact(value) + "\n", Number(str(times))] if times > 1 else compact(value) + "\n"
+             for value, times in turns]
+    return made(compact({"input": parts}), [told])
+
+
 # ---- values of each shape
 
 SHAPES = [parsed(it) for it in (
     'null', 'true', 'false', '0', '1', '-1', '-0', '1.5', '5.0', '1e2', '9223372036854775808', '18446744073709551615',
     '18446744073709551616', '-9223372036854775808', '-9223372036854775809', '""', '"x"', '[]', '["x"]', '[1.5]',
-    '{}', '{"a":1}', '{"a":[{"b":5.0}]}', '[[],{"c":18446744073709551616}]')]
+    '{}', '{"a":1}', '{"a":[{"b":5.0}]}', '[[],{"c":18446744073709551616}]', '[1,"2",1.5]', '{"a":1,"b":1.5}',
+    '{"a":-0,"b":1}', '{"b":{"d":1,"c":2},"":3,"a":[{"f":4,"e":5}],"aa":6,"B":7,"\u00e9":8,"~":9}')]
 RIGHT = {"contentMediaType": JSON, "contentEncoding": "base64", "contentSchema": parsed('{"type":"object"}'),
          "format": "date", "minLength": 2, "maxLength": 1, "pattern": "^a"}
 OTHER_INSTANCES = [parsed(it) for it in (
@@ -235,6 +252,18 @@ def texts_at_bounds():
                 yield asked(7, schema, texts[:3], keyword=keyword, left_out=[left_out])
 
 
+def folding_by_lengths_alone():
+    """A pattern, an encoding, a media type and a caller's own format bound no length, whatever they match."""
+    others = ({"pattern": "^ab$"}, {"pattern": "^abc"}, {"pattern": "^(a|b)$"}, {"pattern": r"^\S*$"},
+              {"pattern": "a{9}"}, {"contentEncoding": "base16"}, {"contentMediaType": JSON}, {"format": "custom"},
+              {"contentMediaType": JSON, "contentEncoding": "base64"})
+    lists = {"formats": [["custom", "none"]], "patterns": [["a{9}", "x", "match"]]}
+    for draft, other, least, greatest in product((7, 202012), others, (0, 1, 9), (0, 1, 9)):
+        yield asked(draft, {**other, "minLength": least, "maxLength": greatest}, **lists)
+    for draft, other, keyword, end in product((7, 202012), others, ("minLength", "maxLength"), (0, 1, 3, MOST)):
+        yield asked(draft, {**other, keyword: end}, **lists)
+
+
 def limits_of_64_bits():
     """Limits from 31 bits up to the greatest of 64."""
     for limit in (2 ** 31, 2 ** 32, 2 ** 53 + 1, 2 ** 63 - 1, 2 ** 63, MOST):
@@ -316,7 +345,8 @@ def texts_of_encodings():
 def other_names_of_content():
     """Names of codecs and media types that are one letter off, or of other standards, add nothing."""
     for draft, codec in product((6, 7, 202012), UNKNOWN_CODECS):
-        yield asked(draft, {"contentEncoding": codec}, ["!"])
+        yield asked(draft, {"contentEncoding": codec}, ["!", "\u00e9=\n"])
+        yield asked(draft, {"contentMediaType": JSON, "contentEncoding": codec}, ["{}", "{:}", "\u00e9"])
     for draft, name in product((6, 7, 202012), UNKNOWN_MEDIA_TYPES):
         yield asked(draft, {"contentMediaType": name}, ["{:}"])
         yield asked(draft, {"contentMediaType": name, "contentEncoding": 5})
@@ -369,17 +399,32 @@ LITERAL = (
     (r"^(a\|b|\(c\))$", ("a|b", "(c)", "a", "b")), ("^(single)$", ("single", "singl")),
     (r"^\S*$", ("", "hello", "hello world", "a\tb", "a\u00a0", "\u1680", "\u2028", "\u3000", "\ufeff", "\u0085",
                 "\u180e")),
+    ("^0123456789$", ("0123456789", "012345678")), ("^" + "".join(map(chr, range(97, 123))), ("abc",)),
+    ("^" + "".join(map(chr, range(65, 91))) + "$", ("ABC",)), (r"^(\\|\/|\||\$)$", ("\\", "/", "|", "$", "\\\\")),
     ("^a\"b'<>$", ("a\"b'<>", "ab")), (r"^\^\.\*\+\?\(\)\[\]\{\}\\", ("^.*+?()[]{}\\", "^")),
     ("^A-Z a_z/:@#%&=,;~!", ("A-Z a_z/:@#%&=,;~!", "A")),
 )
+# White space of ECMA-262, and what lies near it or is white space to others.
+SPACES = ("\t\n\v\f\r \xa0\u1680\u2000\u2001\u2002\u2003\u2004\u2005\u2006\u2007\u2008\u2009\u200a\u2028\u2029\u202f"
+          "\u205f\u3000\ufeff")
+NO_SPACES = ("\x00\x08\x0e\x1b\x1c\x1d\x1e\x1f!\x7f\x84\x85\x86\x9f\xa1\xad\u034f\u115f\u167f\u1681\u180e\u1fff\u200b"
+             "\u200c\u200d\u2027\u202a\u202e\u2030\u205e\u2060\u2061\u2800\u2fff\u3001\u3164\ufefe\uff00\ufffd\ufffe"
+             "\U000e0020")
 NOT_LITERAL = ("", "a+", "foo", "^", "^$", "^()$", "^(a)", "^a$b", r"^\d", r"^\S*", "^\u00e9", "^(a|b|c^)$", "^a+",
-               "^a.b$", "^[a]$", "a\"b", "^a|b$", r"^\S+$", "^(a|)$", "(?<=a)b")
+               "^a.b$", "^[a]$", "a\"b", "^a|b$", r"^\S+$", "^(a|)$", "(?<=a)b", r"^[^\s]*$", "^(?:a|b)$",
+               r"^a\-b", r"^\_", r'^\"', r"^\a", r"^\ ", "^a\tb$", "^a`b$", "abc$", r"^\u0061$", "^a{2}$", "^a?$",
+               r"^\\$|^a", "^(a)|(b)$", "^((a))$", "(^a$)", "\n^a", "^ a$ ", "^a\u00e9$", "^\U0001f4a9a")
 
 
 def patterns():
     """Literal patterns, which no builder is asked for, and others by each outcome of an engine."""
     for draft, (pattern, texts) in product(DRAFTS, LITERAL):
         yield asked(draft, {"pattern": pattern}, texts if draft in (4, 202012) else texts[:2])
+    for sign in SPACES + NO_SPACES:
+        yield asked(7, {"pattern": r"^\S*$"}, [sign, "a" * 40 + sign + "b" * 40])
+    for pattern, texts in LITERAL:
+        around = product(("", "a", "\n", " "), ("", "\n", "a"))
+        yield asked(7, {"pattern": pattern}, [front + texts[0] + tail for front, tail in around])
     for pattern, texts in LITERAL:
         yield asked(7, {"pattern": pattern}, keyword="pattern", patterns=[[pattern, texts[0], "failed"]])
     for draft, pattern in product(DRAFTS, NOT_LITERAL):
@@ -436,6 +481,31 @@ def places():
         yield asked(draft, {"format": 5}, **more)
         yield asked(draft, {"contentMediaType": JSON, "contentEncoding": 5}, **more)
         yield asked(draft, {"minLength": 5}, ["ab"], location=location, way=["$ref"], keyword="minLength")
+
+
+def pointers():
+    """A segment stands behind a slash, with its tildes and slashes escaped (RFC 6901, sections 3 and 5)."""
+    signs = [chr(it) for it in range(128)] + ["\u00e9", "\u20ac", "\U0001f4a9", "a" * 300, "/" * 9, "~" * 9, "~0", "~1",
+                                             "~01", "~/~/", "a//b~~c", "%7E", "foo", "c%d", "e^f", "g|h", "k\"l"]
+    for sign in signs:
+        for segments in ([sign], ["a", sign], [sign, sign, ""]):
+            below = [f"  {place(segments[:end])}" for end in range(1, len(segments) + 1)]
+            yield made(compact({"segments": segments}), below)
+
+
+def long_names():
+    """Names and texts of any length stand whole in errors, refusals and notes."""
+    name, text = "n" * 300, "t" * 700
+    for draft in DRAFTS:
+        yield asked(draft, {"format": name}, [text], formats=[[name, "none"]], validate_formats=True)
+        yield asked(draft, {"format": name}, validate_formats=True, ignore_unknown_formats=False)
+        yield asked(draft, {"contentEncoding": name}, [text], codecs=[[name, "bytes"]])
+        yield asked(draft, {"contentMediaType": name}, [text], media_types=[[name, "none"]])
+        yield asked(draft, {"pattern": "^" + name}, [text, name])
+        yield asked(draft, {"pattern": name + "+"}, [text], patterns=[[name + "+", "x", "match"]])
+        yield asked(draft, {"pattern": name + "+"})
+        yield asked(draft, {"minLength": 701, "maxLength": 1}, [text], location=[name], way=[name, name], at=[name],
+                    absolute=name)
 
 
 def texts_in_errors():
@@ -513,12 +583,174 @@ def requests():
                 for it in ("\b\f\n\r\t", "\0\x1f", "\x7f", "\\\"/", "\U0001f4a9", "\n\x7f" + MIXED))
 
 
+ONE_REQUEST = {"draft": 7, "schema": {"format": "date", "maxLength": 1}, "instance": "x"}
+WORDS = ("x", "draft", "7x", "{", "}", "[", "]", ",", ":", "\"draft\"", "{]", "[}", "{}{}", "{} 1", "//", "{\"draft\"}",
+         "{\"draft\":}", "{\"draft\",7}", "{7:\"draft\"}", "\"", "\"\\x\"", "nul", "NaN", "'x'", "\ufeff{}")
+
+
+def lines_of_each_shape():
+    """A line is a request where it is an object of the members of docs/PROGRAMS.md, each with a value of its kind."""
+    for shape in SHAPES:
+        yield lined(shape)
+    for word in WORDS:
+        yield made(compact({"input": [word]}), ["bad request", "end"])
+    more = ("4", "6", "7", "8", "201909", "7e0", "70", "[7]", '"7"', '"true"', '"false"', "2")
+    for name, shape in product(MEMBERS, [*SHAPES, *map(parsed, more)]):
+        yield lined({**ONE_REQUEST, name: shape})
+    for name in MEMBERS:
+        every = {**ONE_REQUEST, "validate_formats": True, "ignore_unknown_formats": False, "fold": True}
+        yield lined({it: every[it] for it in every if it != name})
+        for other in near(name):
+            yield lined({**ONE_REQUEST, other: every[name]})
+            yield lined({other if it == name else it: every[it] for it in every})
+
+
+def other_members():
+    """Members that stand twice, numbers that JSON readers refuse, surrogates alone, and bytes that are no UTF-8."""
+    front = '{"draft":7,"schema":{"maxLength":1},"instance":'
+    for wrong in ('"\\ud800"', '"\\udc00"', '"\\ud800x"', '"\\udc00\\ud800"', '"\\u12"', '"\\a"', '"\t"', '"a\x0bb"',
+                  "1e999", "-1e999", "\x0c1", "\u00a01", "\u20281", "\ufeff1", "1\u0085", "/**/1", "'x'", "True", "0x1",
+                  "1_0", "+1",
+                  "00", "-", "1e", "[1]]", '{"a":1}}', '"x""y"', "", ",", "1,"):
+        yield made(compact({"input": [front + wrong + "}"]}), ["bad request", "end"])
+    for name in MEMBERS:
+        for wrong in ("1e999", '"\\ud800"', '[1e999]', '{"\\udfff":1}', "nul", '"\x01"'):
+            rest = compact(numbered({name: {**ONE_REQUEST, "validate_formats": True, "ignore_unknown_formats": True,
+                                            "fold": True}[name], **{it: ONE_REQUEST[it] for it in ONE_REQUEST
+                                                                    if it != name}}))[1:]
+            yield made(compact({"input": [f'{{"{name}":{wrong},{rest}']}), ["bad request", "end"])
+    for some in ("C0 80", "C1 BF", "E0 80 80", "ED A0 80", "ED BF BF", "E2 82", "80", "BF", "F0 80 80 80",
+                 "F4 90 80 80", "F5 80 80 80", "FE"):
+        parts = [front + '"', *(Number(str(it)) for it in bytes.fromhex(some)), '"}\n', front + '"x"}']
+        yield made(compact({"input": parts}), ["bad request", "end", "valid", "end"])
+    for sign in "\0\x01\v\f\r\x1c\x1d\x1e \x85\u2028\u2029;,":
+        one = compact(numbered(ONE_REQUEST))
+        yield made(compact({"input": [one + sign + one]}), ["bad request", "end"])
+        yield made(compact({"input": [f"{one}\n{sign}\n{one}"]}),
+                   [*answer_to_line(parsed(one)), "bad request", "end", *answer_to_line(parsed(one))])
+    for sign in ("\x7f", "\x80", "\x85", "\u2028", "\u2029", "\ufffd", "\uffff", "\U0010ffff", "\ud7ff", "\ue000"):
+        for times in (1, 2):
+            yield requested(7, {"maxLength": 1}, sign * times)
+
+
+def bounded_lines():
+    """A line longer than the bound ends the run: the lines before it are answered, and the fault is told."""
+    request = {"draft": 7, "schema": {"maxLength": 1}}
+    one, two = (compact(numbered({**request, "instance": it})) for it in ("x", "\u00e9\u20ac"))
+    told = {one: answer_to_line(parsed(one)), two: answer_to_line(parsed(two)), "": ["bad request", "end"]}
+    for lines in ([one, two], [two, one, ""], ["", one, ""], [one], ["", "", ""], [two, two, one]):
+        for ended in (True, False):
+            last = [""] if ended else []
+            for longest in sorted({0, 1, len(one), len(one) - 1, *(len(two.encode()) + it for it in (-2, -1, 0, 1))}):
+                below = []
+                for line in lines if ended or lines[-1] else lines[:-1]:
+                    if len(line.encode()) > longest:
+                        below.append(f"strkw: a line is longer than {longest} bytes")
+                        break
+                    below += told[line]
+                row = {"input": ["\n".join([*lines, *last])], "longest": Number(str(longest))}
+                yield made(compact(row), below)
+    # The program reads pieces of 64 KiB.
+    for size in (65535, 65536, 65537, 131072, 150000):
+        for longest, begin, end in product((size - 1, size, size + 1), ("", "\n"), ("", "\n", "\n\n")):
+            row = {"input": [begin, ["x", Number(str(size))], end], "longest": Number(str(longest))}
+            fault = f"strkw: a line is longer than {longest} bytes"
+            lines = (begin + "x" + end).removesuffix("\n").split("\n")
+            below = [it for line in lines for it in ([fault] if line and size > longest else ["bad request", "end"])]
+            yield made(compact(row), below[:below.index(fault) + 1] if fault in below else below)
+
+
+def deep_members():
+    """A line may nest 127 deep (docs/PROGRAMS.md), also at a member that stands there again."""
+    for name, (begin, end) in product(MEMBERS, (("[", "]"), ("{\"a\":", "}"))):
+        right = {**ONE_REQUEST, "validate_formats": False, "ignore_unknown_formats": False, "fold": True}
+        rest = compact(numbered({name: right.pop(name), **right}))[1:]
+        for depth, is_read in ((126, True), (127, False)):
+            inner = "1" if begin != "[" else ""
+            parts = [f'{{"{name}":', [begin, Number(str(depth))], inner, [end, Number(str(depth))], "," + rest]
+            value = parsed("{" + rest)
+            yield made(compact({"input": parts}), answer_to_line(value) if is_read else ["bad request", "end"])
+
+
+def controls():
+    """Each character of ASCII alone, and behind a line feed, in the texts of errors and refusals."""
+    signs = [chr(it) for it in range(128)]
+    for sign in signs:
+        for text in (sign, "\n" + sign):
+            yield requested(7, {"maxLength": 0}, text)
+            yield requested(7, {"format": text}, "x", ignore_unknown_formats=False)
+        yield requested(7, {"pattern": sign + "+"}, "x")
+        yield requested(7, {"pattern": ["\n" + sign]}, "x")
+        yield requested(202012, {"contentEncoding": "\n" + sign, "format": sign}, "x")
+    for least in range(0, 128, 32):
+        some = signs[least:least + 32]
+        yield asked(7, {"maxLength": 0}, [*some, *("\n" + it for it in some)])
+        yield asked(7, {"pattern": "\n" + "".join(some) + "+"})
+
+
+def folds_told():
+    """Whether no length is left, where a request asks for it, before the answer; and nothing where it does not."""
+    for least, greatest in (*RANGES, (0, MOST), (MOST, MOST), (MOST, MOST - 1), (MOST - 1, MOST), (1, MOST)):
+        for draft, fold in product((4, 202012), (True, False)):
+            yield requested(draft, {"minLength": least, "maxLength": greatest}, "ab", fold=fold)
+    for draft, limit, fold in product(DRAFTS, (0, 1, MOST), (True, False)):
+        yield requested(draft, {"minLength": limit}, "ab", fold=fold)
+        yield requested(draft, {"maxLength": limit}, 5, fold=fold)
+    for draft in DRAFTS:
+        for schema in ({}, WHOLE, {"maxLength": -1}, {"pattern": "^$"}, {"format": "uuid", "maxLength": 35},
+                       {"format": "uuid", "minLength": 36, "maxLength": 36}):
+            yield requested(draft, schema, "x", fold=True)
+            yield requested(draft, schema, "x", fold=True, validate_formats=True)
+    for it in FORMATS:
+        draft = it.last if it.last < 7 else 202012
+        least, greatest = it.window
+        for end, keyword in product(sorted({0, max(least - 1, 0), least, greatest, min(greatest + 1, MOST)}),
+                                    ("minLength", "maxLength")):
+            yield requested(draft, {"format": it.name, keyword: end}, 5, fold=True, validate_formats=True)
+
+
+SHARED = [parsed(it) for it in (
+    '{"maxLength":1}', '{"minLength":3,"format":"uuid"}', '{"contentMediaType":"application/json","maxLength":1}',
+    '{"format":"nonsense"}', '{"pattern":"a+"}', '{"x":[1,{"y":null}],"z":[true,false,""],"pattern":"^x"}',
+    '{"contentMediaType":"a","contentSchema":{"b":[2,1]}}')]
+# The same length, and another text.
+OTHERS = [parsed(it) for it in (
+    '{"maxLength":2}', '{"minLength":1,"format":"uuid"}', '{"contentMediaType":"application/jsox","maxLength":1}',
+    '{"format":"datedate"}', '{"pattern":"^a"}', '{"x":[1,{"y":null}],"z":[true,false,""],"pattern":"^y"}',
+    '{"contentMediaType":"b","contentSchema":{"b":[1,1]}}')]
+# A text that is no UUID.
+LONGER = "f81d4fae7dec11d0a76500a0c91e6bf6"
+
+
+def lines_that_share_a_schema():
+    """Each line is answered by itself, whatever many lines before it had and asked."""
+    choices = (CHECKED, {"validate_formats": False}, {"ignore_unknown_formats": False})
+    for schema, other in zip(SHARED, OTHERS):
+        assert len(compact(schema)) == len(compact(other))
+        for draft in DRAFTS:
+            first = {"draft": draft, "schema": schema, "instance": 5}
+            yield lined((first, 17), {**first, "instance": "x"}, {**first, "schema": other, "instance": "x"},
+                        {**first, "instance": LONGER}, {**first, "schema": {}}, {**first, "instance": "", "fold": True})
+            yield lined((first, 17), *({**first, "draft": it, "instance": "x"} for it in DRAFTS),
+                        {**first, "instance": "x"})
+        first = {"draft": 7, "schema": schema, "instance": 5}
+        for more in choices:
+            yield lined((first, 17), *({**first, **it, "instance": "x"} for it in (more, {}, more)))
+            yield lined(({**first, **more}, 17), *({**first, **it, "instance": "x"} for it in ({}, more, {})))
+        yield lined((first, 17), ({**first, "schema": other}, 40), {**first, "instance": "x"},
+                    {**first, "schema": other, "instance": "x"})
+    first = {"draft": 7, "schema": SHARED[0], "instance": 5}
+    yield lined(*[first, {**first, "schema": OTHERS[0]}] * 10, {**first, "instance": LONGER})
+    yield lined(*[{**first, "draft": it} for it in DRAFTS] * 8, {**first, "instance": LONGER})
+
+
 SECTIONS = (
     ("values of each shape", values_of_each_shape), ("values beside a media type", values_beside_a_media_type),
     ("absent keywords", absent_keywords), ("instances of each type", instances_of_each_type),
     ("names one letter off", other_names), ("names of formats one letter off", other_format_names),
     ("formats by options", formats_by_options), ("texts of formats", texts_of_formats),
     ("registered formats", registered_formats), ("folding by windows", folding_by_windows),
+    ("folding by lengths alone", folding_by_lengths_alone), ("pointers", pointers), ("long names", long_names),
     ("texts at each bound", texts_at_bounds), ("limits of 64 bits", limits_of_64_bits),
     ("good limits beside bad ones", good_beside_bad_limits), ("content by product", content_by_product),
     ("entries of content", entries_of_content), ("texts of encodings", texts_of_encodings),
@@ -526,7 +758,10 @@ SECTIONS = (
     ("schemas beside media types", schemas_beside_media_types), ("patterns", patterns),
     ("first refusals", first_refusals), ("keywords left out", keywords_left_out), ("places", places),
     ("texts in errors", texts_in_errors), ("lists in use", lists_in_use), ("numbers that are no drafts", no_drafts),
-    ("requests", requests),
+    ("requests", requests), ("lines of each shape", lines_of_each_shape), ("other members", other_members),
+    ("members that nest", deep_members), ("lines with a bound", bounded_lines),
+    ("each character of ASCII", controls), ("folds told", folds_told),
+    ("lines that share a schema", lines_that_share_a_schema),
 )
 
 

@@ -50,7 +50,7 @@ FORMATS = (
            ("2020-01-01", "0000-02-29", "2000-02-29", "2020-02-29", "2023-02-28", "9999-12-31"),
            ("x", "", "1900-02-29", "2023-02-29", "2023-11-31", "2023-13-01", "2023-00-01", "2023-12-00", "2023-12-32",
             "2023-1-01", "20:3-01-15", "2020-01-0-", "2020-01-011", "2020/01/01", "\uff12020-01-01", "!", "ab",
-            "7B", "a\"\n\u00e9"), (10, 10)),
+            "7B", "a\"\n\u00e9", "7", "true", "false"), (10, 10)),
     Format("date-time", "DateTime", 4,
            ("2020-01-01T00:00:00Z", "2020-01-01t00:00:00z", "1990-12-31T23:59:60Z", "1937-01-01T12:00:27.87+00:20"),
            ("x", "", "2020-01-01 00:00:00Z", "2020-01-01", "00:00:00Z", "2020-02-30T00:00:00Z", "2020-01-01T00:00:00",
@@ -162,14 +162,21 @@ NO_ENCODINGS = {
     "base16": ("!", "6", "7b7", "66\n", "66 6F", "GHIJ", "\ufb00", "666F6f6"),
 }
 # Names that no codec has, one letter off and of RFC 2045.
-UNKNOWN_CODECS = ("Base64", "BASE64", "base6", "base644", "ase64", "base64 ", "base-64", "base64Url", "base64url ",
-                  "base16hex", "hex", "base32Hex", "base32h", "rot13", "8bit", "quoted-printable", "")
-UNKNOWN_MEDIA_TYPES = ("Application/JSON", "application/JSON", "application/jso", "application/jsonn",
-                       "pplication/json", "application/json ", "application/json; charset=utf-8", "text/json",
-                       "application", "text/plain", "")
+UNKNOWN_CODECS = ("Base64", "BASE64", "base6", "base644", "ase64", "base64 ", " base64", "base-64", "base64Url",
+                  "base64url ", "base64-url", "base16hex", "hex", "base16 ", "base32Hex", "base32h", "base32-hex",
+                  "rot13", "7bit", "8bit", "binary", "identity", "quoted-printable", "x-uuencode", "gzip", "")
+UNKNOWN_MEDIA_TYPES = ("Application/JSON", "application/JSON", "Application/json", "APPLICATION/json",
+                       "application/jso", "application/jsonn",
+                       "pplication/json", "application/json ", " application/json", "application/json;",
+                       "application/json;charset=utf-8", "application/json; charset=utf-8", "application/ld+json",
+                       "application/problem+json", "application/schema+json", "application/x-json", "json", "text/json",
+                       "text/x-json", "application", "application/*", "*/*", "text/plain", "text/html", "")
 # JSON texts (RFC 8259), and texts that are none.
-JSON_TEXTS = ("{}", "[1]", "\"a\"", "null", " 1 ", "-0.5e2", "{\"a\":[true,{}]}")
-NO_JSON_TEXTS = ("", "{:}", "{", "01", "'a'", "[1,]", "nul", "{\"a\":1,}", "1 2", "+1", "!")
+JSON_TEXTS = ("{}", "[1]", "\"a\"", "null", " 1 ", "-0.5e2", "{\"a\":[true,{}]}", "0", "\t\r\n[ ]\n",
+              "{\"a\":1,\"a\":2}", "\"\\u00e9\\/\"", "\"\u2028\x7f\"", "1E+2")
+NO_JSON_TEXTS = ("", "{:}", "{", "01", "'a'", "[1,]", "nul", "{\"a\":1,}", "1 2", "+1", "!", "NaN", "Infinity",
+                 "-Infinity", "\u00a01", "1\u2028", "\x0c1", "\"\t\"", "\"\\'\"", ".5", "5.", "1e", "0x1", "// 1",
+                 "[1]]", "\ufeff1", "True")
 
 
 def is_json(text):

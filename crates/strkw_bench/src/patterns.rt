@@ -78,19 +78,19 @@ fn time_search<S: Search>(
     )
 }
 
-// Times the engine here, if it takes the pattern.
+// Times the engine here, and prints a dash where it does not take the pattern.
 fn time_here(rt: HostRuntime, pattern: &str, text: &str, searches: u32) -> io::Result<()> {
     match EcmaPatterns.build(rt.alloc(), pattern) {
         Ok(mut engine) => time_search(rt, "here", &mut engine, text, searches),
-        Err(_) => Ok(()),
+        Err(_) => print!(rt; "\there -"),
     }
 }
 
-// Times the kit's, if it takes the pattern.
+// The same of the kit's.
 fn time_regex(rt: HostRuntime, pattern: &str, text: &str, searches: u32) -> io::Result<()> {
     match Regex::new(rt.alloc(), pattern) {
         Ok(regex) => time_search(rt, "regex", &mut regex.matcher(rt.alloc())?, text, searches),
-        Err(_) => Ok(()),
+        Err(_) => print!(rt; "\tregex -"),
     }
 }
 

@@ -6,6 +6,7 @@ use Rattle.strkw_report.specs.Kinds.{Report}
 use Rattle.strkw_report.specs.Refusals.{reason_of, refusal_of, memory}
 use Rattle.strkw_report.specs.declared.refusal.CompileError.{CompileError}
 use Rattle.strkw_pattern.specs.declared.engine.Outcome.{Outcome}
+use Rattle.strkw_pattern.specs.declared.matcher.LiteralMatcher.{LiteralMatcher}
 use Rattle.strkw_keywords.specs.Meanings.{Lists, no_lists}
 use Rattle.strkw_keywords.specs.Errors.{Assertion, NodeReports}
 use Rattle.strkw_keywords.specs.Remarks.{Remark}
@@ -20,6 +21,7 @@ use Rattle.strkw_object.specs.Printable.{ArePrintable}
 use Rattle.strkw_cli.specs.Printed.{refused_line, TellsFold, verdict_lines, note_lines}
 use Rattle.strkw_report.specs.Standings.{root_site}
 use Rattle.strkw_cli.specs.Answer.{settings_for, Answers}
+use Rattle.strkw_cli.specs.Kept.{IsTold}
 use Rattle.strkw_object.proofs.Meaning.{compiled_folds}
 use Rattle.strkw_object.proofs.Printable.{notes_printable}
 
@@ -88,6 +90,43 @@ pub appended_none : {T E : Type 0} (result : Result T E) (assertions : List Asse
 appended_none (Ok x) assertions lists text remarks old new is grown = ([], rw is grown, rw is refl)
 appended_none (Err e) assertions lists text remarks old new is grown = tt
 
+-- a text: its errors, and then what is told behind them
+pub appended_text : {T F : Type 0} (result : Result T F) (assertions : List Assertion) (lists : Lists) (node : Option (List ℕ)) (text : List ℕ)
+    (k : StringKeywords LiteralMatcher) (old mid new : List ℕ)
+    → (errors : List Report) × (mid ≡ old ++ verdict_lines errors) × NodeReports assertions lists root_site (Some text) errors
+    → OnOk result ((told : List ℕ) × (new ≡ mid ++ told) × IsTold (Ok k) told) → node ≡ Some text
+    → OnOk result ((errors : List Report) × (new ≡ old ++ found_lines node errors (keywords_remarks k)) × NodeReports assertions lists root_site node errors)
+appended_text (Ok x) assertions lists node text k old mid new (errors, first, reports) (told, grown, same) is =
+    let lines = verdict_lines errors in
+    let notes = note_lines (keywords_remarks k) in
+    let whole : new ≡ old ++ (lines ++ notes ++ codes "end\n") =
+    grown ∙ ap (λ l. l ++ told) first ∙ append_assoc old lines told ∙ ap (λ l. old ++ (lines ++ l)) same
+    ∙ ap (λ l. old ++ l) (sym (append_assoc lines notes (codes "end\n"))) in
+    (errors, rw is whole, rw is reports)
+appended_text (Err e) assertions lists node text k old mid new found rest is = tt
+
+-- what is told was appended
+pub made_appended : {T F : Type 0} (result : Result T F) (P : List ℕ → Type 0) (old new told : List ℕ) → OnOk result (P told) → OnOk result (new ≡ old ++ told)
+    → OnOk result ((made : List ℕ) × (new ≡ old ++ made) × P made)
+made_appended (Ok x) P old new told is grown = (told, grown, is)
+made_appended (Err e) P old new told is grown = tt
+
+-- the notes and the end are told behind the errors of a text
+pub told_notes : {T F : Type 0} (result : Result T F) (k : StringKeywords LiteralMatcher) (old mid new : List ℕ)
+    → mid ≡ old ++ note_lines (keywords_remarks k) → OnOk result (new ≡ mid ++ codes "end\n")
+    → OnOk result ((told : List ℕ) × (new ≡ old ++ told) × IsTold (Ok k) told)
+told_notes (Ok x) k old mid new first second =
+    let notes = note_lines (keywords_remarks k) in
+    (notes ++ codes "end\n", second ∙ ap (λ l. l ++ codes "end\n") first ∙ append_assoc old notes (codes "end\n"), refl)
+told_notes (Err e) k old mid new first second = tt
+
+-- and of a refusal its line, and the end
+pub told_refusal : {T F : Type 0} (result : Result T F) (e : CompileError) (old new : List ℕ)
+    → OnOk result (new ≡ old ++ (refused_line (refusal_of e) ++ codes "end\n")) → OnOk result (reason_of e.kind ≢ memory)
+    → OnOk result ((told : List ℕ) × (new ≡ old ++ told) × IsTold (Err e) told)
+told_refusal (Ok x) e old new grown had = (refused_line (refusal_of e) ++ codes "end\n", grown, (had, refl))
+told_refusal (Err f) e old new grown had = tt
+
 -- what is told, and then the lines of an instance, are an answer
 pub appended_found : {T E F : Type 0} (result : Result T F) (outcome : E → List ℕ → Outcome) (r : Request) (s : Settings) (k : StringKeywords E)
     (told old mid new : List ℕ)
@@ -104,13 +143,14 @@ appended_found (Ok x) outcome r s k told old mid new same of tells first (errors
     )
 appended_found (Err e) outcome r s k told old mid new same of tells first found = tt
 
--- the same where the answer is known once the call has succeeded
+-- the same where what was told is a refusal
 pub appended_refusal : {T E : Type 0} (result : Result T E) (r : Request) (e : CompileError) (old new : List ℕ)
     → (refusal_of e ≡ out_of_memory) ⊎ FirstRefusal (settings_for r) r.schema (Some (refusal_of e))
-    → OnOk result (new ≡ old ++ (refused_line (refusal_of e) ++ codes "end\n")) → OnOk result (reason_of e.kind ≢ memory)
+    → OnOk result ((told : List ℕ) × (new ≡ old ++ told) × IsTold (Err e) told)
     → OnOk result ((x : List ℕ) × (new ≡ old ++ x) × Answers (Some r) x)
-appended_refusal (Ok x) r e old new refused grown had = (refused_line (refusal_of e) ++ codes "end\n", grown, answer_of_refusal r e refused had)
-appended_refusal (Err f) r e old new refused grown had = tt
+appended_refusal (Ok x) r e old new refused (told, grown, (had, is)) =
+    (refused_line (refusal_of e) ++ codes "end\n", grown ∙ ap (λ l. old ++ l) is, answer_of_refusal r e refused had)
+appended_refusal (Err f) r e old new refused found = tt
 
 -- the same of a request that asks so about folding, and has this instance, where the lists are empty
 pub appended_answer : {T E F : Type 0} (result : Result T F) (outcome : E → List ℕ → Outcome) (r : Request) (k : StringKeywords E) (lists : Lists) (fold : Bool)

@@ -1,6 +1,8 @@
 -- What the members of a request come to, one member after another.
 use Rattle.std.proofs.Common.{◌≡◌, ℕ, List, Bool, true, false, ◌&&◌, bytes_eq, codes, Option, Some, option_map, option_and_then, Ordering, Less, Equal, Greater}
-use Rattle.std.proofs.Common.{is_eq, nat_cmp, refl, sym, ap, ◌∙◌, true≢false, if◌then◌else◌}
+use Rattle.std.proofs.Common.{is_eq, nat_cmp, refl, sym, ap, ◌∙◌, subst, true≢false, if◌then◌else◌}
+use Rattle.std.specs.Bool.{MatchBool}
+use Rattle.std.specs.Prelude.{unwrap_or}
 use Rattle.std.proofs.lemmas.Map.Text.{is_eq-slice_cmp}
 use Rattle.std.proofs.lemmas.Slice.Eq.{bytes_eq-Decides}
 use Rattle.std.specs.Cmp.Lexicographic.{slice_cmp}
@@ -9,9 +11,14 @@ use Rattle.serde_json.specs.Data.{Data, Members, no_members, member, put}
 use Rattle.serde_json.specs.Find.{get_member, as_str, as_object}
 use Rattle.serde_json.proofs.Views.{get_member-put, get_member-put_other}
 use Rattle.strkw_report.specs.Drafts.{draft_in}
-use Rattle.strkw_cli.specs.Request.{flag_in, is_request_key, has_only_request_keys}
-use Rattle.strkw_cli.specs.Parts.{AreParts, Takes, after, schema_of, instance_of}
+use Rattle.strkw_report.specs.declared.draft.Draft.{Draft}
+use Rattle.strkw_cli.specs.Request.{flag_in, is_request_key, has_only_request_keys, request_of_parts}
+use Rattle.strkw_object.specs.declared.values.OwnedValues.{OwnedValues}
+use Rattle.strkw_cli.specs.Both.{AreBoth}
+use Rattle.strkw_cli.specs.Borrowed.{IsObject}
+use Rattle.strkw_cli.specs.Parts.{AreParts, Takes, after, instance_of}
 use Rattle.strkw_cli.specs.declared.request.Parts.{Parts}
+use Rattle.strkw_cli.specs.declared.request.Schema.{Schema}
 
 -- ---- the part of one name
 
@@ -29,6 +36,22 @@ part_taken : {A : Type 0} (f : Option Data → A) (name k : List ℕ) (d : Data)
     → is ≡ f (get_member name (put k d ms))
 part_taken f name k d ms was is before takes =
     takes ∙ ap (after name k (f (Some d))) before ∙ sym (by_name f name k (bytes_eq name k) refl d ms)
+
+-- the schema object, after a member was taken, is that of the members with this one
+schema_taken : (name : List ℕ) (d : Data) (v w : OwnedValues) (was is : Option Schema) (ms : Members)
+    → AreBoth (IsObject v) was (option_and_then as_object (get_member (codes "schema") ms))
+    → MatchBool (bytes_eq (codes "schema") name) (AreBoth (IsObject w) is (as_object d)) ((is ≡ was) × (w ≡ v))
+    → AreBoth (IsObject w) is (option_and_then as_object (get_member (codes "schema") (put name d ms)))
+schema_taken name d v w was is ms before takes = by_test (bytes_eq (codes "schema") name) refl takes
+  where
+    -- whether it is the member `schema`
+    by_test : (same : Bool) → bytes_eq (codes "schema") name ≡ same
+        → MatchBool same (AreBoth (IsObject w) is (as_object d)) ((is ≡ was) × (w ≡ v))
+        → AreBoth (IsObject w) is (option_and_then as_object (get_member (codes "schema") (put name d ms)))
+    by_test true e own = subst (AreBoth (IsObject w) is) (sym (by_name (option_and_then as_object) (codes "schema") name true e d ms)) own
+    by_test false e (same_schema, same_values) =
+        subst (AreBoth (IsObject w) is) (sym (by_name (option_and_then as_object) (codes "schema") name false e d ms))
+        (rw (same_schema, same_values) before)
 
 -- ---- no other names
 
@@ -63,10 +86,11 @@ only_put k d (member l e ms) = only_by_order (slice_cmp nat_cmp k l) k l d e ms 
 -- ---- all parts
 
 -- the parts of an object, after a member was taken, are those of the object with this member
-pub parts_taken : (name : List ℕ) (d : Data) (p q : Parts) (ms : Members) → Takes name d p q → AreParts p ms → AreParts q (put name d ms)
-parts_taken name d p q ms takes are = record {
+pub parts_taken : (kept : Bool) (name : List ℕ) (d : Data) (v w : OwnedValues) (p q : Parts) (ms : Members) → Takes kept name d v w p q
+    → AreParts kept v p ms → AreParts kept w q (put name d ms)
+parts_taken kept name d v w p q ms takes are = record {
   draft = part_taken (option_and_then draft_in) (codes "draft") name d ms _ _ are.draft takes.draft;
-  schema = part_taken (option_and_then as_object) (codes "schema") name d ms _ _ are.schema takes.schema;
+  schema = schema_taken name d v w p.schema q.schema ms are.schema takes.schema;
   instance = part_taken (option_map as_str) (codes "instance") name d ms _ _ are.instance takes.instance;
   validate_formats = part_taken flag_in (codes "validate_formats") name d ms _ _ are.validate_formats takes.validate_formats;
   ignore_unknown_formats = part_taken flag_in (codes "ignore_unknown_formats") name d ms _ _ are.ignore_unknown_formats takes.ignore_unknown_formats;
@@ -108,7 +132,7 @@ module _ (name : List ℕ) (d : Data) (p : Parts) (draft : name ≡ codes "draft
   as_it_was own was part apart = sym (ap (λ same. if same then own else was) (differ part name apart))
 
   -- a member of such a name changes no part, but then not all names are a request's
-  pub unknown_taken : Takes name d p (record {
+  pub unknown_taken : (kept : Bool) (v : OwnedValues) → Takes kept name d v v p (record {
     draft = p.draft;
     schema = p.schema;
     instance = p.instance;
@@ -117,9 +141,10 @@ module _ (name : List ℕ) (d : Data) (p : Parts) (draft : name ≡ codes "draft
     fold = p.fold;
     has_only_request_keys = false;
   })
-  unknown_taken = record {
+  unknown_taken kept v = record {
     draft = as_it_was _ p.draft (codes "draft") draft;
-    schema = as_it_was _ (schema_of p) (codes "schema") schema;
+    schema = subst (λ b. MatchBool b (AreBoth (IsObject v) p.schema (as_object d)) ((p.schema ≡ p.schema) × (v ≡ v)))
+        (sym (differ (codes "schema") name schema)) (refl, refl);
     instance = as_it_was _ (instance_of p) (codes "instance") instance;
     validate_formats = as_it_was _ p.validate_formats (codes "validate_formats") validate;
     ignore_unknown_formats = as_it_was _ p.ignore_unknown_formats (codes "ignore_unknown_formats") ignore;
@@ -127,3 +152,31 @@ module _ (name : List ℕ) (d : Data) (p : Parts) (draft : name ≡ codes "draft
     known = sym (ap (λ b. b && p.has_only_request_keys) is_none);
     right = λ right. right;
   }
+
+-- ---- the request
+
+-- parts that are all there make this request
+pub parts_made : (d : Option Draft) (s : Option Members) (i : Option (Option (List ℕ))) (v g f : Option (Option Bool)) (draft : Draft) (object : Members)
+    (instance : Option (List ℕ)) (validate ignore fold : Option Bool)
+    → d ≡ Some draft → s ≡ Some object → i ≡ Some instance → v ≡ Some validate → g ≡ Some ignore → f ≡ Some fold
+    → request_of_parts d s i v g f ≡ Some (record {
+      draft = draft;
+      schema = object;
+      instance = instance;
+      validate_formats = validate;
+      ignore_unknown_formats = unwrap_or ignore true;
+      fold = unwrap_or fold false;
+    })
+parts_made d s i v g f draft object instance validate ignore fold is_draft is_object is_instance is_validate is_ignore is_fold =
+    rw (is_draft, is_object, is_instance, is_validate, is_ignore, is_fold) refl
+
+-- what is made where a condition holds, where it does
+pub made_if : {A : Type 0} (b : Bool) (x y z : A) → b ≡ true → x ≡ z → (if b then x else y) ≡ z
+made_if b x y z holds is = rw holds is
+
+-- a schema object that parts hold stands for that of their members
+pub held_object : (values : OwnedValues) (schema : Schema) (ms : Members) (o : Option Schema)
+    → AreBoth (IsObject values) o (option_and_then as_object (get_member (codes "schema") ms)) → o ≡ Some schema
+    → (object : Members) × (option_and_then as_object (get_member (codes "schema") ms) ≡ Some object) × IsObject values schema object
+held_object values schema ms o both is =
+    subst (λ s. AreBoth (IsObject values) s (option_and_then as_object (get_member (codes "schema") ms))) is both

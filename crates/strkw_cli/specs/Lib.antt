@@ -1,4 +1,5 @@
 pub mod Request
+pub mod Both
 pub mod Borrowed
 pub mod Printed
 pub mod Answer

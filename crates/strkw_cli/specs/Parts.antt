@@ -1,48 +1,53 @@
 -- What the members of a request come to, as they are read. The functions below `read_request` speak
 -- of it, and no public clause does.
-use Rattle.std.specs.Prelude.{◌≡◌, ◌&&◌, ℕ, List, IfSome, Option, Some, option_map, codes}
+use Rattle.std.specs.Bool.{MatchBool}
+use Rattle.std.specs.Prelude.{◌≡◌, ◌&&◌, ℕ, Bool, List, IfSome, Option, Some, option_map, codes}
 use Rattle.std.specs.Prelude.{option_and_then, if◌then◌else◌}
 use Rattle.std.specs.Str.{bytes_eq}
 use Rattle.serde_json.specs.Data.{Data, Members}
 use Rattle.serde_json.specs.Find.{get_member, as_str, as_object}
 use Rattle.strkw_report.specs.Drafts.{draft_in}
-use Rattle.strkw_cli.specs.Borrowed.{IsRight, schema_view}
+use Rattle.strkw_object.specs.declared.values.OwnedValues.{OwnedValues}
+use Rattle.strkw_cli.specs.Both.{AreBoth}
+use Rattle.strkw_cli.specs.Borrowed.{IsObject, IsRight}
 use Rattle.strkw_cli.specs.Request.{flag_in, is_request_key, has_only_request_keys}
 use Rattle.strkw_cli.specs.declared.request.Parts.{Parts}
 
--- the schema object, and the text of the instance, that parts hold
-abbrev pub schema_of : Parts → Option Members
-schema_of p = option_map schema_view p.schema
-
+-- the text of the instance that parts hold
 abbrev pub instance_of : Parts → Option (Option (List ℕ))
 instance_of p = option_map (option_map (λ text. text.now)) p.instance
 
--- these are the parts of an object of these members
-pub record AreParts (p : Parts) (ms : Members) : Type 0 where
+-- these are the parts of an object of these members, with the values that were read of its schema
+-- object, and where an object may be kept
+pub record AreParts (kept : Bool) (values : OwnedValues) (p : Parts) (ms : Members) : Type 0 where
   pub draft : p.draft ≡ option_and_then draft_in (get_member (codes "draft") ms)
-  pub schema : schema_of p ≡ option_and_then as_object (get_member (codes "schema") ms)
+  pub schema : AreBoth (IsObject values) p.schema
+      (option_and_then as_object (get_member (codes "schema") ms))
   pub instance : instance_of p ≡ option_map as_str (get_member (codes "instance") ms)
   pub validate_formats : p.validate_formats ≡ flag_in (get_member (codes "validate_formats") ms)
   pub ignore_unknown_formats : p.ignore_unknown_formats
       ≡ flag_in (get_member (codes "ignore_unknown_formats") ms)
   pub fold : p.fold ≡ flag_in (get_member (codes "fold") ms)
   pub known : p.has_only_request_keys ≡ has_only_request_keys ms
-  pub right : IfSome p.schema IsRight
+  pub right : IfSome p.schema (IsRight kept)
 
 -- what a member of the name `taken` makes of the part of this name: its own, or what it was
 abbrev pub after : {A : Type 0} → List ℕ → List ℕ → A → A → A
 after name taken own was = if bytes_eq name taken then own else was
 
 -- A member of this name and value was taken: its part is replaced, and the others are as they were.
-pub record Takes (name : List ℕ) (d : Data) (p q : Parts) : Type 0 where
-  pub draft : q.draft ≡ after (codes "draft") name (draft_in d) p.draft
-  pub schema : schema_of q ≡ after (codes "schema") name (as_object d) (schema_of p)
-  pub instance : instance_of q ≡ after (codes "instance") name (Some (as_str d)) (instance_of p)
-  pub validate_formats : q.validate_formats
-      ≡ after (codes "validate_formats") name (flag_in (Some d)) p.validate_formats
-  pub ignore_unknown_formats : q.ignore_unknown_formats
-      ≡ after (codes "ignore_unknown_formats") name (flag_in (Some d))
-      p.ignore_unknown_formats
-  pub fold : q.fold ≡ after (codes "fold") name (flag_in (Some d)) p.fold
-  pub known : q.has_only_request_keys ≡ (is_request_key name && p.has_only_request_keys)
-  pub right : IfSome p.schema IsRight → IfSome q.schema IsRight
+-- The values are read anew with the schema object, and with no other part.
+pub record Takes (kept : Bool) (name : List ℕ) (d : Data) (v w : OwnedValues) (p q : Parts) : Type 0
+  where
+    pub draft : q.draft ≡ after (codes "draft") name (draft_in d) p.draft
+    pub schema : MatchBool (bytes_eq (codes "schema") name)
+        (AreBoth (IsObject w) q.schema (as_object d)) ((q.schema ≡ p.schema) × (w ≡ v))
+    pub instance : instance_of q ≡ after (codes "instance") name (Some (as_str d)) (instance_of p)
+    pub validate_formats : q.validate_formats
+        ≡ after (codes "validate_formats") name (flag_in (Some d)) p.validate_formats
+    pub ignore_unknown_formats : q.ignore_unknown_formats
+        ≡ after (codes "ignore_unknown_formats") name (flag_in (Some d))
+        p.ignore_unknown_formats
+    pub fold : q.fold ≡ after (codes "fold") name (flag_in (Some d)) p.fold
+    pub known : q.has_only_request_keys ≡ (is_request_key name && p.has_only_request_keys)
+    pub right : IfSome p.schema (IsRight kept) → IfSome q.schema (IsRight kept)

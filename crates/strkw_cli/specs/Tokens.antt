@@ -6,6 +6,10 @@ use Rattle.json.specs.Token.{Token}
 abbrev pub member_depth : ℕ
 member_depth = 126
 
+-- and a value of its schema object nests one level less
+abbrev pub value_depth : ℕ
+value_depth = 125
+
 abbrev pub begins_object : List Token → Bool
 begins_object [] = false
 begins_object (Token.begin_object ∷ ts) = true

@@ -1,10 +1,10 @@
 //! The answer to one line.
 
-ghost use Rattle.std.specs.Prelude.{◌++◌, ◌≡◌, ℕ, IfSome, IsErrOf, List, None, OnErr, OnOk, Some, option_map};
+ghost use Rattle.std.specs.Prelude.{◌++◌, ◌≡◌, ℕ, Bool, IfSome, IsErrOf, List, None, OnErr, OnOk, Some, option_map, true};
 ghost use Rattle.strkw_keywords.specs.Lengths.{IsEmpty};
 ghost use Rattle.strkw_cli.specs.Answer.{Answers, IsAnswer, settings_for};
-ghost use Rattle.strkw_cli.specs.Borrowed.{IsRight, request_view};
-ghost use Rattle.strkw_cli.specs.Kept.{CanAnswer, IsCompiledTo, IsKept, IsSound};
+ghost use Rattle.strkw_cli.specs.Borrowed.{IsRequest, IsRight};
+ghost use Rattle.strkw_cli.specs.Kept.{CanAnswer, IsCompiledTo, IsKept, IsSound, IsTold};
 ghost use Rattle.strkw_cli.specs.Request as asked;
 ghost use Rattle.strkw_object.specs.Compiled.{keywords_interval};
 ghost use Rattle.strkw_cli.specs.Printed.{TellsFold};
@@ -12,14 +12,15 @@ ghost use Rattle.strkw_cli.specs.Printed.{TellsFold};
 use super::compiling::{Compiled, compile, no_checks};
 use super::held::Held;
 use super::kept::{KeptObject, Sight};
-use super::printing::{push_bad_request, push_refusal};
+use super::printing::push_bad_request;
 use super::request::{Request, Schema, read_request};
 use super::unread::Unanswered;
-use super::writing::push_found;
+use super::writing::{push_told, push_verdict};
 use json::Scratch;
 use std::alloc::{AllocError, Global};
-use strkw_object::StringKeywords;
+use strkw_object::{OwnedValues, StringKeywords};
 use strkw_pattern::RegexEngine;
+use strkw_report::TextNode;
 
 /// Appends the answer to a line. Out of memory, the vector is as it was.
 pub fn answer(alloc: Global, line: &[u8], out: &mut Vec<u8>) -> Result<(), AllocError>
@@ -64,12 +65,20 @@ fn answer_keeping(
     ensures err { OnErr result ((more : List ℕ) × (out.new.items ≡ out.old.items ++ more)) }
     ensures sound { IsSound held.new }
 {
-    match answer_line(alloc, line, &mut held.scratch, held.kept.object(), out) {
-        Ok(sight) => held.kept.see(alloc, &mut held.scratch, line, sight),
+    let values = &mut held.values;
+    match answer_line(
+        alloc,
+        line,
+        &mut held.scratch,
+        held.kept.object(),
+        values,
+        out,
+    ) {
+        Ok(sight) => held.kept.see(alloc, &mut held.scratch, values, line, sight),
         Err(Unanswered::Memory) => Err(AllocError),
         Err(Unanswered::Differs) => {
             held.kept.forget();
-            answer_anew(alloc, line, &mut held.scratch, out)
+            answer_anew(alloc, line, &mut held.scratch, values, out)
         }
     }
 }
@@ -79,13 +88,14 @@ fn answer_anew(
     alloc: Global,
     line: &[u8],
     scratch: &mut Scratch,
+    values: &mut OwnedValues,
     out: &mut Vec<u8>,
 ) -> Result<(), AllocError>
     ensures ok { OnOk result ((made : List ℕ) × (out.new.items ≡ out.old.items ++ made)
         × IsAnswer line.now made) }
     ensures err { OnErr result ((more : List ℕ) × (out.new.items ≡ out.old.items ++ more)) }
 {
-    match answer_line(alloc, line, scratch, None, out) {
+    match answer_line(alloc, line, scratch, None, values, out) {
         Ok(_) => Ok(()),
         Err(Unanswered::Memory) => Err(AllocError),
         Err(Unanswered::Differs) => unreachable!(),
@@ -98,6 +108,7 @@ fn answer_line(
     line: &[u8],
     scratch: &mut Scratch,
     kept: Option<&KeptObject>,
+    values: &mut OwnedValues,
     out: &mut Vec<u8>,
 ) -> Result<Option<Sight>, Unanswered>
     requires { IfSome kept (λ object. IsKept object.now) }
@@ -107,8 +118,8 @@ fn answer_line(
     ensures differs { IsErrOf result Unanswered.Differs → out.new.items ≡ out.old.items }
     ensures same { kept.entry ≡ None → IsErrOf result Unanswered.Differs → ⊥ }
 {
-    match read_request(alloc, line, scratch, kept)? {
-        Some(request) => Ok(answer_request(alloc, request, out)?),
+    match read_request(alloc, line, scratch, kept, values)? {
+        Some(request) => answer_request(alloc, request, values, out),
         None => {
             push_bad_request(out)?;
             Ok(None)
@@ -116,16 +127,22 @@ fn answer_line(
     }
 }
 
-// Appends the answer to a request, and tells what it asked of its schema object, where that was compiled anew.
+// Appends the answer to a request, and tells what it asked of its schema object, where that was compiled anew. It
+// differs where the object is kept, and was asked otherwise.
 fn answer_request(
     alloc: Global,
     request: Request<'_>,
+    values: &mut OwnedValues,
     out: &mut Vec<u8>,
-) -> Result<Option<Sight>, AllocError>
-    requires { IsRight request.schema }
-    ensures ok { OnOk result ((made : List ℕ) × (out.new.items ≡ out.old.items ++ made)
-        × Answers (Some (request_view request.entry)) made) }
+) -> Result<Option<Sight>, Unanswered>
+    requires { (kept : Bool) × IsRight kept request.schema }
+    ensures ok { (r : asked.Request) → IsRequest values.old request.entry r
+        → OnOk result ((made : List ℕ) × (out.new.items ≡ out.old.items ++ made)
+        × Answers (Some r) made) }
     ensures err { OnErr result ((more : List ℕ) × (out.new.items ≡ out.old.items ++ more)) }
+    ensures differs { IsErrOf result Unanswered.Differs → out.new.items ≡ out.old.items }
+    ensures same { (kept : Bool) → IsRight kept request.entry.schema
+        → IsErrOf result Unanswered.Differs → kept ≡ true }
 {
     let Request {
         asked,
@@ -133,31 +150,33 @@ fn answer_request(
         instance,
         fold,
     } = request;
-    let (members, start, end) = match schema {
-        Schema::Built(members, start, end) => (members, start, end),
-        Schema::Kept(object, start, end) => {
-            if object.asked == asked {
-                push_answer(alloc, fold, instance, &object.compiled, out)?;
-                return Ok(None);
-            }
-            (object.members(alloc)?, start, end)
+    match schema {
+        Schema::Read(start, end) => {
+            let compiled = compile(alloc, asked, values);
+            push_answer(alloc, fold, instance, &compiled, None, out)?;
+            Ok(Some(Sight { asked, start, end }))
         }
-    };
-    let compiled = compile(alloc, asked, members);
-    push_answer(alloc, fold, instance, &compiled, out)?;
-    Ok(Some(Sight { asked, start, end }))
+        Schema::Kept(object) if object.asked == asked => {
+            let told = Some(object.told.as_slice());
+            push_answer(alloc, fold, instance, &object.compiled, told, out)?;
+            Ok(None)
+        }
+        Schema::Kept(_) => Err(Unanswered::Differs),
+    }
 }
 
 // Appends the answer by what a schema object is compiled to: its refusal, or whether it folds to false, where this is
-// asked, with the errors and the notes of the instance.
+// asked, with the errors and the notes of the instance. What it tells behind the errors of a text may be at hand.
 fn push_answer(
     alloc: Global,
     fold: bool,
     instance: Option<&str>,
     compiled: &Compiled,
+    told: Option<&[u8]>,
     out: &mut Vec<u8>,
 ) -> Result<(), AllocError>
-    requires { CanAnswer compiled.now }
+    requires can_answer { CanAnswer compiled.now }
+    requires is_told { IfSome told (λ bytes. IsTold compiled.now bytes.now) }
     ensures ok { (r : asked.Request) → r.fold ≡ fold
         → r.instance ≡ option_map (λ text. text.now) instance.entry
         → IsCompiledTo (settings_for r) r.schema compiled.now
@@ -168,9 +187,32 @@ fn push_answer(
     match compiled {
         Ok(keywords) => {
             push_fold(fold, keywords, out)?;
-            push_found(alloc, keywords, instance, &no_checks(), out)
+            let Some(text) = TextNode::of(&instance) else {
+                return out.extend_from_slice(b"valid\nend\n");
+            };
+            push_verdict(alloc, keywords, &text, &no_checks(), out)?;
+            push_rest(alloc, compiled, told, out)
         }
-        Err(refusal) => push_refusal(alloc, refusal, out),
+        Err(_) => push_rest(alloc, compiled, told, out),
+    }
+}
+
+// Appends what is told behind the errors of a text, as it is at hand, or else anew.
+fn push_rest(
+    alloc: Global,
+    compiled: &Compiled,
+    told: Option<&[u8]>,
+    out: &mut Vec<u8>,
+) -> Result<(), AllocError>
+    requires can_answer { CanAnswer compiled.now }
+    requires is_told { IfSome told (λ bytes. IsTold compiled.now bytes.now) }
+    ensures ok { OnOk result ((made : List ℕ) × (out.new.items ≡ out.old.items ++ made)
+        × IsTold compiled.now made) }
+    ensures err { OnErr result ((more : List ℕ) × (out.new.items ≡ out.old.items ++ more)) }
+{
+    match told {
+        Some(told) => out.extend_from_slice(told),
+        None => push_told(alloc, compiled, out),
     }
 }
 

@@ -1,17 +1,17 @@
 //! What a schema object is compiled to.
 
 ghost use Rattle.std.specs.Prelude.{◌≡◌};
-ghost use Rattle.serde_json.specs.View.{members_view};
+ghost use Rattle.serde_json.specs.Data.{Members};
 ghost use Rattle.strkw_keywords.specs.Handed.{lists_of, settings_of};
 ghost use Rattle.strkw_keywords.specs.Meanings.{no_lists};
+ghost use Rattle.strkw_object.specs.Values.{AreOwnedOf};
 ghost use Rattle.strkw_cli.specs.Kept.{CanAnswer, IsCompiledTo, settings_asked};
 
-use serde_json::{Map, Value};
 use std::alloc::Global;
 use strkw_keywords::{Checks, ContentCodec, Context, Format, MediaTypeCheck, Options};
-use strkw_object::{StringKeywords, compile_owned};
+use strkw_object::{OwnedValues, StringKeywords, compile_values};
 use strkw_pattern::{EngineBuilder, LiteralMatcher, NoPatterns};
-use strkw_report::{CompileError, CompileErrorKind, Draft, Location};
+use strkw_report::{CompileError, Draft, Location};
 
 /// What a request compiles its schema object under.
 #[derive(Clone, Copy, PartialEq, Eq)]
@@ -24,23 +24,16 @@ pub(super) struct Asked {
 /// The keywords of a schema object, or why it is refused.
 pub(super) type Compiled = Result<StringKeywords<LiteralMatcher>, CompileError>;
 
-/// What a schema object is compiled to where this is asked of it, which may be out of memory.
+/// What a schema object of these values is compiled to where this is asked of it, which may be out of memory.
 #[inline(always)]
-pub(super) fn compile(alloc: Global, asked: Asked, members: Map<String, Value>) -> Compiled
-    ensures compiled { IsCompiledTo (settings_asked asked) (members_view members.entries) result }
+pub(super) fn compile(alloc: Global, asked: Asked, values: &mut OwnedValues) -> Compiled
+    ensures compiled { (ms : Members) → AreOwnedOf ms values.old
+        → IsCompiledTo (settings_asked asked) ms result }
     ensures can_answer { CanAnswer result }
 {
     let builder = NoPatterns;
     let ctx = context_of(alloc, asked, &builder);
-    compile_owned(alloc, &ctx, members)
-}
-
-/// Whether this is no refusal, but out of memory.
-pub(super) fn is_out_of_memory(compiled: &Compiled) -> bool {
-    match compiled {
-        Ok(_) => false,
-        Err(refusal) => matches!(refusal.kind, CompileErrorKind::Memory),
-    }
+    compile_values(alloc, &ctx, values)
 }
 
 /// No check is registered.

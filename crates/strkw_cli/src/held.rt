@@ -5,14 +5,16 @@ ghost use Rattle.strkw_cli.specs.Kept.{IsSound};
 use super::kept::Kept;
 use json::Scratch;
 use std::alloc::Global;
+use strkw_object::OwnedValues;
 
 // The longest text of a schema object that a run keeps.
 const LONGEST_KEPT: usize = 65536;
 
-/// The scratch of the reader, and the schema object that is kept.
+/// The scratch of the reader, the values of the schema object that a line has, and the one that is kept.
 #[derive(Drop)]
 pub(super) struct Held {
     pub(super) scratch: Scratch,
+    pub(super) values: OwnedValues,
     pub(super) kept: Kept,
 }
 
@@ -23,6 +25,7 @@ impl Held {
     {
         Held {
             scratch: Scratch::new(alloc),
+            values: OwnedValues::none(),
             kept: Kept::new(alloc, LONGEST_KEPT),
         }
     }
@@ -33,6 +36,7 @@ impl Held {
     {
         Held {
             scratch: Scratch::new(alloc),
+            values: OwnedValues::none(),
             kept: Kept::new(alloc, 0),
         }
     }

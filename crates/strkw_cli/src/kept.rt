@@ -2,20 +2,21 @@
 
 ghost use Rattle.std.specs.Prelude.{◌≡◌, ◌<◌, [], IfOk, IfSome, IsTrue, Some, length};
 ghost use Rattle.json.specs.Lex.{tokens as tokens_of_text};
-ghost use Rattle.serde_json.specs.Data.{object};
-ghost use Rattle.serde_json.specs.View.{members_view, view};
+ghost use Rattle.serde_json.specs.Data.{Members, object};
 ghost use Rattle.strkw_json.specs.Passing.{value_read};
-ghost use Rattle.strkw_cli.specs.Kept.{IsKept, members_in, members_kept};
+ghost use Rattle.strkw_object.specs.Values.{AreOwnedOf};
+ghost use Rattle.strkw_cli.specs.Kept.{IsKept, Keeps};
 ghost use Rattle.strkw_cli.specs.Tokens.{member_depth};
 
-use super::compiling::{Asked, Compiled, compile, is_out_of_memory};
+use super::compiling::{Asked, Compiled, compile};
 use super::kept_tokens::{KeptToken, take_same, tokens_in};
-use super::request::MEMBER_DEPTH;
+use super::values::read_values;
+use super::writing::push_told;
 use json::{Reader, Scratch};
 use memchr::memrchr;
-use serde_json::{Map, Value};
 use std::alloc::{AllocError, Global};
-use strkw_json::{JsonError, build_json};
+use strkw_json::JsonError;
+use strkw_object::OwnedValues;
 
 // So many lines in turn have a schema object of one length and ask the same of it before the first is kept, if its text
 // is that of the eighth of them. Before the next is kept they are so many more, less one for each line that the first
@@ -24,14 +25,15 @@ const LINES_BEFORE: usize = 16;
 
 const LINES_BEFORE_TEXT: usize = 8;
 
-/// A schema object as its text and tokens, and what it is compiled to.
+/// A schema object as its text and tokens, what it is compiled to, and what that tells of each text.
 #[derive(Drop)]
 pub(super) struct KeptObject {
     text: Vec<u8>,
     tokens: Vec<KeptToken>,
-    value: Value,
     pub(super) asked: Asked,
     pub(super) compiled: Compiled,
+    // What each answer by it tells behind the errors of a text. Of a refusal it is the whole answer.
+    pub(super) told: Vec<u8>,
 }
 
 impl KeptObject {
@@ -39,6 +41,7 @@ impl KeptObject {
     fn of(
         alloc: Global,
         scratch: &mut Scratch,
+        values: &mut OwnedValues,
         bytes: &[u8],
         asked: Asked,
     ) -> Result<Option<KeptObject>, AllocError>
@@ -47,20 +50,19 @@ impl KeptObject {
         let Ok(text) = std::str::from_utf8(bytes) else {
             return Ok(None);
         };
-        let Some(value) = object_in(alloc, scratch, text)? else {
+        if !reads_values(alloc, scratch, text, values)? {
             return Ok(None);
-        };
-        let tokens = tokens_in(alloc, scratch, text)?;
-        let compiled = compile(alloc, asked, members_of(alloc, &value)?);
-        if is_out_of_memory(&compiled) {
-            return Err(AllocError);
         }
+        let tokens = tokens_in(alloc, scratch, text)?;
+        let compiled = compile(alloc, asked, values);
+        let mut told = Vec::new(alloc);
+        push_told(alloc, &compiled, &mut told)?;
         Ok(Some(KeptObject {
             text: Vec::from_slice(alloc, bytes)?,
             tokens,
-            value,
             asked,
             compiled,
+            told,
         }))
     }
 
@@ -75,41 +77,29 @@ impl KeptObject {
     /// Takes the tokens of the object: whether they come. Else others are taken, up to some place.
     pub(super) fn takes(&self, tokens: &mut Reader<'_>) -> bool
         requires { IsKept self.now }
-        ensures taken { IsTrue result → value_read member_depth tokens.old
-            ≡ Some (object (members_kept self.now), tokens.new) }
+        ensures taken { (ms : Members) → Keeps self.now ms → IsTrue result
+            → value_read member_depth tokens.old ≡ Some (object ms, tokens.new) }
         ensures shorter { IsTrue result → length tokens.new < length tokens.old }
     {
         take_same(&self.tokens, tokens)
     }
-
-    /// A copy of its members.
-    pub(super) fn members(&self, alloc: Global) -> Result<Map<String, Value>, AllocError>
-        ensures { IfOk result (λ m. members_view m.entries ≡ members_kept self.now) }
-    {
-        members_of(alloc, &self.value)
-    }
 }
 
-// A copy of the members of an object. Another value has none.
-fn members_of(alloc: Global, value: &Value) -> Result<Map<String, Value>, AllocError>
-    ensures { IfOk result (λ m. members_view m.entries ≡ members_in (view value.now)) }
-{
-    match value.clone()? {
-        Value::Object(members) => Ok(members),
-        _ => Ok(Map::new(alloc)),
-    }
-}
-
-// The object that a text is, where it is one.
-fn object_in(alloc: Global, scratch: &mut Scratch, text: &str) -> Result<Option<Value>, AllocError>
-    ensures { IfOk result (λ found. IfSome found (λ v.
-        value_read member_depth (tokens_of_text text.now)
-        ≡ Some (object (members_in (view v)), []))) }
+// Whether a text is an object, of which then the values are read.
+fn reads_values(
+    alloc: Global,
+    scratch: &mut Scratch,
+    text: &str,
+    values: &mut OwnedValues,
+) -> Result<bool, AllocError>
+    ensures { IfOk result (λ is_object. IsTrue is_object → (ms : Members)
+        × (value_read member_depth (tokens_of_text text.now) ≡ Some (object ms, []))
+        × AreOwnedOf ms values.new) }
 {
     let mut tokens = Reader::new(text, scratch)?;
-    match build_json(alloc, &mut tokens, MEMBER_DEPTH) {
-        Ok(Value::Object(members)) if tokens.next().is_none() => Ok(Some(Value::Object(members))),
-        Ok(_) | Err(JsonError::NotJson) => Ok(None),
+    match read_values(alloc, &mut tokens, values) {
+        Ok(is_object) => Ok(is_object && tokens.next().is_none()),
+        Err(JsonError::NotJson) => Ok(false),
         Err(JsonError::Memory) => Err(AllocError),
     }
 }
@@ -190,6 +180,7 @@ impl Kept {
         &mut self,
         alloc: Global,
         scratch: &mut Scratch,
+        values: &mut OwnedValues,
         line: &[u8],
         sight: Option<Sight>,
     ) -> Result<(), AllocError>
@@ -218,7 +209,7 @@ impl Kept {
         self.lines = 0;
         if self.text.as_slice() == text {
             self.wanted = self.wanted.saturating_add(LINES_BEFORE);
-            self.object = KeptObject::of(alloc, scratch, text, sight.asked)?;
+            self.object = KeptObject::of(alloc, scratch, values, text, sight.asked)?;
         }
         Ok(())
     }

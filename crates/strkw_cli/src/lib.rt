@@ -13,6 +13,7 @@ mod printing;
 mod request;
 mod running;
 mod unread;
+mod values;
 mod writing;
 
 pub use answering::answer;

@@ -1,7 +1,8 @@
 //! The lines of an answer to what is no request, and of a refusal. Each call appends them, or a beginning of them where
 //! it is out of memory.
 
-ghost use Rattle.std.specs.Prelude.{◌++◌, ◌↔◌, ◌≡◌, ◌≢◌, ℕ, IsTrue, List, OnErr, OnOk, codes, false};
+ghost use Rattle.std.specs.Prelude.{◌++◌, ◌↔◌, ◌≡◌, ◌≢◌, ◌≤◌, ℕ, IsTrue, List, OnErr, OnOk, codes, drop, false};
+ghost use Rattle.std.specs.Prelude.{length, take};
 ghost use Rattle.strkw_report.specs.Refusals.{memory, prints_float, reason_of, refusal_of};
 ghost use Rattle.strkw_cli.specs.Printed.{printed, refused_line};
 
@@ -31,22 +32,41 @@ pub(super) fn push_refusal(
     if matches!(refusal.kind, CompileErrorKind::Memory) {
         return Err(AllocError);
     }
-    let text = refusal.text(alloc)?;
     out.extend_from_slice(b"refused ")?;
     out.extend_from_slice(refusal.location.as_str().as_bytes())?;
     out.extend_from_slice(b": ")?;
-    push_printed(text.as_bytes(), out)?;
+    let before = out.len();
+    refusal.push_text(alloc, out)?;
+    print_behind(alloc, before, out)?;
     out.extend_from_slice(b"\nend\n")
 }
 
-// The text, with a space for each of its bytes below 32.
-pub(super) fn push_printed(text: &[u8], out: &mut Vec<u8>) -> Result<(), AllocError>
+/// Puts a space for each byte below 32 behind so many bytes. Where there is one, what stands there is copied. Out of
+/// memory, the bytes before it are as they were.
+pub(super) fn print_behind(
+    alloc: Global,
+    before: usize,
+    out: &mut Vec<u8>,
+) -> Result<(), AllocError>
+    requires { before ≤ length out.old.items }
+    ensures ok { OnOk result (out.new.items
+        ≡ take before out.old.items ++ printed (drop before out.old.items)) }
+    ensures err { OnErr result ((more : List ℕ)
+        × (out.new.items ≡ take before out.old.items ++ more)) }
+{
+    if is_plain(&out[before..]) {
+        return Ok(());
+    }
+    let said = Vec::from_slice(alloc, &out[before..])?;
+    out.truncate(before);
+    push_printed(&said, out)
+}
+
+// Appends a text, with a space for each of its bytes below 32.
+fn push_printed(text: &[u8], out: &mut Vec<u8>) -> Result<(), AllocError>
     ensures ok { OnOk result (out.new.items ≡ out.old.items ++ printed text.now) }
     ensures err { OnErr result ((more : List ℕ) × (out.new.items ≡ out.old.items ++ more)) }
 {
-    if is_plain(text) {
-        return out.extend_from_slice(text);
-    }
     for byte in text {
         out.push(if *byte < 32 { 32 } else { *byte })?;
     }
@@ -54,7 +74,7 @@ pub(super) fn push_printed(text: &[u8], out: &mut Vec<u8>) -> Result<(), AllocEr
 }
 
 // Whether each byte is printed as it stands.
-pub(super) fn is_plain(text: &[u8]) -> bool
+fn is_plain(text: &[u8]) -> bool
     ensures { IsTrue result ↔ (printed text.now ≡ text.now) }
 {
     for byte in text {

@@ -1,6 +1,6 @@
 //! The request that a line is.
 
-ghost use Rattle.std.specs.Prelude.{◌<◌, ◌∷◌, ◌≡◌, IfOk, IfSome, IsErrOf, None, OnOk, Option, Some, false, length, option_and_then, option_map};
+ghost use Rattle.std.specs.Prelude.{◌<◌, ◌∷◌, ◌≡◌, Bool, IfOk, IfSome, IsErrOf, None, OnOk, Option, Some, false, is_some, length, option_and_then};
 ghost use Rattle.std.specs.Bool.{MatchBool};
 ghost use Rattle.json.specs.Token.{begin_object};
 ghost use Rattle.serde_json.specs.Data.{Data, Members, no_members};
@@ -8,7 +8,8 @@ ghost use Rattle.serde_json.specs.Find.{as_object};
 ghost use Rattle.serde_json.specs.Read.{read as read_text};
 ghost use Rattle.serde_json.specs.View.{view};
 ghost use Rattle.strkw_json.specs.Passing.{members_read, value_read};
-ghost use Rattle.strkw_cli.specs.Borrowed.{IsRight, request_view, schema_view};
+ghost use Rattle.strkw_cli.specs.Borrowed.{IsObject, IsRequest, IsRight};
+ghost use Rattle.strkw_cli.specs.Both.{AreBoth};
 ghost use Rattle.strkw_cli.specs.Kept.{IsKept};
 ghost use Rattle.strkw_cli.specs.Parts.{AreParts, Takes};
 ghost use Rattle.strkw_report.specs.Drafts.{draft_in, draft_numbered};
@@ -19,10 +20,12 @@ ghost use Rattle.strkw_cli.specs.Tokens.{begins_object, member_depth};
 use super::compiling::Asked;
 use super::kept::KeptObject;
 use super::unread::{Unanswered, Unread};
+use super::values::read_values;
 use json::{Reader, Scratch, Token};
-use serde_json::{Map, Value};
+use serde_json::Value;
 use std::alloc::Global;
-use strkw_json::{build_object, json_scalar, json_text};
+use strkw_json::{json_scalar, json_text};
+use strkw_object::OwnedValues;
 use strkw_report::{Draft, draft_in};
 
 /// A request. The text of its instance stands in its line, or unescaped in the scratch that its line was read with.
@@ -38,10 +41,10 @@ pub(super) struct Request<'a> {
 /// The schema object of a request.
 #[derive(Drop)]
 pub(super) enum Schema<'a> {
-    /// It was built of its line, where it stands from the first place on, and before the second.
-    Built(Map<String, Value>, usize, usize),
-    /// It is the one that is kept, and stands there.
-    Kept(&'a KeptObject, usize, usize),
+    /// Its values were read of its line, where it stands from the first place on, and before the second.
+    Read(usize, usize),
+    /// It is the one that is kept.
+    Kept(&'a KeptObject),
 }
 
 fn flag_in(value: &Value) -> Option<Option<bool>>
@@ -88,18 +91,20 @@ pub(super) struct Line<'a> {
     kept: Option<&'a KeptObject>,
 }
 
-// The schema object that the value of a member is: the one that is kept, where the line has its text here. Any other
-// value is passed over, and not built. It differs where the text is not that of the tokens.
+// The schema object that the value of a member is: the one that is kept, where the line has its text here, or else one
+// whose values are read. Any other value is passed over, and not built. It differs where the text is not that of the
+// tokens.
 fn read_schema<'a>(
     alloc: Global,
     line: Line<'a>,
     tokens: &mut Reader<'_>,
+    values: &mut OwnedValues,
 ) -> Result<Option<Schema<'a>>, Unread>
     requires { IfSome line.kept (λ object. IsKept object.now) }
     ensures ok { IfOk result (λ schema. (d : Data)
         × (value_read member_depth tokens.old ≡ Some (d, tokens.new))
-        × (as_object d ≡ option_map schema_view schema)) }
-    ensures right { IfOk result (λ schema. IfSome schema IsRight) }
+        × AreBoth (IsObject values.new) schema (as_object d)) }
+    ensures right { IfOk result (λ schema. IfSome schema (IsRight (is_some line.entry.kept))) }
     ensures none { IsErrOf result Unread.NotJson → value_read member_depth tokens.old ≡ None }
     ensures same { line.entry.kept ≡ None → IsErrOf result Unread.Differs → ⊥ }
     ensures shorter { OnOk result (length tokens.new < length tokens.old) }
@@ -108,15 +113,15 @@ fn read_schema<'a>(
     match line.kept {
         Some(object) if object.seems_at(line.text.as_bytes(), start) => {
             if object.takes(tokens) {
-                Ok(Some(Schema::Kept(object, start, tokens.offset())))
+                Ok(Some(Schema::Kept(object)))
             } else {
                 Err(Unread::Differs)
             }
         }
-        _ => match build_object(alloc, tokens, MEMBER_DEPTH)? {
-            Some(members) => Ok(Some(Schema::Built(members, start, tokens.offset()))),
-            None => Ok(None),
-        },
+        _ => {
+            let is_object = read_values(alloc, tokens, values)?;
+            Ok(is_object.then_some(Schema::Read(start, tokens.offset())))
+        }
     }
 }
 
@@ -134,7 +139,7 @@ struct Parts<'a> {
 
 impl<'a> Parts<'a> {
     fn of_no_members() -> Self
-        ensures { AreParts result no_members }
+        ensures { (kept : Bool) (values : OwnedValues) → AreParts kept values result no_members }
     {
         Parts {
             draft: None,
@@ -154,18 +159,19 @@ impl<'a> Parts<'a> {
         line: Line<'a>,
         name: &str,
         tokens: &mut Reader<'a>,
+        values: &mut OwnedValues,
     ) -> Result<(), Unread>
         requires { IfSome line.kept (λ object. IsKept object.now) }
         ensures ok { OnOk result ((d : Data)
             × (value_read member_depth tokens.old ≡ Some (d, tokens.new))
-            × Takes name.now d self.old self.new) }
+            × Takes (is_some line.entry.kept) name.now d values.old values.new self.old self.new) }
         ensures none { IsErrOf result Unread.NotJson → value_read member_depth tokens.old ≡ None }
         ensures same { line.entry.kept ≡ None → IsErrOf result Unread.Differs → ⊥ }
         ensures shorter { OnOk result (length tokens.new < length tokens.old) }
     {
         match name {
             "draft" => self.draft = read_draft(tokens)?,
-            "schema" => self.schema = read_schema(alloc, line, tokens)?,
+            "schema" => self.schema = read_schema(alloc, line, tokens, values)?,
             "instance" => self.instance = Some(json_text(tokens, MEMBER_DEPTH)?),
             "validate_formats" => self.validate_formats = read_flag(tokens)?,
             "ignore_unknown_formats" => self.ignore_unknown_formats = read_flag(tokens)?,
@@ -180,10 +186,11 @@ impl<'a> Parts<'a> {
 
     // The request that these are the parts of.
     fn into_request(self) -> Option<Request<'a>>
-        ensures request { (ms : Members) → AreParts self.entry ms
-            → option_map request_view result ≡ request_of_members ms }
-        ensures right { IfSome self.entry.schema IsRight
-            → IfSome result (λ request. IsRight request.schema) }
+        ensures request { (kept : Bool) (values : OwnedValues) (ms : Members)
+            → AreParts kept values self.entry ms
+            → AreBoth (IsRequest values) result (request_of_members ms) }
+        ensures right { (kept : Bool) → IfSome self.entry.schema (IsRight kept)
+            → IfSome result (λ request. IsRight kept request.schema) }
     {
         if !self.has_only_request_keys {
             return None;
@@ -207,16 +214,22 @@ impl<'a> Parts<'a> {
 }
 
 // What the members that are left of an object come to, up to its end.
-fn parts_in<'a>(alloc: Global, line: Line<'a>, tokens: &mut Reader<'a>) -> Result<Parts<'a>, Unread>
+fn parts_in<'a>(
+    alloc: Global,
+    line: Line<'a>,
+    tokens: &mut Reader<'a>,
+    values: &mut OwnedValues,
+) -> Result<Parts<'a>, Unread>
     requires { IfSome line.kept (λ object. IsKept object.now) }
     ensures ok { IfOk result (λ parts. (ms : Members)
-        × (members_read member_depth tokens.old ≡ Some (ms, tokens.new)) × AreParts parts ms) }
+        × (members_read member_depth tokens.old ≡ Some (ms, tokens.new))
+        × AreParts (is_some line.entry.kept) values.new parts ms) }
     ensures none { IsErrOf result Unread.NotJson → members_read member_depth tokens.old ≡ None }
     ensures same { line.entry.kept ≡ None → IsErrOf result Unread.Differs → ⊥ }
 {
     let mut parts = Parts::of_no_members();
     'members: while let Some(name) = tokens.next_key()? {
-        parts.take_member(alloc, line, name, tokens)?;
+        parts.take_member(alloc, line, name, tokens, values)?;
     }
     Ok(parts)
 }
@@ -234,18 +247,20 @@ fn request_in<'a>(
     alloc: Global,
     line: Line<'a>,
     scratch: &'a mut Scratch,
+    values: &mut OwnedValues,
 ) -> Result<Option<Request<'a>>, Unanswered>
     requires { IfSome line.kept (λ object. IsKept object.now) }
-    ensures ok { IfOk result (λ request. option_map request_view request
-        ≡ option_and_then request_in (read_text line.entry.text.now)) }
-    ensures right { IfOk result (λ request. IfSome request (λ r. IsRight r.schema)) }
+    ensures ok { IfOk result (λ request. AreBoth (IsRequest values.new) request
+        (option_and_then request_in (read_text line.entry.text.now))) }
+    ensures right { IfOk result (λ request. IfSome request
+        (λ r. IsRight (is_some line.entry.kept) r.schema)) }
     ensures same { line.entry.kept ≡ None → IsErrOf result Unanswered.Differs → ⊥ }
 {
     let mut tokens = Reader::new(line.text, scratch)?;
     if !takes_begin_object(&mut tokens) {
         return Ok(None);
     }
-    match parts_in(alloc, line, &mut tokens) {
+    match parts_in(alloc, line, &mut tokens, values) {
         Ok(parts) => match tokens.next() {
             None => Ok(parts.into_request()),
             Some(_) => Ok(None),
@@ -257,21 +272,24 @@ fn request_in<'a>(
 }
 
 /// The request that a line is, or `None` where it is none. The scratch is held from line to line, and a schema object
-/// may be kept, which is then not built anew. It differs where the line has the object's text and other tokens.
+/// may be kept, which is then not read anew; of another one the values are read. It differs where the line has the text
+/// of the object that is kept, and other tokens.
 pub(super) fn read_request<'a>(
     alloc: Global,
     line: &'a [u8],
     scratch: &'a mut Scratch,
     kept: Option<&'a KeptObject>,
+    values: &mut OwnedValues,
 ) -> Result<Option<Request<'a>>, Unanswered>
     requires { IfSome kept (λ object. IsKept object.now) }
     ensures ok { IfOk result (λ request. (read : Option Data) × IsReading line.now read
-        × (option_map request_view request ≡ option_and_then request_in read)) }
-    ensures right { IfOk result (λ request. IfSome request (λ r. IsRight r.schema)) }
+        × AreBoth (IsRequest values.new) request (option_and_then request_in read)) }
+    ensures right { IfOk result (λ request. IfSome request
+        (λ r. IsRight (is_some kept.entry) r.schema)) }
     ensures same { kept.entry ≡ None → IsErrOf result Unanswered.Differs → ⊥ }
 {
     let Ok(text) = simdutf8::basic::from_utf8(line) else {
         return Ok(None);
     };
-    request_in(alloc, Line { text, kept }, scratch)
+    request_in(alloc, Line { text, kept }, scratch, values)
 }

@@ -13,16 +13,17 @@ ghost use Rattle.strkw_keywords.specs.Errors.{NodeReports, reported};
 ghost use Rattle.strkw_keywords.specs.Findings.{finding_of};
 ghost use Rattle.strkw_keywords.specs.Handed.{lists_of};
 ghost use Rattle.strkw_keywords.specs.Keywords.{keyword_name};
-ghost use Rattle.strkw_keywords.specs.Object.{remarks_on};
 ghost use Rattle.strkw_keywords.specs.Parts.{noted_remark};
 ghost use Rattle.strkw_keywords.specs.Places.{standing};
 ghost use Rattle.strkw_keywords.specs.Validators.{listed_remark, remark_made};
 ghost use Rattle.strkw_report.specs.Standings.{root_site};
 ghost use Rattle.strkw_object.specs.Compiled.{keywords_assertions, keywords_demands, keywords_remarks};
 ghost use Rattle.strkw_object.specs.Printable.{ArePrintable};
+ghost use Rattle.strkw_cli.specs.Kept.{CanAnswer, IsTold};
 ghost use Rattle.strkw_cli.specs.Printed.{error_line, note_lines, printed, verdict_lines};
 
-use super::printing::{is_plain, push_printed};
+use super::compiling::Compiled;
+use super::printing::{print_behind, push_refusal};
 use serde_json::Value;
 use std::alloc::{AllocError, Global};
 use strkw_keywords::{Checks, Keyword, Noted, Origin, Uses, Validate, Validator};
@@ -32,7 +33,7 @@ use strkw_report::{Failure, Location, Node, TextNode, push_json_string};
 
 // ---- one error
 
-// Appends what is said of a failure. Where a name in it holds control characters, they are changed in a copy.
+// Appends what is said of a failure, as it is printed.
 fn push_failure(
     alloc: Global,
     failure: &Failure,
@@ -46,12 +47,7 @@ fn push_failure(
 {
     let before = out.len();
     failure.push_text(text, out)?;
-    if is_plain(&out[before..]) {
-        return Ok(());
-    }
-    let said = Vec::from_slice(alloc, &out[before..])?;
-    out.truncate(before);
-    push_printed(&said, out)
+    print_behind(alloc, before, out)
 }
 
 // Appends what stands before the text of a line.
@@ -170,8 +166,8 @@ fn push_notes<E: RegexEngine>(
     Ok(())
 }
 
-// Appends the lines of the errors of a text, or that it has none.
-fn push_verdict<E: RegexEngine, N: Node>(
+/// Appends the lines of the errors of a text, or that it has none.
+pub(super) fn push_verdict<E: RegexEngine, N: Node>(
     alloc: Global,
     keywords: &StringKeywords<E>,
     text: &TextNode<'_, N>,
@@ -201,34 +197,23 @@ fn push_verdict<E: RegexEngine, N: Node>(
     out.extend_from_slice(b"valid\n")
 }
 
-/// Appends the lines of the errors of an instance, or that it has none, then of what is noted of it, and the end. The
-/// instance is its text, or `None` where it is another value.
-pub(super) fn push_found<E: RegexEngine>(
+/// Appends what each answer by what a schema object is compiled to tells behind the errors of a text: the lines of what
+/// is noted, and the end. A refusal is the whole answer. Out of memory is no answer, and is passed on.
+pub(super) fn push_told(
     alloc: Global,
-    keywords: &StringKeywords<E>,
-    instance: Option<&str>,
-    checks: &Checks,
+    compiled: &Compiled,
     out: &mut Vec<u8>,
 ) -> Result<(), AllocError>
-    requires in_use { IsInUse (keywords_demands E.outcome keywords.now)
-        (lists_of admits accepted encoded decoding checks.now) }
-    requires printable { ArePrintable (keywords_remarks keywords.now) }
-    ensures ok { OnOk result ((errors : List Report)
-        × (out.new.items ≡ out.old.items
-        ++ (verdict_lines errors ++ note_lines
-        (remarks_on (option_map (λ text. text.now) instance.entry)
-        (keywords_remarks keywords.now)) ++ codes "end\n"))
-        × NodeReports (keywords_assertions E.outcome keywords.now)
-        (lists_of admits accepted encoded decoding checks.now) root_site
-        (option_map (λ text. text.now) instance.entry) errors) }
+    requires { CanAnswer compiled.now }
+    ensures ok { OnOk result ((told : List ℕ) × (out.new.items ≡ out.old.items ++ told)
+        × IsTold compiled.now told) }
     ensures err { OnErr result ((more : List ℕ) × (out.new.items ≡ out.old.items ++ more)) }
 {
-    match TextNode::of(&instance) {
-        None => out.extend_from_slice(b"valid\nend\n"),
-        Some(text) => {
-            push_verdict(alloc, keywords, &text, checks, out)?;
+    match compiled {
+        Ok(keywords) => {
             push_notes(alloc, keywords, out)?;
             out.extend_from_slice(b"end\n")
         }
+        Err(refusal) => push_refusal(alloc, refusal, out),
     }
 }

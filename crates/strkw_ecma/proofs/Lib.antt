@@ -10,6 +10,7 @@ pub mod Sizes
 pub mod Behind
 pub mod Search
 pub mod Shapes
+pub mod Needs
 pub mod Letters
 pub mod Digits
 pub mod CodeReadings

@@ -12,6 +12,7 @@ pub mod Reading
 pub mod Recognising
 pub mod NameSets
 pub mod Sight
+pub mod Needed
 pub mod Search
 pub mod Outcomes
 pub mod Along

@@ -1,12 +1,13 @@
 //! What looks for a pattern in a text: its program, and where it has one, its table.
 
-ghost use Rattle.std.specs.Prelude.{◌≡◌, ◌≤◌, ◌||◌, not, ℕ, List, true, false, IsTrue, IsOk, IfOk, None, Some};
+ghost use Rattle.std.specs.Prelude.{◌≡◌, ◌≤◌, ◌||◌, not, ℕ, Bool, List, true, false, IsTrue, IsOk, IfOk, None, Some};
 ghost use Rattle.std.specs.Str.{chars};
 ghost use Rattle.strkw_ecma.specs.Glances.{are_told};
 ghost use Rattle.strkw_ecma.specs.Mirror.{along};
 ghost use Rattle.strkw_ecma.specs.Size.{steps, search_steps, max_steps};
 ghost use Rattle.strkw_ecma.specs.machine.Machine.{pattern_of};
 ghost use Rattle.strkw_ecma.specs.machine.Marks.{is_clean, unmarked};
+ghost use Rattle.strkw_ecma.specs.machine.Needed.{needed as spec_needed};
 ghost use Rattle.strkw_ecma.specs.machine.Search.{search_from};
 ghost use Rattle.strkw_ecma.specs.machine.Searches.{IsSearchedBy};
 ghost use Rattle.strkw_ecma.specs.machine.Shape.{outlined};
@@ -14,6 +15,7 @@ ghost use Rattle.strkw_ecma.specs.declared.table.Table.{Table};
 
 use crate::finding::is_found;
 use crate::making::table_of;
+use crate::needed::{LONG, lacks};
 use crate::outline::Outline;
 use crate::passes::Pass;
 use crate::program::Program;
@@ -27,9 +29,11 @@ use std::alloc::{AllocError, Global};
 pub(crate) struct Finder {
     pub(crate) program: Program,
     pub(crate) table: Option<Table>,
+    needed: Option<u8>,
     ghost clean: { is_clean (pattern_of program) ≡ true },
     ghost told: { are_told (pattern_of program) ≡ true },
     ghost exact: { (t : Table) → table ≡ Some t → IsSearchedBy t (pattern_of program) },
+    ghost read: { needed ≡ spec_needed (pattern_of program) },
 }
 
 impl Finder {
@@ -39,9 +43,25 @@ impl Finder {
         requires told { are_told (outlined outline) ≡ true }
         ensures { IfOk result (λ f. pattern_of f.program ≡ outlined outline) }
     {
+        let needed = outline.needed_byte();
         let program = Program::of(alloc, outline)?;
         let table = table_of(alloc, &program)?;
-        Ok(Finder { program, table })
+        Ok(Finder {
+            program,
+            table,
+            needed,
+        })
+    }
+
+    // Whether the text lacks a character that each match reads.
+    fn is_ruled_out(&self, text: &str) -> bool
+        ensures { IsTrue result → (b : Bool)
+            → search_from (pattern_of self.now.program) None (along b (chars text.now)) ≡ false }
+    {
+        match self.needed {
+            Some(byte) => lacks(text, byte),
+            None => false,
+        }
     }
 
     /// Whether the pattern is found in the text, or where it is looked for backward, in the text turned round.
@@ -49,6 +69,9 @@ impl Finder {
         ensures { result
             ≡ search_from (pattern_of self.now.program) None (along is_backward (chars text.now)) }
     {
+        if text.len() >= LONG && self.is_ruled_out(text) {
+            return false;
+        }
         match &self.table {
             Some(table) => table.is_found_along(text, is_backward),
             None => is_found(&self.program, text, is_backward),

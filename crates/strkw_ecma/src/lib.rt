@@ -23,6 +23,7 @@ mod making;
 mod marks;
 mod mirror;
 mod names;
+mod needed;
 mod outline;
 mod pages;
 mod passes;

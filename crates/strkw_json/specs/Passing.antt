@@ -1,10 +1,10 @@
 -- What `serde_json` reads of a text's tokens, and what is left of them behind it.
-use Rattle.std.specs.Prelude.{ℕ, Bool, true, false, List, length, Option, Some, None, option_map}
+use Rattle.std.specs.Prelude.{ℕ, List, length, Option, Some, None, option_map}
 use Rattle.json.specs.Token.{Token}
 use Rattle.json.specs.Json.{value, items, members}
 use Rattle.serde_json.specs.Data.{Data, null, boolean, number, string, array, object, Items}
 use Rattle.serde_json.specs.Data.{Members, no_members}
-use Rattle.serde_json.specs.Read.{of_json, of_items, of_members, converted, number_of}
+use Rattle.serde_json.specs.Read.{of_json, of_items, of_members, converted}
 
 -- the value that comes first, with what is left
 abbrev pub value_read : ℕ → List Token → Option (Data × List Token)
@@ -32,19 +32,6 @@ after_items depth ts = behind (items_read depth ts)
 abbrev pub after_members : ℕ → List Token → Option (List Token)
 after_members depth ts = behind (members_read depth ts)
 
--- the text that a token is, where it is one
-abbrev pub text_of_token : Token → Option (List ℕ)
-text_of_token Token.begin_object = None
-text_of_token Token.end_object = None
-text_of_token Token.begin_array = None
-text_of_token Token.end_array = None
-text_of_token (Token.key s) = None
-text_of_token (Token.string s) = Some s
-text_of_token (Token.number s) = None
-text_of_token (Token.boolean b) = None
-text_of_token Token.null = None
-text_of_token Token.bad = None
-
 -- a value, where it is no text, no array and no object
 abbrev pub scalar_in : Data → Option Data
 scalar_in null = Some null
@@ -53,28 +40,3 @@ scalar_in (number n) = Some (number n)
 scalar_in (string s) = None
 scalar_in (array ds) = None
 scalar_in (object ms) = None
-
--- such a value that a token is, where it is one
-abbrev pub scalar_of_token : Token → Option Data
-scalar_of_token Token.begin_object = None
-scalar_of_token Token.end_object = None
-scalar_of_token Token.begin_array = None
-scalar_of_token Token.end_array = None
-scalar_of_token (Token.key s) = None
-scalar_of_token (Token.string s) = None
-scalar_of_token (Token.number s) = option_map number (number_of s)
-scalar_of_token (Token.boolean b) = Some (boolean b)
-scalar_of_token Token.null = Some null
-scalar_of_token Token.bad = None
-
-abbrev pub is_begin_object : Token → Bool
-is_begin_object Token.begin_object = true
-is_begin_object Token.end_object = false
-is_begin_object Token.begin_array = false
-is_begin_object Token.end_array = false
-is_begin_object (Token.key s) = false
-is_begin_object (Token.string s) = false
-is_begin_object (Token.number s) = false
-is_begin_object (Token.boolean b) = false
-is_begin_object Token.null = false
-is_begin_object Token.bad = false

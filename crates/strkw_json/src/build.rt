@@ -6,7 +6,7 @@ ghost use Rattle.json.specs.Reads.{token_of};
 ghost use Rattle.serde_json.specs.Data.{Data};
 ghost use Rattle.serde_json.specs.Find.{as_object, as_str};
 ghost use Rattle.serde_json.specs.View.{view, items_view, members_view};
-ghost use Rattle.strkw_json.specs.Passing.{value_read, items_read, members_read, text_of_token, scalar_in, scalar_of_token, is_begin_object};
+ghost use Rattle.strkw_json.specs.Passing.{value_read, items_read, members_read, scalar_in};
 
 use crate::check::{json_number, passes_json};
 use crate::error::JsonError;
@@ -44,20 +44,10 @@ pub fn json_text<'a>(tokens: &mut Reader<'a>, depth: usize) -> Result<Option<&'a
     ensures shorter { OnOk result (length tokens.new < length tokens.old) }
 {
     let token = tokens.next().ok_or(JsonError::NotJson)?;
-    let text = text_of_token(&token);
-    if passes_json(token, tokens, depth) {
-        Ok(text)
-    } else {
-        Err(JsonError::NotJson)
-    }
-}
-
-fn text_of_token<'a>(token: &Token<'a>) -> Option<&'a str>
-    ensures { option_map (λ s. s.now) result ≡ text_of_token (token_of token.now) }
-{
     match token {
-        Token::String(text) => Some(*text),
-        _ => None,
+        Token::String(text) => Ok(Some(text)),
+        _ if passes_json(token, tokens, depth) => Ok(None),
+        _ => Err(JsonError::NotJson),
     }
 }
 
@@ -73,22 +63,15 @@ pub fn json_scalar(tokens: &mut Reader<'_>, depth: usize) -> Result<Option<Value
     ensures shorter { OnOk result (length tokens.new < length tokens.old) }
 {
     let token = tokens.next().ok_or(JsonError::NotJson)?;
-    let scalar = scalar_of_token(&token);
-    if passes_json(token, tokens, depth) {
-        Ok(scalar)
-    } else {
-        Err(JsonError::NotJson)
-    }
-}
-
-fn scalar_of_token(token: &Token<'_>) -> Option<Value>
-    ensures { option_map view result ≡ scalar_of_token (token_of token.now) }
-{
     match token {
-        Token::Null => Some(Value::Null),
-        Token::Bool(is_true) => Some(Value::Bool(*is_true)),
-        Token::Number(text) => Some(Value::Number(json_number(text)?)),
-        _ => None,
+        Token::Null => Ok(Some(Value::Null)),
+        Token::Bool(is_true) => Ok(Some(Value::Bool(is_true))),
+        Token::Number(text) => {
+            let number = json_number(text).ok_or(JsonError::NotJson)?;
+            Ok(Some(Value::Number(number)))
+        }
+        _ if passes_json(token, tokens, depth) => Ok(None),
+        _ => Err(JsonError::NotJson),
     }
 }
 
@@ -108,28 +91,10 @@ pub fn build_object(
     ensures shorter { OnOk result (length tokens.new < length tokens.old) }
 {
     let token = tokens.next().ok_or(JsonError::NotJson)?;
-    if is_begin_object(&token) {
-        return Ok(object_in(build_from(alloc, token, tokens, depth)?));
-    }
-    if passes_json(token, tokens, depth) {
-        Ok(None)
-    } else {
-        Err(JsonError::NotJson)
-    }
-}
-
-fn is_begin_object(token: &Token<'_>) -> bool
-    ensures { result ≡ is_begin_object (token_of token.now) }
-{
-    matches!(token, Token::BeginObject)
-}
-
-fn object_in(value: Value) -> Option<Map<String, Value>>
-    ensures { option_map (λ m. members_view m.entries) result ≡ as_object (view value) }
-{
-    match value {
-        Value::Object(members) => Some(members),
-        _ => None,
+    match token {
+        Token::BeginObject if depth > 0 => Ok(Some(build_members(alloc, tokens, depth - 1)?)),
+        _ if passes_json(token, tokens, depth) => Ok(None),
+        _ => Err(JsonError::NotJson),
     }
 }
 

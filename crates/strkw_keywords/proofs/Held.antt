@@ -9,6 +9,7 @@ use Rattle.strkw_keywords.specs.declared.keyword.Keyword.{Keyword}
 use Rattle.strkw_keywords.specs.declared.keyword.Keyword.TheVariants.{ContentMediaType, ContentEncoding, ContentSchema, Format, MinLength, MaxLength, Pattern}
 use Rattle.strkw_keywords.specs.declared.values.Values.{Values}
 use Rattle.strkw_keywords.specs.Keywords.{keyword_name}
+use Rattle.strkw_keywords.specs.Object.{keywords}
 use Rattle.strkw_keywords.specs.Values.{AreValuesOf, held, with_value, members_at, members_of}
 
 -- the name of a keyword beside that of another one
@@ -37,35 +38,35 @@ found k None ms same none = none
 found k (Some d) ms same none = rw same refl
 
 -- there is no value at a keyword that is not among those of the members
-none_at : (values : Values) (k : Keyword) (ks : List Keyword) → AllByRecursion (Differ k) ks → None ≡ get_member (keyword_name k) (members_at values ks)
-none_at values k [] differ = refl
-none_at values k (w ∷ ks) (differ, more) = none_at values k ks more ∙ sym (past k w (held values w) (members_at values ks) differ)
+none_at : (at : Keyword → Option Data) (k : Keyword) (ks : List Keyword) → AllByRecursion (Differ k) ks → None ≡ get_member (keyword_name k) (members_at at ks)
+none_at at k [] differ = refl
+none_at at k (w ∷ ks) (differ, more) = none_at at k ks more ∙ sym (past k w (at w) (members_at at ks) differ)
 
--- and one that is among them has what is held for it
-held_at : (values : Values) (k : Keyword) (before after : List Keyword) → names k k ≡ Equal → AllByRecursion (Differ k) before → AllByRecursion (Differ k) after
-    → held values k ≡ get_member (keyword_name k) (members_at values (before ++ k ∷ after))
-held_at values k [] after same none differ = found k (held values k) (members_at values after) same (none_at values k after differ)
-held_at values k (w ∷ ws) after same (differ, more) later =
-    held_at values k ws after same more later ∙ sym (past k w (held values w) (members_at values (ws ++ k ∷ after)) differ)
+-- and one that is among them has the value there
+held_at : (at : Keyword → Option Data) (k : Keyword) (before after : List Keyword) → names k k ≡ Equal → AllByRecursion (Differ k) before → AllByRecursion (Differ k) after
+    → at k ≡ get_member (keyword_name k) (members_at at (before ++ k ∷ after))
+held_at at k [] after same none differ = found k (at k) (members_at at after) same (none_at at k after differ)
+held_at at k (w ∷ ws) after same (differ, more) later =
+    held_at at k ws after same more later ∙ sym (past k w (at w) (members_at at (ws ++ k ∷ after)) differ)
 
--- what is held for a keyword is the value there of the object that the values make
-pub held_is_member : (values : Values) (k : Keyword) → held values k ≡ get_member (keyword_name k) (members_of values)
-held_is_member values ContentMediaType = held_at values ContentMediaType [] (ContentEncoding ∷ ContentSchema ∷ Format ∷ MinLength ∷ MaxLength ∷ Pattern ∷ [])
+-- what is there at a keyword is the value of the object that has these values, and nothing else
+pub held_is_member : (at : Keyword → Option Data) (k : Keyword) → at k ≡ get_member (keyword_name k) (members_at at keywords)
+held_is_member at ContentMediaType = held_at at ContentMediaType [] (ContentEncoding ∷ ContentSchema ∷ Format ∷ MinLength ∷ MaxLength ∷ Pattern ∷ [])
     refl (search rules) (search rules)
-held_is_member values ContentEncoding = held_at values ContentEncoding (ContentMediaType ∷ []) (ContentSchema ∷ Format ∷ MinLength ∷ MaxLength ∷ Pattern ∷ [])
+held_is_member at ContentEncoding = held_at at ContentEncoding (ContentMediaType ∷ []) (ContentSchema ∷ Format ∷ MinLength ∷ MaxLength ∷ Pattern ∷ [])
     refl (search rules) (search rules)
-held_is_member values ContentSchema = held_at values ContentSchema (ContentMediaType ∷ ContentEncoding ∷ []) (Format ∷ MinLength ∷ MaxLength ∷ Pattern ∷ [])
+held_is_member at ContentSchema = held_at at ContentSchema (ContentMediaType ∷ ContentEncoding ∷ []) (Format ∷ MinLength ∷ MaxLength ∷ Pattern ∷ [])
     refl (search rules) (search rules)
-held_is_member values Format = held_at values Format (ContentMediaType ∷ ContentEncoding ∷ ContentSchema ∷ []) (MinLength ∷ MaxLength ∷ Pattern ∷ []) refl
+held_is_member at Format = held_at at Format (ContentMediaType ∷ ContentEncoding ∷ ContentSchema ∷ []) (MinLength ∷ MaxLength ∷ Pattern ∷ []) refl
     (search rules) (search rules)
-held_is_member values MinLength = held_at values MinLength (ContentMediaType ∷ ContentEncoding ∷ ContentSchema ∷ Format ∷ []) (MaxLength ∷ Pattern ∷ []) refl
+held_is_member at MinLength = held_at at MinLength (ContentMediaType ∷ ContentEncoding ∷ ContentSchema ∷ Format ∷ []) (MaxLength ∷ Pattern ∷ []) refl
     (search rules) (search rules)
-held_is_member values MaxLength = held_at values MaxLength (ContentMediaType ∷ ContentEncoding ∷ ContentSchema ∷ Format ∷ MinLength ∷ []) (Pattern ∷ []) refl
+held_is_member at MaxLength = held_at at MaxLength (ContentMediaType ∷ ContentEncoding ∷ ContentSchema ∷ Format ∷ MinLength ∷ []) (Pattern ∷ []) refl
     (search rules) (search rules)
-held_is_member values Pattern = held_at values Pattern (ContentMediaType ∷ ContentEncoding ∷ ContentSchema ∷ Format ∷ MinLength ∷ MaxLength ∷ []) [] refl
+held_is_member at Pattern = held_at at Pattern (ContentMediaType ∷ ContentEncoding ∷ ContentSchema ∷ Format ∷ MinLength ∷ MaxLength ∷ []) [] refl
     (search rules) (search rules)
 
 -- and so that of each object that has the values
 pub same_members : (values : Values) (ms : Members) → AreValuesOf ms values → (k : Keyword)
     → get_member (keyword_name k) (members_of values) ≡ get_member (keyword_name k) ms
-same_members values ms are k = sym (held_is_member values k) ∙ are.same k
+same_members values ms are k = sym (held_is_member (held values) k) ∙ are.same k

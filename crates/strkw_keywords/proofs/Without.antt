@@ -29,13 +29,20 @@ use Rattle.strkw_keywords.specs.Compiled.{alone, IsCompiled, IsCompiledAt}
 use Rattle.strkw_keywords.specs.Without.{KeepsOthers, IsWithoutSchema}
 use Rattle.strkw_keywords.proofs.EntriesOf.{absent}
 
--- a keyword other than `contentSchema`
-abbrev pub Apart : Keyword → Type 0
-Apart k = bytes_eq (keyword_name ContentSchema) (keyword_name k) ≡ false
+-- a keyword that is not `contentSchema` has another name
+apart : (k : Keyword) → (k ≡ ContentSchema → ⊥) → bytes_eq (keyword_name ContentSchema) (keyword_name k) ≡ false
+apart ContentMediaType other = refl
+apart ContentEncoding other = refl
+apart ContentSchema other = absurd (other refl)
+apart Format other = refl
+apart MinLength other = refl
+apart MaxLength other = refl
+apart Pattern other = refl
 
--- an object keeps its own members
-pub keeps_itself : (ms : Members) → KeepsOthers ms ms
-keeps_itself ms = record { kept = λ name apart. refl }
+-- so an object without that at `contentSchema` has the values of the object at the other keywords
+pub same_others : (ms others : Members) → KeepsOthers ms others → (k : Keyword) → (k ≡ ContentSchema → ⊥)
+    → get_member (keyword_name k) others ≡ get_member (keyword_name k) ms
+same_others ms others keeps k other = keeps.kept (keyword_name k) (apart k other)
 
 -- ---- the value at a name is removed, and that name is `contentSchema`
 
@@ -71,6 +78,16 @@ module _ {E : Type 0} (outcome : E → List ℕ → Outcome) (s : Settings) (ms 
   pub none_compiled : get_member (keyword_name ContentSchema) ms ≡ None → IsCompiledAt outcome s ms ContentSchema None
   none_compiled e = absent outcome s ms ContentSchema (unless (is_overridden s.options ContentSchema) _ (sym e))
 
+  -- what is compiled of the entry of the value there is compiled of the object
+  pub schema_compiled : (v : Value) (r : Option (Result (Validator E) CompileError)) → get_member (keyword_name ContentSchema) ms ≡ Some (view v)
+      → is_overridden s.options ContentSchema ≡ false
+      → IsCompiled outcome s.place (alone ContentSchema (schema_entry (content_rule s.draft) ms (view v))) r → IsCompiledAt outcome s ms ContentSchema r
+  schema_compiled v r there looked_at h =
+      let e = schema_entry (content_rule s.draft) ms (view v) in
+      let value : value_at s.options ContentSchema ms ≡ Some (view v) = rw looked_at there in
+      let at = subst (λ m. MatchOption m (e ≡ nothing) (λ d. IsEntryOf s ms ContentSchema d e)) (sym value) refl in
+      record { entries = alone ContentSchema e; are_entries = (e, [], at, refl, refl); answer = h }
+
 -- two objects have the same values at the keywords that are seen, and those are seen that other entries look at
 module _ {E : Type 0} (outcome : E → List ℕ → Outcome) (s : Settings) (ms others : Members) (Seen : Keyword → Type 0)
     (same : (k : Keyword) → Seen k → get_member (keyword_name k) others ≡ get_member (keyword_name k) ms)
@@ -82,16 +99,6 @@ module _ {E : Type 0} (outcome : E → List ℕ → Outcome) (s : Settings) (ms 
   same_schema Ignored d = refl
   same_schema Checked d = refl
   same_schema Noted d = ap (λ m. schema_beside m d) (same ContentMediaType media_type)
-
-  -- what is compiled of the schema beside the others is compiled of the object
-  seen_schema : (v : Value) (r : Option (Result (Validator E) CompileError)) → get_member (keyword_name ContentSchema) ms ≡ Some (view v)
-      → is_overridden s.options ContentSchema ≡ false
-      → IsCompiled outcome s.place (alone ContentSchema (schema_entry (content_rule s.draft) others (view v))) r → IsCompiledAt outcome s ms ContentSchema r
-  seen_schema v r there looked_at h =
-      let e = schema_entry (content_rule s.draft) others (view v) in
-      let value : value_at s.options ContentSchema ms ≡ Some (view v) = rw looked_at there in
-      let at = subst (λ m. MatchOption m (e ≡ nothing) (λ d. IsEntryOf s ms ContentSchema d e)) (sym value) (same_schema (content_rule s.draft) (view v)) in
-      record { entries = alone ContentSchema e; are_entries = (e, [], at, refl, refl); answer = h }
 
   -- ---- the other keywords
 
@@ -173,16 +180,11 @@ module _ {E : Type 0} (outcome : E → List ℕ → Outcome) (s : Settings) (ms 
       → (k : Keyword) (r : Option (Result (Validator E) CompileError)) → IsCompiledAt outcome s others k r → IsCompiledAt outcome s ms k r
   same_compiled same k r h = seen_compiled outcome s ms others (λ w. Unit {0}) (λ w seen. same w) tt tt tt tt k r tt h
 
-module _ {E : Type 0} (outcome : E → List ℕ → Outcome) (s : Settings) (ms others : Members) (keeps : KeepsOthers ms others) where
-  -- all but that at `contentSchema`
-  -- what is compiled of the schema beside the others is compiled of the object
-  pub schema_compiled : (v : Value) (r : Option (Result (Validator E) CompileError)) → get_member (keyword_name ContentSchema) ms ≡ Some (view v)
-      → is_overridden s.options ContentSchema ≡ false
-      → IsCompiled outcome s.place (alone ContentSchema (schema_entry (content_rule s.draft) others (view v))) r → IsCompiledAt outcome s ms ContentSchema r
-  schema_compiled v r there looked_at h = seen_schema outcome s ms others Apart (λ k apart. keeps.kept (keyword_name k) apart) refl refl refl refl v r there
-      looked_at h
-
-  -- and so is what is compiled of a keyword other than `contentSchema`
-  pub other_compiled : (k : Keyword) (r : Option (Result (Validator E) CompileError)) → Apart k → IsCompiledAt outcome s others k r
-      → IsCompiledAt outcome s ms k r
-  other_compiled k r apart h = seen_compiled outcome s ms others Apart (λ w seen. keeps.kept (keyword_name w) seen) refl refl refl refl k r apart h
+-- all but that at `contentSchema` are
+-- so what is compiled of another keyword of the others is compiled of the object
+pub other_compiled : {E : Type 0} (outcome : E → List ℕ → Outcome) (s : Settings) (ms others : Members)
+    → ((k : Keyword) → (k ≡ ContentSchema → ⊥) → get_member (keyword_name k) others ≡ get_member (keyword_name k) ms)
+    → (k : Keyword) (r : Option (Result (Validator E) CompileError)) → (k ≡ ContentSchema → ⊥) → IsCompiledAt outcome s others k r
+    → IsCompiledAt outcome s ms k r
+other_compiled outcome s ms others same k r other h =
+    seen_compiled outcome s ms others (λ w. w ≡ ContentSchema → ⊥) same (λ e. absurd (cc)) (λ e. absurd (cc)) (λ e. absurd (cc)) (λ e. absurd (cc)) k r other h

@@ -26,15 +26,15 @@ held values Pattern = option_map (λ v. view v.now) values.pattern
 pub record AreValuesOf (ms : Members) (values : Values) : Type 0 where
   pub same : (keyword : Keyword) → held values keyword ≡ get_member (keyword_name keyword) ms
 
--- some members, and in front of them what is held for a keyword
+-- some members, and in front of them what is there at a keyword
 abbrev pub with_value : Keyword → Option Data → Members → Members
 with_value keyword (Some d) ms = member (keyword_name keyword) d ms
 with_value keyword None ms = ms
 
-abbrev pub members_at : Values → List Keyword → Members
-members_at values [] = no_members
-members_at values (k ∷ ks) = with_value k (held values k) (members_at values ks)
+abbrev pub members_at : (Keyword → Option Data) → List Keyword → Members
+members_at at [] = no_members
+members_at at (k ∷ ks) = with_value k (at k) (members_at at ks)
 
 -- an object with these values, and nothing else
 abbrev pub members_of : Values → Members
-members_of values = members_at values keywords
+members_of values = members_at (held values) keywords

@@ -15,8 +15,7 @@ ghost use Rattle.strkw_keywords.specs.Values.{AreValuesOf};
 
 use crate::checks::{ContentCodec, Format, MediaTypeCheck};
 use crate::content::{
-    build_encoding, build_encoding_annotation, build_media_type, build_media_type_annotation,
-    build_schema_annotation,
+    build_encoding, build_media_type, build_schema_annotation, build_text_annotation,
 };
 use crate::content_rule::ContentRule;
 use crate::format::build_format;
@@ -99,12 +98,12 @@ fn build<B: EngineBuilder, O: Object>(
         Keyword::ContentMediaType => match ContentRule::of(ctx.draft) {
             ContentRule::Ignored => Ok(None),
             ContentRule::Checked => build_media_type(alloc, ctx, object, value),
-            ContentRule::Noted => build_media_type_annotation(ctx, value),
+            ContentRule::Noted => build_text_annotation(ctx, keyword, value),
         },
         Keyword::ContentEncoding => match ContentRule::of(ctx.draft) {
             ContentRule::Ignored => Ok(None),
             ContentRule::Checked => build_encoding(alloc, ctx, object, value),
-            ContentRule::Noted => build_encoding_annotation(ctx, value),
+            ContentRule::Noted => build_text_annotation(ctx, keyword, value),
         },
         Keyword::ContentSchema => match ContentRule::of(ctx.draft) {
             ContentRule::Ignored => Ok(None),
@@ -122,10 +121,7 @@ fn build<B: EngineBuilder, O: Object>(
 #[derive(Drop)]
 pub(crate) enum Refused {
     // The value at this keyword is to blame.
-    Malformed {
-        keyword: Keyword,
-        kind: CompileErrorKind,
-    },
+    Malformed(Keyword, CompileErrorKind),
     // Out of memory.
     Memory,
 }
@@ -172,16 +168,10 @@ pub(crate) fn no_string(value: &Value, keyword: Keyword) -> Refused
         }) }
 {
     if holds_fraction(value) {
-        return Refused::Malformed {
-            keyword,
-            kind: CompileErrorKind::FractionalNumber,
-        };
+        return Refused::Malformed(keyword, CompileErrorKind::FractionalNumber);
     }
     match value.clone() {
-        Ok(value) => Refused::Malformed {
-            keyword,
-            kind: CompileErrorKind::NotString { value },
-        },
+        Ok(value) => Refused::Malformed(keyword, CompileErrorKind::NotString { value }),
         Err(_) => Refused::Memory,
     }
 }
@@ -220,7 +210,7 @@ fn refusal(alloc: Global, location: &Location, refused: Refused) -> CompileError
         → (refusal_of result ≡ out_of_memory)
         ⊎ ((refused ≡ Refused.Memory → ⊥) × (refusal_of result ≡ refused_at place refused)) }
 {
-    if let Refused::Malformed { keyword, kind } = refused {
+    if let Refused::Malformed(keyword, kind) = refused {
         if let Ok(location) = location.join(keyword.as_str()) {
             return CompileError { kind, location };
         }

@@ -18,11 +18,9 @@ pub use crate::by_keyword::{
 };
 pub use annotations::{
     ContentEncodingAnnotationValidator, ContentMediaTypeAnnotationValidator,
-    ContentSchemaAnnotationValidator, Untested, take_content_schema,
+    ContentSchemaAnnotationValidator, Untested, compile_moved_schema, take_content_schema,
 };
-pub(crate) use annotations::{
-    build_encoding_annotation, build_media_type_annotation, build_schema_annotation,
-};
+pub(crate) use annotations::{build_schema_annotation, build_text_annotation};
 pub use checks::{
     ContentEncodingValidator, ContentMediaTypeAndEncodingValidator, ContentMediaTypeValidator,
     Encoded, EncodedMediaType, OfMediaType,

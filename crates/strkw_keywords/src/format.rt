@@ -125,7 +125,7 @@ pub(crate) fn build_format<B: EngineBuilder>(
         return Err(no_string(value, Keyword::Format));
     };
     if !checks_formats(&ctx.options, ctx.draft) {
-        let noting = Untested::keyed(ctx, Keyword::Format, value)?;
+        let noting = Untested::keyed(ctx, Keyword::Format, value.clone()?)?;
         return Ok(Some(Validator::AnnotationOnlyFormat(noting)));
     }
     if let Some(position) = ctx.checks.format_named(name) {
@@ -136,13 +136,12 @@ pub(crate) fn build_format<B: EngineBuilder>(
     match builtin_format(ctx.draft, name) {
         Some(format) => Ok(Some(Validator::Format(Keyed::of(ctx, OfBuiltin { format })?))),
         None if ignores_unknown(&ctx.options) => Ok(None),
-        None => Err(Refused::Malformed {
-            kind: CompileErrorKind::UnknownFormat {
-                name: String::from_str(alloc, name)?,
-                by_dialect: ctx.options.formats_by_dialect,
-            },
-            keyword: Keyword::Format,
-        }),
+        None => {
+            let name = String::from_str(alloc, name)?;
+            let by_dialect = ctx.options.formats_by_dialect;
+            let kind = CompileErrorKind::UnknownFormat { name, by_dialect };
+            Err(Refused::Malformed(Keyword::Format, kind))
+        }
     }
 }
 

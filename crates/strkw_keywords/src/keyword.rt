@@ -1,6 +1,6 @@
 //! The seven keywords.
 
-ghost use Rattle.std.specs.Prelude.{◌≡◌};
+ghost use Rattle.std.specs.Prelude.{◌≡◌, ◌↔◌, Some};
 ghost use Rattle.strkw_keywords.specs.Findings.{keyword_failed};
 ghost use Rattle.strkw_keywords.specs.Keywords.{keyword_name, keyword_place};
 
@@ -51,6 +51,22 @@ impl Keyword {
             Keyword::MaxLength => "maxLength",
             Keyword::Pattern => "pattern",
         }
+    }
+
+    /// The keyword of this key, or `None` where it is that of none.
+    pub fn by_name(name: &str) -> Option<Keyword>
+        ensures { (k : Keyword) → (result ≡ Some k) ↔ (name.now ≡ keyword_name k) }
+    {
+        Some(match name {
+            "contentMediaType" => Keyword::ContentMediaType,
+            "contentEncoding" => Keyword::ContentEncoding,
+            "contentSchema" => Keyword::ContentSchema,
+            "format" => Keyword::Format,
+            "minLength" => Keyword::MinLength,
+            "maxLength" => Keyword::MaxLength,
+            "pattern" => Keyword::Pattern,
+            _ => return None,
+        })
     }
 
     /// Its place in that order, counted from 0: where `Options::overridden` tells whether it is left out.

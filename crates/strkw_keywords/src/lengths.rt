@@ -141,10 +141,7 @@ fn greatest_in<O: Object>(options: &Options, parent: &O) -> Option<u64>
 fn refused_limit(keyword: Keyword) -> Refused
     ensures { result ≡ Refused.Malformed keyword CompileErrorKind.Size }
 {
-    Refused::Malformed {
-        keyword,
-        kind: CompileErrorKind::Size,
-    }
+    Refused::Malformed(keyword, CompileErrorKind::Size)
 }
 
 // The validator of `minLength` stands for `maxLength` too, where the limit of `maxLength` is there and good.

@@ -43,7 +43,7 @@ pub use content::{
     ContentEncodingAnnotationValidator, ContentEncodingValidator,
     ContentMediaTypeAndEncodingValidator, ContentMediaTypeAnnotationValidator,
     ContentMediaTypeValidator, ContentSchemaAnnotationValidator, Encoded, EncodedMediaType,
-    OfMediaType, Untested, take_content_schema,
+    OfMediaType, Untested, compile_moved_schema, take_content_schema,
 };
 pub use content_rule::ContentRule;
 pub use findings::{Findings, Found};

@@ -119,8 +119,5 @@ impl Options {
 fn is_on(flags: &[bool], place: usize) -> bool
     ensures { result ≡ is_on flags.now place }
 {
-    match flags.get(place) {
-        Some(flag) => *flag,
-        None => false,
-    }
+    flags.get(place).copied().unwrap_or(false)
 }

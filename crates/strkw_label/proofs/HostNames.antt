@@ -1,6 +1,7 @@
 -- Host names and their parts between dots.
-use Rattle.std.proofs.Common.{ℕ, ◌≤◌, List, length}
+use Rattle.std.proofs.Common.{ℕ, ◌≤◌, ◌↔◌, List, length}
 use Rattle.std.specs.List.{AllByRecursion}
+use Rattle.strkw_text.specs.Abnf.{SeparatedBy}
 use Rattle.strkw_text.proofs.AsciiForms.{DerivesAscii}
 use Rattle.strkw_text.proofs.Separated.{separated_parts, SeparatedBy-weaker, SeparatedBy-at_least}
 use Rattle.strkw_net.specs.HostName.{IsAsciiHostName, IsLabel}
@@ -15,13 +16,9 @@ ascii_host_name text w = record { labels = SeparatedBy-weaker 46 IsHostNameLabel
 pub IsHostName-ascii : DerivesAscii IsHostName
 IsHostName-ascii text w = IsAsciiHostName-ascii text (ascii_host_name text w)
 
--- at most 253 bytes whose parts between dots are all host name labels are a host name
-pub IsHostName-from_parts : (bs : List ℕ) → length bs ≤ 253 → AllByRecursion IsHostNameLabel (parts bs) → IsHostName bs
-IsHostName-from_parts bs few h = record { labels = (separated_parts 46 IsHostNameLabel (λ x l. label_without_dot x l.ascii) bs).1 h; size = few }
-
--- and the parts of a host name between dots are all such labels
-pub host_name_parts : (bs : List ℕ) → IsHostName bs → AllByRecursion IsHostNameLabel (parts bs)
-host_name_parts bs w = (separated_parts 46 IsHostNameLabel (λ x l. label_without_dot x l.ascii) bs).0 w.labels
+-- a text is such labels with dots between them exactly where its parts between dots are
+pub labels_by_parts : (bs : List ℕ) → SeparatedBy 46 IsHostNameLabel bs ↔ AllByRecursion IsHostNameLabel (parts bs)
+labels_by_parts bs = separated_parts 46 IsHostNameLabel (λ x l. label_without_dot x l.ascii) bs
 
 -- a host name has at least 1 and at most 253 characters
 pub host_name_window : (text : List ℕ) → IsHostName text → (1 ≤ length text) × (length text ≤ 253)

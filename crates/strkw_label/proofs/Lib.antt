@@ -15,6 +15,7 @@ pub mod LongNames
 pub mod Payloads
 pub mod OneText
 pub mod PlaceAll
+pub mod PlainLabels
 pub mod PlainNames
 pub mod PointsAndPlaces
 pub mod ReadDelta

@@ -14,11 +14,13 @@ use Rattle.std.proofs.lemmas.Bool.Decides.{nat_tests}
 use Rattle.ucd_bidi.specs.BidiClass.{bidi_class}
 use Rattle.ucd_bidi.specs.BidiClassRows.{bidi_class_rows}
 use Rattle.ucd_table.specs.Rows.{value_in}
+use Rattle.strkw_text.specs.Abnf.{SeparatedBy}
 use Rattle.strkw_text.proofs.AsciiForms.{IsAscii-joined}
 use Rattle.strkw_net.proofs.HostNameLemmas.{parts}
 use Rattle.strkw_label.specs.BidiRule.{is_right_to_left, is_right_to_left_label}
 use Rattle.strkw_label.specs.IdnHostName.{IsIdnHostName, IsPlainLabel, StandsFor, encoded_form, is_label_separator}
 use Rattle.strkw_label.proofs.IdnLabels.{label_is_ascii, encoded_plain}
+use Rattle.strkw_label.proofs.PlainLabels.{plain_by_parts}
 
 -- the test for a direction fails at each number below 128, as one test of all of them
 ascii : agree_below (λ c. is_right_to_left (bidi_class c)) (λ c. false) 128 ≡ true
@@ -71,9 +73,10 @@ each_ascii (label ∷ labels) h = (
   each_ascii labels h.1,
 )
 
--- at most 253 bytes whose parts between dots are NR-LDH labels are an internationalised host name
-pub plain_name : (bs : List ℕ) → length bs ≤ 253 → AllByRecursion IsPlainLabel (parts bs) → IsIdnHostName bs × IsAscii bs
-plain_name bs few h =
+-- at most 253 bytes that are NR-LDH labels with full stops between them are an internationalised host name
+pub plain_name : (bs : List ℕ) → length bs ≤ 253 → SeparatedBy 46 IsPlainLabel bs → IsIdnHostName bs × IsAscii bs
+plain_name bs few name =
+    let h = (plain_by_parts bs).0 name in
     let joined = join_with_byte-slice_split 46 bs in
     let all : IsAscii bs = subst IsAscii joined (IsAscii-joined 46 (parts bs) (lit< tt) (each_ascii (parts bs) h)) in
     let same : slice_split is_label_separator bs ≡ parts bs =

@@ -1,13 +1,14 @@
 //! Host names with internationalised labels (RFC 5890, RFC 5891).
 ghost use Rattle.std.specs.Prelude.{◌↔◌, ◌≤◌, length, IsTrue};
-ghost use Rattle.std.specs.Str.{chars};
-ghost use Rattle.strkw_label.specs.HostName.{IsHostName, KeepsXnRules, EncodesAdmitted};
+ghost use Rattle.std.specs.Str.{byte, chars};
+ghost use Rattle.strkw_text.specs.Abnf.{SeparatedBy};
+ghost use Rattle.strkw_label.specs.HostName.{IsHostName, IsHostNameLabel};
+ghost use Rattle.strkw_label.specs.HostName.{KeepsXnRules, EncodesAdmitted};
 
 use crate::label_rules::validate_unicode_label;
+use crate::plain_labels::{after_plain_labels, has_reserved_hyphens};
 use crate::punycode::decode_payload;
 use strkw_net::first_label;
-
-const LONGEST_HOST_NAME: usize = 253;
 
 /// Whether `hostname` is a host name: an ASCII host name (1 to 253 characters, labels of 1 to 63
 /// letters, digits and hyphens, RFC 1123) in which only labels that begin with `xn--` have hyphens
@@ -23,9 +24,17 @@ pub fn is_valid_hostname(hostname: &str) -> bool
 fn is_host_name(bytes: &[u8]) -> bool
     ensures { IsTrue result ↔ IsHostName bytes.now }
 {
-    if LONGEST_HOST_NAME < bytes.len() {
-        return false;
+    match after_plain_labels(bytes) {
+        None => false,
+        Some([]) => true,
+        Some(rest) => are_host_name_labels(rest),
     }
+}
+
+/// Whether the text is labels that keep the rules of XN-labels, with dots between them.
+fn are_host_name_labels(bytes: &[u8]) -> bool
+    ensures { IsTrue result ↔ SeparatedBy (byte ".") IsHostNameLabel bytes.now }
+{
     let mut rest = bytes;
     while let Some(label) = first_label(rest) {
         if !keeps_xn_rules(label) {
@@ -46,7 +55,7 @@ fn keeps_xn_rules(label: &[u8]) -> bool
     requires { length label.now ≤ 63 }
     ensures { IsTrue result ↔ KeepsXnRules label.now }
 {
-    if label.len() < 4 || label[2] != b'-' || label[3] != b'-' {
+    if !has_reserved_hyphens(label) {
         return true;
     }
     let (prefix, payload) = label.split_at(4);

@@ -5,7 +5,7 @@ ghost use Rattle.std.specs.Prelude.{slice_index, string_bytes};
 ghost use Rattle.std.specs.Char.{IsScalar, to_ascii_lowercase};
 ghost use Rattle.std.specs.List.{slice_split};
 ghost use Rattle.std.specs.Option.{option_map_or};
-ghost use Rattle.std.specs.Str.{byte, chars, IsAscii};
+ghost use Rattle.std.specs.Str.{byte, chars};
 ghost use Rattle.idna.specs.Punycode.{encode, decode};
 ghost use Rattle.strkw_net.specs.HostName.{IsLabel, is_letter_digit_hyphen};
 ghost use Rattle.strkw_label.specs.LabelFacts.{AreFactsOf, AreFactsOfAll};
@@ -13,17 +13,15 @@ ghost use Rattle.strkw_label.specs.IdnHostName as spec;
 ghost use Rattle.strkw_label.specs.IdnHostName.{IsIdnHostName, StandsFor, is_label_separator};
 
 use crate::bidi_rule::{is_right_to_left_label, keeps_bidi_rule};
+use crate::plain_labels::{LONGEST_HOST_NAME, after_plain_labels};
 use crate::unicode_label::{
     has_hyphens_inside, has_reserved_hyphens, is_all_ascii, is_unicode_label,
 };
 use idna::{Errors, punycode};
 use std::alloc::{AllocError, Global};
-use strkw_net::first_label;
 
 /// The most characters of a label in encoded form.
 pub(crate) const LONGEST_LABEL: usize = 63;
-
-const LONGEST_HOST_NAME: usize = 253;
 
 /// The most bytes of a host name: it has at most 253 characters, and a character four bytes.
 const MOST_BYTES: usize = 4 * LONGEST_HOST_NAME;
@@ -51,7 +49,7 @@ const LONGEST_NAME: usize = 254;
 pub fn is_valid_idn_hostname(alloc: Global, hostname: &str) -> Result<bool, AllocError>
     ensures { IfOk result (λ valid. IsTrue valid ↔ IsIdnHostName (chars hostname.now)) }
 {
-    if is_plain_host_name(hostname.as_bytes()) {
+    if let Some([]) = after_plain_labels(hostname.as_bytes()) {
         return Ok(true);
     }
     is_decoded_host_name(alloc, hostname)
@@ -74,35 +72,6 @@ fn is_too_long(text: &str) -> bool
     ensures { IsTrue result → 253 < length (chars text.now) }
 {
     MOST_BYTES < text.len() || LONGEST_HOST_NAME < text.len() && text.is_ascii()
-}
-
-/// Whether the text is NR-LDH labels with full stops between them, which makes an internationalised host name. It takes
-/// no memory.
-fn is_plain_host_name(bytes: &[u8]) -> bool
-    ensures { IsTrue result → IsIdnHostName bytes.now × IsAscii bytes.now }
-{
-    if LONGEST_HOST_NAME < bytes.len() {
-        return false;
-    }
-    let mut rest = bytes;
-    while let Some(label) = first_label(rest) {
-        if are_reserved(label) {
-            return false;
-        }
-        if label.len() == rest.len() {
-            return true;
-        }
-        // A label ends at a dot.
-        rest = &rest[label.len() + 1..];
-    }
-    false
-}
-
-/// Whether hyphens stand in third and fourth place.
-fn are_reserved(label: &[u8]) -> bool
-    ensures { IsTrue result ↔ spec.HasReservedHyphens label.now }
-{
-    label.len() > 3 && label[2] == b'-' && label[3] == b'-'
 }
 
 fn is_idn_host_name(alloc: Global, text: &[char]) -> Result<bool, AllocError>

@@ -11,6 +11,7 @@ mod host_name;
 mod idn_host_name;
 mod label_rules;
 pub mod laws;
+mod plain_labels;
 mod properties;
 mod punycode;
 mod u_label;

@@ -5,3 +5,4 @@ pub mod Whole
 pub mod Meaning
 pub mod Printable
 pub mod Folding
+pub mod Owned

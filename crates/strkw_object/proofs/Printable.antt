@@ -3,7 +3,7 @@
 use Rattle.std.proofs.Common.{◌≡◌, ◌⊎◌, inl, inr, ℕ, List, [], ◌∷◌, false, Option, Some, None, refl, sym, ap, subst}
 use Rattle.std.specs.List.{AllByRecursion}
 use Rattle.std.proofs.lemmas.List.Elements.{All-nil, All-cons, All-append}
-use Rattle.serde_json.specs.Data.{number, object, Members}
+use Rattle.serde_json.specs.Data.{Members}
 use Rattle.serde_json.specs.Written.{has_float}
 use Rattle.strkw_report.specs.Refusals.{Refusal, prints_float, reason_of, refusal_of}
 use Rattle.strkw_report.specs.declared.refusal.CompileError.{CompileError}

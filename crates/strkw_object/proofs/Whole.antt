@@ -6,18 +6,19 @@ use Rattle.strkw_report.specs.Refusals.{refusal_of}
 use Rattle.strkw_report.specs.declared.refusal.CompileError.{CompileError}
 use Rattle.strkw_pattern.specs.declared.engine.Outcome.{Outcome}
 use Rattle.strkw_keywords.specs.declared.keyword.Keyword.{Keyword}
-use Rattle.strkw_keywords.specs.declared.keyword.Keyword.TheVariants.{ContentMediaType, ContentEncoding, ContentSchema, Format, MinLength, MaxLength, Pattern}
+use Rattle.strkw_keywords.specs.declared.keyword.Keyword.TheVariants.{ContentSchema}
 use Rattle.strkw_keywords.specs.declared.validator.Validator.{Validator}
 use Rattle.strkw_keywords.specs.Object.{Settings, Keyed, AreEntries, AreEntriesOf, is_fused, refusal, keywords, share, shares, FirstRefusal}
 use Rattle.strkw_keywords.specs.Compiled.{out_of_memory, IsCompiledAt}
 use Rattle.strkw_keywords.specs.declared.values.Values.{Values}
-use Rattle.strkw_keywords.specs.Values.{AreValuesOf}
-use Rattle.strkw_keywords.specs.Without.{KeepsOthers}
+use Rattle.strkw_keywords.specs.Values.{AreValuesOf, held, members_of}
 use Rattle.strkw_keywords.proofs.Entries.{entries_of_exist}
 use Rattle.strkw_keywords.proofs.EntriesOf.{entries_both, shares_all, shares_at, shares_more}
-use Rattle.strkw_keywords.proofs.Without.{Apart, other_compiled}
+use Rattle.strkw_keywords.proofs.Held.{held_is_member}
+use Rattle.strkw_keywords.proofs.Without.{other_compiled}
 use Rattle.strkw_object.specs.declared.strings.StringKeywords.{StringKeywords}
 use Rattle.strkw_object.specs.Compiled.{IsCompiledFrom}
+use Rattle.strkw_object.specs.Values.{AreOthersOf}
 use Rattle.strkw_object.proofs.Steps.{Stand, stand_still, stand_more, refusal-found, refusal-passed}
 
 module _ {E : Type 0} (outcome : E → List ℕ → Outcome) (s : Settings) (ms : Members) where
@@ -99,12 +100,6 @@ module _ {E : Type 0} (outcome : E → List ℕ → Outcome) (s : Settings) (ms 
 
 -- ---- an object by the values at the other keywords, and by what its entry at `contentSchema` is compiled to
 
--- an object that has these values, but perhaps not that at `contentSchema`
-pub record HasOthers (values : Values) (ms : Members) : Type 0 where
-  pub others : Members
-  pub keeps : KeepsOthers ms others
-  pub are_values : AreValuesOf others values
-
 -- that entry is the third
 third : (i : ℕ) → i < length keywords → ContentSchema ≡ get_or keywords i ContentSchema → i ≡ 2
 third zero h e = absurd (cc)
@@ -116,27 +111,17 @@ third (suc (suc (suc (suc (suc zero))))) h e = absurd (cc)
 third (suc (suc (suc (suc (suc (suc zero)))))) h e = absurd (cc)
 third (suc (suc (suc (suc (suc (suc (suc i))))))) h e = absurd (omega (arith, h))
 
--- a keyword that is not `contentSchema` has another name
-apart : (k : Keyword) → (k ≡ ContentSchema → ⊥) → Apart k
-apart ContentMediaType other = refl
-apart ContentEncoding other = refl
-apart ContentSchema other = absurd (other refl)
-apart Format other = refl
-apart MinLength other = refl
-apart MaxLength other = refl
-apart Pattern other = refl
-
 module _ {E : Type 0} (outcome : E → List ℕ → Outcome) (s : Settings) (values : Values)
     (given : Option (Result (Validator E) CompileError)) where
   -- of each such object the entries in front of a place are compiled, and that at `contentSchema` waits until it is
   -- asked
   pub record Beside (i : ℕ) (waiting : Option (Result (Validator E) CompileError)) (vs : List (Validator E)) : Type 0 where
-    pub done : (ms : Members) → HasOthers values ms → IsCompiledAt outcome s ms ContentSchema given → Done outcome s ms (take i keywords) vs
+    pub done : (ms : Members) → AreOthersOf ms values → IsCompiledAt outcome s ms ContentSchema given → Done outcome s ms (take i keywords) vs
     pub waits : i < 3 → waiting ≡ given
 
   -- of each such object this is what the entry at a place is compiled to
   pub record Asked (i : ℕ) (k : Keyword) (waiting compiled : Option (Result (Validator E) CompileError)) : Type 0 where
-    pub asked : (ms : Members) → HasOthers values ms → IsCompiledAt outcome s ms ContentSchema given → IsCompiledAt outcome s ms k compiled
+    pub asked : (ms : Members) → AreOthersOf ms values → IsCompiledAt outcome s ms ContentSchema given → IsCompiledAt outcome s ms k compiled
     pub waits : i + 1 < 3 → waiting ≡ given
 
   -- at the start nothing is compiled, and what is given for `contentSchema` waits
@@ -160,8 +145,9 @@ module _ {E : Type 0} (outcome : E → List ℕ → Outcome) (s : Settings) (val
       → ((others : Members) → AreValuesOf others values → IsCompiledAt outcome s others k compiled)
       → Beside i waiting vs → Asked i k waiting compiled
   asked_other i k waiting compiled vs other h b = record {
-    asked = λ ms has schema. other_compiled outcome s ms has.others has.keeps k compiled (apart k other)
-        (h has.others has.are_values);
+    asked = λ ms has schema. other_compiled outcome s ms (members_of values)
+        (λ w apart. sym (held_is_member (held values) w) ∙ has.same w apart) k compiled other
+        (h (members_of values) (record { same = held_is_member (held values) }));
     waits = λ before. b.waits (omega (arith, before));
   }
 
@@ -186,14 +172,14 @@ module _ {E : Type 0} (outcome : E → List ℕ → Outcome) (s : Settings) (val
   -- the error at a place is the first refusal of each such object, or out of memory
   pub beside_refused : (i : ℕ) (k : Keyword) (waiting later compiled : Option (Result (Validator E) CompileError)) (vs : List (Validator E))
       (error : CompileError) → i < length keywords → k ≡ get_or keywords i k
-      → Beside i waiting vs → Asked i k later compiled → compiled ≡ Some (Err error) → (ms : Members) → HasOthers values ms
+      → Beside i waiting vs → Asked i k later compiled → compiled ≡ Some (Err error) → (ms : Members) → AreOthersOf ms values
       → IsCompiledAt outcome s ms ContentSchema given → IsRefusal outcome s ms error
   beside_refused i k waiting later compiled vs error h at b a is ms has schema =
       done_refused outcome s ms i k vs error h at (b.done ms has schema) (rw is at a.asked ms has schema)
 
   -- behind all keywords, each such object is compiled to these validators
   pub beside_compiled : (i : ℕ) (waiting : Option (Result (Validator E) CompileError)) (k : StringKeywords E) → take i keywords ≡ keywords
-      → Beside i waiting k.validators.items → (ms : Members) → HasOthers values ms → IsCompiledAt outcome s ms ContentSchema given
+      → Beside i waiting k.validators.items → (ms : Members) → AreOthersOf ms values → IsCompiledAt outcome s ms ContentSchema given
       → IsCompiledFrom outcome s ms k
   beside_compiled i waiting k whole b ms has schema =
       compiled_object outcome s ms k (subst (λ l. Done outcome s ms l k.validators.items) whole (b.done ms has schema))

@@ -1,6 +1,6 @@
 //! The compilation of a schema object's string keywords.
 
-ghost use Rattle.std.specs.Prelude.{◌≡◌, ◌⊎◌, IfErr, IfOk, Some, false};
+ghost use Rattle.std.specs.Prelude.{◌≡◌, ◌⊎◌, IfErr, IfOk, None, Some, false};
 ghost use Rattle.serde_json.specs.Data.{Members};
 ghost use Rattle.serde_json.specs.View.{members_view};
 ghost use Rattle.strkw_report.specs.Refusals.{prints_float, reason_of, refusal_of};
@@ -8,15 +8,17 @@ ghost use Rattle.strkw_keywords.specs.Compiled.{IsCompiledAt, out_of_memory};
 ghost use Rattle.strkw_keywords.specs.Demands.{IsInUse};
 ghost use Rattle.strkw_keywords.specs.Handed.{lists_of, settings_of};
 ghost use Rattle.strkw_keywords.specs.Object.{FirstRefusal};
-ghost use Rattle.strkw_keywords.specs.Values.{AreValuesOf};
-ghost use Rattle.strkw_keywords.specs.Without.{KeepsOthers};
 ghost use Rattle.strkw_object.specs.Compiled.{IsCompiledFrom, keywords_demands};
+ghost use Rattle.strkw_object.specs.Values.{AreOthersOf, AreOwnedOf, owned};
 
 use crate::strings::StringKeywords;
+use crate::values::OwnedValues;
 use serde_json::{Map, Value};
 use std::alloc::Global;
 use strkw_keywords::laws::compiled_is_in_use;
-use strkw_keywords::{Context, Keyword, Validator, Values, compile_among, take_content_schema};
+use strkw_keywords::{
+    Context, Keyword, Validator, Values, compile_among, compile_moved_schema, take_content_schema,
+};
 use strkw_pattern::EngineBuilder;
 use strkw_report::{CompileError, CompileErrorKind, Location};
 
@@ -78,6 +80,35 @@ pub fn compile_owned<B: EngineBuilder>(
     compile_beside(alloc, ctx, &Values::of(&object), schema)
 }
 
+/// What `compile_strings` answers for an object with these values. That at `contentSchema` is taken out, moved into the
+/// compiled keywords, and not copied; the others stay.
+pub fn compile_values<B: EngineBuilder>(
+    alloc: Global,
+    ctx: &Context<'_, B>,
+    values: &mut OwnedValues,
+) -> Result<StringKeywords<B::Engine>, CompileError>
+    ensures compiled { (ms : Members) → AreOwnedOf ms values.old
+        → IfOk result (λ k. IsCompiledFrom B.Engine.outcome
+        (settings_of B.takes B.outcome admits accepted encoded decoding ctx.now) ms k) }
+    ensures in_use { IfOk result (λ k. IsInUse (keywords_demands B.Engine.outcome k)
+        (lists_of admits accepted encoded decoding ctx.now.checks)) }
+    ensures refused { (ms : Members) → AreOwnedOf ms values.old
+        → IfErr result (λ e. (refusal_of e ≡ out_of_memory) ⊎ FirstRefusal
+        (settings_of B.takes B.outcome admits accepted encoded decoding ctx.now)
+        ms (Some (refusal_of e))) }
+    // So each refusal has its text.
+    ensures printable { IfErr result (λ e. prints_float (reason_of e.kind) ≡ false) }
+    ensures taken { owned values.new Keyword.ContentSchema ≡ None }
+    ensures others { (other : Keyword) → (other ≡ Keyword.ContentSchema → ⊥)
+        → owned values.new other ≡ owned values.old other }
+{
+    compiled_is_in_use();
+    let schema = values.take_schema();
+    let others = values.borrowed();
+    let schema = compile_moved_schema(alloc, ctx, others.content_media_type, schema);
+    compile_beside(alloc, ctx, &others, schema)
+}
+
 // Compiles the keywords of an object by what its entry at `contentSchema` is compiled to, and by the values at the
 // others.
 fn compile_beside<B: EngineBuilder>(
@@ -86,14 +117,12 @@ fn compile_beside<B: EngineBuilder>(
     values: &Values<'_>,
     mut schema: Option<Result<Validator<B::Engine>, CompileError>>,
 ) -> Result<StringKeywords<B::Engine>, CompileError>
-    ensures compiled { (ms others : Members) → KeepsOthers ms others
-        → AreValuesOf others values.now
+    ensures compiled { (ms : Members) → AreOthersOf ms values.now
         → IsCompiledAt B.Engine.outcome (settings_of B.takes B.outcome admits accepted encoded
         decoding ctx.now) ms Keyword.ContentSchema schema
         → IfOk result (λ k. IsCompiledFrom B.Engine.outcome
         (settings_of B.takes B.outcome admits accepted encoded decoding ctx.now) ms k) }
-    ensures refused { (ms others : Members) → KeepsOthers ms others
-        → AreValuesOf others values.now
+    ensures refused { (ms : Members) → AreOthersOf ms values.now
         → IsCompiledAt B.Engine.outcome (settings_of B.takes B.outcome admits accepted encoded
         decoding ctx.now) ms Keyword.ContentSchema schema
         → IfErr result (λ e. (refusal_of e ≡ out_of_memory)

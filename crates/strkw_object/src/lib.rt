@@ -5,7 +5,9 @@
 mod compile;
 pub mod laws;
 mod strings;
+mod values;
 
-pub use compile::{compile_owned, compile_strings};
+pub use compile::{compile_owned, compile_strings, compile_values};
 pub use strings::{ObjectEvaluation, StringKeywords};
 pub use strkw_keywords::Note;
+pub use values::OwnedValues;

@@ -119,6 +119,13 @@ module _ (say : Report → List ℕ) where
       (subst (λ t. Says m (reported (standing at root_site) t b) mid new) read
       (subst (λ p. Says m (reported (standing p root_site) this b) mid new) same second))
 
+  -- nothing is said of a text of which a validator finds nothing
+  pub said_of_none : (at : Place) (ds : List Demand) (lists : Lists) (text : List ℕ) (found : List Finding) (old : List ℕ) → Finds ds lists text found
+      → found ≡ [] → AppendsSaid (NodeReports (placed at ds) lists root_site (Some text)) say 0 old old
+  said_of_none at ds lists text found old finds none =
+      nothing (NodeReports (placed at ds) lists root_site (Some text)) old
+      (found_reports at ds lists root_site text [] (subst (λ fs. Finds ds lists text fs) none finds))
+
   -- ---- all validators
 
   -- what is said by one validator more

@@ -90,6 +90,9 @@ fn push_messages_of<E: RegexEngine, F: MessageForm, N: Node>(
         length (string_bytes out.old) + count ≤ length (string_bytes out.new)) }
 {
     let found = validator.findings(alloc, text, checks)?;
+    if found.is_empty() {
+        return Ok(0);
+    }
     let (origin, text) = (validator.origin(), text.as_str());
     let first = push_found(alloc, form, origin, text, &found.first, out)?;
     let second = push_found(alloc, form, origin, text, &found.second, out)?;

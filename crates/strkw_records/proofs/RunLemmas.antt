@@ -1,11 +1,14 @@
 -- Runs of bytes at the front of a text, by blocks.
-use Rattle.std.proofs.Common.{◌≡◌, ◌≤◌, ◌<◌, ◌+◌, ◌^◌, ◌%◌, ℕ, zero, suc, List, [], ◌∷◌, Bool, true, false, not, cond, eqb, ◌||◌, map, replicate, take, length}
+use Rattle.std.proofs.Common.{◌≡◌, ◌≤◌, ◌<◌, ◌+◌, ◌-◌, ◌^◌, ◌%◌, inl, inr, ℕ, zero, suc, List, [], ◌∷◌, Bool, true, false, not, cond, eqb, leb, w8, ◌||◌, map, replicate, take, drop, length}
 use Rattle.std.proofs.Common.{refl, sym, ap, subst, arith, ◌∙◌, get_or, bit_or, Option, Some, None}
 use Rattle.std.specs.Prelude.{◌==◌, is_some, unwrap_or}
+use Rattle.std.specs.Bool.{MatchBool}
 use Rattle.std.specs.List.{prefix_len}
+use Rattle.std.specs.Str.{IsAscii, IsNotAscii}
 use Rattle.std.specs.Simd.Lanes.{mask_l, zip2}
-use Rattle.std.proofs.lemmas.List.{length-map, take_all}
-use Rattle.std.proofs.lemmas.Simd.{first_set_mask_l, map-map, mask_l-mod, run_in_chunk_fails, run_in_chunk_stops, zip2_of_maps, zip2_splat}
+use Rattle.std.proofs.lemmas.Bool.{cases_lt, leb-false, leb-true}
+use Rattle.std.proofs.lemmas.List.{get_or_past, length-map, take_all, take_rest}
+use Rattle.std.proofs.lemmas.Simd.{tops_compared, zip2_splat_left, first_set_mask_l, map-map, mask_l-mod, run_in_chunk_fails, run_in_chunk_stops, zip2_of_maps, zip2_splat}
 use Rattle.memchr.specs.Find.{IsFirstByte, is_byte2, is_byte3}
 use Rattle.strkw_records.specs.Lines.{HasNoLineByte, is_line_byte, is_or_line_byte}
 use Rattle.strkw_records.proofs.LineLemmas.{has_no_line_byte-at}
@@ -59,6 +62,55 @@ run_of_lanes byte block r size found =
     let mask : mask_l (map (top 7) (lanes_of byte block)) % 2 ^ 64 ≡ mask_l (map (is_or_line_byte byte) block) =
     ap (λ l. mask_l l % 2 ^ 64) tops ∙ mask_l-mod (map (is_or_line_byte byte) block) 64 (omega (arith, length-map block (is_or_line_byte byte), size)) in
     found ∙ ap (λ m. cond (eqb m 0) 16 (count_trailing_zeros 64 m)) mask ∙ first_set_mask_l (is_or_line_byte byte) block 16 size (omega arith)
+
+-- what the lanes of 16 bytes count is how many of them stand before the first that is past ASCII
+pub ascii_run_of_lanes : (block : List ℕ) (r : ℕ) → length block ≡ 16
+    → r ≡ cond (eqb (mask_l (map (top 7) (zip2 (λ a b. marked (leb a b)) (replicate 16 128) block)) % 2 ^ 64) 0) 16
+    (count_trailing_zeros 64 (mask_l (map (top 7) (zip2 (λ a b. marked (leb a b)) (replicate 16 128) block)) % 2 ^ 64))
+    → r ≡ prefix_len (λ c. not (leb 128 c)) block
+ascii_run_of_lanes block r size found =
+    let tops = tops_compared w8 leb (replicate 16 128) block ∙ zip2_splat_left leb 128 16 block size in
+    let mask = ap (λ l. mask_l l % 2 ^ 64) tops ∙ mask_l-mod (map (leb 128) block) 64 (omega (arith, length-map block (leb 128), size)) in
+    found ∙ ap (λ m. cond (eqb m 0) 16 (count_trailing_zeros 64 m)) mask ∙ first_set_mask_l (leb 128) block 16 size (omega arith)
+
+-- so many bytes of the block at a place are ASCII
+abbrev pub IsAsciiRun : List ℕ → ℕ → ℕ → Type 0
+IsAsciiRun xs at n = n ≡ prefix_len (λ c. not (leb 128 c)) (take 16 (take (length xs - at) (drop at xs)))
+
+-- the block at a place is the front of what is left there
+of_rest : (xs : List ℕ) (at n : ℕ) → IsAsciiRun xs at n → n ≡ prefix_len (λ c. not (leb 128 c)) (take 16 (drop at xs))
+of_rest xs at n run = run ∙ ap (λ l. prefix_len (λ c. not (leb 128 c)) (take 16 l)) (take_rest xs at)
+
+-- the bytes of the block before the end of its run are ASCII
+pub ascii-before : (xs : List ℕ) (at n : ℕ) → at + 16 ≤ length xs → IsAsciiRun xs at n → (k : ℕ) → at ≤ k → k < at + n → get_or xs k 0 < 128
+ascii-before xs at n inside run k low high = leb-false 128 _ (run_in_chunk_fails (leb 128) xs at 16 n 0 inside (of_rest xs at n run) k low high)
+
+-- and where its run ends before it does, a byte past ASCII stands there
+pub ascii-stops : (xs : List ℕ) (at n : ℕ) → at + 16 ≤ length xs → IsAsciiRun xs at n → n < 16 → 128 ≤ get_or xs (at + n) 0
+ascii-stops xs at n inside run short = leb-true 128 _ (run_in_chunk_stops (leb 128) xs at 16 n 0 inside (of_rest xs at n run) short)
+
+-- where all before a block are ASCII, so are all as far as its run goes
+pub ascii-more : (xs : List ℕ) (at n : ℕ) → at + 16 ≤ length xs → ((k : ℕ) → k < at → get_or xs k 0 < 128) → IsAsciiRun xs at n
+    → (k : ℕ) → k < at + n → get_or xs k 0 < 128
+ascii-more xs at n inside before run k high = elim (cases_lt k at) [
+  | inl low ↦ before k low
+  | inr above ↦ ascii-before xs at n inside run k above high
+]
+
+-- what holds where a test is true, and what where it is false
+matched : {P Q : Type 0} (b : Bool) → (b ≡ true → P) → (b ≡ false → Q) → MatchBool b P Q
+matched true holds fails = holds refl
+matched false holds fails = fails refl
+
+-- where all before the last block are ASCII, the run of that block decides
+pub ascii-decided : (xs : List ℕ) (at n : ℕ) → at + 16 ≡ length xs → ((k : ℕ) → k < at → get_or xs k 0 < 128) → IsAsciiRun xs at n
+    → MatchBool (leb 16 n) (IsAscii xs) (IsNotAscii xs)
+ascii-decided xs at n last before run = matched (leb 16 n)
+    (λ long k. let whole = leb-true 16 n long in elim (cases_lt k (length xs)) [
+      | inl inside ↦ ascii-more xs at n (omega arith) before run k (omega arith)
+      | inr past ↦ rw (get_or_past xs k 0 past) (omega arith)
+    ])
+    (λ short. (at + n, ascii-stops xs at n (omega arith) run (leb-false 16 n short)))
 
 -- a truth value that is not true is false
 not-true : (b : Bool) → ¬ (b ≡ true) → b ≡ false

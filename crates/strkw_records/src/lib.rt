@@ -19,3 +19,4 @@ pub use delimiter::Delimiter;
 pub use faults::ReadFault;
 pub use limits::Limits;
 pub use reader::RecordReader;
+pub use runs::is_ascii;

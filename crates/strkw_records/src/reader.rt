@@ -9,7 +9,7 @@ use crate::faults::ReadFault;
 use crate::gathered::Gathered;
 use crate::input::Input;
 use crate::limits::Limits;
-use crate::runs::{is_line_free, line_bytes_run};
+use crate::runs::{is_ascii, is_line_free, line_bytes_run};
 use csv::{ByteRecord, StringRecord};
 use std::alloc::{AllocError, Global};
 use std::io::Read;
@@ -164,7 +164,7 @@ fn first_not_utf8(fields: &ByteRecord) -> Option<usize>
     ensures some { IfSome result (IsFirstNotUtf8 (fields_of fields.now)) }
     ensures none { IfNone result (AllText (fields_of fields.now)) }
 {
-    if fields.as_slice().is_ascii() {
+    if is_ascii(fields.as_slice()) {
         return None;
     }
     for at in 0..fields.len() {

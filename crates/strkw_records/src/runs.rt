@@ -1,7 +1,9 @@
 //! Runs of bytes at the front of a text.
 
-ghost use Rattle.std.specs.Prelude.{◌≡◌, ◌↔◌, ◌≤◌, ◌<◌, ◌==◌, if◌then◌else◌, true, false, not, ℕ, length, take, slice_index};
+ghost use Rattle.std.specs.Prelude.{◌≡◌, ◌↔◌, ◌≤◌, ◌<◌, ◌==◌, if◌then◌else◌, true, false, not, ℕ, length, nat_le, take, slice_index};
+ghost use Rattle.std.specs.Bool.{MatchBool};
 ghost use Rattle.std.specs.Int.{trailing_zeros, w64};
+ghost use Rattle.std.specs.Str.{IsAscii, IsNotAscii};
 ghost use Rattle.std.specs.List.{prefix_len};
 ghost use Rattle.csv.specs.Machine.{Runs};
 ghost use Rattle.strkw_records.specs.Delimiters.{table_config};
@@ -73,6 +75,34 @@ fn first_set(mask: u64) -> usize
     } else {
         mask.trailing_zeros() as usize
     }
+}
+
+// How many bytes of the block at the front stand before the first that is past ASCII.
+#[inline(always)]
+fn ascii_run_of_block(bytes: &[u8]) -> usize
+    requires { 16 ≤ length bytes.now }
+    ensures { result ≡ prefix_len (λ c. not (nat_le 128 c)) (take 16 bytes.now) }
+{
+    let block = u8x16::from_slice(bytes);
+    first_set(block.simd_ge(u8x16::splat(128)).to_bitmask())
+}
+
+/// Whether all bytes are ASCII. They are looked at by blocks, of which the last may overlap the one before.
+pub fn is_ascii(bytes: &[u8]) -> bool
+    ensures { MatchBool result (IsAscii bytes.now) (IsNotAscii bytes.now) }
+{
+    if bytes.len() < LANES {
+        return bytes.is_ascii();
+    }
+    let last = bytes.len() - LANES;
+    let mut at = 0;
+    'blocks: while at < last {
+        if ascii_run_of_block(&bytes[at..]) < LANES {
+            return false;
+        }
+        at += LANES;
+    }
+    ascii_run_of_block(&bytes[last..]) >= LANES
 }
 
 // How many bytes of the block at the front stand before the first that is this one or a part of a line end.

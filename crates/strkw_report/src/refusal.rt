@@ -1,4 +1,4 @@
-ghost use Rattle.std.specs.Prelude.{◌≡◌, ◌++◌, false, IfOk, string_bytes};
+ghost use Rattle.std.specs.Prelude.{◌≡◌, ◌++◌, ℕ, List, false, IfOk, OnErr, OnOk, string_bytes};
 ghost use Rattle.strkw_report.specs.Refusals.{reason_of, prints_float, explanation, value_text, advice};
 ghost use Rattle.strkw_report.specs.Wordings.{spelled};
 
@@ -42,6 +42,17 @@ impl CompileError {
             → string_bytes s ≡ explanation (reason_of self.now.kind)) }
     {
         self.kind.text(alloc)
+    }
+
+    /// Appends what `text` gives. Out of memory, a beginning of it may have been appended.
+    pub fn push_text(&self, alloc: Global, out: &mut Vec<u8>) -> Result<(), AllocError>
+        ensures ok { OnOk result (prints_float (reason_of self.now.kind) ≡ false
+            → out.new.items ≡ out.old.items ++ explanation (reason_of self.now.kind)) }
+        ensures err { OnErr result ((more : List ℕ) × (out.new.items ≡ out.old.items ++ more)) }
+    {
+        let value = self.kind.value_text(alloc)?;
+        out.extend_from_slice(value.as_bytes())?;
+        self.kind.wording().push(out)
     }
 }
 

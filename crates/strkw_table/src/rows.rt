@@ -28,7 +28,7 @@ use std::alloc::{AllocError, Global};
 use std::io::{Read, Write};
 use strkw_keywords::Checks;
 use strkw_pattern::RegexEngine;
-use strkw_records::{ReadFault, RecordReader};
+use strkw_records::{ReadFault, RecordReader, is_ascii};
 
 // So many bytes of messages are gathered before they are written.
 const GATHERED: usize = 65536;
@@ -113,7 +113,10 @@ fn check_record<E: RegexEngine, F: FieldForm>(
     let mut count = 0u64;
     for at in 0..columns.len() {
         let more = check_field(alloc, columns, checks, form, row, at, out)?;
-        count = count.checked_add(more).ok_or(TableFault::TooLong)?;
+        let Some(sum) = count.checked_add(more) else {
+            return Err(TableFault::TooLong);
+        };
+        count = sum;
     }
     Ok(count)
 }
@@ -137,7 +140,7 @@ fn first_broken<E>(columns: &[SchemaColumn<'_, E>], row: &ByteRecord) -> Option<
     ensures none { IfNone result ((at : ℕ)
         → IsBrokenAt (checked_of columns.now) (fields_of row.now) at → ⊥) }
 {
-    if row.as_slice().is_ascii() {
+    if is_ascii(row.as_slice()) {
         return None;
     }
     for at in 0..columns.len() {
@@ -351,7 +354,10 @@ fn gather_rows<E: RegexEngine, R: Read, W: Write, P: Watch, F: FieldForm>(
         let Some(more) = check_next(alloc, columns, checks, form, broken, records, out)? else {
             return Ok(checked);
         };
-        checked.errors = checked.errors.checked_add(more).ok_or(TableFault::TooLong)?;
+        let Some(errors) = checked.errors.checked_add(more) else {
+            return Err(TableFault::TooLong);
+        };
+        checked.errors = errors;
         checked.records += 1;
         write_gathered(out, is_due(out, &records.reader), writer)?;
         watch.at(checked);

@@ -1,6 +1,6 @@
 //! What the four calls on one instance answer, as lines.
 
-use crate::shown::{OUT_OF_MEMORY, push_error, push_errors};
+use crate::shown::{OUT_OF_MEMORY, is_displayed, push_error, push_errors};
 use std::alloc::{AllocError, Global};
 use strkw_keywords::{Checks, Fault};
 use strkw_report::{ErrorKind, Location, Node, Site, ValidationError, error_at};
@@ -129,11 +129,28 @@ pub fn push_first_error(
 ) -> Result<(), AllocError> {
     let pushed = match &verdict {
         Ok(()) => Ok(()),
-        Err(Fault::Invalid(error)) => push_error(alloc, error, lines),
-        Err(Fault::Memory) => lines.push_str(OUT_OF_MEMORY),
+        Err(fault) => push_fault(alloc, fault, lines),
     };
     drop(verdict);
     pushed
+}
+
+// Appends a fault, and a line where it is displayed otherwise.
+fn push_fault(alloc: Global, fault: &Fault, lines: &mut String) -> Result<(), AllocError> {
+    let text = match fault {
+        Fault::Invalid(error) => {
+            push_error(alloc, error, lines)?;
+            error.text(alloc)?
+        }
+        Fault::Memory => {
+            lines.push_str(OUT_OF_MEMORY)?;
+            String::from_str(alloc, "out of memory")?
+        }
+    };
+    if is_displayed(alloc, fault, &text)? {
+        return Ok(());
+    }
+    lines.push_str("      the fault is displayed otherwise\n")
 }
 
 /// Appends what `evaluate` answered.

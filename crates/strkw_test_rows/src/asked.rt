@@ -6,8 +6,9 @@ use crate::{row, shown};
 use serde_json::{Map, Value};
 use std::alloc::{AllocError, Global};
 use strkw_keywords::{Checks, Context};
-use strkw_object::compile_strings;
-use strkw_test_doubles::{Name, ScriptedBuilder, compile_entry};
+use strkw_object::{StringKeywords, compile_owned, compile_strings};
+use strkw_report::CompileError;
+use strkw_test_doubles::{Name, ScriptedBuilder, ScriptedEngine, compile_entry};
 
 /// Appends what is compiled of the object, or of the one entry that the row names, and its answers; and where a pattern
 /// was shown to the builder, how often.
@@ -21,12 +22,13 @@ pub fn push_asked(
     let Some(schema) = row.get("schema").and_then(Value::as_object) else {
         return out.push_str("  no schema\n");
     };
-    let told = match row.get("keyword").and_then(Value::as_str) {
-        Some(name) => push_entry(alloc, row, all, ctx, name, schema, out),
+    match row.get("keyword").and_then(Value::as_str) {
+        Some(name) => {
+            push_entry(alloc, row, all, ctx, name, schema, out)?;
+            push_calls(ctx.builder.calls.get(), out)
+        }
         None => push_object(alloc, row, all, ctx, schema, out),
-    };
-    told?;
-    push_calls(ctx.builder.calls.get(), out)
+    }
 }
 
 fn push_calls(calls: u32, out: &mut String) -> Result<(), AllocError> {
@@ -68,12 +70,49 @@ fn push_object(
     out: &mut String,
 ) -> Result<(), AllocError> {
     let compiled = compile_strings(alloc, ctx, schema);
-    let told = match &compiled {
-        Err(refusal) => shown::push_refusal(alloc, refusal, out),
-        Ok(keywords) => push_compiled(alloc, row, all, &ctx.checks, keywords, out),
+    let mut lent = String::new(alloc);
+    let told = push_keywords(alloc, row, all, &ctx.checks, &compiled, &mut lent);
+    drop(compiled);
+    told?;
+    out.push_str(&lent)?;
+    push_calls(ctx.builder.calls.get(), out)?;
+    let mut given_up = String::new(alloc);
+    push_given_up(alloc, row, all, ctx, &mut given_up)?;
+    if given_up.as_str() == lent.as_str() {
+        return Ok(());
+    }
+    out.push_str("  given up, the object says otherwise\n")
+}
+
+// Appends what an object that is given up is compiled to.
+fn push_given_up(
+    alloc: Global,
+    row: &Value,
+    all: &Checks<'_>,
+    ctx: &Context<'_, ScriptedBuilder<'_>>,
+    out: &mut String,
+) -> Result<(), AllocError> {
+    let Some(Value::Object(schema)) = row.get("schema") else {
+        return Ok(());
     };
+    let compiled = compile_owned(alloc, ctx, schema.clone()?);
+    let told = push_keywords(alloc, row, all, &ctx.checks, &compiled, out);
     drop(compiled);
     told
+}
+
+fn push_keywords(
+    alloc: Global,
+    row: &Value,
+    all: &Checks<'_>,
+    checks: &Checks<'_>,
+    compiled: &Result<StringKeywords<ScriptedEngine<'_>>, CompileError>,
+    out: &mut String,
+) -> Result<(), AllocError> {
+    match compiled {
+        Err(refusal) => shown::push_refusal(alloc, refusal, out),
+        Ok(keywords) => push_compiled(alloc, row, all, checks, keywords, out),
+    }
 }
 
 // Appends what it is, with which ranges of the lists it is in use, and what it says of each instance.

@@ -2,7 +2,7 @@
 
 use serde_json::Value;
 use std::alloc::{AllocError, Global};
-use strkw_cli::{MemorySink, MemorySource, run};
+use strkw_cli::{BoundedRunFault, MemorySink, MemorySource, run, run_bounded};
 
 // The most bytes of an output that are printed whole.
 const MOST: usize = 2000;
@@ -26,19 +26,29 @@ fn push_part(part: &Value, input: &mut Vec<u8>) -> Result<(), AllocError> {
     Ok(())
 }
 
-/// Appends how a run ends on an input that is given by its parts, and what is written; of a long output its beginning.
-pub fn push_output(alloc: Global, parts: &[Value], out: &mut String) -> Result<(), AllocError> {
+/// Appends what a run writes on an input that is given by its parts, of a long output its beginning, and then its fault.
+/// No line may be longer than the row's `longest`, where it has one.
+pub fn push_output(
+    alloc: Global,
+    row: &Value,
+    parts: &[Value],
+    out: &mut String,
+) -> Result<(), AllocError> {
     let mut input = Vec::new(alloc);
     for part in parts {
         push_part(part, &mut input)?;
     }
     let mut source = MemorySource::new(input);
     let mut sink = MemorySink::new(alloc);
-    match run(alloc, &mut source, &mut sink) {
-        Ok(()) => {}
-        Err(fault) => out.push_str(fault.text())?,
+    let ended = match row.get("longest").and_then(Value::as_u64) {
+        Some(longest) => run_bounded(alloc, longest as usize, &mut source, &mut sink),
+        None => run(alloc, &mut source, &mut sink).map_err(BoundedRunFault::Run),
+    };
+    push_bytes(sink.bytes(), out)?;
+    match ended {
+        Ok(()) => Ok(()),
+        Err(fault) => write!(out, "{fault}\n"),
     }
-    push_bytes(sink.bytes(), out)
 }
 
 fn push_bytes(bytes: &[u8], out: &mut String) -> Result<(), AllocError> {

@@ -45,10 +45,13 @@ fn push_line(alloc: Global, line: &str, out: &mut String) -> Result<(), AllocErr
 
 fn push_row(alloc: Global, row: &Value, out: &mut String) -> Result<(), AllocError> {
     if let Some(parts) = row.get("input").and_then(Value::as_array) {
-        return input::push_output(alloc, parts, out);
+        return input::push_output(alloc, row, parts, out);
     }
     if let Some(name) = row.get("format").and_then(Value::as_str) {
         return tables::push_named(name, row::items(row, "texts"), out);
+    }
+    if let Some(segments) = row.get("segments").and_then(Value::as_array) {
+        return shown::push_places(alloc, segments, out);
     }
     lists::push_answers(alloc, row, out)
 }

@@ -1,8 +1,9 @@
 //! Errors and refusals as lines that tell every field.
 
+use serde_json::Value;
 use std::alloc::{AllocError, Global};
 use std::fmt::Display;
-use strkw_report::{CompileError, CompileErrorKind, ErrorKind, ValidationError};
+use strkw_report::{CompileError, CompileErrorKind, ErrorKind, Location, ValidationError};
 
 // What a call without memory is shown as.
 pub const OUT_OF_MEMORY: &str = "    out of memory\n";
@@ -55,13 +56,25 @@ fn push_told(
     push_kind(&error.kind, lines)?;
     write!(lines, ", by {way} of {instance} at '{at}'")?;
     push_absolute(error, lines)?;
-    if is_displayed(alloc, error, text)? {
-        return Ok(());
+    if !is_displayed(alloc, error, text)? {
+        lines.push_str("      displayed otherwise\n")?;
     }
-    lines.push_str("      displayed otherwise\n")
+    if !is_appended(alloc, error, text)? {
+        lines.push_str("      appended otherwise\n")?;
+    }
+    Ok(())
 }
 
-fn is_displayed<D: Display>(alloc: Global, it: &D, text: &str) -> Result<bool, AllocError> {
+// Whether this is what `push_text` appends of an error.
+fn is_appended(alloc: Global, error: &ValidationError, text: &str) -> Result<bool, AllocError> {
+    let mut appended = Vec::new(alloc);
+    let instance = error.instance.as_str().unwrap_or("");
+    error.kind.failure().push_text(instance, &mut appended)?;
+    Ok(appended.as_slice() == text.as_bytes())
+}
+
+/// Whether this is what is displayed.
+pub fn is_displayed<D: Display>(alloc: Global, it: &D, text: &str) -> Result<bool, AllocError> {
     Ok(it.to_string(alloc)?.as_str() == text)
 }
 
@@ -119,4 +132,30 @@ fn push_reason(
         return Ok(());
     }
     out.push_str("    displayed otherwise\n")
+}
+
+/// Appends the place of each segment below those before it, as `join` gives it; and a line where `push_below` appends
+/// another.
+pub fn push_places(alloc: Global, segments: &[Value], out: &mut String) -> Result<(), AllocError> {
+    let mut place = Location::root(alloc);
+    for segment in segments {
+        place = push_place(alloc, &place, segment.as_str().unwrap_or(""), out)?;
+    }
+    Ok(())
+}
+
+fn push_place(
+    alloc: Global,
+    place: &Location,
+    segment: &str,
+    out: &mut String,
+) -> Result<Location, AllocError> {
+    let joined = place.join(segment)?;
+    write!(out, "  {joined}\n")?;
+    let mut appended = Vec::new(alloc);
+    place.push_below(segment, &mut appended)?;
+    if appended.as_slice() != joined.as_str().as_bytes() {
+        out.push_str("    appended otherwise\n")?;
+    }
+    Ok(joined)
 }

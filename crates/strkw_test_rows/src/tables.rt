@@ -4,7 +4,7 @@ use serde_json::Value;
 use std::alloc::{AllocError, Global};
 use std::cmp::Ordering;
 use std::hash::{DefaultHasher, Hash, Hasher};
-use strkw_cli::RunFault;
+use strkw_cli::{BoundedRunFault, RunFault};
 use strkw_keywords::{BuiltinFormat, Keyword, Options, builtin_format};
 use strkw_report::Draft;
 
@@ -114,12 +114,17 @@ fn push_text(format: BuiltinFormat, text: &str, out: &mut String) -> Result<(), 
     write!(out, "  {text}: {is_valid}\n")
 }
 
-// Whether a value is less than another, equal or greater; `?` where `cmp`, `<` and `==` do not agree.
+// Whether a value is less than another, equal or greater; `?` where `cmp`, `<`, `<=` and `==` do not agree.
 fn sign<T: Ord>(value: &T, other: &T) -> char {
-    match value.cmp(other) {
-        Ordering::Less if *value < *other && !(*value == *other) => '<',
-        Ordering::Equal if *value == *other && !(*value < *other) => '=',
-        Ordering::Greater if *other < *value && !(*value == *other) => '>',
+    match (
+        value.cmp(other),
+        *value < *other,
+        *value <= *other,
+        *value == *other,
+    ) {
+        (Ordering::Less, true, true, false) => '<',
+        (Ordering::Equal, false, true, true) => '=',
+        (Ordering::Greater, false, false, false) => '>',
         _ => '?',
     }
 }
@@ -137,8 +142,8 @@ fn push_order(place: u64, format: BuiltinFormat, out: &mut String) -> Result<(),
 fn push_faults(out: &mut String) -> Result<(), AllocError> {
     out.push_str("# faults of a run\n")?;
     for fault in FAULTS {
-        out.push_str(fault.text())?;
-        out.push_str("\n")?;
+        let (text, bounded) = (fault.text(), BoundedRunFault::Run(fault));
+        write!(out, "{text}, displayed: {fault}, {bounded}\n")?;
     }
     Ok(())
 }

@@ -1,19 +1,21 @@
 //! What only annotates: its test, which the unchecked `format` has too, and the validators and the entries of the
 //! content keywords in drafts 2019-09 and 2020-12.
 
-ghost use Rattle.std.specs.Prelude.{◌≡◌, IfErr, IfOk, Some, []};
+ghost use Rattle.std.specs.Prelude.{◌≡◌, IfErr, IfOk, Some, [], option_map};
 ghost use Rattle.std.specs.Bool.{MatchBool};
-ghost use Rattle.serde_json.specs.Find.{as_str};
+ghost use Rattle.serde_json.specs.Data.{Members};
+ghost use Rattle.serde_json.specs.Find.{as_str, get_member};
 ghost use Rattle.serde_json.specs.View.{members_view, view};
 ghost use Rattle.strkw_report.specs.Refusals.{fractional_number};
 ghost use Rattle.strkw_keywords.specs.Compiled.{IsBuilt, IsCompiledAt, alone};
-ghost use Rattle.strkw_keywords.specs.Object.{content_rule, gives, malformed, noted_text, nothing, schema_entry};
+ghost use Rattle.strkw_keywords.specs.Keywords.{keyword_name};
+ghost use Rattle.strkw_keywords.specs.Object.{content_rule, gives, malformed, noted_text, nothing, schema_beside, schema_entry};
 ghost use Rattle.strkw_keywords.specs.Remarks.{remark_at};
 ghost use Rattle.strkw_keywords.specs.Settings.{place_in, settings_of};
 ghost use Rattle.strkw_keywords.specs.Without.{IsWithoutSchema};
 
 use crate::checks::{Checks, ContentCodec, Format, MediaTypeCheck};
-use crate::compile::{Refused, locate};
+use crate::compile::{Refused, locate, member};
 use crate::content_rule::ContentRule;
 use crate::findings::{Findings, Found};
 use crate::keyed::Keyed;
@@ -49,13 +51,12 @@ impl Untested {
     pub(crate) fn keyed<B>(
         ctx: &Context<'_, B>,
         keyword: Keyword,
-        value: &Value,
+        value: Value,
     ) -> Result<Keyed<Untested>, AllocError>
         ensures place { IfOk result (λ v. v.origin ≡ place_in ctx.now) }
         ensures keyword { IfOk result (λ v. v.test.keyword ≡ keyword) }
-        ensures value { IfOk result (λ v. view v.test.value ≡ view value.now) }
+        ensures value { IfOk result (λ v. view v.test.value ≡ view value) }
     {
-        let value = value.clone()?;
         Keyed::of(ctx, Untested { keyword, value })
     }
 }
@@ -72,34 +73,23 @@ impl Test for Untested {
     }
 }
 
-pub(crate) fn build_media_type_annotation<B: EngineBuilder>(
+// A text is noted at `contentMediaType` or `contentEncoding`.
+pub(crate) fn build_text_annotation<B: EngineBuilder>(
     ctx: &Context<'_, B>,
+    keyword: Keyword,
     value: &Value,
 ) -> Result<Option<Validator<B::Engine>>, Refused>
     ensures { IsBuilt B.Engine.outcome (place_in ctx.now)
-        (alone Keyword.ContentMediaType (noted_text (view value.now) (as_str (view value.now))))
-        result }
+        (alone keyword (noted_text (view value.now) (as_str (view value.now)))) result }
 {
     if value.as_str().is_none() {
         return Ok(None);
     }
-    let noting = Untested::keyed(ctx, Keyword::ContentMediaType, value)?;
-    Ok(Some(Validator::ContentMediaTypeAnnotation(noting)))
-}
-
-pub(crate) fn build_encoding_annotation<B: EngineBuilder>(
-    ctx: &Context<'_, B>,
-    value: &Value,
-) -> Result<Option<Validator<B::Engine>>, Refused>
-    ensures { IsBuilt B.Engine.outcome (place_in ctx.now)
-        (alone Keyword.ContentEncoding (noted_text (view value.now) (as_str (view value.now))))
-        result }
-{
-    if value.as_str().is_none() {
-        return Ok(None);
-    }
-    let noting = Untested::keyed(ctx, Keyword::ContentEncoding, value)?;
-    Ok(Some(Validator::ContentEncodingAnnotation(noting)))
+    let noting = Untested::keyed(ctx, keyword, value.clone()?)?;
+    Ok(Some(match keyword {
+        Keyword::ContentMediaType => Validator::ContentMediaTypeAnnotation(noting),
+        _ => Validator::ContentEncodingAnnotation(noting),
+    }))
 }
 
 pub(crate) fn build_schema_annotation<B: EngineBuilder, O: Object>(
@@ -110,63 +100,79 @@ pub(crate) fn build_schema_annotation<B: EngineBuilder, O: Object>(
     ensures { IsBuilt B.Engine.outcome (place_in ctx.now) (alone Keyword.ContentSchema
         (schema_entry ContentRule.Noted (O.members parent.now) (view value.now))) result }
 {
-    if !notes_schema(parent, value)? {
+    if !notes_schema(parent.value(Keyword::ContentMediaType), value)? {
         return Ok(None);
     }
-    let noting = Untested::keyed(ctx, Keyword::ContentSchema, value)?;
+    let noting = Untested::keyed(ctx, Keyword::ContentSchema, value.clone()?)?;
     Ok(Some(Validator::ContentSchemaAnnotation(noting)))
 }
 
 // The same of a value that is given up, by the draft: it is moved, and not copied.
-fn build_owned_schema<B: EngineBuilder>(
+fn build_moved_schema<B: EngineBuilder>(
     ctx: &Context<'_, B>,
-    others: &Map<String, Value>,
+    media_type: Option<&Value>,
     schema: Value,
 ) -> Result<Option<Validator<B::Engine>>, Refused>
-    ensures { IsBuilt B.Engine.outcome (place_in ctx.now) (alone Keyword.ContentSchema
-        (schema_entry (content_rule ctx.now.draft) (members_view others.now.entries) (view schema)))
-        result }
+    ensures { (ms : Members) → option_map (λ v. view v.now) media_type.entry
+        ≡ get_member (keyword_name Keyword.ContentMediaType) ms
+        → IsBuilt B.Engine.outcome (place_in ctx.now) (alone Keyword.ContentSchema
+        (schema_entry (content_rule ctx.now.draft) ms (view schema))) result }
 {
     if !matches!(ContentRule::of(ctx.draft), ContentRule::Noted)
-        || !notes_schema(others, &schema)?
+        || !notes_schema(media_type, &schema)?
     {
         return Ok(None);
     }
-    let test = Untested {
-        keyword: Keyword::ContentSchema,
-        value: schema,
-    };
-    Ok(Some(Validator::ContentSchemaAnnotation(Keyed::of(ctx, test)?)))
+    let noting = Untested::keyed(ctx, Keyword::ContentSchema, schema)?;
+    Ok(Some(Validator::ContentSchemaAnnotation(noting)))
 }
 
 // Whether a value is noted as a schema: where there is a media type beside it.
-fn notes_schema<O: Object>(parent: &O, value: &Value) -> Result<bool, Refused>
+fn notes_schema(media_type: Option<&Value>, value: &Value) -> Result<bool, Refused>
     ensures noted { IfOk result (λ b. MatchBool b
-        (schema_entry ContentRule.Noted (O.members parent.now) (view value.now)
+        (schema_beside (option_map (λ v. view v.now) media_type.entry) (view value.now)
         ≡ gives [] (Some (view value.now)))
-        (schema_entry ContentRule.Noted (O.members parent.now) (view value.now) ≡ nothing)) }
+        (schema_beside (option_map (λ v. view v.now) media_type.entry) (view value.now)
+        ≡ nothing)) }
     ensures refused { IfErr result (λ r.
-        (schema_entry ContentRule.Noted (O.members parent.now) (view value.now)
+        (schema_beside (option_map (λ v. view v.now) media_type.entry) (view value.now)
         ≡ malformed Keyword.ContentSchema fractional_number)
         × (r ≡ Refused.Malformed Keyword.ContentSchema CompileErrorKind.FractionalNumber)) }
 {
-    if parent.value(Keyword::ContentMediaType).is_none() {
+    if media_type.is_none() {
         return Ok(false);
     }
     if holds_fraction(value) {
-        return Err(Refused::Malformed {
-            kind: CompileErrorKind::FractionalNumber,
-            keyword: Keyword::ContentSchema,
-        });
+        return Err(Refused::Malformed(Keyword::ContentSchema, CompileErrorKind::FractionalNumber));
     }
     Ok(true)
 }
 
-/// Takes the value at `contentSchema` out of an object, and makes the validator of its entry: what
-/// `compile_content_schema_annotation` answers for the object as it was. The value is moved into the validator, and not
-/// copied.
-///
-/// The value is taken out, and dropped, also where the entry adds nothing or is refused.
+/// What `compile_among` answers at `contentSchema` for an object with these values there and at `contentMediaType`. The
+/// schema is moved into the validator, and not copied.
+pub fn compile_moved_schema<B: EngineBuilder>(
+    alloc: Global,
+    ctx: &Context<'_, B>,
+    media_type: Option<&Value>,
+    schema: Option<Value>,
+) -> Option<Result<Validator<B::Engine>, CompileError>>
+    ensures { (ms : Members) → option_map (λ v. view v.now) media_type.entry
+        ≡ get_member (keyword_name Keyword.ContentMediaType) ms
+        → option_map view schema ≡ get_member (keyword_name Keyword.ContentSchema) ms
+        → IsCompiledAt B.Engine.outcome
+        (settings_of B.takes B.outcome admits accepted encoded decoding ctx.now)
+        ms Keyword.ContentSchema result }
+{
+    let schema = schema?;
+    if ctx.options.is_overridden(Keyword::ContentSchema) {
+        return None;
+    }
+    let built = build_moved_schema(ctx, media_type, schema);
+    locate(alloc, &ctx.location, built)
+}
+
+/// Takes the value at `contentSchema` out of an object, and makes the validator of its entry, as `compile_moved_schema`
+/// does. The value is taken out, and dropped, also where the entry adds nothing or is refused.
 pub fn take_content_schema<B: EngineBuilder>(
     alloc: Global,
     ctx: &Context<'_, B>,
@@ -178,10 +184,7 @@ pub fn take_content_schema<B: EngineBuilder>(
     ensures others { IsWithoutSchema (members_view object.old.entries)
         (members_view object.new.entries) }
 {
-    let schema = object.remove(Keyword::ContentSchema.as_str())?;
-    if ctx.options.is_overridden(Keyword::ContentSchema) {
-        return None;
-    }
-    let built = build_owned_schema(ctx, object, schema);
-    locate(alloc, &ctx.location, built)
+    let schema = object.remove(Keyword::ContentSchema.as_str());
+    let media_type = member(object, Keyword::ContentMediaType.as_str());
+    compile_moved_schema(alloc, ctx, media_type, schema)
 }

@@ -46,10 +46,10 @@ pub(crate) fn build_pattern<B: EngineBuilder>(
             let test = Matching { pattern, engine };
             Ok(Some(Validator::Pattern(Keyed::of(ctx, test)?)))
         }
-        Err(BuildRefusal::Pattern) => Err(Refused::Malformed {
-            keyword: Keyword::Pattern,
-            kind: CompileErrorKind::Regex { pattern },
-        }),
+        Err(BuildRefusal::Pattern) => Err(Refused::Malformed(
+            Keyword::Pattern,
+            CompileErrorKind::Regex { pattern },
+        )),
         Err(BuildRefusal::Memory) => Err(Refused::Memory),
     }
 }

@@ -1,6 +1,6 @@
-//! The calls to which an object is given up. With ample memory a row has to pass. `tools/refusals.py` runs it with each
-//! growth refused in turn too: then it ends as out of memory, once it has shown that the context is as it was, and that
-//! an object has lost its value at `contentSchema` alone.
+//! The calls to which an object or its values are given up. With ample memory a row has to pass. `tools/refusals.py`
+//! runs it with each growth refused in turn too: then it ends as out of memory, once it has shown that the context is
+//! as it was, and that an object has lost its value at `contentSchema` alone.
 
 use super::context::{
     Answer, Asked, Given, Lent, is_answered, is_at, is_json, json, only_if, root_site,
@@ -9,8 +9,8 @@ use super::objects::are_notes;
 use serde_json::{Map, Value};
 use std::alloc::{AllocError, Global};
 use std::test::Fail;
-use strkw_keywords::{Checks, Uses, take_content_schema};
-use strkw_object::{StringKeywords, compile_owned};
+use strkw_keywords::{Checks, Keyword, Uses, take_content_schema};
+use strkw_object::{OwnedValues, StringKeywords, compile_owned, compile_values};
 use strkw_report::{CompileError, Draft};
 use strkw_test_doubles::ScriptedEngine;
 
@@ -105,6 +105,48 @@ fn notes(
 fn compile_owned_under_refusal(rt: HostRuntime) -> Result<(), Fail> {
     for row in OBJECTS {
         if !is_answered(rt.alloc(), row)? {
+            return Err(Fail::new(row.schema));
+        }
+    }
+    Ok(())
+}
+
+// A row, of whose object the values are given up.
+#[derive(Drop)]
+struct ByValues<'a> {
+    row: &'a Noted,
+}
+
+impl Asked for ByValues<'_> {
+    fn given(&self) -> Given {
+        self.row.given()
+    }
+
+    fn is_answered(&self, alloc: Global, ctx: &Lent<'_>, _schema: &Map<String, Value>) -> Answer {
+        let mut given = values(alloc, self.row.schema)?;
+        let made = compile_values(alloc, ctx, &mut given);
+        let is_taken = given.borrowed().content_schema.is_none();
+        only_if(is_taken, is_compiled_so(alloc, self.row, made, &ctx.checks))
+    }
+}
+
+// The values of the schema object of a row.
+fn values(alloc: Global, text: &str) -> Result<OwnedValues, AllocError> {
+    let mut given = object(alloc, text)?;
+    let mut values = OwnedValues::none();
+    for keyword in Keyword::VARIANTS {
+        let name = keyword.as_str();
+        if let (Some(keyword), Some(value)) = (Keyword::by_name(name), given.remove(name)) {
+            values.set(keyword, value);
+        }
+    }
+    Ok(values)
+}
+
+#[test]
+fn compile_values_under_refusal(rt: HostRuntime) -> Result<(), Fail> {
+    for row in OBJECTS {
+        if !is_answered(rt.alloc(), &ByValues { row })? {
             return Err(Fail::new(row.schema));
         }
     }

@@ -1,27 +1,21 @@
-use Rattle.std.proofs.Common.{◌≡◌, refl, rules, subst, sym}
-use Rattle.serde_json.specs.View.{members_view}
+use Rattle.std.proofs.Common.{◌≡◌, rules, subst, sym, ap}
+use Rattle.strkw_object.specs.Values.{AreOwnedOf}
 use Rattle.strkw_cli.specs.Answer.{settings_for}
-use Rattle.strkw_cli.specs.Borrowed.{IsRight, request_view, schema_view}
-use Rattle.strkw_cli.specs.Kept.{IsCompiledTo, IsKept, settings_asked}
+use Rattle.strkw_cli.specs.Borrowed.{IsObject}
+use Rattle.strkw_cli.specs.Kept.{IsCompiledTo, Keeps, settings_asked}
 use Rattle.strkw_cli.proofs.answering.answer_request.Goals as goal
-use Rattle.strkw_cli.proofs.answering.answer_request.Goals.{in-Built, in-Kept+else-eq+in_ok-members-in-Kept}
 
-pub returns-then-eq-clause-ok : goal.returns-then-eq-clause-ok
-returns-then-eq-clause-ok c =
-    let r = request_view c.args.request in
+pub returns-in_ok-push_answer-in-Read-clause-ok : goal.returns-in_ok-push_answer-in-Read-clause-ok
+returns-in_ok-push_answer-in-Read-clause-ok c r is =
+    let are : AreOwnedOf r.schema c.args.values.now = subst (λ s. IsObject c.args.values.now s r.schema) c.in-Read.is is.object in
+    c.in_ok-push_answer-in-Read.ensures.ok r (sym (ap (λ q. q.fold) is.others)) (sym (ap (λ q. q.instance) is.others))
+    (subst (λ q. IsCompiledTo (settings_for q) r.schema c.compile-compiled.result) is.others (c.compile-compiled.ensures.compiled r.schema are))
+
+pub returns-in_ok-push_answer-in-Kept-clause-ok : goal.returns-in_ok-push_answer-in-Kept-clause-ok
+returns-in_ok-push_answer-in-Kept-clause-ok c r is =
     let object = c.in-Kept.object.now in
-    let kept : IsKept object = subst IsRight c.in-Kept.is c.requires in
+    let keeps : Keeps object r.schema = subst (λ s. IsObject c.args.values.now s r.schema) c.in-Kept.is is.object in
     let same : object.asked ≡ c.args.request.asked = search rules in
-    c.in_ok-push_answer-in-Kept.ensures.ok r refl refl
-    (subst (λ a. IsCompiledTo (settings_asked a) (schema_view c.args.request.schema) object.compiled) same
-    (subst (λ s. IsCompiledTo (settings_asked object.asked) (schema_view s) object.compiled) (sym c.in-Kept.is) kept.is_compiled))
-
-pub returns-clause-ok : goal.returns-clause-ok
-returns-clause-ok c =
-    let r = request_view c.args.request in
-    let made = c.compile-compiled in
-    let same : members_view c.match-schema.members.0.entries ≡ schema_view c.args.request.schema = elim c.match-schema.branch [
-      | in-Built w ↦ rw (w.in-Built.is, w.members-is) refl
-      | in-Kept+else-eq+in_ok-members-in-Kept w ↦ rw (w.in-Kept.is, w.members-is) w.in_ok-members-in-Kept.ensures
-    ] in
-    c.in_ok-push_answer.ensures.ok r refl refl (subst (λ ms. IsCompiledTo (settings_for r) ms made.result) same made.ensures.compiled)
+    c.in_ok-push_answer-in-Kept.ensures.ok r (sym (ap (λ q. q.fold) is.others)) (sym (ap (λ q. q.instance) is.others))
+    (subst (λ q. IsCompiledTo (settings_for q) r.schema object.compiled) is.others
+    (subst (λ a. IsCompiledTo (settings_asked a) r.schema object.compiled) same keeps.is_compiled))

@@ -13,7 +13,7 @@ members-init c = record {
   enough = omega arith;
   found = no_members;
   same = refl;
-  are = c.of_no_members-parts.ensures;
+  are = c.of_no_members-parts.ensures _ _;
 }
 
 pub returns-in_err-name-clause-none : goal.returns-in_err-name-clause-none
@@ -41,7 +41,7 @@ members-preserved c =
       found = put name d l.invariant.found;
       same = l.invariant.same ∙ next_member (value member_depth) l.invariant.found l.invariant.turns name l.tokens _ _ d
           (omega (arith, key, l.invariant.enough)) named read;
-      are = parts_taken name d l.parts c.take_member.new.self l.invariant.found takes l.invariant.are;
+      are = parts_taken _ name d _ _ l.parts c.take_member.new.self l.invariant.found takes l.invariant.are;
     }
 
 pub returns-clause-ok : goal.returns-clause-ok

@@ -1,4 +1,4 @@
-use Rattle.std.proofs.Common.{◌≡◌, ℕ, ◌≤◌, length}
+use Rattle.std.proofs.Common.{◌≡◌, ℕ, ◌≤◌, is_some, length}
 use Rattle.json.specs.Json.{members, value}
 use Rattle.serde_json.specs.Data.{Members}
 use Rattle.serde_json.specs.Read.{of_members, converted}
@@ -14,7 +14,7 @@ invariant-members l = record {
   enough : length l.tokens ≤ turns;
   found : Members;
   same : members_read member_depth l.initial.tokens ≡ converted (λ js. of_members js found) (members (value member_depth) turns l.tokens);
-  are : AreParts l.parts found;
+  are : AreParts (is_some l.line.kept) l.values l.parts found;
 }
 
 abbrev pub decreases-members : goal.decreases-members

@@ -1,7 +1,9 @@
-use Rattle.std.proofs.Common.{◌≡◌, ◌∷◌, [], false, Some, sym, ap, ◌∙◌, arith}
+use Rattle.std.proofs.Common.{◌≡◌, ◌∷◌, [], false, Some, sym, ap, ◌∙◌, subst, arith}
 use Rattle.json.specs.Token.{begin_object}
 use Rattle.json.specs.Lex.{tokens}
 use Rattle.json.specs.Reads.{token_of}
+use Rattle.strkw_cli.specs.Both.{AreBoth}
+use Rattle.strkw_cli.specs.Borrowed.{IsRequest}
 use Rattle.strkw_cli.specs.Tokens.{begins_object}
 use Rattle.strkw_cli.proofs.Asked.{asked, asked_with_more, no_members_read, no_object_read}
 use Rattle.strkw_cli.proofs.request.request_in.Goals as goal
@@ -12,23 +14,29 @@ returns-in-None-clause-ok c =
     let first : tokens text ≡ begin_object ∷ c.takes_begin_object.new.tokens = grind arith in
     let (ms, read, are) = c.in-Ok.ensures.ok in
     let over : c.parts_in.new.tokens ≡ [] = grind arith in
-    c.into_request.ensures.request ms are ∙ sym (asked text _ ms first (read ∙ ap (λ rest. Some (ms, rest)) over))
+    subst (AreBoth (IsRequest c.parts_in.new.values) c.into_request.result) (sym (asked text _ ms first (read ∙ ap (λ rest. Some (ms, rest)) over)))
+    (c.into_request.ensures.request _ _ ms are)
 
 pub returns-then-not-takes_begin_object-clause-ok : goal.returns-then-not-takes_begin_object-clause-ok
 returns-then-not-takes_begin_object-clause-ok c =
     let none : begins_object (tokens c.args.line.text.now) ≡ false = grind arith in
-    sym (no_object_read c.args.line.text.now none)
+    no_object_read c.args.line.text.now none
 
-pub returns-in-Ok-clause-ok : goal.returns-in-Ok-clause-ok
-returns-in-Ok-clause-ok c =
+pub returns-in-Some-clause-ok : goal.returns-in-Some-clause-ok
+returns-in-Some-clause-ok c =
     let text = c.args.line.text.now in
     let first : tokens text ≡ begin_object ∷ c.takes_begin_object.new.tokens = grind arith in
     let (ms, read, are) = c.in-Ok.ensures.ok in
     let more : c.parts_in.new.tokens ≡ token_of c.in-Some.field-0 ∷ c.next.new.self = grind arith in
-    sym (asked_with_more text _ ms _ _ first (read ∙ ap (λ rest. Some (ms, rest)) more))
+    asked_with_more text _ ms _ _ first (read ∙ ap (λ rest. Some (ms, rest)) more)
 
 pub returns-in-Err-NotJson-clause-ok : goal.returns-in-Err-NotJson-clause-ok
 returns-in-Err-NotJson-clause-ok c =
     let text = c.args.line.text.now in
     let first : tokens text ≡ begin_object ∷ c.takes_begin_object.new.tokens = grind arith in
-    sym (no_members_read text _ first (c.parts_in.ensures.none (grind arith)))
+    no_members_read text _ first (c.parts_in.ensures.none (grind arith))
+
+pub returns-in-None-clause-right : goal.returns-in-None-clause-right
+returns-in-None-clause-right c =
+    let (ms, read, are) = c.in-Ok.ensures.ok in
+    c.into_request.ensures.right _ are.right

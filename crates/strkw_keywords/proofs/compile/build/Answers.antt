@@ -41,12 +41,12 @@ returns-in-Checked g c =
 pub returns-in-Noted : goal.returns-in-Noted
 returns-in-Noted g c =
     rw c.in-ContentMediaType.is (media_type_built _ _ _ Noted (view c.args.value.now) _ (sym c.in-Noted.ensures)
-    (rw c.in-ContentMediaType.is at c.requires) c.build_media_type_annotation.ensures)
+    (rw c.in-ContentMediaType.is at c.requires) (rw c.in-ContentMediaType.is at c.build_text_annotation.ensures))
 
 pub returns-in-Noted-of : goal.returns-in-Noted-of
 returns-in-Noted-of g c =
     rw c.in-ContentEncoding.is (encoding_built _ _ _ Noted (view c.args.value.now) _ (sym c.in-Noted-of.ensures)
-    (rw c.in-ContentEncoding.is at c.requires) c.build_encoding_annotation.ensures)
+    (rw c.in-ContentEncoding.is at c.requires) (rw c.in-ContentEncoding.is at c.build_text_annotation-in-Noted-of.ensures))
 
 pub returns-in-Noted-of-2 : goal.returns-in-Noted-of-2
 returns-in-Noted-of-2 g c =

@@ -1,37 +1,28 @@
-use Rattle.std.proofs.Common.{◌+◌, length, drop, refl, sym, subst, ◌∙◌, arith}
-use Rattle.std.proofs.lemmas.Bool.{false≢true}
-use Rattle.std.proofs.lemmas.List.{take_all, length-drop}
-use Rattle.strkw_net.proofs.FirstLabels.{one_label, more_labels, front_label}
-use Rattle.strkw_label.specs.HostName.{IsHostNameLabel, KeepsXnRules}
-use Rattle.strkw_label.proofs.HostNames.{host_name_parts, IsHostName-from_parts}
+use Rattle.std.proofs.Common.{◌≢◌, [], refl, ap, length, arith}
+use Rattle.std.proofs.lemmas.List.{nil_from_length}
+use Rattle.strkw_text.proofs.Equivalences.{nope}
+use Rattle.strkw_text.proofs.Separated.{SeparatedBy-weaker}
+use Rattle.strkw_label.specs.HostName.{IsHostNameLabel}
+use Rattle.strkw_label.specs.IdnHostName.{IsPlainLabel}
+use Rattle.strkw_label.proofs.HostNames.{ascii_host_name}
+use Rattle.strkw_label.proofs.PlainLabels.{host_name_label}
 use Rattle.strkw_label.proofs.host_name.is_host_name.Goals as goal
 
-pub returns-then-not-keeps_xn_rules : goal.returns-then-not-keeps_xn_rules
-returns-then-not-keeps_xn_rules c = (
-  λ t. absurd (false≢true t),
-  λ w.
-      let front = front_label IsHostNameLabel c.loop-label.rest.now (c.loop-label.invariant.1 (host_name_parts c.args.bytes.now w)) in
-      absurd (false≢true (sym c.if-not-keeps_xn_rules.true ∙ c.keeps_xn_rules.ensures.1 (subst KeepsXnRules (sym c.in-Some.ensures.0) front.xn))),
-)
+pub returns-in-None : goal.returns-in-None
+returns-in-None c = nope (λ w. c.in-None.ensures.none (ascii_host_name c.args.bytes.now w))
 
-pub returns-then-label-rest : goal.returns-then-label-rest
-returns-then-label-rest c =
-    let label : IsHostNameLabel c.in-Some.label.now = record { ascii = c.in-Some.ensures.1; xn = c.keeps_xn_rules.ensures.0 c.if-not-keeps_xn_rules.false } in (
-      λ t. IsHostName-from_parts c.args.bytes.now c.if-bytes-gt-LONGEST_HOST_NAME.false
-          (c.loop-label.invariant.0 (one_label IsHostNameLabel c.loop-label.rest.now c.in-Some.label.now c.in-Some.ensures.0 c.if-label-rest.true label)),
+pub returns-in-Some-empty : goal.returns-in-Some-empty
+returns-in-Some-empty c =
+    let bytes = c.args.bytes.now in
+    let plain = c.in-Some-empty.ensures.nothing (nil_from_length _ (omega (arith, c.in-Some-empty.len_below))) in (
+      λ t. record { labels = SeparatedBy-weaker 46 IsPlainLabel IsHostNameLabel host_name_label bytes plain; size = c.in-Some-empty.ensures.size },
       λ w. refl,
     )
 
-pub loop-label-preserved : goal.loop-label-preserved
-loop-label-preserved c =
-    let label : IsHostNameLabel c.in-Some.label.now = record { ascii = c.in-Some.ensures.1; xn = c.keeps_xn_rules.ensures.0 c.if-not-keeps_xn_rules.false } in
-    let more = more_labels IsHostNameLabel c.loop-label.rest.now c.in-Some.label.now _ c.in-Some.ensures.0 c.if-label-rest.false label
-    (take_all _ (drop (length c.in-Some.label.now + 1) c.loop-label.rest.now)
-    (omega (arith, length-drop (length c.in-Some.label.now + 1) c.loop-label.rest.now))) in
-    (λ h. c.loop-label.invariant.0 (more.0 h), λ h. more.1 (c.loop-label.invariant.1 h))
-
-pub returns : goal.returns
-returns c = (
-  λ t. absurd (false≢true t),
-  λ w. absurd (c.in_default.ensures (front_label IsHostNameLabel c.loop-label.rest.now (c.loop-label.invariant.1 (host_name_parts c.args.bytes.now w))).ascii),
-)
+pub returns-in-Some : goal.returns-in-Some
+returns-in-Some c =
+    let some : c.in-Some.rest.now ≢ [] = λ e. omega (arith, ap length e, c.in-Some.len_at_least) in
+    let labels = c.in-Some.ensures.rest some in (
+      λ t. record { labels = labels.0 (c.are_host_name_labels.ensures.0 t); size = c.in-Some.ensures.size },
+      λ w. c.are_host_name_labels.ensures.1 (labels.1 w.labels),
+    )

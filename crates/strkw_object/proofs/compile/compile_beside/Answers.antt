@@ -38,7 +38,7 @@ returns-in_err-validator-clause-refused g c =
     c.args.ctx.now) in
     let values = c.args.values.now in
     let (e, is, same) = err_from_is_err_and c.from_residual.result c.from_residual.ensures.1 in
-    λ ms others keeps are schema. rw (is, same) (beside_refused g.B.Engine.RegexEngine.outcome s values c.args.schema c.loop-keyword.keyword-index _
+    λ ms are schema. rw (is, same) (beside_refused g.B.Engine.RegexEngine.outcome s values c.args.schema c.loop-keyword.keyword-index _
     c.loop-keyword.schema c.match-keyword.schema c.match-keyword.compiled c.loop-keyword.validators.items _ c.loop-keyword-test.true (search rules)
     c.loop-keyword.invariant (elim c.match-keyword.branch [
       | in-ContentSchema w ↦ asked_schema g.B.Engine.RegexEngine.outcome s values c.args.schema c.loop-keyword.keyword-index _ c.loop-keyword.schema
@@ -47,7 +47,7 @@ returns-in_err-validator-clause-refused g c =
       | in_default w ↦ rw (w.schema-is, w.compiled-is) (asked_other g.B.Engine.RegexEngine.outcome s values c.args.schema c.loop-keyword.keyword-index _
           c.loop-keyword.schema w.compile_among-compiled.result c.loop-keyword.validators.items w.in_default.not-ContentSchema w.compile_among-compiled.ensures
           c.loop-keyword.invariant)
-    ]) (search rules) ms (record { others = others; keeps = keeps; are_values = are }) schema)
+    ]) (search rules) ms are schema)
 
 pub loop-keyword-preserved : goal.loop-keyword-preserved
 loop-keyword-preserved g c =
@@ -74,6 +74,6 @@ returns-clause-compiled g c =
     c.args.ctx.now) in
     let values = c.args.values.now in
     let whole = take_all c.loop-keyword.keyword-index keywords c.loop-keyword-test.false in
-    λ ms others keeps are schema. beside_compiled g.B.Engine.RegexEngine.outcome s values c.args.schema c.loop-keyword.keyword-index _
-    (record { validators = c.loop-keyword.validators }) whole c.loop-keyword.invariant ms (record { others = others; keeps = keeps; are_values = are })
+    λ ms are schema. beside_compiled g.B.Engine.RegexEngine.outcome s values c.args.schema c.loop-keyword.keyword-index _
+    (record { validators = c.loop-keyword.validators }) whole c.loop-keyword.invariant ms are
     schema

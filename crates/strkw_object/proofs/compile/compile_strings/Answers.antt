@@ -1,7 +1,6 @@
 use Rattle.std.proofs.lemmas.Result.{IfOk-weaker, MatchResult-weaker}
 use Rattle.serde_json.specs.View.{members_view}
 use Rattle.strkw_keywords.specs.Handed.{settings_of}
-use Rattle.strkw_keywords.proofs.Without.{keeps_itself}
 use Rattle.strkw_object.proofs.Printable.{refused_prints}
 use Rattle.strkw_object.proofs.Meaning.{compiled_in_use}
 use Rattle.strkw_object.proofs.compile.compile_strings.Goals as goal
@@ -9,7 +8,7 @@ use Rattle.strkw_object.proofs.compile.compile_strings.Goals as goal
 pub returns-clause-compiled : goal.returns-clause-compiled
 returns-clause-compiled g c =
     let ms = members_view c.args.object.now.entries in
-    c.compile_beside.ensures.compiled ms ms (keeps_itself ms) c.of-values.ensures
+    c.compile_beside.ensures.compiled ms (record { same = λ k other. c.of-values.ensures.same k })
     (c.compile_among-schema.ensures ms c.of-values.ensures)
 
 pub returns-clause-in_use : goal.returns-clause-in_use
@@ -18,14 +17,14 @@ returns-clause-in_use g c =
     (λ b. (goal.MediaTypeCheck-dyn g b).accepted b.1) (λ b. (goal.ContentCodec-dyn g b).encoded b.1) (λ b. (goal.ContentCodec-dyn g b).decoding b.1)
     c.args.ctx.now) in
     let ms = members_view c.args.object.now.entries in
-    let compiled = c.compile_beside.ensures.compiled ms ms (keeps_itself ms) c.of-values.ensures
+    let compiled = c.compile_beside.ensures.compiled ms (record { same = λ k other. c.of-values.ensures.same k })
     (c.compile_among-schema.ensures ms c.of-values.ensures) in
     IfOk-weaker c.compile_beside.result _ _ (λ k. compiled_in_use g.B.Engine.RegexEngine.outcome s ms k c.compiled_is_in_use.ensures) compiled
 
 pub returns-clause-refused : goal.returns-clause-refused
 returns-clause-refused g c =
     let ms = members_view c.args.object.now.entries in
-    c.compile_beside.ensures.refused ms ms (keeps_itself ms) c.of-values.ensures
+    c.compile_beside.ensures.refused ms (record { same = λ k other. c.of-values.ensures.same k })
     (c.compile_among-schema.ensures ms c.of-values.ensures)
 
 pub returns-clause-printable : goal.returns-clause-printable
@@ -34,6 +33,6 @@ returns-clause-printable g c =
     (λ b. (goal.MediaTypeCheck-dyn g b).accepted b.1) (λ b. (goal.ContentCodec-dyn g b).encoded b.1) (λ b. (goal.ContentCodec-dyn g b).decoding b.1)
     c.args.ctx.now) in
     let ms = members_view c.args.object.now.entries in
-    let refused = c.compile_beside.ensures.refused ms ms (keeps_itself ms) c.of-values.ensures
+    let refused = c.compile_beside.ensures.refused ms (record { same = λ k other. c.of-values.ensures.same k })
     (c.compile_among-schema.ensures ms c.of-values.ensures) in
     MatchResult-weaker c.compile_beside.result refused (λ k h. h) (refused_prints s ms)

@@ -5,7 +5,7 @@ use Rattle.strkw_records.proofs.ReaderLemmas.{all_text-ascii}
 use Rattle.strkw_records.proofs.reader.first_not_utf8.Goals as goal
 
 pub returns-then-is_ascii-clause-none : goal.returns-then-is_ascii-clause-none
-returns-then-is_ascii-clause-none c = all_text-ascii 0 c.args.fields.now.ends c.args.fields.now.bytes (rw c.as_slice.ensures at c.if-is_ascii.ensures.cases)
+returns-then-is_ascii-clause-none c = all_text-ascii 0 c.args.fields.now.ends c.args.fields.now.bytes (rw c.as_slice.ensures at c.if-is_ascii.ensures)
 
 pub loop-at-init : goal.loop-at-init
 unfolding AllText

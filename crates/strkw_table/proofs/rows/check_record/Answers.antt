@@ -20,7 +20,7 @@ loop-at-preserved g c =
     let says = ColumnMessages (g.F.FieldForm.writes c.args.form.now) g.E.RegexEngine.outcome lists in
     let (messages, first, count, out) = c.loop-at.invariant in
     let (more, last, more_count, more_out) = c.in_ok-more.ensures in
-    let sum : c.in_ok-count.count ≡ c.loop-at.count + c.in_ok-more.more = search rules in (
+    let sum : c.in-Some.sum ≡ c.loop-at.count + c.in_ok-more.more = search rules in (
       messages ++ more,
       of_first-more says c.args.columns.now c.args.row.now.line (fields_of c.args.row.now.fields.now) c.loop-at.at messages more first last,
       rw (sum, count, more_count) (sym (length-append messages more)),

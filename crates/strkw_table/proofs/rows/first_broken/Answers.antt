@@ -12,7 +12,7 @@ use Rattle.strkw_table.proofs.rows.first_broken.Goals as goal
 pub returns-then-is_ascii-clause-none : goal.returns-then-is_ascii-clause-none
 returns-then-is_ascii-clause-none g c at b =
     let row = c.args.row.now in
-    b.broken (text-of (fields_of row) at b.field (all_text-ascii 0 row.ends row.bytes (rw c.as_slice.ensures at c.if-is_ascii.ensures.cases)) b.stands)
+    b.broken (text-of (fields_of row) at b.field (all_text-ascii 0 row.ends row.bytes (rw c.as_slice.ensures at c.if-is_ascii.ensures)) b.stands)
 
 pub loop-at-preserved : goal.loop-at-preserved
 loop-at-preserved g c =

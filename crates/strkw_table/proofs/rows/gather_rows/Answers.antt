@@ -45,7 +45,7 @@ loop-turn-preserved g c =
     let lists = lists_of (λ b. (goal.Format-dyn g b).admits b.1) (λ b. (goal.MediaTypeCheck-dyn g b).accepted b.1)
     (λ b. (goal.ContentCodec-dyn g b).encoded b.1) (λ b. (goal.ContentCodec-dyn g b).decoding b.1) c.args.checks.now in
     let (counted, limited, parted, all) = c.loop-turn.invariant in
-    let sum : c.in_ok-checked.field-0 ≡ c.loop-turn.checked.errors + c.in-Some.more = search rules in
+    let sum : c.in-Some-checked_add.errors ≡ c.loop-turn.checked.errors + c.in-Some.more = search rules in
     let (put, appended, split) = c.in_ok-write_gathered.ensures.written in (
       ap (λ n. n + 1) counted,
       c.in_ok-more.ensures.limits ∙ limited,
@@ -74,7 +74,7 @@ loop-turn-preserved g c =
             gathered messages more written (string_bytes c.loop-turn.out) (string_bytes c.check_next.new.out) put
                 (string_bytes c.write_gathered.new.out) joined more_out split,
             one_more rows r c.loop-turn.turn row_count,
-            count_more messages more c.in_ok-checked.field-0 c.loop-turn.checked.errors c.in-Some.more sum count more_count,
+            count_more messages more c.in-Some-checked_add.errors c.loop-turn.checked.errors c.in-Some.more sum count more_count,
           ),
     )
 

@@ -8,5 +8,5 @@ returns-in_ok-json_text-in_default-clause-ok c =
       d,
       read,
       unknown_taken c.args.name.now d c.args.self.now other.not-draft other.not-schema other.not-instance other.not-validate_formats
-          other.not-ignore_unknown_formats other.not-fold,
+          other.not-ignore_unknown_formats other.not-fold _ c.args.values.now,
     )
