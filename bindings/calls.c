@@ -274,13 +274,19 @@ static void call_refusal(void) {
     static const char *pattern = "{\"pattern\":\"(a|b)c\\\\1\"}";
     static const char *why = "/pattern: the pattern \"(a|b)c\\\\1\" is not taken: "
                              "it has a back reference";
-    const size_t count = strlen(why);
+    /* The name has U+000A, U+0009 and U+007F. */
+    static const char *unknown = "{\"format\":\"a\\nb\\tc\\u007f\"}";
+    static const char *as_it_is = "/format: Unknown format: 'a\nb\tc\177'. "
+                                  "Adjust configuration to ignore unrecognized formats";
+    const size_t count = strlen(why), named = strlen(as_it_is);
     const uint8_t *object = text_of("{}");
     uint8_t *out = room_of(1);
     size_t written = 77;
     row("refusal", "right", "no refusal", tells(7, 0, "{\"maxLength\":1}", 9, STRKW_DONE, 0, NULL));
     row("refusal", "wrong", "a pattern", tells(7, 0, pattern, count, STRKW_REFUSED, count, why));
     row("refusal", "wrong", "a pattern, and more room", tells(7, 0, pattern, 99, STRKW_REFUSED, count, why));
+    row("refusal", "wrong", "the name of an unknown format stands as it is",
+        tells(7, 0, unknown, named, STRKW_REFUSED, named, as_it_is));
     row("refusal", "refused", "too little room", tells(7, 0, pattern, count - 1, STRKW_NO_ROOM, count, NULL));
     row("refusal", "refused", "draft 5", tells(5, 0, pattern, 99, STRKW_NO_DRAFT, 77, NULL));
     row("refusal", "refused", "option 8", tells(7, 8, pattern, 99, STRKW_NO_OPTION, 77, NULL));
@@ -309,13 +315,16 @@ static const char *DATE = "{\"format\":\"date\"}", *NO_FORMAT = "{\"format\":\"n
 static const char *NOTED = "note /format: \"date\"\n";
 static const char *WRONG = "error /format: \"2023-02-29\" is not a \"date\"\nnote /format: \"date\"\n";
 
+/* A pattern with U+0000, U+0009, U+000A, U+001F and U+007F. */
+static const char *CONTROLS = "{\"pattern\":\"^a\\u0000\\tb\\n\\u001fc\\u007f\"}";
+static const char *NO_CONTROLS = "error /pattern: \"x\" does not match \"^a  b  c\177\"\n";
 static const char *NO_MAIL = "error /format: \"ada\" is not a \"email\"\nnote /format: \"email\"\n";
 static const char *NO_REGEX = "error /format: \"(\" is not a \"regex\"\nnote /format: \"regex\"\n";
 static const char *HOST = "note /format: \"idn-hostname\"\n", *NOTED_MAIL = "note /format: \"idn-email\"\n";
 
 static void call_errors(void) {
     const size_t noted = strlen(NOTED), wrong = strlen(WRONG), no_mail = strlen(NO_MAIL), host = strlen(HOST);
-    const size_t mail = strlen(NOTED_MAIL), no_regex = strlen(NO_REGEX);
+    const size_t mail = strlen(NOTED_MAIL), no_regex = strlen(NO_REGEX), no_controls = strlen(NO_CONTROLS);
     const uint32_t companions = STRKW_COMPANION_FORMATS;
     const uint8_t *object = text_of("{}");
     uint8_t *out = room_of(1);
@@ -323,6 +332,8 @@ static void call_errors(void) {
     row("errors", "right", "a date", writes(7, 0, DATE, "2024-02-29", noted, STRKW_DONE, noted, NOTED));
     row("errors", "right", "nothing to write", writes(7, 0, "{}", "a", 0, STRKW_DONE, 0, NULL));
     row("errors", "wrong", "no date", writes(7, 0, DATE, "2023-02-29", wrong, STRKW_DONE, wrong, WRONG));
+    row("errors", "wrong", "a space for each character below U+0020",
+        writes(7, 0, CONTROLS, "x", no_controls, STRKW_DONE, no_controls, NO_CONTROLS));
     row("errors", "wrong", "no mail address",
         writes(7, companions, MAIL, "ada", no_mail, STRKW_DONE, no_mail, NO_MAIL));
     row("errors", "wrong", "no pattern", writes(7, companions, REGEX, "(", no_regex, STRKW_DONE, no_regex, NO_REGEX));

@@ -1610,6 +1610,22 @@ def property_searches(table, prefixes):
     return searches(rows)
 
 
+def is_of_value(value, category):
+    """Whether a category is of a value of General_Category: UAX #44, section 5.7.1, where LC is Lu, Ll and Lt."""
+    return value in (category, category[0]) or value == "LC" and category in ("Lu", "Ll", "Lt")
+
+
+def category_searches():
+    """Each value of General_Category with a character of each category, alone and in a class."""
+    values = [(names[0], point) for names, point in values_of(CATEGORIES)]
+    having = [(name, point) for name, point in values if len(name) == 2 and name != "LC" and point]
+    forms = (("^\\p{{{}}}$", True), ("^\\P{{{}}}$", False), ("^[\\p{{{}}}]$", True), ("^[^\\p{{{}}}]$", False))
+    rows = []
+    for (value, _), (form, has) in itertools.product(values, forms):
+        rows += [[form.format(value), point, is_of_value(value, name) == has] for name, point in having]
+    return searches(rows)
+
+
 def binary_searches():
     """Each binary property by each of its names, alone and in classes, with all that have it and all that do not."""
     properties = [(names.split("/"), having) for names, having in BINARIES.items()]
@@ -1650,6 +1666,8 @@ def property_rows():
         off = sorted({spoilt for name in known[table] for spoilt in one_letter_off(name)} - known[table])
         for prefix in prefixes:
             yield texts(PATTERNS, [f"\\p{{{prefix}{name}}}" for name in off], never)
+    yield "each value of General_Category with a character of each category: it has those of the categories that it is"
+    yield category_searches()
     exchanged = [*sorted(known[SCRIPTS]), *(f"sc={name}" for name in sorted(known[CATEGORIES]))]
     properties = ("Sc", "SC", "script", "s", "scr", "sc ", "gC", "Gc", "g", "general_category", "Category", "")
     others = [f"{prefix}={value}" for prefix in properties for value in ("Latn", "Latin", "Lu")]
@@ -2385,6 +2403,29 @@ def refusal_rows():
     deeper = ("(*", "(+a)", "(]", "(a", "()", "(?:*", "(?=+", "(?!a)", "(?<n>*", "(?<=*", "(?<!a)")
     yield refusals("its groups are more than 250 deep", ["(" * 250 + end for end in deeper])
     yield refusals(NOT_TAKEN, ["(" * 250 + end for end in ("(?a)", "(?<1>", "(?<>a)", "*", "]", "a")])
+    yield from rows_of_two_reasons()
+
+
+# Pieces of patterns, each with the reason for which a pattern is not taken that has it.
+REASONS = {
+    "\\1": "it has a back reference", "\\k<n>": "it has a back reference",
+    "\\!": "\\! is valid only without the flag u: write ! for it",
+    "\\p{Foo}": "it has a property that is not known here", "[\\P{Foo}]": "it has a property that is not known here",
+    "a{1001}": "it has a count above 1000", "a{0,1001}": "it has a count above 1000",
+    "(?:abc){667}": "a counted term takes more than 2000 steps", "]": NOT_TAKEN, "a**": NOT_TAKEN,
+    "(" * 251 + "a": "its groups are more than 250 deep"}
+
+
+def rows_of_two_reasons():
+    """Patterns with two reasons: the length is told, else what stands first, and last the size."""
+    whole = "a{1000}a{1000}a{601}"
+    for first, why in REASONS.items():
+        others = [second for second, other in REASONS.items() if other != why]
+        yield refusals(why, [form.format(first, second) for second in others for form in ("{}{}", "{}|b{}", "{}(?={})")])
+        yield refusals(why, [f"{whole}{first}", f"{first}{whole}", f"(?:{whole})(?={first})", f"(?<n>a)(?<n>b){first}"])
+    long = [{"pattern": [[piece, 1], ["a", 2000]]} for piece in (*REASONS, whole)]
+    long += [{"pattern": [["a", 2000], [piece, 1]]} for piece in (*REASONS, whole)]
+    yield {"ask": "refusals", "of": "it has more than 2000 characters", "long": long}, len(long)
 
 
 # Braces and quantifiers, and whether the pattern is taken.

@@ -133,6 +133,15 @@ def instances_of_each_type():
         yield asked(draft, RIGHT, [*OTHER_INSTANCES, "!"])
 
 
+def deep_values():
+    """A number that is no whole number of 64 bits is seen at any depth, and a whole one is printed there."""
+    keywords = (*KEYWORDS[:4], "pattern")
+    for draft, keyword, depth, number in product((7, 202012), keywords, (2, 9, 33, 100), ("1.5", "7")):
+        for begin, end in (("[", "]"), ("{\"a\":", "}"), ("[0,", "]"), ("{\"a\":0,\"b\":", "}")):
+            schema = {"contentMediaType": "x", keyword: parsed(begin * depth + number + end * depth)}
+            yield asked(draft, schema, ["x"])
+
+
 # ---- names
 
 def other_names():
@@ -207,6 +216,34 @@ def registered_formats():
         yield asked(draft, {"format": "custom"}, ["ab"], formats=[["custom", "none"]], keyword="format", **CHECKED)
 
 
+# Names that differ in what a careless comparison passes over.
+NAMES = ("", " ", "a", " a", "a ", "A", "a\0", "\u00e9", "e\u0301")
+# Media types that differ in parameters (RFC 2045, section 5.1), in a suffix (RFC 6839), or by a range (RFC 9110,
+# section 12.5.1): none of them is another's.
+MEDIA_NAMES = ("text/x", "text/x;", "text/x;a=b", "text/x; a=b", "text/x ;a=b", "TEXT/X", "text/*", "*/*", "text",
+               "text/y+x", "text/y", "x")
+# Encodings that differ in what mail (RFC 2045, section 6.1) or HTTP (RFC 9110, section 8.4.1) would pass over.
+ENCODING_NAMES = ("a", "x-a", "A", "a;b", "a, b", "b", "a-b", "ab", "identity")
+
+
+def registered_names():
+    """The name of a row is compared as it stands, character by character, and the empty one counts as others do."""
+    for names in (NAMES, MEDIA_NAMES, ENCODING_NAMES):
+        yield from names_among(names)
+
+
+def names_among(names):
+    """Each name, with a row of it and without one, among rows of the others."""
+    for name, is_there in product(names, (True, False)):
+        rows = [[it, "none"] for it in names if is_there or it != name]
+        codecs = [[it, "bytes"] for it, _ in rows]
+        for draft in (7, 202012):
+            yield asked(draft, {"format": name}, ["ab"], formats=rows, **CHECKED)
+        yield asked(7, {"contentMediaType": name}, ["ab"], media_types=rows)
+        yield asked(7, {"contentEncoding": name}, ["ab"], codecs=codecs)
+        yield asked(7, {"contentMediaType": name, "contentEncoding": name}, ["ab"], media_types=rows, codecs=codecs)
+
+
 def folding_by_windows():
     """The lengths that a format and the limits leave (docs/DECISIONS.md)."""
     for it in FORMATS:
@@ -250,6 +287,32 @@ def texts_at_bounds():
         for left_out in ("minLength", "maxLength"):
             for keyword in ("minLength", "maxLength"):
                 yield asked(7, schema, texts[:3], keyword=keyword, left_out=[left_out])
+
+
+# Characters that a reader does not see, or sees as part of another: controls, marks, joiners, selectors, jamo, tags,
+# regional indicators, modifiers, noncharacters, and the byte order mark. Each is a character as others are.
+UNSEEN = ("\0", "\x7f", "\u0085", "\u00ad", "\u0301", "\u0345", "\u034f", "\u0600", "\u061c", "\u0e33", "\u115f",
+          "\u1160", "\u11a8", "\u180e", "\u200b", "\u200c", "\u200d", "\u200e", "\u200f", "\u2028", "\u2029",
+          "\u202e", "\u2060", "\u2066", "\u20e3", "\ue000", "\ufe0f", "\ufeff", "\ufff9", "\ufffd", "\ufffe",
+          "\U0001f1e9", "\U0001f3fb", "\U000e0001", "\U000e007f", "\U000e0100", "\U0010ffff")
+
+
+def characters_not_seen():
+    """Each of them alone, first, last and between, and behind and before a block of 32 bytes."""
+    for it in UNSEEN:
+        for other in ("a", "\U0001f44b"):
+            texts = (it, it + other, other + it, it + it, other + it + other, it + other + it, it + it + other)
+            for length in (1, 2, 3):
+                schema = {"minLength": length, "maxLength": length}
+                yield asked(7, schema, [text for text in texts if len(text) == length])
+        yield asked(7, {"minLength": 34, "maxLength": 34}, [it + "a" * 33, "a" * 33 + it, "a" * 16 + it + "a" * 17])
+
+
+def ends_that_checks_see():
+    """A caller's check is asked of the whole text, with what stands first and last in it."""
+    texts = [text for end in ("\n", " ", "\r\n", "\0", "\ufeff") for text in ("a" + end, "ab" + end, end + "ab", end)]
+    yield asked(7, {"contentMediaType": "text/even"}, texts, media_types=[["text/even", "even"]])
+    yield asked(7, {"format": "even"}, texts, formats=[["even", "even"]])
 
 
 def folding_by_lengths_alone():
@@ -508,6 +571,29 @@ def long_names():
                     absolute=name)
 
 
+def many():
+    """A row counts wherever it stands in its list, a keyword behind any other keys, and a pointer has any length."""
+    names = [f"n{it}" for it in range(300)]
+    for draft, at in product((7, 202012), (255, 256, 299)):
+        checks = [[it, "none"] for it in names[:at + 1]]
+        yield asked(draft, {"format": names[at]}, ["ab"], formats=checks, **CHECKED)
+        yield asked(draft, {"contentMediaType": names[at]}, ["ab"], media_types=checks)
+        yield asked(draft, {"contentEncoding": names[at]}, ["ab"], codecs=[[it, "bytes"] for it in names[:at + 1]])
+    for draft, keyword in product((7, 202012), KEYWORDS):
+        others = {it: number for number, it in enumerate(names)}
+        yield asked(draft, {**others, "contentMediaType": "x", keyword: RIGHT[keyword]}, ["x"])
+        yield asked(draft, {keyword: BAD[keyword], **others, "contentMediaType": "x"}, ["x"])
+    for size in (16, 17, 100):
+        segments = names[:size]
+        yield made(compact({"segments": segments}), [f"  {place(segments[:end])}" for end in range(1, size + 1)])
+        yield asked(7, {"minLength": 5}, ["x"], location=segments, way=segments[::-1], at=segments[1:],
+                    absolute="https://example.com/s.json")
+    for size in (32, 33, 200):
+        pattern = "^(" + "|".join(names[:size]) + ")$"
+        for text in (names[size - 1], names[size]):
+            yield asked(7, {"pattern": pattern}, [text, text + "n"])
+
+
 def texts_in_errors():
     """Instances and names as the texts of errors show them."""
     signs = ["\"", "\\", "/", "\b\f\n\r\t", "\0\x01\x1f", "\x7f\x80", "\u2028", "\U0001f4a9", "'", "{x}", "a\"b\\c\nd",
@@ -549,17 +635,41 @@ def lists_in_use():
         yield asked(draft, schema, ["x"], lent=lent, validate_formats=True, **rows)
         if len(schema) == 1 and draft == 7:
             yield asked(draft, schema, keyword=next(iter(schema)), lent=lent, **rows)
+    rows = {"formats": [["date", "none"]], "media_types": [[JSON, "none"]], "codecs": [["base64", "odd"]]}
+    for draft, keyword in product((6, 7, 202012), ("format", "contentMediaType", "contentEncoding")):
+        for chosen in ([0, 0, 0, 0, 0, 0], [0, 1, 0, 0, 0, 1], [0, 0, 0, 1, 0, 0], [0, 1, 0, 1, 0, 1]):
+            lent = [[0, 0, 0, 0, 0, 0], [0, 1, 0, 1, 0, 1], chosen]
+            yield asked(draft, {keyword: RIGHT[keyword]}, lent=lent, validate_formats=True, **{"with": chosen}, **rows)
+            if keyword != "format":
+                yield asked(draft, {"contentMediaType": JSON, "contentEncoding": "base64"}, lent=lent,
+                            **{"with": chosen}, **rows)
+
+
+# The last ones are a draft's number but for the bits that a narrower integer has not.
+NO_DRAFTS = (0, 1, 2, 3, 5, 8, 9, 2019, 201908, 201910, 2020, 202011, 202013, 2 ** 8 + 7, 2 ** 16 + 7, 2 ** 31 + 7,
+             2 ** 32 + 4, 2 ** 32 + 202012, 2 ** 53 + 6, 2 ** 63 + 7, MOST)
+# The meta-schemas of the drafts, and other names of them: a draft is told by its number alone (docs/PROGRAMS.md).
+NAMES_OF_DRAFTS = (
+    "http://json-schema.org/draft-04/schema#", "http://json-schema.org/draft-06/schema#",
+    "http://json-schema.org/draft-07/schema#", "http://json-schema.org/draft-07/schema",
+    "https://json-schema.org/draft/2019-09/schema", "https://json-schema.org/draft/2020-12/schema",
+    "http://json-schema.org/schema#", "draft-07", "draft7", "Draft7", "2019-09", "2020-12", "201909", "202012")
 
 
 def no_drafts():
-    """A row with another number has no draft."""
-    for number in (0, 1, 3, 5, 8, 2019, 201908, 201910, 2020, 202011, 202013):
-        yield asked(number, {"minLength": 5}, ["x"])
+    """A row with another number, or with a name in place of it, has no draft, and such a line is no request."""
+    for it in (*NO_DRAFTS, *NAMES_OF_DRAFTS):
+        yield asked(it, {"minLength": 5}, ["x"])
+        yield lined({**ONE_REQUEST, "draft": it})
     for it in ('7.0', '-7', '"7"', 'null', '[7]', '18446744073709551616'):
         yield asked(parsed(it), {"minLength": 5}, ["x"])
 
 
 # ---- requests
+
+FLAGS = [{name: it for name, it in zip(("validate_formats", "ignore_unknown_formats"), them) if it is not None}
+         for them in product((None, True, False), repeat=2)]
+
 
 def requests():
     """What `run` answers: the same errors, notes and refusals, each on a line."""
@@ -569,9 +679,10 @@ def requests():
             yield requested(draft, schema, instance)
     for draft, keyword in product(DRAFTS, KEYWORDS):
         yield requested(draft, {keyword: BAD[keyword]}, "x", validate_formats=True)
-    for draft, name in product(DRAFTS, ("date", "uuid", "iri", "nonsense", "a\n'b")):
-        for options in ({}, CHECKED, {"validate_formats": False}):
-            yield requested(draft, {"format": name}, "x", **options)
+    for draft, name, options in product(DRAFTS, ("date", "uuid", "iri", "nonsense", "a\n'b"), FLAGS):
+        yield requested(draft, {"format": name}, "x", **options)
+        if name in ("date", "nonsense"):
+            yield requested(draft, {"format": name, "minLength": 11}, "x", fold=True, **options)
     for draft, codec in product((6, 7, 202012), ENCODERS):
         for text in texts_for(codec):
             yield requested(draft, {"contentMediaType": JSON, "contentEncoding": codec}, text)
@@ -588,6 +699,12 @@ WORDS = ("x", "draft", "7x", "{", "}", "[", "]", ",", ":", "\"draft\"", "{]", "[
          "{\"draft\":}", "{\"draft\",7}", "{7:\"draft\"}", "\"", "\"\\x\"", "nul", "NaN", "'x'", "\ufeff{}")
 
 
+# Names that other programs have, and some of other shapes.
+OTHER_MEMBERS = ("validateFormats", "validate-formats", "ignoreUnknownFormats", "ignore-unknown-formats", "$schema",
+                 "$ref", "data", "value", "text", "id", "patterns", "formats_by_dialect", "draft\0", "\u00e9",
+                 "n" * 300)
+
+
 def lines_of_each_shape():
     """A line is a request where it is an object of the members of docs/PROGRAMS.md, each with a value of its kind."""
     for shape in SHAPES:
@@ -597,12 +714,92 @@ def lines_of_each_shape():
     more = ("4", "6", "7", "8", "201909", "7e0", "70", "[7]", '"7"', '"true"', '"false"', "2")
     for name, shape in product(MEMBERS, [*SHAPES, *map(parsed, more)]):
         yield lined({**ONE_REQUEST, name: shape})
+    for name in OTHER_MEMBERS:
+        for shape in map(parsed, ("true", "null", '"x"', "7", "{}")):
+            yield lined({**ONE_REQUEST, name: shape})
+    # What is no request is told before the refusal of its schema object.
+    for name, shape in product([*MEMBERS, "other"], (parsed("null"), parsed("1"), parsed('"x"'))):
+        lone = {"draft": 7, "schema": {"format": 5}, "instance": "x"}
+        yield lined({**lone, name: shape})
+        yield lined({name: shape, **{it: lone[it] for it in lone if it != name}})
     for name in MEMBERS:
         every = {**ONE_REQUEST, "validate_formats": True, "ignore_unknown_formats": False, "fold": True}
         yield lined({it: every[it] for it in every if it != name})
         for other in near(name):
             yield lined({**ONE_REQUEST, other: every[name]})
             yield lined({other if it == name else it: every[it] for it in every})
+
+
+# For each member two values that change the answer, and one that is not of its kind, if there is such a one.
+TWICE = {"draft": ("4", "201909", "5"), "schema": ('{"maxLength":1}', '{"minLength":3}', "[]"),
+         "instance": ('"ab"', '"x"', "5"), "validate_formats": ("true", "false", "null"),
+         "ignore_unknown_formats": ("true", "false", "0"), "fold": ("true", "false", '"true"')}
+# For each keyword another right value.
+ALSO_RIGHT = {"contentMediaType": "a/b", "contentEncoding": "base16", "contentSchema": True, "format": "time",
+              "minLength": 0, "maxLength": 0, "pattern": "^b"}
+
+
+def joined(*members):
+    """The JSON text of an object: of each member its name as it is written, and its value."""
+    return "{" + ",".join(f"{name}:{compact(value)}" for name, value in members) + "}"
+
+
+def quoted(*members):
+    """Members with their names as JSON strings."""
+    return [(compact(name), value) for name, value in members]
+
+
+def with_escapes(name):
+    """A name as a JSON string in which each character is escaped."""
+    return '"' + "".join(f"\\u{ord(it):04x}" for it in name) + '"'
+
+
+def members_that_stand_twice():
+    """Of a member that stands twice the last counts, in a request and in its schema object, whatever the first is."""
+    for name, values in TWICE.items():
+        row = numbered({"draft": 202012, "schema": {"format": "date"}, "instance": "ab"})
+        if name == "ignore_unknown_formats":
+            row = {**row, "validate_formats": True, "schema": {"format": "nonsense"}}
+        others = quoted(*((it, row[it]) for it in row if it != name))
+        for one, other in product(map(parsed, values), repeat=2):
+            first, last = quoted((name, one), (name, other))
+            for members in ([first, *others, last], [*others, first, last]):
+                yield made(compact({"input": [joined(*members)]}), answer_to_line({**row, name: other}))
+    for draft, keyword in product((7, 202012), KEYWORDS):
+        values = numbered([RIGHT[keyword], ALSO_RIGHT[keyword], BAD[keyword]])
+        row = numbered({"draft": draft, "schema": {}, "instance": "x"})
+        beside = {"contentMediaType": "x"} if keyword == "contentSchema" else {}
+        for one, other in product(values, repeat=2):
+            schema = joined(*quoted((keyword, one), *beside.items(), (keyword, other)))
+            line = compact(row).replace('"schema":{}', f'"schema":{schema}')
+            yield made(compact({"input": [line]}), answer_to_line({**row, "schema": {**beside, keyword: other}}))
+
+
+def names_with_escapes():
+    """A name that is written with escapes is the same name (RFC 8259, section 7)."""
+    every = numbered({**ONE_REQUEST, "validate_formats": True, "ignore_unknown_formats": False, "fold": True})
+    for name in MEMBERS:
+        members = [(with_escapes(it) if it == name else compact(it), every[it]) for it in every]
+        yield made(compact({"input": [joined(*members)]}), answer_to_line(every))
+        for value in map(parsed, TWICE[name]):
+            last = (with_escapes(name), value)
+            yield made(compact({"input": [joined(*quoted(*every.items()), last)]}),
+                       answer_to_line({**every, name: value}))
+    for draft, keyword in product((7, 202012), KEYWORDS):
+        beside = {"contentMediaType": "x"} if keyword == "contentSchema" else {}
+        row = numbered({"draft": draft, "schema": {}, "instance": "x"})
+        for value in numbered([RIGHT[keyword], BAD[keyword]]):
+            schema = joined(*quoted(*beside.items()), (with_escapes(keyword), value))
+            line = compact(row).replace('"schema":{}', f'"schema":{schema}')
+            yield made(compact({"input": [line]}), answer_to_line({**row, "schema": {**beside, keyword: value}}))
+        if isinstance(RIGHT[keyword], str):
+            schema = f'{{"{keyword}":{with_escapes(RIGHT[keyword])}}}'
+            line = compact(row).replace('"schema":{}', f'"schema":{schema}')
+            yield made(compact({"input": [line]}), answer_to_line({**row, "schema": {keyword: RIGHT[keyword]}}))
+
+
+# Values that JSON readers refuse.
+NO_VALUES = ("1e999", '"\\ud800"', '[1e999]', '{"\\udfff":1}', "nul", '"\x01"')
 
 
 def other_members():
@@ -614,11 +811,17 @@ def other_members():
                   "00", "-", "1e", "[1]]", '{"a":1}}', '"x""y"', "", ",", "1,"):
         yield made(compact({"input": [front + wrong + "}"]}), ["bad request", "end"])
     for name in MEMBERS:
-        for wrong in ("1e999", '"\\ud800"', '[1e999]', '{"\\udfff":1}', "nul", '"\x01"'):
+        for wrong in NO_VALUES:
             rest = compact(numbered({name: {**ONE_REQUEST, "validate_formats": True, "ignore_unknown_formats": True,
                                             "fold": True}[name], **{it: ONE_REQUEST[it] for it in ONE_REQUEST
                                                                     if it != name}}))[1:]
             yield made(compact({"input": [f'{{"{name}":{wrong},{rest}']}), ["bad request", "end"])
+    for name, wrong in product((*KEYWORDS, "x"), NO_VALUES):
+        line = f'{{"draft":7,"schema":{{"{name}":{wrong},"{name}":1}},"instance":"x"}}'
+        yield made(compact({"input": [line]}), ["bad request", "end"])
+    for name in ('"\\ud800"', '"\x01"', "x", "1", '"x" "y"'):
+        line = f'{{"draft":7,"schema":{{"format":"date",{name}:1}},"instance":"x"}}'
+        yield made(compact({"input": [line]}), ["bad request", "end"])
     for some in ("C0 80", "C1 BF", "E0 80 80", "ED A0 80", "ED BF BF", "E2 82", "80", "BF", "F0 80 80 80",
                  "F4 90 80 80", "F5 80 80 80", "FE"):
         parts = [front + '"', *(Number(str(it)) for it in bytes.fromhex(some)), '"}\n', front + '"x"}']
@@ -631,6 +834,9 @@ def other_members():
     for sign in ("\x7f", "\x80", "\x85", "\u2028", "\u2029", "\ufffd", "\uffff", "\U0010ffff", "\ud7ff", "\ue000"):
         for times in (1, 2):
             yield requested(7, {"maxLength": 1}, sign * times)
+            yield requested(7, {"format": sign * times}, "x", ignore_unknown_formats=False)
+            yield requested(7, {"pattern": sign * times + "+"}, "x")
+            yield requested(202012, {"contentEncoding": sign * times, "format": sign}, "x")
 
 
 def bounded_lines():
@@ -650,6 +856,14 @@ def bounded_lines():
                     below += told[line]
                 row = {"input": ["\n".join([*lines, *last])], "longest": Number(str(longest))}
                 yield made(compact(row), below)
+    # White space counts, also a carriage return before the line feed.
+    for front, tail, end in product(("", " "), ("\r", " ", "\t", "\r\r", "\r \r"), ("", "\n", "\n\r\n")):
+        line = front + one + tail
+        for longest in (len(one), len(line) - 1, len(line), len(line) + 1, 2 ** 32, 2 ** 63, MOST):
+            row = {"input": [line + end], "longest": Number(str(longest))}
+            fault = [f"strkw: a line is longer than {longest} bytes"]
+            below = fault if len(line) > longest else told[one] + (told[""] if end == "\n\r\n" else [])
+            yield made(compact(row), below)
     # The program reads pieces of 64 KiB.
     for size in (65535, 65536, 65537, 131072, 150000):
         for longest, begin, end in product((size - 1, size, size + 1), ("", "\n"), ("", "\n", "\n\n")):
@@ -672,6 +886,18 @@ def deep_members():
             yield made(compact({"input": parts}), answer_to_line(value) if is_read else ["bad request", "end"])
 
 
+def deep_members_of_schemas():
+    """A value of a schema object may nest 125 deep, two less than a line, at a keyword and at any other member."""
+    for draft, name, (begin, end) in product((7, 202012), (*KEYWORDS, "x"), (("[", "]"), ("{\"a\":", "}"))):
+        inner = "1" if begin != "[" else ""
+        for depth, is_read in ((125, True), (126, False)):
+            front = f'{{"draft":{draft},"schema":{{"contentMediaType":"x","{name}":'
+            parts = [front, [begin, Number(str(depth))], inner, [end, Number(str(depth))], '},"instance":"x"}']
+            schema = {"contentMediaType": "x", name: parsed(begin * depth + inner + end * depth)}
+            row = numbered({"draft": draft, "schema": schema, "instance": "x"})
+            yield made(compact({"input": parts}), answer_to_line(row) if is_read else ["bad request", "end"])
+
+
 def controls():
     """Each character of ASCII alone, and behind a line feed, in the texts of errors and refusals."""
     signs = [chr(it) for it in range(128)]
@@ -682,6 +908,13 @@ def controls():
         yield requested(7, {"pattern": sign + "+"}, "x")
         yield requested(7, {"pattern": ["\n" + sign]}, "x")
         yield requested(202012, {"contentEncoding": "\n" + sign, "format": sign}, "x")
+    for size in (31, 32, 63, 64, 127, 128, 255, 256, 600):
+        text = "n" * size + "\n\0\"\\\x7f\u00e9"
+        yield requested(7, {"maxLength": 0}, text)
+        yield requested(7, {"format": text}, "x", ignore_unknown_formats=False)
+        yield requested(7, {"pattern": text + "+"}, "x")
+        yield requested(202012, {"contentMediaType": text, "format": text}, "x")
+        yield asked(7, {"maxLength": 0, "pattern": text + "+"}, [text], patterns=[[text + "+", text, "failed"]])
     for least in range(0, 128, 32):
         some = signs[least:least + 32]
         yield asked(7, {"maxLength": 0}, [*some, *("\n" + it for it in some)])
@@ -746,20 +979,28 @@ def lines_that_share_a_schema():
 
 SECTIONS = (
     ("values of each shape", values_of_each_shape), ("values beside a media type", values_beside_a_media_type),
+    ("values that nest", deep_values),
     ("absent keywords", absent_keywords), ("instances of each type", instances_of_each_type),
     ("names one letter off", other_names), ("names of formats one letter off", other_format_names),
     ("formats by options", formats_by_options), ("texts of formats", texts_of_formats),
-    ("registered formats", registered_formats), ("folding by windows", folding_by_windows),
+    ("registered formats", registered_formats), ("names of rows", registered_names),
+    ("folding by windows", folding_by_windows),
     ("folding by lengths alone", folding_by_lengths_alone), ("pointers", pointers), ("long names", long_names),
-    ("texts at each bound", texts_at_bounds), ("limits of 64 bits", limits_of_64_bits),
+    ("texts at each bound", texts_at_bounds), ("characters not seen", characters_not_seen),
+    ("ends that checks see", ends_that_checks_see),
+    ("limits of 64 bits", limits_of_64_bits),
     ("good limits beside bad ones", good_beside_bad_limits), ("content by product", content_by_product),
     ("entries of content", entries_of_content), ("texts of encodings", texts_of_encodings),
     ("names of content one letter off", other_names_of_content), ("content over built-ins", content_over_built_ins),
     ("schemas beside media types", schemas_beside_media_types), ("patterns", patterns),
     ("first refusals", first_refusals), ("keywords left out", keywords_left_out), ("places", places),
-    ("texts in errors", texts_in_errors), ("lists in use", lists_in_use), ("numbers that are no drafts", no_drafts),
-    ("requests", requests), ("lines of each shape", lines_of_each_shape), ("other members", other_members),
-    ("members that nest", deep_members), ("lines with a bound", bounded_lines),
+    ("many of one kind", many), ("texts in errors", texts_in_errors),
+    ("lists in use", lists_in_use), ("numbers that are no drafts", no_drafts),
+    ("requests", requests), ("lines of each shape", lines_of_each_shape),
+    ("members and keywords that stand twice", members_that_stand_twice), ("names with escapes", names_with_escapes),
+    ("other members", other_members),
+    ("members that nest", deep_members), ("members of schema objects that nest", deep_members_of_schemas),
+    ("lines with a bound", bounded_lines),
     ("each character of ASCII", controls), ("folds told", folds_told),
     ("lines that share a schema", lines_that_share_a_schema),
 )

@@ -108,9 +108,11 @@ FORMATS = (
             "g81d4fae-7dec-11d0-a765-00a0c91e6bf6", "{f81d4fae-7dec-11d0-a765-00a0c91e6bf6}"), (36, 36)),
 )
 FORMAT_NAMES = tuple(dict.fromkeys(it.name for it in FORMATS))
-# Formats of drafts 3 to 2020-12 that are not built in, and names that no draft has.
+# Formats of drafts 3 to 2020-12 that are not built in, names that other validators and OpenAPI have, and names that no
+# draft has. `uriref` is the name of `uri-reference` in draft 5.
 UNKNOWN_FORMATS = ("email", "idn-email", "idn-hostname", "regex", "color", "host-name", "ip-address", "phone",
-                   "utc-millisec", "custom", "a'\"b", "")
+                   "utc-millisec", "style", "uriref", "url", "json-pointer-uri-fragment", "guid", "iso-time",
+                   "iso-date-time", "byte", "binary", "password", "int32", "custom", "a'\"b", "")
 
 
 def format_in(draft, name):
@@ -164,12 +166,15 @@ NO_ENCODINGS = {
 # Names that no codec has, one letter off and of RFC 2045.
 UNKNOWN_CODECS = ("Base64", "BASE64", "base6", "base644", "ase64", "base64 ", " base64", "base-64", "base64Url",
                   "base64url ", "base64-url", "base16hex", "hex", "base16 ", "base32Hex", "base32h", "base32-hex",
+                  "base64_url", "base64urlsafe", "Base16", "BASE16", "Base32", "BASE32HEX", "base58", "base85", "b64",
                   "rot13", "7bit", "8bit", "binary", "identity", "quoted-printable", "x-uuencode", "gzip", "")
 UNKNOWN_MEDIA_TYPES = ("Application/JSON", "application/JSON", "Application/json", "APPLICATION/json",
                        "application/jso", "application/jsonn",
                        "pplication/json", "application/json ", " application/json", "application/json;",
                        "application/json;charset=utf-8", "application/json; charset=utf-8", "application/ld+json",
                        "application/problem+json", "application/schema+json", "application/x-json", "json", "text/json",
+                       "application/vnd.api+json", "application/geo+json", "application/json-patch+json",
+                       "application/json-seq", "application/json5", "application/x-ndjson", "application/javascript",
                        "text/x-json", "application", "application/*", "*/*", "text/plain", "text/html", "")
 # JSON texts (RFC 8259), and texts that are none.
 JSON_TEXTS = ("{}", "[1]", "\"a\"", "null", " 1 ", "-0.5e2", "{\"a\":[true,{}]}", "0", "\t\r\n[ ]\n",

@@ -31,8 +31,9 @@ from pathlib import Path
 TOP = Path(__file__).resolve().parent.parent
 STORED = TOP / "tools" / "wrong_definitions"
 GRAMMARS, KEYWORDS, FILES = "strkw_test_grammars", "strkw_test_rows", "strkw_test_files"
-# The crates whose rows ask about a crate. About any other, GRAMMARS has a part of its own for it.
+# The crates whose rows ask about a crate; about any other GRAMMARS alone. It has a part of its own for each.
 ROWS = {
+    "strkw_json": (GRAMMARS, KEYWORDS),
     "strkw_report": (KEYWORDS, FILES), "strkw_formats": (KEYWORDS,), "strkw_keywords": (KEYWORDS,),
     "strkw_object": (KEYWORDS,), "strkw_cli": (KEYWORDS,),
     "strkw_plan": (FILES,), "strkw_records": (FILES,), "strkw_table": (FILES,), "strkw_document": (FILES,),

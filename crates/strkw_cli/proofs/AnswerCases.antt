@@ -1,7 +1,8 @@
 -- From what is compiled and evaluated to the answer.
-use Rattle.std.proofs.Common.{◌≡◌, ◌≢◌, ◌↔◌, ◌⊎◌, inl, inr, ℕ, List, [], Bool, true, false, ◌++◌, Option, Some, None, Result, Ok, Err, OnOk, OnErr, refl, sym, ap}
-use Rattle.std.proofs.Common.{◌∙◌, subst, codes, append_assoc, if◌then◌else◌, is_ok}
-use Rattle.serde_json.specs.Data.{Members}
+use Rattle.std.proofs.Common.{◌≡◌, ◌≢◌, ◌↔◌, ◌⊎◌, inl, inr, ℕ, List, [], Bool, true, false, ◌++◌, Option}
+use Rattle.std.proofs.Common.{Some, None, Result, Ok, Err, OnOk, OnErr, refl, sym, ap}
+use Rattle.std.proofs.Common.{◌∙◌, subst, codes, append_assoc, if◌then◌else◌, is_ok, option_and_then}
+use Rattle.serde_json.specs.Data.{Data, Members}
 use Rattle.strkw_report.specs.Kinds.{Report}
 use Rattle.strkw_report.specs.Refusals.{reason_of, refusal_of, memory}
 use Rattle.strkw_report.specs.declared.refusal.CompileError.{CompileError}
@@ -16,12 +17,14 @@ use Rattle.strkw_keywords.proofs.Folding.{interval_is_left}
 use Rattle.strkw_object.specs.declared.strings.StringKeywords.{StringKeywords}
 use Rattle.strkw_object.specs.Compiled.{IsCompiledFrom, keywords_assertions, keywords_interval, keywords_remarks}
 use Rattle.strkw_keywords.specs.Compiled.{out_of_memory}
-use Rattle.strkw_cli.specs.Request.{Request}
+use Rattle.strkw_json.specs.Json.{IsReading}
+use Rattle.strkw_cli.specs.Request.{Request, request_in}
 use Rattle.strkw_object.specs.Printable.{ArePrintable}
 use Rattle.strkw_cli.specs.Printed.{refused_line, TellsFold, verdict_lines, note_lines}
 use Rattle.strkw_report.specs.Standings.{root_site}
-use Rattle.strkw_cli.specs.Answer.{settings_for, Answers}
+use Rattle.strkw_cli.specs.Answer.{settings_for, Answers, IsAnswer}
 use Rattle.strkw_cli.specs.Kept.{IsTold}
+use Rattle.strkw_cli.proofs.Asked.{nothing_read}
 use Rattle.strkw_object.proofs.Meaning.{compiled_folds}
 use Rattle.strkw_object.proofs.Printable.{notes_printable}
 
@@ -167,3 +170,14 @@ appended_answer result outcome r k lists fold node old mid new folds is none of 
     × NodeReports (keywords_assertions outcome k) no_lists root_site n errors)) (sym is)
     (subst (λ l. OnOk result ((errors : List Report) × (new ≡ mid ++ found_lines node errors (keywords_remarks k))
     × NodeReports (keywords_assertions outcome k) l root_site node errors)) none found))
+
+-- what answers the request that a line is, is the answer to the line
+pub answered_by : (line old new : List ℕ) (read : Option Data) (r : Request) → IsReading line read → option_and_then request_in read ≡ Some r
+    → ((made : List ℕ) × (new ≡ old ++ made) × Answers (Some r) made)
+    → (made : List ℕ) × (new ≡ old ++ made) × IsAnswer line made
+answered_by line old new read r reading same (made, grown, answers) =
+    (made, grown, record { value = read; is_reading = reading; answers = subst (λ found. Answers found made) (sym same) answers })
+
+-- the answer to a line of no bytes
+pub answer_to_nothing : IsAnswer [] (codes "bad request\nend\n")
+answer_to_nothing = record { value = None; is_reading = λ utf8. nothing_read; answers = refl }

@@ -1,15 +1,19 @@
 -- The request that a text is, by its tokens.
-use Rattle.std.proofs.Common.{◌≡◌, ℕ, ◌-◌, nat_lt, List, [], ◌∷◌, false, Option, Some, None, option_and_then, refl, ap, ◌∙◌, true≢false}
+use Rattle.std.proofs.Common.{◌≡◌, ℕ, ◌-◌, ◌<◌, nat_lt, List, [], ◌∷◌, length, false, Option, Some}
+use Rattle.std.proofs.Common.{None, option_and_then, refl, sym, ap, ◌∙◌, true≢false, arith}
+use Rattle.std.specs.Str.{IsUtf8}
 use Rattle.json.specs.Token.{Token}
-use Rattle.json.specs.Lex.{tokens}
-use Rattle.json.specs.Json.{parse_map}
-use Rattle.serde_json.specs.Data.{Data, array, object, Members}
+use Rattle.json.specs.Lex.{Lexeme, token, comma, colon, Class, quote, backslash, operator, space, other, class, between, lex, lex_byte}
+use Rattle.json.specs.Lex.{fresh, punctuate, tokens}
+use Rattle.json.specs.Json.{parse_map, value}
+use Rattle.serde_json.specs.Data.{Data, array, object, Members, no_members}
 use Rattle.serde_json.specs.Find.{as_object}
 use Rattle.serde_json.specs.Read.{number_of, read as read_text}
 use Rattle.strkw_json.specs.Passing.{items_read, members_read}
 use Rattle.strkw_json.proofs.FirstTokens.{seen, none_seen, none_seen_if, none_in_number}
-use Rattle.strkw_json.proofs.Reading.{first_read, at_end, read_by_tokens}
-use Rattle.strkw_cli.specs.Request.{request_in, request_of_members}
+use Rattle.strkw_json.proofs.Reading.{first_read, at_end, no_key, read_by_tokens}
+use Rattle.strkw_json.specs.Json.{IsReading}
+use Rattle.strkw_cli.specs.Request.{Request, request_in, request_of_members}
 use Rattle.strkw_cli.specs.Tokens.{begins_object}
 
 -- ---- whether it begins with an object
@@ -63,3 +67,58 @@ module _ (text : List ℕ) where
   pub no_object_read : begins_object (tokens text) ≡ false → option_and_then request_in (read_text text) ≡ None
   no_object_read none = ap (option_and_then request_in) (read_by_tokens text)
       ∙ no_object (first_read 127 (tokens text)) (no_object_first 127 (tokens text) none)
+
+-- ---- a text of one byte
+
+-- one lexeme at most is no request
+one_lexeme : (text : List ℕ) (ls : List Lexeme) → tokens text ≡ punctuate fresh ls → length ls < 2
+    → option_and_then request_in (read_text text) ≡ None
+unfolding punctuate
+one_lexeme text [] is short = no_object_read text (ap begins_object is)
+one_lexeme text (token Token.begin_object ∷ []) is short = no_members_read text [] is (no_key (value 126) no_members 0 [] refl)
+one_lexeme text (token Token.end_object ∷ []) is short = no_object_read text (ap begins_object is)
+one_lexeme text (token Token.begin_array ∷ []) is short = no_object_read text (ap begins_object is)
+one_lexeme text (token Token.end_array ∷ []) is short = no_object_read text (ap begins_object is)
+one_lexeme text (token (Token.key s) ∷ []) is short = no_object_read text (ap begins_object is)
+one_lexeme text (token (Token.string s) ∷ []) is short = no_object_read text (ap begins_object is)
+one_lexeme text (token (Token.number s) ∷ []) is short = no_object_read text (ap begins_object is)
+one_lexeme text (token (Token.boolean b) ∷ []) is short = no_object_read text (ap begins_object is)
+one_lexeme text (token Token.null ∷ []) is short = no_object_read text (ap begins_object is)
+one_lexeme text (token Token.bad ∷ []) is short = no_object_read text (ap begins_object is)
+one_lexeme text (comma ∷ []) is short = no_object_read text (ap begins_object is)
+one_lexeme text (colon ∷ []) is short = no_object_read text (ap begins_object is)
+one_lexeme text (l ∷ m ∷ ls) is short = absurd (omega (arith, short))
+
+-- a byte is one lexeme at most
+lexemes_of_byte : (b : ℕ) (c : Class) → length (lex_byte between c b [] (λ next. lex next [])) < 2
+unfolding lex
+lexemes_of_byte b quote = omega arith
+lexemes_of_byte b backslash = omega arith
+lexemes_of_byte b operator = omega arith
+lexemes_of_byte b space = omega arith
+lexemes_of_byte b other = omega arith
+
+-- a text of fewer than two bytes is no request
+pub no_short_request : (text : List ℕ) → length text < 2 → option_and_then request_in (read_text text) ≡ None
+unfolding lex
+no_short_request [] short = one_lexeme [] [] refl (omega arith)
+no_short_request (b ∷ []) short = one_lexeme (b ∷ []) (lex between (b ∷ [])) refl (lexemes_of_byte b (class b))
+no_short_request (b ∷ c ∷ more) short = absurd (omega (arith, short))
+
+-- of no bytes nothing is read
+pub nothing_read : read_text [] ≡ None
+unfolding lex punctuate
+nothing_read = read_by_tokens []
+
+-- ---- the line that a text is
+
+-- the reading of a text that is UTF-8, whatever is read
+reading_of : (text : List ℕ) (o : Option Data) → IsUtf8 text → read_text text ≡ o → IsReading text o
+reading_of text None utf8 read = λ u. read
+reading_of text (Some d) utf8 read = (utf8, read)
+
+-- what a text is as a request, a line of its bytes is
+pub line_of_text : (line text : List ℕ) (found : Option Request) → text ≡ line → IsUtf8 line → option_and_then request_in (read_text text) ≡ found
+    → (read : Option Data) × IsReading line read × (option_and_then request_in read ≡ found)
+line_of_text line text found same utf8 is =
+    (read_text line, reading_of line (read_text line) utf8 refl, ap (λ t. option_and_then request_in (read_text t)) (sym same) ∙ is)

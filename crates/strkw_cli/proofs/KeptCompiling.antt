@@ -25,6 +25,8 @@ module _ (s : Settings) (asked : Asked) (ms : Members) (same : s ≡ settings_as
   -- the keywords, which no check is asked of, or the refusal can answer
   pub can_answer : (r : Result (StringKeywords LiteralMatcher) CompileError) → IfOk r (λ k. IsCompiledFrom literal_outcome s ms k)
       → IfOk r (λ k. IsInUse (keywords_demands literal_outcome k) s.lists) → IfErr r (λ e. prints_float (reason_of e.kind) ≡ false) → CanAnswer r
-  can_answer (Ok k) of uses prints =
-      (subst (λ t. IsInUse (keywords_demands literal_outcome k) t.lists) same uses, compiled_printable literal_outcome s ms k of (Some []) (keywords_remarks k) refl)
+  can_answer (Ok k) of uses prints = (
+    subst (λ t. IsInUse (keywords_demands literal_outcome k) t.lists) same uses,
+    compiled_printable literal_outcome s ms k of (Some []) (keywords_remarks k) refl,
+  )
   can_answer (Err e) of uses prints = prints

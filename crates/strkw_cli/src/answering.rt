@@ -3,7 +3,6 @@
 ghost use Rattle.std.specs.Prelude.{◌++◌, ◌≡◌, ℕ, Bool, IfSome, IsErrOf, List, None, OnErr, OnOk, Some, option_map, true};
 ghost use Rattle.strkw_keywords.specs.Lengths.{IsEmpty};
 ghost use Rattle.strkw_cli.specs.Answer.{Answers, IsAnswer, settings_for};
-ghost use Rattle.strkw_cli.specs.Borrowed.{IsRequest, IsRight};
 ghost use Rattle.strkw_cli.specs.Kept.{CanAnswer, IsCompiledTo, IsKept, IsSound, IsTold};
 ghost use Rattle.strkw_cli.specs.Request as asked;
 ghost use Rattle.strkw_object.specs.Compiled.{keywords_interval};
@@ -44,6 +43,9 @@ pub(super) fn answer_with(
     ensures err { OnErr result (out.new.items ≡ out.old.items) }
     ensures sound { IsSound held.new }
 {
+    if line.is_empty() {
+        return push_bad_request(out);
+    }
     let before = out.len();
     let result = answer_keeping(alloc, line, held, out);
     if result.is_err() {
@@ -70,7 +72,7 @@ fn answer_keeping(
         alloc,
         line,
         &mut held.scratch,
-        held.kept.object(),
+        held.kept.object.as_ref(),
         values,
         out,
     ) {
@@ -102,7 +104,8 @@ fn answer_anew(
     }
 }
 
-// Appends the answer to a line, or a beginning of it where it is out of memory, as `answer_request` does for a request.
+// Appends the answer to a line, or a beginning of it where it is out of memory, and tells what it asked of its schema
+// object, where that was compiled anew. It differs where the object is kept, and was asked otherwise.
 fn answer_line(
     alloc: Global,
     line: &[u8],
@@ -118,67 +121,40 @@ fn answer_line(
     ensures differs { IsErrOf result Unanswered.Differs → out.new.items ≡ out.old.items }
     ensures same { kept.entry ≡ None → IsErrOf result Unanswered.Differs → ⊥ }
 {
-    match read_request(alloc, line, scratch, kept, values)? {
-        Some(request) => answer_request(alloc, request, values, out),
-        None => {
-            push_bad_request(out)?;
-            Ok(None)
-        }
-    }
-}
-
-// Appends the answer to a request, and tells what it asked of its schema object, where that was compiled anew. It
-// differs where the object is kept, and was asked otherwise.
-fn answer_request(
-    alloc: Global,
-    request: Request<'_>,
-    values: &mut OwnedValues,
-    out: &mut Vec<u8>,
-) -> Result<Option<Sight>, Unanswered>
-    requires { (kept : Bool) × IsRight kept request.schema }
-    ensures ok { (r : asked.Request) → IsRequest values.old request.entry r
-        → OnOk result ((made : List ℕ) × (out.new.items ≡ out.old.items ++ made)
-        × Answers (Some r) made) }
-    ensures err { OnErr result ((more : List ℕ) × (out.new.items ≡ out.old.items ++ more)) }
-    ensures differs { IsErrOf result Unanswered.Differs → out.new.items ≡ out.old.items }
-    ensures same { (kept : Bool) → IsRight kept request.entry.schema
-        → IsErrOf result Unanswered.Differs → kept ≡ true }
-{
-    let Request {
-        asked,
-        schema,
-        instance,
-        fold,
-    } = request;
-    match schema {
+    let Some(request) = read_request(alloc, line, scratch, kept, values)? else {
+        push_bad_request(out)?;
+        return Ok(None);
+    };
+    let asked = request.asked;
+    match request.schema {
         Schema::Read(start, end) => {
             let compiled = compile(alloc, asked, values);
-            push_answer(alloc, fold, instance, &compiled, None, out)?;
+            push_answer(alloc, &request, &compiled, None, out)?;
             Ok(Some(Sight { asked, start, end }))
         }
-        Schema::Kept(object) if object.asked == asked => {
+        Schema::Kept(object) if object.is_compiled_as(asked) => {
             let told = Some(object.told.as_slice());
-            push_answer(alloc, fold, instance, &object.compiled, told, out)?;
+            push_answer(alloc, &request, &object.compiled, told, out)?;
             Ok(None)
         }
         Schema::Kept(_) => Err(Unanswered::Differs),
     }
 }
 
-// Appends the answer by what a schema object is compiled to: its refusal, or whether it folds to false, where this is
-// asked, with the errors and the notes of the instance. What it tells behind the errors of a text may be at hand.
+// Appends the answer to a request by what its schema object is compiled to: its refusal, or whether it folds to false,
+// where this is asked, with the errors and the notes of the instance. What it tells behind the errors of a text may be
+// at hand.
 fn push_answer(
     alloc: Global,
-    fold: bool,
-    instance: Option<&str>,
+    request: &Request<'_>,
     compiled: &Compiled,
     told: Option<&[u8]>,
     out: &mut Vec<u8>,
 ) -> Result<(), AllocError>
     requires can_answer { CanAnswer compiled.now }
     requires is_told { IfSome told (λ bytes. IsTold compiled.now bytes.now) }
-    ensures ok { (r : asked.Request) → r.fold ≡ fold
-        → r.instance ≡ option_map (λ text. text.now) instance.entry
+    ensures ok { (r : asked.Request) → r.fold ≡ request.now.fold
+        → r.instance ≡ option_map (λ text. text.now) request.now.instance
         → IsCompiledTo (settings_for r) r.schema compiled.now
         → OnOk result ((made : List ℕ) × (out.new.items ≡ out.old.items ++ made)
         × Answers (Some r) made) }
@@ -186,33 +162,14 @@ fn push_answer(
 {
     match compiled {
         Ok(keywords) => {
-            push_fold(fold, keywords, out)?;
-            let Some(text) = TextNode::of(&instance) else {
+            push_fold(request.fold, keywords, out)?;
+            let Some(text) = TextNode::of(&request.instance) else {
                 return out.extend_from_slice(b"valid\nend\n");
             };
             push_verdict(alloc, keywords, &text, &no_checks(), out)?;
-            push_rest(alloc, compiled, told, out)
+            push_told(alloc, compiled, told, out)
         }
-        Err(_) => push_rest(alloc, compiled, told, out),
-    }
-}
-
-// Appends what is told behind the errors of a text, as it is at hand, or else anew.
-fn push_rest(
-    alloc: Global,
-    compiled: &Compiled,
-    told: Option<&[u8]>,
-    out: &mut Vec<u8>,
-) -> Result<(), AllocError>
-    requires can_answer { CanAnswer compiled.now }
-    requires is_told { IfSome told (λ bytes. IsTold compiled.now bytes.now) }
-    ensures ok { OnOk result ((made : List ℕ) × (out.new.items ≡ out.old.items ++ made)
-        × IsTold compiled.now made) }
-    ensures err { OnErr result ((more : List ℕ) × (out.new.items ≡ out.old.items ++ more)) }
-{
-    match told {
-        Some(told) => out.extend_from_slice(told),
-        None => push_told(alloc, compiled, out),
+        Err(_) => push_told(alloc, compiled, told, out),
     }
 }
 

@@ -24,15 +24,27 @@ pub(super) struct Asked {
 /// The keywords of a schema object, or why it is refused.
 pub(super) type Compiled = Result<StringKeywords<LiteralMatcher>, CompileError>;
 
-/// What a schema object of these values is compiled to where this is asked of it, which may be out of memory.
+/// What a schema object of these values is compiled to where this is asked of it, which may be out of memory. It stands
+/// at the root, no check is registered, and only two options are set.
 #[inline(always)]
 pub(super) fn compile(alloc: Global, asked: Asked, values: &mut OwnedValues) -> Compiled
     ensures compiled { (ms : Members) → AreOwnedOf ms values.old
         → IsCompiledTo (settings_asked asked) ms result }
     ensures can_answer { CanAnswer result }
 {
-    let builder = NoPatterns;
-    let ctx = context_of(alloc, asked, &builder);
+    let options = Options {
+        validate_formats: asked.validate_formats,
+        ignore_unknown_formats: asked.ignore_unknown_formats,
+        ..Options::default()
+    };
+    let ctx = Context {
+        draft: asked.draft,
+        location: Location::root(alloc),
+        absolute: None,
+        options,
+        checks: no_checks(),
+        builder: &NoPatterns,
+    };
     compile_values(alloc, &ctx, values)
 }
 
@@ -44,25 +56,5 @@ pub(super) fn no_checks() -> Checks<'static>
         formats: &[],
         media_types: &[],
         codecs: &[],
-    }
-}
-
-// What a request compiles its schema object under: it stands at the root, no check is registered, and only two options
-// are set.
-fn context_of<'a>(alloc: Global, asked: Asked, builder: &'a NoPatterns) -> Context<'a, NoPatterns>
-    ensures { settings_of ⟦<NoPatterns as EngineBuilder>⟧.takes
-        ⟦<NoPatterns as EngineBuilder>⟧.outcome
-        admits accepted encoded decoding result ≡ settings_asked asked }
-{
-    let mut options = Options::default();
-    options.validate_formats = asked.validate_formats;
-    options.ignore_unknown_formats = asked.ignore_unknown_formats;
-    Context {
-        draft: asked.draft,
-        location: Location::root(alloc),
-        absolute: None,
-        options,
-        checks: no_checks(),
-        builder,
     }
 }

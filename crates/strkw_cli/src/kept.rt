@@ -30,7 +30,7 @@ const LINES_BEFORE_TEXT: usize = 8;
 pub(super) struct KeptObject {
     text: Vec<u8>,
     tokens: Vec<KeptToken>,
-    pub(super) asked: Asked,
+    asked: Asked,
     pub(super) compiled: Compiled,
     // What each answer by it tells behind the errors of a text. Of a refusal it is the whole answer.
     pub(super) told: Vec<u8>,
@@ -56,7 +56,7 @@ impl KeptObject {
         let tokens = tokens_in(alloc, scratch, text)?;
         let compiled = compile(alloc, asked, values);
         let mut told = Vec::new(alloc);
-        push_told(alloc, &compiled, &mut told)?;
+        push_told(alloc, &compiled, None, &mut told)?;
         Ok(Some(KeptObject {
             text: Vec::from_slice(alloc, bytes)?,
             tokens,
@@ -64,6 +64,13 @@ impl KeptObject {
             compiled,
             told,
         }))
+    }
+
+    /// Whether it is compiled as a line asks.
+    pub(super) fn is_compiled_as(&self, asked: Asked) -> bool
+        ensures { IsTrue result → self.now.asked ≡ asked }
+    {
+        self.asked == asked
     }
 
     /// Whether a line seems to have the text of the object from a place on.
@@ -114,11 +121,6 @@ pub(super) struct Sight {
 }
 
 impl Sight {
-    // How long the object is, with what stands between it and the next token.
-    fn len(&self) -> usize {
-        self.end.saturating_sub(self.start)
-    }
-
     // The text of the object.
     fn text_in<'a>(&self, line: &'a [u8]) -> Option<&'a [u8]> {
         let front = line.get(self.start..self.end)?;
@@ -140,7 +142,8 @@ pub(super) struct Kept {
     wanted: usize,
     // The text of the object of one of these lines.
     text: Vec<u8>,
-    object: Option<KeptObject>,
+    // The object that is kept.
+    pub(super) object: Option<KeptObject>,
 }
 
 impl Kept {
@@ -157,14 +160,6 @@ impl Kept {
             text: Vec::new(alloc),
             object: None,
         }
-    }
-
-    /// The object that is kept.
-    pub(super) fn object(&self) -> Option<&KeptObject>
-        requires { IfSome self.now.object IsKept }
-        ensures { IfSome result (λ object. IsKept object.now) }
-    {
-        self.object.as_ref()
     }
 
     /// Keeps no object.
@@ -191,8 +186,9 @@ impl Kept {
             self.wanted = LINES_BEFORE.max(self.wanted.saturating_sub(1));
             return Ok(());
         };
-        if self.len != sight.len() || self.asked != Some(sight.asked) {
-            self.len = sight.len();
+        let len = sight.end.saturating_sub(sight.start);
+        if self.len != len || self.asked != Some(sight.asked) {
+            self.len = len;
             self.asked = Some(sight.asked);
             self.lines = 0;
         }

@@ -12,7 +12,7 @@ use strkw_report::{CompileError, CompileErrorKind};
 /// Appends the answer to a line that is no request.
 pub(super) fn push_bad_request(out: &mut Vec<u8>) -> Result<(), AllocError>
     ensures ok { OnOk result (out.new.items ≡ out.old.items ++ codes "bad request\nend\n") }
-    ensures err { OnErr result ((more : List ℕ) × (out.new.items ≡ out.old.items ++ more)) }
+    ensures err { OnErr result (out.new.items ≡ out.old.items) }
 {
     out.extend_from_slice(b"bad request\nend\n")
 }
@@ -77,10 +77,9 @@ fn push_printed(text: &[u8], out: &mut Vec<u8>) -> Result<(), AllocError>
 fn is_plain(text: &[u8]) -> bool
     ensures { IsTrue result ↔ (printed text.now ≡ text.now) }
 {
+    let mut is_plain = true;
     for byte in text {
-        if *byte < 32 {
-            return false;
-        }
+        is_plain &= *byte >= 32;
     }
-    true
+    is_plain
 }

@@ -56,6 +56,9 @@ fn flag_in(value: &Value) -> Option<Option<bool>>
 /// How deep the value of a member may nest: one less than the line.
 pub(super) const MEMBER_DEPTH: usize = 126;
 
+// No text of a JSON object is shorter.
+const SHORTEST_OBJECT: usize = 2;
+
 // The draft whose number the value of a member is. Any other value is passed over, and not built.
 fn read_draft(tokens: &mut Reader<'_>) -> Result<Option<Draft>, Unread>
     ensures ok { IfOk result (λ draft. (d : Data)
@@ -185,6 +188,7 @@ impl<'a> Parts<'a> {
     }
 
     // The request that these are the parts of.
+    #[inline(always)]
     fn into_request(self) -> Option<Request<'a>>
         ensures request { (kept : Bool) (values : OwnedValues) (ms : Members)
             → AreParts kept values self.entry ms
@@ -214,6 +218,7 @@ impl<'a> Parts<'a> {
 }
 
 // What the members that are left of an object come to, up to its end.
+#[inline(always)]
 fn parts_in<'a>(
     alloc: Global,
     line: Line<'a>,
@@ -232,43 +237,6 @@ fn parts_in<'a>(
         parts.take_member(alloc, line, name, tokens, values)?;
     }
     Ok(parts)
-}
-
-// Takes a token, and whether an object begins with it.
-fn takes_begin_object(tokens: &mut Reader<'_>) -> bool
-    ensures { MatchBool result (tokens.old ≡ begin_object ∷ tokens.new)
-        (begins_object tokens.old ≡ false) }
-{
-    matches!(tokens.next(), Some(Token::BeginObject))
-}
-
-// The request that a text is.
-fn request_in<'a>(
-    alloc: Global,
-    line: Line<'a>,
-    scratch: &'a mut Scratch,
-    values: &mut OwnedValues,
-) -> Result<Option<Request<'a>>, Unanswered>
-    requires { IfSome line.kept (λ object. IsKept object.now) }
-    ensures ok { IfOk result (λ request. AreBoth (IsRequest values.new) request
-        (option_and_then request_in (read_text line.entry.text.now))) }
-    ensures right { IfOk result (λ request. IfSome request
-        (λ r. IsRight (is_some line.entry.kept) r.schema)) }
-    ensures same { line.entry.kept ≡ None → IsErrOf result Unanswered.Differs → ⊥ }
-{
-    let mut tokens = Reader::new(line.text, scratch)?;
-    if !takes_begin_object(&mut tokens) {
-        return Ok(None);
-    }
-    match parts_in(alloc, line, &mut tokens, values) {
-        Ok(parts) => match tokens.next() {
-            None => Ok(parts.into_request()),
-            Some(_) => Ok(None),
-        },
-        Err(Unread::NotJson) => Ok(None),
-        Err(Unread::Memory) => Err(Unanswered::Memory),
-        Err(Unread::Differs) => Err(Unanswered::Differs),
-    }
 }
 
 /// The request that a line is, or `None` where it is none. The scratch is held from line to line, and a schema object
@@ -291,5 +259,20 @@ pub(super) fn read_request<'a>(
     let Ok(text) = simdutf8::basic::from_utf8(line) else {
         return Ok(None);
     };
-    request_in(alloc, Line { text, kept }, scratch, values)
+    if text.len() < SHORTEST_OBJECT {
+        return Ok(None);
+    }
+    let mut tokens = Reader::new(text, scratch)?;
+    let Some(Token::BeginObject) = tokens.next() else {
+        return Ok(None);
+    };
+    match parts_in(alloc, Line { text, kept }, &mut tokens, values) {
+        Ok(parts) => match tokens.next() {
+            None => Ok(parts.into_request()),
+            Some(_) => Ok(None),
+        },
+        Err(Unread::NotJson) => Ok(None),
+        Err(Unread::Memory) => Err(Unanswered::Memory),
+        Err(Unread::Differs) => Err(Unanswered::Differs),
+    }
 }

@@ -1,6 +1,6 @@
 //! The lines of an instance, written where they are found: no error is built, and no note.
 
-ghost use Rattle.std.specs.Prelude.{◌++◌, ◌≡◌, ℕ, List, OnErr, OnOk, Some, codes, false, option_map};
+ghost use Rattle.std.specs.Prelude.{◌++◌, ◌≡◌, ℕ, IfSome, List, OnErr, OnOk, Some, codes, false, option_map};
 ghost use Rattle.std.specs.List.{flat_map};
 ghost use Rattle.serde_json.specs.Data.{string};
 ghost use Rattle.serde_json.specs.View.{view};
@@ -15,7 +15,7 @@ ghost use Rattle.strkw_keywords.specs.Handed.{lists_of};
 ghost use Rattle.strkw_keywords.specs.Keywords.{keyword_name};
 ghost use Rattle.strkw_keywords.specs.Parts.{noted_remark};
 ghost use Rattle.strkw_keywords.specs.Places.{standing};
-ghost use Rattle.strkw_keywords.specs.Validators.{listed_remark, remark_made};
+ghost use Rattle.strkw_keywords.specs.Validators.{listed_remark, place_of, remark_made};
 ghost use Rattle.strkw_report.specs.Standings.{root_site};
 ghost use Rattle.strkw_object.specs.Compiled.{keywords_assertions, keywords_demands, keywords_remarks};
 ghost use Rattle.strkw_object.specs.Printable.{ArePrintable};
@@ -26,29 +26,12 @@ use super::compiling::Compiled;
 use super::printing::{print_behind, push_refusal};
 use serde_json::Value;
 use std::alloc::{AllocError, Global};
-use strkw_keywords::{Checks, Keyword, Noted, Origin, Uses, Validate, Validator};
+use strkw_keywords::{Checks, Keyword, Noted, Uses, Validate, Validator};
 use strkw_object::StringKeywords;
 use strkw_pattern::RegexEngine;
 use strkw_report::{Failure, Location, Node, TextNode, push_json_string};
 
 // ---- one error
-
-// Appends what is said of a failure, as it is printed.
-fn push_failure(
-    alloc: Global,
-    failure: &Failure,
-    text: &str,
-    out: &mut Vec<u8>,
-) -> Result<(), AllocError>
-    ensures ok { OnOk result (out.new.items
-        ≡ out.old.items ++ printed (message (kind_failed failure.now)
-        (compact_text (string text.now)))) }
-    ensures err { OnErr result ((more : List ℕ) × (out.new.items ≡ out.old.items ++ more)) }
-{
-    let before = out.len();
-    failure.push_text(text, out)?;
-    print_behind(alloc, before, out)
-}
 
 // Appends what stands before the text of a line.
 fn push_start(
@@ -68,24 +51,27 @@ fn push_start(
     out.extend_from_slice(b": ")
 }
 
-// Appends the line of the error of a text that failed so, if it failed.
-fn push_found_line(
+// Appends the line of the error of a text that failed so at a validator, if it failed.
+fn push_found_line<E: RegexEngine>(
     alloc: Global,
-    origin: &Origin,
+    validator: &Validator<E>,
     text: &str,
     failure: &Option<Failure>,
     out: &mut Vec<u8>,
 ) -> Result<(), AllocError>
     ensures ok { OnOk result (out.new.items ≡ out.old.items
-        ++ flat_map error_line (reported (standing origin.now root_site) text.now
+        ++ flat_map error_line (reported (standing (place_of validator.now) root_site) text.now
         (option_map finding_of failure.now))) }
     ensures err { OnErr result ((more : List ℕ) × (out.new.items ≡ out.old.items ++ more)) }
 {
     let Some(failure) = failure else {
         return Ok(());
     };
+    let origin = validator.origin();
     push_start("error", &origin.location, Keyword::of_failure(failure), out)?;
-    push_failure(alloc, failure, text, out)?;
+    let before = out.len();
+    failure.push_text(text, out)?;
+    print_behind(alloc, before, out)?;
     out.extend_from_slice(b"\n")
 }
 
@@ -186,10 +172,9 @@ pub(super) fn push_verdict<E: RegexEngine, N: Node>(
     let before = out.len();
     for validator in keywords.validators() {
         let found = validator.findings(alloc, text, checks)?;
-        let origin = validator.origin();
         let text = text.as_str();
-        push_found_line(alloc, origin, text, &found.first, out)?;
-        push_found_line(alloc, origin, text, &found.second, out)?;
+        push_found_line(alloc, validator, text, &found.first, out)?;
+        push_found_line(alloc, validator, text, &found.second, out)?;
     }
     if out.len() > before {
         return Ok(());
@@ -198,22 +183,26 @@ pub(super) fn push_verdict<E: RegexEngine, N: Node>(
 }
 
 /// Appends what each answer by what a schema object is compiled to tells behind the errors of a text: the lines of what
-/// is noted, and the end. A refusal is the whole answer. Out of memory is no answer, and is passed on.
+/// is noted, and the end. A refusal is the whole answer. Out of memory is no answer, and is passed on. What is told may
+/// be at hand.
 pub(super) fn push_told(
     alloc: Global,
     compiled: &Compiled,
+    told: Option<&[u8]>,
     out: &mut Vec<u8>,
 ) -> Result<(), AllocError>
-    requires { CanAnswer compiled.now }
+    requires can_answer { CanAnswer compiled.now }
+    requires is_told { IfSome told (λ bytes. IsTold compiled.now bytes.now) }
     ensures ok { OnOk result ((told : List ℕ) × (out.new.items ≡ out.old.items ++ told)
         × IsTold compiled.now told) }
     ensures err { OnErr result ((more : List ℕ) × (out.new.items ≡ out.old.items ++ more)) }
 {
-    match compiled {
-        Ok(keywords) => {
+    match (told, compiled) {
+        (Some(told), _) => out.extend_from_slice(told),
+        (None, Ok(keywords)) => {
             push_notes(alloc, keywords, out)?;
             out.extend_from_slice(b"end\n")
         }
-        Err(refusal) => push_refusal(alloc, refusal, out),
+        (None, Err(refusal)) => push_refusal(alloc, refusal, out),
     }
 }

@@ -1,7 +1,7 @@
 //! The formats that are checked without a registered check.
-ghost use Rattle.std.specs.Prelude.{◌≡◌, ◌↔◌, ◌-◌, ◌^◌, Some, None, IsTrue, option_map};
+ghost use Rattle.std.specs.Prelude.{◌≡◌, ◌↔◌, IsTrue, option_map};
 ghost use Rattle.std.specs.Str.{chars};
-ghost use Rattle.strkw_formats.specs.Formats.{IsOfBuiltin, format_name, is_known, window_of, bounds, example_of, window_texts_of, format_row, builtin_named};
+ghost use Rattle.strkw_formats.specs.Formats.{IsOfBuiltin, format_name, is_known, window_of, bounds, example_of, window_texts_of, builtin_named};
 
 use strkw_label::is_valid_hostname;
 use strkw_net::{is_valid_hostname_rfc1034, is_valid_ipv4, is_valid_ipv6, is_valid_uuid};
@@ -55,18 +55,6 @@ pub enum BuiltinFormat {
     Uuid,
 }
 
-// What is told of a format beside its name and its grammar: the first draft that has it and the last, a text of it, and
-// for the formats that tell them the ends of its lengths, with a text of least length, and one of greatest where that
-// end is closed.
-#[derive(Clone, Copy)]
-struct FormatRow {
-    first: Draft,
-    last: Draft,
-    example: &'static str,
-    window: Option<(u64, u64)>,
-    window_texts: Option<(&'static str, Option<&'static str>)>,
-}
-
 impl BuiltinFormat {
     /// Each format once, in order.
     pub const VARIANTS: &'static [BuiltinFormat] = &[
@@ -117,14 +105,43 @@ impl BuiltinFormat {
     pub fn length_window(self) -> Option<(u64, u64)>
         ensures { result ≡ option_map bounds (window_of self) }
     {
-        self.row().window
+        match self {
+            Self::Date => Some((10, 10)),
+            Self::DateTime => Some((20, u64::MAX)),
+            Self::Duration => Some((3, u64::MAX)),
+            Self::Hostname | Self::HostnameDraft4 => Some((1, 253)),
+            Self::Ipv4 => Some((7, 15)),
+            Self::Ipv6 => Some((2, 45)),
+            Self::Time => Some((9, u64::MAX)),
+            Self::Uuid => Some((36, 36)),
+            Self::Iri
+            | Self::IriReference
+            | Self::JsonPointer
+            | Self::RelativeJsonPointer
+            | Self::Uri
+            | Self::UriReference
+            | Self::UriTemplate => None,
+        }
     }
 
     /// A text of the format.
     pub fn example(self) -> &'static str
         ensures { result.now ≡ example_of self }
     {
-        self.row().example
+        match self {
+            Self::Date => "2020-01-01",
+            Self::DateTime => "2020-01-01T00:00:00Z",
+            Self::Duration => "P1D",
+            Self::Hostname | Self::HostnameDraft4 => "example.com",
+            Self::Ipv4 => "127.0.0.1",
+            Self::Ipv6 => "::1",
+            Self::Iri | Self::IriReference | Self::Uri | Self::UriReference => "http://example.com",
+            Self::JsonPointer => "/a",
+            Self::RelativeJsonPointer => "0",
+            Self::Time => "00:00:00Z",
+            Self::UriTemplate => "http://example.com/{id}",
+            Self::Uuid => "00000000-0000-4000-8000-000000000000",
+        }
     }
 
     /// A text of the least length of `length_window`, and where its upper end is closed one of the greatest.
@@ -135,7 +152,20 @@ impl BuiltinFormat {
             (shortest.now, option_map (λ it. it.now) longest)) result
             ≡ window_texts_of self }
     {
-        self.row().window_texts
+        match self {
+            Self::Date | Self::Uuid => Some((self.example(), Some(self.example()))),
+            Self::DateTime | Self::Duration | Self::Time => Some((self.example(), None)),
+            Self::Hostname | Self::HostnameDraft4 => Some(("a", Some(LONGEST_HOST_NAME))),
+            Self::Ipv4 => Some(("0.0.0.0", Some("255.255.255.255"))),
+            Self::Ipv6 => Some(("::", Some("0000:0000:0000:0000:0000:0000:255.255.255.255"))),
+            Self::Iri
+            | Self::IriReference
+            | Self::JsonPointer
+            | Self::RelativeJsonPointer
+            | Self::Uri
+            | Self::UriReference
+            | Self::UriTemplate => None,
+        }
     }
 
     /// Whether the format's grammar derives the text.
@@ -166,123 +196,15 @@ impl BuiltinFormat {
     fn is_known_in(self, draft: Draft) -> bool
         ensures { result ≡ is_known self draft }
     {
-        let row = self.row();
-        row.first <= draft && draft <= row.last
-    }
-
-    // The table: a row a format.
-    fn row(self) -> FormatRow
-        ensures first { result.first ≡ (format_row self).first }
-        ensures last { result.last ≡ (format_row self).last }
-        ensures example { result.example.now ≡ example_of self }
-        ensures window { result.window ≡ option_map bounds (window_of self) }
-        ensures window_texts { option_map (λ (shortest, longest).
-            (shortest.now, option_map (λ it. it.now) longest))
-            result.window_texts ≡ window_texts_of self }
-    {
         match self {
-            Self::Date => since(Draft::Draft4, "2020-01-01").exactly(10),
-            Self::DateTime => since(Draft::Draft4, "2020-01-01T00:00:00Z").open(20),
-            Self::Duration => since(Draft::Draft201909, "P1D").open(3),
-            Self::Hostname => since(Draft::Draft7, "example.com").with_window(
-                (1, "a"),
-                (253, LONGEST_HOST_NAME),
-            ),
-            Self::HostnameDraft4 => FormatRow {
-                last: Draft::Draft6,
-                ..since(Draft::Draft4, "example.com").with_window(
-                    (1, "a"),
-                    (253, LONGEST_HOST_NAME),
-                )
-            },
-            Self::Ipv4 => since(Draft::Draft4, "127.0.0.1").with_window(
-                (7, "0.0.0.0"),
-                (15, "255.255.255.255"),
-            ),
-            Self::Ipv6 => since(Draft::Draft4, "::1").with_window(
-                (2, "::"),
-                (45, "0000:0000:0000:0000:0000:0000:255.255.255.255"),
-            ),
-            Self::Iri => since(Draft::Draft7, "http://example.com"),
-            Self::IriReference => since(Draft::Draft7, "http://example.com"),
-            Self::JsonPointer => since(Draft::Draft6, "/a"),
-            Self::RelativeJsonPointer => since(Draft::Draft7, "0"),
-            Self::Time => since(Draft::Draft4, "00:00:00Z").open(9),
-            Self::Uri => since(Draft::Draft4, "http://example.com"),
-            Self::UriReference => since(Draft::Draft6, "http://example.com"),
-            Self::UriTemplate => since(Draft::Draft6, "http://example.com/{id}"),
-            Self::Uuid => since(Draft::Draft201909, "00000000-0000-4000-8000-000000000000").exactly(
-                36,
-            ),
+            Self::Date | Self::DateTime | Self::Ipv4 | Self::Ipv6 | Self::Time | Self::Uri => true,
+            Self::JsonPointer | Self::UriReference | Self::UriTemplate => Draft::Draft6 <= draft,
+            Self::Hostname | Self::Iri | Self::IriReference | Self::RelativeJsonPointer => {
+                Draft::Draft7 <= draft
+            }
+            Self::Duration | Self::Uuid => Draft::Draft201909 <= draft,
+            Self::HostnameDraft4 => draft <= Draft::Draft6,
         }
-    }
-}
-
-impl FormatRow {
-    // The row with a window of lengths, whose ends are a length with a text of it.
-    fn with_window(self, least: (u64, &'static str), greatest: (u64, &'static str)) -> FormatRow
-        ensures { result ≡ record {
-          first = self.first;
-          last = self.last;
-          example = self.example;
-          window = Some (least.entry.0, greatest.entry.0);
-          window_texts = Some (least.entry.1, Some greatest.entry.1);
-        } }
-    {
-        FormatRow {
-            window: Some((least.0, greatest.0)),
-            window_texts: Some((least.1, Some(greatest.1))),
-            ..self
-        }
-    }
-
-    // The row of a format whose texts all have one length.
-    fn exactly(self, length: u64) -> FormatRow
-        ensures { result ≡ record {
-          first = self.first;
-          last = self.last;
-          example = self.example;
-          window = Some (length, length);
-          window_texts = Some (self.example, Some self.example);
-        } }
-    {
-        self.with_window((length, self.example), (length, self.example))
-    }
-
-    // The row with a window of lengths whose upper end is open, and whose least length the example has.
-    fn open(self, least: u64) -> FormatRow
-        ensures { result ≡ record {
-          first = self.first;
-          last = self.last;
-          example = self.example;
-          window = Some (least, 2 ^ 64 - 1);
-          window_texts = Some (self.example, None);
-        } }
-    {
-        FormatRow {
-            window: Some((least, u64::MAX)),
-            window_texts: Some((self.example, None)),
-            ..self
-        }
-    }
-}
-
-// The row of a format that the drafts from one on have, and of which no lengths are told.
-fn since(first: Draft, example: &'static str) -> FormatRow
-    ensures { result ≡ record {
-      first = first;
-      last = Draft.Draft202012;
-      example = example.entry;
-      window = None;
-      window_texts = None;
-    } }
-{
-    FormatRow {
-        first,
-        last: Draft::Draft202012,
-        example,
-        window: None,
-        window_texts: None,
     }
 }
 

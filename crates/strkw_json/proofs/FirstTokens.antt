@@ -1,5 +1,6 @@
 -- What is seen in a value, by its first token.
-use Rattle.std.proofs.Common.{◌≡◌, ℕ, zero, suc, ◌-◌, ◌<◌, nat_lt, if◌then◌else◌, List, ◌∷◌, Bool, true, false, Option, Some, None, option_map, option_and_then, refl, sym, ap}
+use Rattle.std.proofs.Common.{◌≡◌, ℕ, zero, suc, ◌-◌, ◌<◌, nat_lt, if◌then◌else◌, List, ◌∷◌, Bool, true}
+use Rattle.std.proofs.Common.{false, Option, Some, None, option_map, option_and_then, refl, sym, ap}
 use Rattle.std.proofs.Common.{◌∙◌, Bor, arith}
 use Rattle.json.specs.Token as spec
 use Rattle.json.specs.Json.{parse_map, value}

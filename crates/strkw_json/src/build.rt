@@ -1,8 +1,7 @@
 //! JSON values from the tokens of a reader, as `serde_json` reads them of a whole text: built, or passed over where
 //! only a text is wanted.
 
-ghost use Rattle.std.specs.Prelude.{◌≡◌, ◌∷◌, ◌<◌, ◌≤◌, Some, None, IfOk, OnOk, IsErrOf, length, option_map};
-ghost use Rattle.json.specs.Reads.{token_of};
+ghost use Rattle.std.specs.Prelude.{◌≡◌, ◌<◌, Some, None, IfOk, OnOk, IsErrOf, length, option_map};
 ghost use Rattle.serde_json.specs.Data.{Data};
 ghost use Rattle.serde_json.specs.Find.{as_object, as_str};
 ghost use Rattle.serde_json.specs.View.{view, items_view, members_view};
@@ -19,16 +18,23 @@ use std::alloc::Global;
 ///
 /// Errors: `NotJson` where none comes, and `Memory`. The tokens are then read up to some place.
 #[cycle(build)]
-#[inline(always)]
-#[tactic(auto, using(crate::proofs::Reading::by_first_token))]
+#[tactic(auto, using(crate::proofs::Reading::by_first_token, crate::proofs::Built::null_built, crate::proofs::Built::bool_built, crate::proofs::Built::number_built, crate::proofs::Built::string_built))]
 pub fn build_json(alloc: Global, tokens: &mut Reader<'_>, depth: usize) -> Result<Value, JsonError>
     ensures ok { IfOk result (λ v. value_read depth tokens.old ≡ Some (view v, tokens.new)) }
     ensures none { IsErrOf result JsonError.NotJson → value_read depth tokens.old ≡ None }
     ensures shorter { OnOk result (length tokens.new < length tokens.old) }
 {
-    match tokens.next() {
-        Some(token) => build_from(alloc, token, tokens, depth),
-        None => Err(JsonError::NotJson),
+    let token = tokens.next().ok_or(JsonError::NotJson)?;
+    match token {
+        Token::Null => Ok(Value::Null),
+        Token::Bool(is_true) => Ok(Value::Bool(is_true)),
+        Token::Number(text) => Ok(Value::Number(json_number(text).ok_or(JsonError::NotJson)?)),
+        Token::String(text) => Ok(Value::String(String::from_str(alloc, text)?)),
+        Token::BeginArray if depth > 0 => Ok(Value::Array(build_items(alloc, tokens, depth - 1)?)),
+        Token::BeginObject if depth > 0 => {
+            Ok(Value::Object(build_members(alloc, tokens, depth - 1)?))
+        }
+        _ => Err(JsonError::NotJson),
     }
 }
 
@@ -94,34 +100,6 @@ pub fn build_object(
     match token {
         Token::BeginObject if depth > 0 => Ok(Some(build_members(alloc, tokens, depth - 1)?)),
         _ if passes_json(token, tokens, depth) => Ok(None),
-        _ => Err(JsonError::NotJson),
-    }
-}
-
-// The value that begins with this token.
-#[cycle(build)]
-#[tactic(auto, using(crate::proofs::Reading::by_first_token, crate::proofs::Built::null_built, crate::proofs::Built::bool_built, crate::proofs::Built::number_built, crate::proofs::Built::string_built))]
-fn build_from(
-    alloc: Global,
-    token: Token<'_>,
-    tokens: &mut Reader<'_>,
-    depth: usize,
-) -> Result<Value, JsonError>
-    ensures ok { IfOk result (λ v.
-        value_read depth (token_of token.entry ∷ tokens.old) ≡ Some (view v, tokens.new)) }
-    ensures none { IsErrOf result JsonError.NotJson
-        → value_read depth (token_of token.entry ∷ tokens.old) ≡ None }
-    ensures no_longer { OnOk result (length tokens.new ≤ length tokens.old) }
-{
-    match token {
-        Token::Null => Ok(Value::Null),
-        Token::Bool(is_true) => Ok(Value::Bool(is_true)),
-        Token::Number(text) => Ok(Value::Number(json_number(text).ok_or(JsonError::NotJson)?)),
-        Token::String(text) => Ok(Value::String(String::from_str(alloc, text)?)),
-        Token::BeginArray if depth > 0 => Ok(Value::Array(build_items(alloc, tokens, depth - 1)?)),
-        Token::BeginObject if depth > 0 => {
-            Ok(Value::Object(build_members(alloc, tokens, depth - 1)?))
-        }
         _ => Err(JsonError::NotJson),
     }
 }

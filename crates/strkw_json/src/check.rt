@@ -1,8 +1,8 @@
 //! JSON passed over, token by token, and not kept: what `serde_json` reads.
 
 ghost use Rattle.std.specs.Bool.{MatchBool};
-ghost use Rattle.std.specs.Prelude.{◌≡◌, ◌↔◌, ◌<◌, ◌≤◌, ◌==◌, ◌∷◌};
-ghost use Rattle.std.specs.Prelude.{IfOk, IsTrue, None, Some, false, length, option_map, slice_index, true};
+ghost use Rattle.std.specs.Prelude.{◌≡◌, ◌↔◌, ◌<◌, ◌≤◌, ◌∷◌};
+ghost use Rattle.std.specs.Prelude.{IfOk, IsTrue, None, Some, length, option_map, true};
 ghost use Rattle.json.specs.Reads.{token_of};
 ghost use Rattle.serde_json.specs.Read.{number_of, number_from};
 ghost use Rattle.serde_json.specs.View.{number_view};
@@ -107,27 +107,10 @@ pub fn json_number(text: &str) -> Option<Number>
     ensures { option_map number_view result ≡ number_of text.now }
 {
     let bytes = text.as_bytes();
-    if begins_with_minus(bytes) {
-        negative_number(&Numeral::scan(&bytes[1..]))
-    } else {
-        positive_number(&Numeral::scan(bytes))
+    if !bytes.is_empty() && bytes[0] == b'-' {
+        return negative_number(&Numeral::scan(&bytes[1..]));
     }
-}
-
-fn begins_with_minus(bytes: &[u8]) -> bool
-    ensures sign { result ≡ (slice_index bytes.now 0 == 45) }
-    ensures some { IsTrue result → 0 < length bytes.now }
-{
-    match bytes.first() {
-        Some(first) => *first == b'-',
-        None => false,
-    }
-}
-
-#[inline(always)]
-fn positive_number(numeral: &Numeral<'_>) -> Option<Number>
-    ensures { option_map number_view result ≡ number_from false numeral.now }
-{
+    let numeral = Numeral::scan(bytes);
     match numeral.to_u64() {
         Some(whole) => Some(Number::from(whole)),
         None => Number::from_f64(numeral.to_float::<f64>(false)),

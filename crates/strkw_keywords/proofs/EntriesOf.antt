@@ -1,5 +1,6 @@
 -- On the entries of several keywords, and on what is compiled of one.
-use Rattle.std.proofs.Common.{◌≡◌, ◌<◌, ℕ, zero, suc, ◌+◌, List, [], ◌∷◌, ◌++◌, Bool, true, false, Option, Some, None, Result, Ok, refl, sym, ap, ◌∙◌, subst}
+use Rattle.std.proofs.Common.{◌≡◌, ◌<◌, ℕ, zero, suc, ◌+◌, List, [], ◌∷◌, ◌++◌, Bool, true, false}
+use Rattle.std.proofs.Common.{Option, Some, None, Result, Ok, Err, inl, inr, ◌⊎◌, refl, sym, ap, ◌∙◌, subst}
 use Rattle.std.proofs.Common.{length, get_or, take, arith, append_assoc, MatchOption, ◌&&◌, if◌then◌else◌}
 use Rattle.std.proofs.lemmas.List.{append-nil, take_more}
 use Rattle.std.proofs.lemmas.Option.{none-some}
@@ -7,14 +8,17 @@ use Rattle.serde_json.specs.Data.{Data, Members}
 use Rattle.strkw_pattern.specs.declared.engine.Outcome.{Outcome}
 use Rattle.strkw_keywords.specs.declared.keyword.Keyword.{Keyword}
 use Rattle.strkw_keywords.specs.declared.keyword.Keyword.TheVariants.{ContentMediaType, ContentEncoding, ContentSchema, Format, MinLength, MaxLength, Pattern}
+use Rattle.strkw_report.specs.Refusals.{refusal_of}
+use Rattle.strkw_report.specs.declared.refusal.CompileError.{CompileError}
 use Rattle.strkw_keywords.specs.declared.compile.Refused.{Refused}
+use Rattle.strkw_keywords.specs.declared.compile.Refused.TheVariants.{Memory}
 use Rattle.strkw_keywords.specs.declared.validator.Validator.{Validator}
 use Rattle.strkw_keywords.specs.Places.{Place}
 use Rattle.strkw_keywords.specs.declared.content_rule.ContentRule.{ContentRule}
 use Rattle.strkw_keywords.specs.Object.{Settings, Entry, nothing, Keyed, content_rule, media_type_entry, encoding_entry, schema_entry, min_entry, max_entry}
 use Rattle.strkw_keywords.specs.Object.{entry_of, value_at, is_given, is_fused, least_entry, greatest_entry, keywords, IsEntryOf, IsEntryAt, AreEntriesOf}
-use Rattle.strkw_keywords.specs.Object.{share, shares}
-use Rattle.strkw_keywords.specs.Compiled.{AddsNothing, IsBuilt, IsBuiltAt, IsPatternBuilt, IsCompiledAt, alone, min_share, max_share}
+use Rattle.strkw_keywords.specs.Object.{share, shares, refusal}
+use Rattle.strkw_keywords.specs.Compiled.{AddsNothing, IsBuilt, IsBuiltAt, IsPatternBuilt, IsCompiledAt, alone, min_share, max_share, out_of_memory, refused_at}
 
 -- ---- an entry that a value determines
 
@@ -80,6 +84,14 @@ max_nothing : (place : Place) (o p : Option Data) → None ≡ p
     else record { keyword = MaxLength; entry = entry_of max_entry p } ∷ [])
 max_nothing place o None e = max_alone place (is_given (entry_of min_entry o))
 max_nothing place o (Some d) e = absurd (none-some d e)
+
+-- what is refused before its place is written is refused with it, or memory was
+refused_so : (place : Place) (es : List Keyed) (r : Refused) (e : CompileError) → (r ≡ Memory) ⊎ (refusal place es ≡ Some (refused_at place r))
+    → (refusal_of e ≡ out_of_memory) ⊎ ((r ≡ Memory → ⊥) × (refusal_of e ≡ refused_at place r))
+    → (refusal_of e ≡ out_of_memory) ⊎ (refusal place es ≡ Some (refusal_of e))
+refused_so place es r e h (inl out) = inl out
+refused_so place es r e (inl memory) (inr (other, is)) = absurd (other memory)
+refused_so place es r e (inr first) (inr (other, is)) = inr (first ∙ ap Some (sym is))
 
 -- nothing is built of an entry that adds nothing
 pub none_built : {E : Type 0} (outcome : E → List ℕ → Outcome) (place : Place) (k : Keyword) → IsBuilt outcome place (alone k nothing) (Ok None)
@@ -170,6 +182,34 @@ module _ {E : Type 0} (outcome : E → List ℕ → Outcome) (s : Settings) (ms 
   absent_built MaxLength e = max_built (Ok None) (record { answer = max_nothing s.place (value_at s.options MinLength ms) (value_at s.options MaxLength ms) e })
   absent_built Pattern e = absent_alone Pattern refl e
 
+  -- where nothing is built at a keyword, nothing is compiled there
+  pub none_located : (k : Keyword) (o : Option (Validator E)) → o ≡ None → IsBuiltAt outcome s ms k (Ok o) → IsCompiledAt outcome s ms k None
+  none_located k o is b =
+      record {
+        entries = b.entries;
+        are_entries = b.are_entries;
+        answer = record { answer = (subst (λ x. IsBuilt outcome s.place b.entries (Ok x)) is b.answer).answer };
+      }
+
+  -- and a validator that is built there is compiled there
+  pub some_located : (k : Keyword) (v : Validator E) (o : Option (Validator E)) → o ≡ Some v → IsBuiltAt outcome s ms k (Ok o)
+      → IsCompiledAt outcome s ms k (Some (Ok v))
+  some_located k v o is b =
+      record {
+        entries = b.entries;
+        are_entries = b.are_entries;
+        answer = record { answer = (subst (λ x. IsBuilt outcome s.place b.entries (Ok x)) is b.answer).answer };
+      }
+
+  -- so is a refusal with its place, or out of memory
+  pub refused_located : (k : Keyword) (r : Refused) (e : CompileError) → IsBuiltAt outcome s ms k (Err r)
+      → (refusal_of e ≡ out_of_memory) ⊎ ((r ≡ Memory → ⊥) × (refusal_of e ≡ refused_at s.place r)) → IsCompiledAt outcome s ms k (Some (Err e))
+  refused_located k r e b told = record {
+    entries = b.entries;
+    are_entries = b.are_entries;
+    answer = record { answer = refused_so s.place b.entries r e b.answer.answer told };
+  }
+
   -- a keyword without a value adds nothing
   pub absent : (k : Keyword) → None ≡ value_at s.options k ms → IsCompiledAt outcome s ms k None
-  absent k e = let b = absent_built k e in record { entries = b.entries; are_entries = b.are_entries; answer = record { answer = b.answer.answer } }
+  absent k e = none_located k None refl (absent_built k e)

@@ -43,7 +43,8 @@ none_at at k [] differ = refl
 none_at at k (w ∷ ks) (differ, more) = none_at at k ks more ∙ sym (past k w (at w) (members_at at ks) differ)
 
 -- and one that is among them has the value there
-held_at : (at : Keyword → Option Data) (k : Keyword) (before after : List Keyword) → names k k ≡ Equal → AllByRecursion (Differ k) before → AllByRecursion (Differ k) after
+held_at : (at : Keyword → Option Data) (k : Keyword) (before after : List Keyword) → names k k ≡ Equal
+    → AllByRecursion (Differ k) before → AllByRecursion (Differ k) after
     → at k ≡ get_member (keyword_name k) (members_at at (before ++ k ∷ after))
 held_at at k [] after same none differ = found k (at k) (members_at at after) same (none_at at k after differ)
 held_at at k (w ∷ ws) after same (differ, more) later =

@@ -153,6 +153,16 @@ pub finds_one : (d : Demand) (lists : Lists) (text : List ℕ) (found : Option F
     → Finds (d ∷ []) lists text (listed found ++ [])
 finds_one d lists text found h = (found, [], h, refl, refl)
 
+-- a finding, or none, and nothing behind it
+listed_alone : (found : Option Finding) → listed found ≡ listed found ++ []
+listed_alone None = refl
+listed_alone (Some f) = refl
+
+-- what two demands find of a text is the finding of each, if there is one
+pub finds_two : (d e : Demand) (lists : Lists) (text : List ℕ) (a b : Option Finding) → HasFinding d lists text a → HasFinding e lists text b
+    → Finds (d ∷ e ∷ []) lists text (listed a ++ listed b)
+finds_two d e lists text a b h k = (a, listed b, h, refl, (b, [], k, listed_alone b, refl))
+
 -- ---- one text
 
 -- where a test of P is false, P does not hold
@@ -163,6 +173,11 @@ not_true b P e t p = let yes = t.1 p in absurd (cc)
 pub not_encoded : (c : Choice Codec) (lists : Lists) (text name : List ℕ) (b : Bool) → b ≡ false → (IsTrue b ↔ IsEncoded c lists text)
     → name ≡ chosen_codec_name c → HasFinding (is_encoded c) lists text (Some (record { keyword = ContentEncoding; kind = content_encoding name }))
 not_encoded c lists text name b f t n = inr (not_true b (IsEncoded c lists text) f t, rw n refl)
+
+-- a text that its format admits
+pub of_format : (f : Choice BuiltinFormat) (lists : Lists) (text : List ℕ) (b : Bool) → b ≡ true → (IsTrue b ↔ IsOfFormat f lists text)
+    → HasFinding (is_format f) lists text None
+of_format f lists text b admitted of = inl (of.0 admitted, refl)
 
 -- a text that its format does not admit
 pub not_of_format : (f : Choice BuiltinFormat) (lists : Lists) (text name : List ℕ) (b : Bool) → b ≡ false → (IsTrue b ↔ IsOfFormat f lists text)

@@ -17,6 +17,7 @@ use Rattle.strkw_coding.specs.declared.media_type.BuiltinMediaType.{BuiltinMedia
 use Rattle.strkw_pattern.specs.declared.engine.Outcome.{Outcome}
 use Rattle.strkw_keywords.specs.declared.keyword.Keyword.{Keyword}
 use Rattle.strkw_keywords.specs.declared.keyword.Keyword.TheVariants.{ContentMediaType, ContentEncoding, ContentSchema, Format, MinLength, MaxLength, Pattern}
+use Rattle.strkw_keywords.specs.declared.compile.Refused.{Refused}
 use Rattle.strkw_keywords.specs.declared.validator.Validator.{Validator}
 use Rattle.strkw_keywords.specs.Keywords.{keyword_name}
 use Rattle.strkw_keywords.specs.Meanings.{Choice}
@@ -25,9 +26,9 @@ use Rattle.strkw_keywords.specs.declared.content_rule.ContentRule.TheVariants.{I
 use Rattle.strkw_keywords.specs.Object.{Settings, Entry, nothing, Keyed, content_rule, of_text, known_media_type, media_type_beside, media_type_check}
 use Rattle.strkw_keywords.specs.Object.{media_type_entry, encoding_beside, encoding_entry, schema_entry, schema_beside, is_overridden, value_at, is_fused}
 use Rattle.strkw_keywords.specs.Object.{share, IsEntryOf, IsEntryAt, AreEntriesOf}
-use Rattle.strkw_keywords.specs.Compiled.{alone, IsCompiled, IsCompiledAt}
+use Rattle.strkw_keywords.specs.Compiled.{alone, IsBuilt, IsBuiltAt, IsCompiledAt}
 use Rattle.strkw_keywords.specs.Without.{KeepsOthers, IsWithoutSchema}
-use Rattle.strkw_keywords.proofs.EntriesOf.{absent}
+use Rattle.strkw_keywords.proofs.EntriesOf.{absent, schema_built}
 
 -- a keyword that is not `contentSchema` has another name
 apart : (k : Keyword) → (k ≡ ContentSchema → ⊥) → bytes_eq (keyword_name ContentSchema) (keyword_name k) ≡ false
@@ -75,18 +76,14 @@ module _ {E : Type 0} (outcome : E → List ℕ → Outcome) (s : Settings) (ms 
   unless false d e = e
 
   -- where there is no value, nothing is compiled
-  pub none_compiled : get_member (keyword_name ContentSchema) ms ≡ None → IsCompiledAt outcome s ms ContentSchema None
-  none_compiled e = absent outcome s ms ContentSchema (unless (is_overridden s.options ContentSchema) _ (sym e))
+  pub none_compiled : (k : Keyword) → get_member (keyword_name k) ms ≡ None → IsCompiledAt outcome s ms k None
+  none_compiled k e = absent outcome s ms k (unless (is_overridden s.options k) _ (sym e))
 
-  -- what is compiled of the entry of the value there is compiled of the object
-  pub schema_compiled : (v : Value) (r : Option (Result (Validator E) CompileError)) → get_member (keyword_name ContentSchema) ms ≡ Some (view v)
+  -- what is built of the entry of the value there is built of the object
+  pub schema_taken : (v : Value) (r : Result (Option (Validator E)) Refused) → get_member (keyword_name ContentSchema) ms ≡ Some (view v)
       → is_overridden s.options ContentSchema ≡ false
-      → IsCompiled outcome s.place (alone ContentSchema (schema_entry (content_rule s.draft) ms (view v))) r → IsCompiledAt outcome s ms ContentSchema r
-  schema_compiled v r there looked_at h =
-      let e = schema_entry (content_rule s.draft) ms (view v) in
-      let value : value_at s.options ContentSchema ms ≡ Some (view v) = rw looked_at there in
-      let at = subst (λ m. MatchOption m (e ≡ nothing) (λ d. IsEntryOf s ms ContentSchema d e)) (sym value) refl in
-      record { entries = alone ContentSchema e; are_entries = (e, [], at, refl, refl); answer = h }
+      → IsBuilt outcome s.place (alone ContentSchema (schema_entry (content_rule s.draft) ms (view v))) r → IsBuiltAt outcome s ms ContentSchema r
+  schema_taken v r there looked_at h = schema_built outcome s ms (content_rule s.draft) (view v) r refl (rw looked_at there) h
 
 -- two objects have the same values at the keywords that are seen, and those are seen that other entries look at
 module _ {E : Type 0} (outcome : E → List ℕ → Outcome) (s : Settings) (ms others : Members) (Seen : Keyword → Type 0)

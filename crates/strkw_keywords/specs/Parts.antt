@@ -30,22 +30,11 @@ RowsAreFirst parts lists = IsFirst parts.format (row_names lists.formats)
     × IsFirst parts.media_type (row_names lists.media_types)
     × IsFirst parts.codec (codec_names lists.codecs)
 
--- the parts of a validator at a place that notes nothing, rests on no row and takes no memory
-abbrev pub plain_parts : Bor Place → Parts
-plain_parts origin = record {
+-- the parts of a validator at a place that rests on no row and takes no memory
+abbrev pub quiet_parts : Bor Place → Option Noted → Parts
+quiet_parts origin noted = record {
   origin = origin;
-  noted = None;
-  format = None;
-  media_type = None;
-  codec = None;
-  is_quiet = true;
-}
-
--- and of one that only notes
-abbrev pub noting_parts : Bor Place → Noted → Parts
-noting_parts origin noted = record {
-  origin = origin;
-  noted = Some noted;
+  noted = noted;
   format = None;
   media_type = None;
   codec = None;

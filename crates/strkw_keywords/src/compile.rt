@@ -1,14 +1,14 @@
 //! One entry of a schema object: what is built of it, and why and where it is refused.
 
-ghost use Rattle.std.specs.Prelude.{◌≡◌, ◌⊎◌, IfOk, List, Some, option_map};
+ghost use Rattle.std.specs.Prelude.{◌≡◌, ◌⊎◌, IfOk, Some, option_map};
 ghost use Rattle.serde_json.specs.Data.{Members};
 ghost use Rattle.serde_json.specs.Find.{get_member};
 ghost use Rattle.serde_json.specs.View.{members_view, view};
 ghost use Rattle.strkw_report.specs.Paths.{below};
 ghost use Rattle.strkw_report.specs.Refusals.{refusal_of};
-ghost use Rattle.strkw_keywords.specs.Compiled.{IsBuilt, IsBuiltAt, IsCompiled, IsCompiledAt, out_of_memory, refused_at};
+ghost use Rattle.strkw_keywords.specs.Compiled.{IsBuiltAt, IsCompiledAt, out_of_memory, refused_at};
 ghost use Rattle.strkw_keywords.specs.Keywords.{keyword_name};
-ghost use Rattle.strkw_keywords.specs.Object.{Keyed, no_string, value_at};
+ghost use Rattle.strkw_keywords.specs.Object.{no_string, value_at};
 ghost use Rattle.strkw_keywords.specs.Places.{Place};
 ghost use Rattle.strkw_keywords.specs.Settings.{place_in, settings_of};
 ghost use Rattle.strkw_keywords.specs.Values.{AreValuesOf};
@@ -21,14 +21,14 @@ use crate::content_rule::ContentRule;
 use crate::format::build_format;
 use crate::keyword::Keyword;
 use crate::lengths::{build_max, build_min};
-use crate::options::{Context, Options};
+use crate::options::Context;
 use crate::parts::Origin;
 use crate::pattern::build_pattern;
 use crate::validator::Validator;
 use crate::values::{Object, Values};
 use serde_json::{Map, Value};
 use std::alloc::{AllocError, Global};
-use strkw_pattern::{EngineBuilder, RegexEngine};
+use strkw_pattern::EngineBuilder;
 use strkw_report::{CompileError, CompileErrorKind, Draft, Location, holds_fraction};
 
 /// The validator of the entry at a keyword, or `None` where the entry adds nothing: so it does where the object has no
@@ -45,7 +45,10 @@ pub fn compile_entry<B: EngineBuilder>(
     ensures { IsCompiledAt B.Engine.outcome (settings_of B.takes B.outcome admits accepted encoded
         decoding ctx.now) (members_view object.now.entries) keyword result }
 {
-    let value = value_at(&ctx.options, object, keyword)?;
+    let value = object.value(keyword)?;
+    if ctx.options.is_overridden(keyword) {
+        return None;
+    }
     compile_value(alloc, ctx, object, value, keyword)
 }
 
@@ -61,7 +64,10 @@ pub fn compile_among<B: EngineBuilder>(
         decoding ctx.now)
         ms keyword result }
 {
-    let value = value_at(&ctx.options, values, keyword)?;
+    let value = values.value(keyword)?;
+    if ctx.options.is_overridden(keyword) {
+        return None;
+    }
     compile_value(alloc, ctx, values, value, keyword)
 }
 
@@ -77,8 +83,11 @@ pub(crate) fn compile_value<B: EngineBuilder, O: Object>(
     ensures { IsCompiledAt B.Engine.outcome (settings_of B.takes B.outcome admits accepted encoded
         decoding ctx.now) (O.members object.now) keyword result }
 {
-    let built = build(alloc, ctx, object, value, keyword);
-    locate(alloc, &ctx.location, built)
+    match build(alloc, ctx, object, value, keyword) {
+        Ok(None) => None,
+        Ok(Some(validator)) => Some(Ok(validator)),
+        Err(refused) => Some(Err(refusal(alloc, &ctx.location, refused))),
+    }
 }
 
 // The same, before a refusal has its place.
@@ -144,21 +153,6 @@ pub fn member<'v>(map: &'v Map<String, Value>, name: &str) -> Option<&'v Value>
     map.get(name)
 }
 
-// The value at a keyword, unless the keyword is left out.
-pub(crate) fn value_at<'v, O: Object>(
-    options: &Options,
-    object: &'v O,
-    keyword: Keyword,
-) -> Option<&'v Value>
-    ensures { option_map (λ v. view v.now) result
-        ≡ value_at options.now keyword (O.members object.now) }
-{
-    if options.is_overridden(keyword) {
-        return None;
-    }
-    object.value(keyword)
-}
-
 // The refusal of a value that is no string.
 pub(crate) fn no_string(value: &Value, keyword: Keyword) -> Refused
     ensures { (result ≡ Refused.Memory) ⊎ ((place : Place) → refused_at place result
@@ -184,28 +178,12 @@ pub(crate) fn origin_of<B>(ctx: &Context<'_, B>) -> Result<Origin, AllocError>
         Some(prefix) => Some(prefix.clone()?),
         None => None,
     };
-    Ok(Origin::new(ctx.location.clone()?, absolute))
-}
-
-// The answer of a compile function, with the place of a refusal.
-pub(crate) fn locate<E: RegexEngine>(
-    alloc: Global,
-    location: &Location,
-    built: Result<Option<Validator<E>>, Refused>,
-) -> Option<Result<Validator<E>, CompileError>>
-    ensures { (place : Place) (es : List Keyed) → place.schema ≡ location.now
-        → IsBuilt E.outcome place es built
-        → IsCompiled E.outcome place es result }
-{
-    match built {
-        Ok(None) => None,
-        Ok(Some(validator)) => Some(Ok(validator)),
-        Err(refused) => Some(Err(refusal(alloc, location, refused))),
-    }
+    let location = ctx.location.clone()?;
+    Ok(Origin { location, absolute })
 }
 
 // The refusal with its place; out of memory stands at the root.
-fn refusal(alloc: Global, location: &Location, refused: Refused) -> CompileError
+pub(crate) fn refusal(alloc: Global, location: &Location, refused: Refused) -> CompileError
     ensures { (place : Place) → place.schema ≡ location.now
         → (refusal_of result ≡ out_of_memory)
         ⊎ ((refused ≡ Refused.Memory → ⊥) × (refusal_of result ≡ refused_at place refused)) }

@@ -26,18 +26,6 @@ pub type Found<'a> = Result<Findings<'a>, AllocError>;
 // What one keyword finds, if anything, or that it was out of memory.
 pub(crate) type FoundOne<'a> = Result<Option<Failure<'a>>, AllocError>;
 
-impl<'a> Findings<'a> {
-    // What one keyword finds, if anything.
-    pub(crate) fn one(first: Option<Failure<'a>>) -> Findings<'a>
-        ensures { result ≡ record { first = first.entry; second = None } }
-    {
-        Findings {
-            first,
-            second: None,
-        }
-    }
-}
-
 impl Findings<'_> {
     /// Whether nothing is found.
     pub fn is_empty(&self) -> bool

@@ -1,13 +1,12 @@
 //! The keyword `format`: its validators, and its entry.
 
-ghost use Rattle.std.specs.Prelude.{◌∷◌, ◌≡◌, Some, [], option_map, string_bytes};
+ghost use Rattle.std.specs.Prelude.{◌∷◌, ◌≡◌, Some, [], string_bytes};
 ghost use Rattle.serde_json.specs.Data.{string};
 ghost use Rattle.serde_json.specs.View.{view};
 ghost use Rattle.strkw_formats.specs.Formats.{format_name};
 ghost use Rattle.strkw_keywords.specs.Compiled.{IsBuilt, alone};
-ghost use Rattle.strkw_keywords.specs.Demands.{HasFinding, is_format};
-ghost use Rattle.strkw_keywords.specs.Findings.{finding_of};
-ghost use Rattle.strkw_keywords.specs.Meanings.{builtin, no_lists, row};
+ghost use Rattle.strkw_keywords.specs.Demands.{is_format};
+ghost use Rattle.strkw_keywords.specs.Meanings.{builtin, row};
 ghost use Rattle.strkw_keywords.specs.Object.{checks_formats, format_entry, ignores_unknown};
 ghost use Rattle.strkw_keywords.specs.Remarks.{remark_at};
 ghost use Rattle.strkw_keywords.specs.Settings.{place_in, settings_of};
@@ -15,7 +14,7 @@ ghost use Rattle.strkw_keywords.specs.declared.keyword.Keyword.TheVariants as ke
 
 pub use crate::by_keyword::compile_format as compile;
 use crate::checks::{Checks, ContentCodec, Format, MediaTypeCheck, ask_row};
-use crate::compile::{Refused, no_string};
+use crate::compile::{Refused, no_string, origin_of};
 use crate::content::Untested;
 use crate::findings::{Findings, Found};
 use crate::keyed::Keyed;
@@ -39,19 +38,6 @@ pub struct OfBuiltin {
     pub(crate) format: BuiltinFormat,
 }
 
-impl OfBuiltin {
-    fn finding(&self, text: &str) -> Option<Failure<'static>>
-        ensures { HasFinding (is_format (builtin self.now.format)) no_lists text.now
-            (option_map finding_of result) }
-    {
-        if self.format.is_valid(text) {
-            None
-        } else {
-            Some(Failure::Format(self.format.as_str()))
-        }
-    }
-}
-
 impl Test for OfBuiltin {
     ghost demands = { λ t. is_format (builtin t.format) ∷ [] };
 
@@ -59,11 +45,24 @@ impl Test for OfBuiltin {
         Some (remark_at location keyword.Format (string (format_name t.format))) };
 
     fn parts<'a>(&'a self, origin: &'a Origin) -> Parts<'a> {
-        Parts::noting(origin, Noted::Text(Keyword::Format, self.format.as_str()))
+        Parts::quiet(
+            origin,
+            Some(Noted::Text(Keyword::Format, self.format.as_str())),
+        )
     }
 
     fn findings<N: Node>(&self, _: Global, text: &TextNode<'_, N>, _checks: &Checks) -> Found<'_> {
-        Ok(Findings::one(self.finding(text.as_str())))
+        if self.format.is_valid(text.as_str()) {
+            Ok(Findings {
+                first: None,
+                second: None,
+            })
+        } else {
+            Ok(Findings {
+                first: Some(Failure::Format(self.format.as_str())),
+                second: None,
+            })
+        }
     }
 }
 
@@ -93,7 +92,7 @@ impl Test for OfRow {
                 name: self.name.as_str(),
             }),
             is_quiet: false,
-            ..Parts::plain(origin)
+            ..Parts::quiet(origin, None)
         }
     }
 
@@ -105,7 +104,10 @@ impl Test for OfRow {
     ) -> Found<'_> {
         let is_admitted = ask_row(alloc, checks.formats, self.position, text.as_str())?;
         let failure = Failure::Format(self.name.as_str());
-        Ok(Findings::one((!is_admitted).then_some(failure)))
+        Ok(Findings {
+            first: (!is_admitted).then_some(failure),
+            second: None,
+        })
     }
 }
 
@@ -130,11 +132,16 @@ pub(crate) fn build_format<B: EngineBuilder>(
     }
     if let Some(position) = ctx.checks.format_named(name) {
         let name = String::from_str(alloc, name)?;
+        let origin = origin_of(ctx)?;
         let test = OfRow { position, name };
-        return Ok(Some(Validator::CustomFormat(Keyed::of(ctx, test)?)));
+        return Ok(Some(Validator::CustomFormat(Keyed { origin, test })));
     }
     match builtin_format(ctx.draft, name) {
-        Some(format) => Ok(Some(Validator::Format(Keyed::of(ctx, OfBuiltin { format })?))),
+        Some(format) => {
+            let origin = origin_of(ctx)?;
+            let test = OfBuiltin { format };
+            Ok(Some(Validator::Format(Keyed { origin, test })))
+        }
         None if ignores_unknown(&ctx.options) => Ok(None),
         None => {
             let name = String::from_str(alloc, name)?;
@@ -151,7 +158,10 @@ fn checks_formats(options: &Options, draft: Draft) -> bool
 {
     match options.validate_formats {
         Some(wanted) => wanted,
-        None => draft <= Draft::Draft7 || options.formats_by_dialect,
+        None => {
+            matches!(draft, Draft::Draft4 | Draft::Draft6 | Draft::Draft7)
+                || options.formats_by_dialect
+        }
     }
 }
 

@@ -1,17 +1,14 @@
 //! The keywords `minLength` and `maxLength`: the validators of each and of both at once, and their entries.
 
-ghost use Rattle.std.specs.Prelude.{◌∷◌, ◌≡◌, ℕ, List, MatchOption, None, Some, [], false, length, option_map};
-ghost use Rattle.std.specs.Str.{chars};
+ghost use Rattle.std.specs.Prelude.{◌∷◌, ◌≡◌, MatchOption, None, Some, [], false};
 ghost use Rattle.serde_json.specs.View.{view};
 ghost use Rattle.strkw_keywords.specs.Compiled.{IsBuilt, max_share, min_share};
-ghost use Rattle.strkw_keywords.specs.Demands.{HasFinding, at_least, at_most};
-ghost use Rattle.strkw_keywords.specs.Findings.{finding_of};
-ghost use Rattle.strkw_keywords.specs.Meanings.{no_lists};
-ghost use Rattle.strkw_keywords.specs.Object.{as_limit, gives, greatest_entry, is_given, least_entry, value_at};
+ghost use Rattle.strkw_keywords.specs.Demands.{at_least, at_most};
+ghost use Rattle.strkw_keywords.specs.Object.{gives, greatest_entry, is_given, least_entry, value_at};
 ghost use Rattle.strkw_keywords.specs.Settings.{place_in};
 
 use crate::checks::Checks;
-use crate::compile::{Refused, value_at};
+use crate::compile::{Refused, origin_of};
 use crate::findings::{Findings, Found};
 use crate::keyed::Keyed;
 use crate::keyword::Keyword;
@@ -55,32 +52,20 @@ pub struct Between {
     pub(crate) max: u64,
 }
 
-// The finding on a text with this number of characters.
-fn too_short(limit: u64, characters: u64) -> Option<Failure<'static>>
-    ensures { (text : List ℕ) → characters ≡ length (chars text)
-        → HasFinding (at_least limit) no_lists text (option_map finding_of result) }
-{
-    (characters < limit).then_some(Failure::MinLength(limit))
-}
-
-fn too_long(limit: u64, characters: u64) -> Option<Failure<'static>>
-    ensures { (text : List ℕ) → characters ≡ length (chars text)
-        → HasFinding (at_most limit) no_lists text (option_map finding_of result) }
-{
-    (characters > limit).then_some(Failure::MaxLength(limit))
-}
-
 // ---- what each demands, and finds
 
 impl Test for AtLeast {
     ghost demands = { λ t. at_least t.limit ∷ [] };
 
     fn parts<'a>(&'a self, origin: &'a Origin) -> Parts<'a> {
-        Parts::plain(origin)
+        Parts::quiet(origin, None)
     }
 
     fn findings<N: Node>(&self, _: Global, text: &TextNode<'_, N>, _: &Checks) -> Found<'_> {
-        Ok(Findings::one(too_short(self.limit, text.length())))
+        Ok(Findings {
+            first: (text.length() < self.limit).then_some(Failure::MinLength(self.limit)),
+            second: None,
+        })
     }
 }
 
@@ -88,11 +73,14 @@ impl Test for AtMost {
     ghost demands = { λ t. at_most t.limit ∷ [] };
 
     fn parts<'a>(&'a self, origin: &'a Origin) -> Parts<'a> {
-        Parts::plain(origin)
+        Parts::quiet(origin, None)
     }
 
     fn findings<N: Node>(&self, _: Global, text: &TextNode<'_, N>, _: &Checks) -> Found<'_> {
-        Ok(Findings::one(too_long(self.limit, text.length())))
+        Ok(Findings {
+            first: (text.length() > self.limit).then_some(Failure::MaxLength(self.limit)),
+            second: None,
+        })
     }
 }
 
@@ -100,23 +88,16 @@ impl Test for Between {
     ghost demands = { λ t. at_least t.min ∷ at_most t.max ∷ [] };
 
     fn parts<'a>(&'a self, origin: &'a Origin) -> Parts<'a> {
-        Parts::plain(origin)
+        Parts::quiet(origin, None)
     }
 
     fn findings<N: Node>(&self, _: Global, text: &TextNode<'_, N>, _: &Checks) -> Found<'_> {
         let length = text.length();
         Ok(Findings {
-            first: too_short(self.min, length),
-            second: too_long(self.max, length),
+            first: (length < self.min).then_some(Failure::MinLength(self.min)),
+            second: (length > self.max).then_some(Failure::MaxLength(self.max)),
         })
     }
-}
-
-// A limit that is a whole number of 64 bits.
-fn limit_of(value: &Value) -> Option<u64>
-    ensures { result ≡ as_limit (view value.now) }
-{
-    value.as_u64()
 }
 
 // The limit of `minLength`, where its entry is good.
@@ -125,7 +106,10 @@ fn least_in<O: Object>(options: &Options, parent: &O) -> Option<u64>
         (is_given (least_entry options.now (O.members parent.now)) ≡ false)
         (λ n. (least_entry options.now (O.members parent.now)) ≡ gives (at_least n ∷ []) None) }
 {
-    limit_of(value_at(options, parent, Keyword::MinLength)?)
+    if options.is_overridden(Keyword::MinLength) {
+        return None;
+    }
+    parent.value(Keyword::MinLength)?.as_u64()
 }
 
 // The limit of `maxLength`, where its entry is good.
@@ -134,14 +118,10 @@ fn greatest_in<O: Object>(options: &Options, parent: &O) -> Option<u64>
         (is_given (greatest_entry options.now (O.members parent.now)) ≡ false)
         (λ n. (greatest_entry options.now (O.members parent.now)) ≡ gives (at_most n ∷ []) None) }
 {
-    limit_of(value_at(options, parent, Keyword::MaxLength)?)
-}
-
-// A limit is refused that is no whole number of 64 bits.
-fn refused_limit(keyword: Keyword) -> Refused
-    ensures { result ≡ Refused.Malformed keyword CompileErrorKind.Size }
-{
-    Refused::Malformed(keyword, CompileErrorKind::Size)
+    if options.is_overridden(Keyword::MaxLength) {
+        return None;
+    }
+    parent.value(Keyword::MaxLength)?.as_u64()
 }
 
 // The validator of `minLength` stands for `maxLength` too, where the limit of `maxLength` is there and good.
@@ -155,14 +135,16 @@ pub(crate) fn build_min<B: EngineBuilder, O: Object>(
     ensures { IsBuilt B.Engine.outcome (place_in ctx.now)
         (min_share ctx.now.options (O.members parent.now)) result }
 {
-    let limit = limit_of(value).ok_or(refused_limit(Keyword::MinLength))?;
-    match greatest_in(&ctx.options, parent) {
-        Some(max) => {
-            let test = Between { min: limit, max };
-            Ok(Some(Validator::LengthRange(Keyed::of(ctx, test)?)))
-        }
-        None => Ok(Some(Validator::MinLength(Keyed::of(ctx, AtLeast { limit })?))),
+    let Some(min) = value.as_u64() else {
+        return Err(Refused::Malformed(Keyword::MinLength, CompileErrorKind::Size));
+    };
+    let origin = origin_of(ctx)?;
+    if let Some(max) = greatest_in(&ctx.options, parent) {
+        let test = Between { min, max };
+        return Ok(Some(Validator::LengthRange(Keyed { origin, test })));
     }
+    let test = AtLeast { limit: min };
+    Ok(Some(Validator::MinLength(Keyed { origin, test })))
 }
 
 pub(crate) fn build_max<B: EngineBuilder, O: Object>(
@@ -175,9 +157,13 @@ pub(crate) fn build_max<B: EngineBuilder, O: Object>(
     ensures { IsBuilt B.Engine.outcome (place_in ctx.now)
         (max_share ctx.now.options (O.members parent.now)) result }
 {
-    let limit = limit_of(value).ok_or(refused_limit(Keyword::MaxLength))?;
+    let Some(limit) = value.as_u64() else {
+        return Err(Refused::Malformed(Keyword::MaxLength, CompileErrorKind::Size));
+    };
     if least_in(&ctx.options, parent).is_some() {
         return Ok(None);
     }
-    Ok(Some(Validator::MaxLength(Keyed::of(ctx, AtMost { limit })?)))
+    let origin = origin_of(ctx)?;
+    let test = AtMost { limit };
+    Ok(Some(Validator::MaxLength(Keyed { origin, test })))
 }

@@ -3,7 +3,7 @@
 ghost use Rattle.std.specs.Prelude.{◌≡◌, None, []};
 ghost use Rattle.strkw_keywords.specs.Lists.{lists_of};
 ghost use Rattle.strkw_keywords.specs.Meanings.{no_lists};
-ghost use Rattle.strkw_keywords.specs.Object.{default_options, has_codec, is_on, is_overridden};
+ghost use Rattle.strkw_keywords.specs.Object.{default_options, has_codec, is_overridden};
 
 use crate::checks::{Checks, ContentCodec, Format, MediaTypeCheck};
 use crate::keyword::Keyword;
@@ -104,20 +104,16 @@ impl Options {
     pub fn is_overridden(&self, keyword: Keyword) -> bool
         ensures { result ≡ is_overridden self.now keyword }
     {
-        is_on(&self.overridden, keyword.place())
+        self.overridden
+            .get(keyword as usize)
+            .copied()
+            .unwrap_or(false)
     }
 
     /// Whether a codec is built in.
     pub(crate) fn has_codec(&self, codec: Codec) -> bool
         ensures { result ≡ has_codec self.now codec }
     {
-        is_on(&self.codecs, codec as usize)
+        self.codecs.get(codec as usize).copied().unwrap_or(false)
     }
-}
-
-// The flag at a place.
-fn is_on(flags: &[bool], place: usize) -> bool
-    ensures { result ≡ is_on flags.now place }
-{
-    flags.get(place).copied().unwrap_or(false)
 }

@@ -2,7 +2,7 @@
 
 ghost use Rattle.std.specs.Prelude.{◌↔◌, ◌≡◌, IfOk, IsTrue, None, Some, false, option_map, string_bytes, true};
 ghost use Rattle.strkw_keywords.specs.Lists.{lists_of};
-ghost use Rattle.strkw_keywords.specs.Parts.{RowsAreFirst, noted_remark, noting_parts, plain_parts};
+ghost use Rattle.strkw_keywords.specs.Parts.{RowsAreFirst, noted_remark, quiet_parts};
 ghost use Rattle.strkw_keywords.specs.Places.{Place};
 ghost use Rattle.strkw_keywords.specs.Remarks.{remark_of};
 
@@ -101,27 +101,17 @@ impl Parts<'_> {
 }
 
 impl<'a> Parts<'a> {
-    // Those of a validator that notes nothing, rests on no row and takes no memory.
-    pub(crate) fn plain(origin: &'a Origin) -> Parts<'a>
-        ensures { result ≡ plain_parts origin.entry }
+    // Those of a validator that rests on no row and takes no memory.
+    pub(crate) fn quiet(origin: &'a Origin, noted: Option<Noted<'a>>) -> Parts<'a>
+        ensures { result ≡ quiet_parts origin.entry noted.entry }
     {
         Parts {
             origin,
-            noted: None,
+            noted,
             format: None,
             media_type: None,
             codec: None,
             is_quiet: true,
-        }
-    }
-
-    // Those of a validator that only notes.
-    pub(crate) fn noting(origin: &'a Origin, noted: Noted<'a>) -> Parts<'a>
-        ensures { result ≡ noting_parts origin.entry noted.entry }
-    {
-        Parts {
-            noted: Some(noted),
-            ..Parts::plain(origin)
         }
     }
 
@@ -144,7 +134,7 @@ impl<'a> Parts<'a> {
             media_type,
             codec,
             is_quiet: false,
-            ..Parts::plain(origin)
+            ..Parts::quiet(origin, None)
         }
     }
 }

@@ -105,16 +105,15 @@ impl<K: Kind> Test for Literal<K> {
     ghost demands = { λ t. compares (string_bytes t.pattern) (literal_outcome t.matcher) ∷ [] };
 
     fn parts<'a>(&'a self, origin: &'a Origin) -> Parts<'a> {
-        Parts::plain(origin)
+        Parts::quiet(origin, None)
     }
 
     fn findings<N: Node>(&self, alloc: Global, text: &TextNode<'_, N>, _: &Checks) -> Found<'_> {
-        Ok(Findings::one(literal_finding(
-            alloc,
-            self.pattern.as_str(),
-            &self.matcher,
-            text.as_str(),
-        )))
+        let pattern = self.pattern.as_str();
+        Ok(Findings {
+            first: literal_finding(alloc, pattern, &self.matcher, text.as_str()),
+            second: None,
+        })
     }
 }
 
@@ -168,6 +167,9 @@ impl<E: RegexEngine> Test for Matching<E> {
             Err(EngineFailure::Failed) => Some(Failure::RegexEngineFailure(pattern)),
             Err(EngineFailure::Memory) => return Err(AllocError),
         };
-        Ok(Findings::one(failure))
+        Ok(Findings {
+            first: failure,
+            second: None,
+        })
     }
 }

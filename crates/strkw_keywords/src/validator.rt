@@ -19,6 +19,7 @@ use crate::pattern::{
     AlternationPatternValidator, ExactPatternValidator, NoWhitespacePatternValidator,
     PatternValidator, PrefixPatternValidator,
 };
+use crate::test::Test;
 use crate::validate::{Uses, Validate};
 use std::alloc::Global;
 use strkw_pattern::RegexEngine;
@@ -115,12 +116,12 @@ impl<E: RegexEngine> Uses for Validator<E> {
     ghost remark = { remark_made };
 
     fn parts(&self) -> Parts<'_> {
-        of_each!(self, v => v.parts())
+        of_each!(self, v => v.test.parts(&v.origin))
     }
 }
 
 impl<E: RegexEngine, N: Node> Validate<N> for Validator<E> {
     fn findings(&self, alloc: Global, text: &TextNode<'_, N>, checks: &Checks) -> Found<'_> {
-        of_each!(self, v => v.findings(alloc, text, checks))
+        of_each!(self, v => v.test.findings(alloc, text, checks))
     }
 }

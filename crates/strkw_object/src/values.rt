@@ -41,7 +41,13 @@ impl OwnedValues {
     pub fn clear(&mut self)
         ensures { (keyword : Keyword) → owned self.new keyword ≡ None }
     {
-        *self = OwnedValues::none();
+        self.content_media_type = None;
+        self.content_encoding = None;
+        self.content_schema = None;
+        self.format = None;
+        self.min_length = None;
+        self.max_length = None;
+        self.pattern = None;
     }
 
     /// Puts in the value at a keyword. One that was there before is dropped.

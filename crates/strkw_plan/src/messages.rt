@@ -89,10 +89,13 @@ fn push_messages_of<E: RegexEngine, F: MessageForm, N: Node>(
     ensures bytes { IfOk result (λ count.
         length (string_bytes out.old) + count ≤ length (string_bytes out.new)) }
 {
-    let found = validator.findings(alloc, text, checks)?;
-    if found.is_empty() {
-        return Ok(0);
+    // Most texts have no error: so what is found is looked at where it lies, before it is moved.
+    let answer = validator.findings(alloc, text, checks);
+    match &answer {
+        Ok(found) if found.is_empty() => return Ok(0),
+        _ => {}
     }
+    let found = answer?;
     let (origin, text) = (validator.origin(), text.as_str());
     let first = push_found(alloc, form, origin, text, &found.first, out)?;
     let second = push_found(alloc, form, origin, text, &found.second, out)?;

@@ -1,5 +1,6 @@
 -- Runs of bytes at the front of a text, by blocks.
-use Rattle.std.proofs.Common.{◌≡◌, ◌≤◌, ◌<◌, ◌+◌, ◌-◌, ◌^◌, ◌%◌, inl, inr, ℕ, zero, suc, List, [], ◌∷◌, Bool, true, false, not, cond, eqb, leb, w8, ◌||◌, map, replicate, take, drop, length}
+use Rattle.std.proofs.Common.{◌≡◌, ◌≤◌, ◌<◌, ◌+◌, ◌-◌, ◌^◌, ◌%◌, inl, inr, ℕ, zero, suc, List, []}
+use Rattle.std.proofs.Common.{◌∷◌, Bool, true, false, not, cond, eqb, leb, w8, ◌||◌, map, replicate, take, drop, length}
 use Rattle.std.proofs.Common.{refl, sym, ap, subst, arith, ◌∙◌, get_or, bit_or, Option, Some, None}
 use Rattle.std.specs.Prelude.{◌==◌, is_some, unwrap_or}
 use Rattle.std.specs.Bool.{MatchBool}
@@ -8,7 +9,8 @@ use Rattle.std.specs.Str.{IsAscii, IsNotAscii}
 use Rattle.std.specs.Simd.Lanes.{mask_l, zip2}
 use Rattle.std.proofs.lemmas.Bool.{cases_lt, leb-false, leb-true}
 use Rattle.std.proofs.lemmas.List.{get_or_past, length-map, take_all, take_rest}
-use Rattle.std.proofs.lemmas.Simd.{tops_compared, zip2_splat_left, first_set_mask_l, map-map, mask_l-mod, run_in_chunk_fails, run_in_chunk_stops, zip2_of_maps, zip2_splat}
+use Rattle.std.proofs.lemmas.Simd.{tops_compared, zip2_splat_left, first_set_mask_l, map-map, mask_l-mod}
+use Rattle.std.proofs.lemmas.Simd.{run_in_chunk_fails, run_in_chunk_le, run_in_chunk_stops, zip2_of_maps, zip2_splat}
 use Rattle.memchr.specs.Find.{IsFirstByte, is_byte2, is_byte3}
 use Rattle.strkw_records.specs.Lines.{HasNoLineByte, is_line_byte, is_or_line_byte}
 use Rattle.strkw_records.proofs.LineLemmas.{has_no_line_byte-at}
@@ -73,21 +75,45 @@ ascii_run_of_lanes block r size found =
     let mask = ap (λ l. mask_l l % 2 ^ 64) tops ∙ mask_l-mod (map (leb 128) block) 64 (omega (arith, length-map block (leb 128), size)) in
     found ∙ ap (λ m. cond (eqb m 0) 16 (count_trailing_zeros 64 m)) mask ∙ first_set_mask_l (leb 128) block 16 size (omega arith)
 
+-- so many bytes of the block at a place fail a test, and the one behind them, if there is one, passes it
+abbrev pub IsRunAt : (ℕ → Bool) → List ℕ → ℕ → ℕ → Type 0
+IsRunAt test xs at n = n ≡ prefix_len (λ c. not (test c)) (take 16 (take (length xs - at) (drop at xs)))
+
+module _ (test : ℕ → Bool) (xs : List ℕ) (at n : ℕ) (inside : at + 16 ≤ length xs) (run : IsRunAt test xs at n) where
+  -- the block at a place is the front of what is left there
+  of_rest : n ≡ prefix_len (λ c. not (test c)) (take 16 (drop at xs))
+  of_rest = run ∙ ap (λ l. prefix_len (λ c. not (test c)) (take 16 l)) (take_rest xs at)
+
+  -- a run is no longer than its block
+  pub run-within : n ≤ 16
+  run-within = run_in_chunk_le test xs at 16 n 0 inside of_rest
+
+  -- the bytes of the block before the end of its run fail the test
+  pub run-before : (k : ℕ) → at ≤ k → k < at + n → test (get_or xs k 0) ≡ false
+  run-before k low high = run_in_chunk_fails test xs at 16 n 0 inside of_rest k low high
+
+  -- and where its run ends before it does, a byte that passes it stands there
+  pub run-stops : n < 16 → test (get_or xs (at + n) 0) ≡ true
+  run-stops short = run_in_chunk_stops test xs at 16 n 0 inside of_rest short
+
+  -- where all before a block fail the test, so do all as far as its run goes
+  pub run-more : ((k : ℕ) → k < at → test (get_or xs k 0) ≡ false) → (k : ℕ) → k < at + n → test (get_or xs k 0) ≡ false
+  run-more before k high = elim (cases_lt k at) [
+    | inl low ↦ before k low
+    | inr above ↦ run-before k above high
+  ]
+
 -- so many bytes of the block at a place are ASCII
 abbrev pub IsAsciiRun : List ℕ → ℕ → ℕ → Type 0
-IsAsciiRun xs at n = n ≡ prefix_len (λ c. not (leb 128 c)) (take 16 (take (length xs - at) (drop at xs)))
-
--- the block at a place is the front of what is left there
-of_rest : (xs : List ℕ) (at n : ℕ) → IsAsciiRun xs at n → n ≡ prefix_len (λ c. not (leb 128 c)) (take 16 (drop at xs))
-of_rest xs at n run = run ∙ ap (λ l. prefix_len (λ c. not (leb 128 c)) (take 16 l)) (take_rest xs at)
+IsAsciiRun xs at n = IsRunAt (leb 128) xs at n
 
 -- the bytes of the block before the end of its run are ASCII
 pub ascii-before : (xs : List ℕ) (at n : ℕ) → at + 16 ≤ length xs → IsAsciiRun xs at n → (k : ℕ) → at ≤ k → k < at + n → get_or xs k 0 < 128
-ascii-before xs at n inside run k low high = leb-false 128 _ (run_in_chunk_fails (leb 128) xs at 16 n 0 inside (of_rest xs at n run) k low high)
+ascii-before xs at n inside run k low high = leb-false 128 _ (run-before (leb 128) xs at n inside run k low high)
 
 -- and where its run ends before it does, a byte past ASCII stands there
 pub ascii-stops : (xs : List ℕ) (at n : ℕ) → at + 16 ≤ length xs → IsAsciiRun xs at n → n < 16 → 128 ≤ get_or xs (at + n) 0
-ascii-stops xs at n inside run short = leb-true 128 _ (run_in_chunk_stops (leb 128) xs at 16 n 0 inside (of_rest xs at n run) short)
+ascii-stops xs at n inside run short = leb-true 128 _ (run-stops (leb 128) xs at n inside run short)
 
 -- where all before a block are ASCII, so are all as far as its run goes
 pub ascii-more : (xs : List ℕ) (at n : ℕ) → at + 16 ≤ length xs → ((k : ℕ) → k < at → get_or xs k 0 < 128) → IsAsciiRun xs at n
@@ -137,19 +163,6 @@ pub found-stops : (byte : ℕ) (xs : List ℕ) (found : Option ℕ) (n : ℕ) �
     → n < length xs → is_or_line_byte byte (get_or xs n 0) ≡ true
 found-stops byte xs None n h e a = absurd (omega (arith, e, a))
 found-stops byte xs (Some at) n h e a = is_or_line-three byte _ ∙ rw e h.1
-
--- in the block at the front of bytes
--- before the end of its run, none of the three stands
-pub block-before : (byte : ℕ) (xs : List ℕ) (n : ℕ) → 16 ≤ length xs → n ≡ prefix_len (λ c. not (is_or_line_byte byte c)) (take 16 xs)
-    → (k : ℕ) → k < n → is_or_line_byte byte (get_or xs k 0) ≡ false
-block-before byte xs n long e k a = run_in_chunk_fails (is_or_line_byte byte) xs 0 16 n 0 long e k (omega arith) (omega (arith, a))
-
--- and where its run ends before it does, one of them stands there
-pub block-stops : (byte : ℕ) (xs : List ℕ) (n : ℕ) → 16 ≤ length xs → n ≡ prefix_len (λ c. not (is_or_line_byte byte c)) (take 16 xs)
-    → n < 16 → is_or_line_byte byte (get_or xs n 0) ≡ true
-block-stops byte xs n long e a =
-    let same : n ≡ 0 + n = omega arith in
-    ap (λ (k : ℕ). is_or_line_byte byte (get_or xs k 0)) same ∙ run_in_chunk_stops (is_or_line_byte byte) xs 0 16 n 0 long e a
 
 -- before the first part of a line end there is none
 -- so many bytes have no part of a line end, where each of them is none

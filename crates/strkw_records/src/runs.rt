@@ -118,8 +118,8 @@ fn run_of_block(byte: u8, bytes: &[u8]) -> usize
     first_set((same | (returns | feeds)).to_bitmask())
 }
 
-// How many bytes stand before the first that is this one or a part of a line end. Most fields are short: so a block is
-// looked at first.
+// How many bytes stand before the first that is this one or a part of a line end. They are looked at by blocks, of which
+// the last may overlap the one before.
 #[inline(always)]
 fn run_before(byte: u8, bytes: &[u8]) -> usize
     ensures within { result ≤ length bytes.now }
@@ -127,13 +127,19 @@ fn run_before(byte: u8, bytes: &[u8]) -> usize
     ensures stops { result < length bytes.now
         → is_or_line_byte byte (slice_index bytes.now result) ≡ true }
 {
-    if bytes.len() >= LANES {
-        let count = run_of_block(byte, bytes);
-        if count < LANES {
-            return count;
-        }
+    if bytes.len() < LANES {
+        return memchr3(byte, b'\r', b'\n', bytes).unwrap_or(bytes.len());
     }
-    memchr3(byte, b'\r', b'\n', bytes).unwrap_or(bytes.len())
+    let last = bytes.len() - LANES;
+    let mut at = 0;
+    'blocks: while at < last {
+        let count = run_of_block(byte, &bytes[at..]);
+        if count < LANES {
+            return at + count;
+        }
+        at += LANES;
+    }
+    last + run_of_block(byte, &bytes[last..])
 }
 
 /// How many bytes stand before the first that ends a field with no quotes.

@@ -23,7 +23,14 @@ pub enum Draft {
 pub fn draft_numbered(number: u64) -> Option<Draft>
     ensures { result ≡ draft_numbered number }
 {
-    match number {
+    draft_in(&Value::from(number))
+}
+
+/// The draft whose number a value is.
+pub fn draft_in(value: &Value) -> Option<Draft>
+    ensures { result ≡ draft_in (view value.now) }
+{
+    match value.as_u64()? {
         4 => Some(Draft::Draft4),
         6 => Some(Draft::Draft6),
         7 => Some(Draft::Draft7),
@@ -31,11 +38,4 @@ pub fn draft_numbered(number: u64) -> Option<Draft>
         202012 => Some(Draft::Draft202012),
         _ => None,
     }
-}
-
-/// The draft whose number a value is.
-pub fn draft_in(value: &Value) -> Option<Draft>
-    ensures { result ≡ draft_in (view value.now) }
-{
-    draft_numbered(value.as_u64()?)
 }

@@ -1,16 +1,15 @@
 //! What a text failed at, by names that are borrowed, and what is said of it: all words of errors stand here.
 
-ghost use Rattle.std.specs.Prelude.{◌≡◌, ℕ, List, ◌++◌, IfOk, OnOk, OnErr, codes, decimal, string_bytes};
+ghost use Rattle.std.specs.Prelude.{◌≡◌, ℕ, List, ◌++◌, IfOk, OnOk, OnErr, string_bytes};
 ghost use Rattle.serde_json.specs.Data.{string};
 ghost use Rattle.serde_json.specs.Written.{compact_text};
-ghost use Rattle.strkw_report.specs.Nouns.{characters};
 ghost use Rattle.strkw_report.specs.Kinds.{message};
 ghost use Rattle.strkw_report.specs.Failures.{kind_failed};
 ghost use Rattle.strkw_report.specs.KindOf.{kind_of};
 ghost use Rattle.strkw_report.specs.Wordings.{spelled};
 
 use crate::error::ErrorKind;
-use crate::wording::Wording;
+use crate::wording::{Rest, Wording};
 use std::alloc::{AllocError, Global};
 
 /// What a text failed at: an `ErrorKind` whose names are borrowed.
@@ -89,10 +88,14 @@ impl<'a> Failure<'a> {
         ensures { spelled result ≡ message (kind_failed self.now) (compact_text (string text.now)) }
     {
         match *self {
-            Failure::MinLength(limit) => self.limit_wording(text, " is shorter than ", limit),
-            Failure::MaxLength(limit) => self.limit_wording(text, " is longer than ", limit),
+            Failure::MinLength(limit) => {
+                Wording::behind(text, " is shorter than ", Rest::Characters(limit))
+            }
+            Failure::MaxLength(limit) => {
+                Wording::behind(text, " is longer than ", Rest::Characters(limit))
+            }
             Failure::Pattern(pattern) => {
-                Wording::behind(text, " does not match \"", pattern, "\"")
+                Wording::behind(text, " does not match \"", Rest::Name(pattern, "\""))
             }
             Failure::BacktrackLimitExceeded(_) => Wording::alone(
                 "Error executing regex: Max limit for backtracking count exceeded",
@@ -102,37 +105,22 @@ impl<'a> Failure<'a> {
             Failure::RegexEngineFailure(pattern) => {
                 Wording::alone("Regex engine failed to evaluate pattern '", pattern, "'")
             }
-            Failure::Format(name) => Wording::behind(text, " is not a \"", name, "\""),
+            Failure::Format(name) => {
+                Wording::behind(text, " is not a \"", Rest::Name(name, "\""))
+            }
             Failure::ContentEncoding(name) => Wording::behind(
                 text,
                 " is not compliant with \"",
-                name,
-                "\" content encoding",
+                Rest::Name(name, "\" content encoding"),
             ),
-            Failure::ContentMediaType(name) => {
-                Wording::behind(text, " is not compliant with \"", name, "\" media type")
+            Failure::ContentMediaType(name) => Wording::behind(
+                text,
+                " is not compliant with \"",
+                Rest::Name(name, "\" media type"),
+            ),
+            Failure::FromUtf8 => {
+                Wording::behind(text, " does not decode to UTF-8 text", Rest::Name("", ""))
             }
-            Failure::FromUtf8 => Wording::behind(text, " does not decode to UTF-8 text", "", ""),
         }
     }
-
-    // What is said of a text and of a limit of its characters.
-    fn limit_wording<'t>(
-        &self,
-        text: &'t str,
-        relation: &'static str,
-        limit: u64,
-    ) -> Wording<'t, 'a>
-        ensures { spelled result ≡ compact_text (string text.now)
-            ++ relation.now ++ decimal limit ++ codes " " ++ characters limit }
-    {
-        Wording::counting(text, relation, limit, characters(limit))
-    }
-}
-
-// What stands behind a number of characters.
-fn characters(n: u64) -> &'static str
-    ensures { result.now ≡ codes " " ++ characters n }
-{
-    if n == 1 { " character" } else { " characters" }
 }

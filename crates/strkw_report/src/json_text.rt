@@ -16,8 +16,13 @@ pub fn push_json_string(text: &str, out: &mut Vec<u8>) -> Result<(), AllocError>
     ensures ok { OnOk result (out.new.items ≡ out.old.items ++ compact_text (string text.now)) }
     ensures err { OnErr result ((more : List ℕ) × (out.new.items ≡ out.old.items ++ more)) }
 {
+    let bytes = text.as_bytes();
     out.extend_from_slice(b"\"")?;
-    push_escaped(text.as_bytes(), out)?;
+    if is_plain(bytes) {
+        out.extend_from_slice(bytes)?;
+    } else {
+        push_escaped(bytes, out)?;
+    }
     out.extend_from_slice(b"\"")
 }
 
@@ -25,9 +30,6 @@ fn push_escaped(text: &[u8], out: &mut Vec<u8>) -> Result<(), AllocError>
     ensures ok { OnOk result (out.new.items ≡ out.old.items ++ escape text.now) }
     ensures err { OnErr result ((more : List ℕ) × (out.new.items ≡ out.old.items ++ more)) }
 {
-    if is_plain(text) {
-        return out.extend_from_slice(text);
-    }
     for byte in text {
         push_escaped_byte(*byte, out)?;
     }

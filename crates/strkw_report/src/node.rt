@@ -48,14 +48,8 @@ const BLOCK: usize = 32;
 pub fn char_count(text: &str) -> u64
     ensures { result ≡ length (chars text.now) }
 {
-    char_start_count(text.as_bytes())
-}
-
-// How many bytes begin a character: block by block, and what is left byte by byte.
-fn char_start_count(bytes: &[u8]) -> u64
-    ensures { result ≡ count_by is_char_start bytes.now }
-{
-    let (blocks, rest) = bytes.as_chunks::<BLOCK>();
+    // As many bytes begin a character: they are counted block by block, and what is left byte by byte.
+    let (blocks, rest) = text.as_bytes().as_chunks::<BLOCK>();
     let mut count = starts_among(rest);
     for block in blocks {
         count += starts_in_block(block) as u64;
@@ -63,20 +57,20 @@ fn char_start_count(bytes: &[u8]) -> u64
     count
 }
 
-// How many bytes of fewer than a block begin a character.
+// How many bytes begin a character: the others are 10xxxxxx (RFC 3629, section 3).
 fn starts_among(bytes: &[u8]) -> u64
     ensures { result ≡ count_by is_char_start bytes.now }
 {
     let mut count = 0;
     for byte in bytes {
-        if is_char_start(*byte) {
+        if *byte < 0x80 || *byte >= 0xC0 {
             count += 1;
         }
     }
     count
 }
 
-// How many bytes of a block begin a character. All are judged at once, each as `is_char_start` judges it.
+// How many bytes of a block begin a character. All are judged at once.
 #[inline(always)]
 fn starts_in_block(block: &[u8; BLOCK]) -> u32
     ensures { result ≡ count_by is_char_start block.now }
@@ -85,11 +79,4 @@ fn starts_in_block(block: &[u8; BLOCK]) -> u32
     let ascii = bytes.simd_lt(u8x32::splat(0x80));
     let leading = bytes.simd_ge(u8x32::splat(0xC0));
     (ascii | leading).to_bitmask().count_ones()
-}
-
-// Whether the byte is the first of a character: the others are 10xxxxxx (RFC 3629, section 3).
-fn is_char_start(byte: u8) -> bool
-    ensures { result ≡ is_char_start byte }
-{
-    byte < 0x80 || byte >= 0xC0
 }

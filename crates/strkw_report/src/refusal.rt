@@ -3,7 +3,7 @@ ghost use Rattle.strkw_report.specs.Refusals.{reason_of, prints_float, explanati
 ghost use Rattle.strkw_report.specs.Wordings.{spelled};
 
 use crate::location::Location;
-use crate::wording::Wording;
+use crate::wording::{Rest, Wording};
 use serde_json::Value;
 use std::alloc::{AllocError, Global};
 
@@ -99,7 +99,7 @@ impl CompileErrorKind {
                 Wording::alone("Unknown format: '", name, advice(*by_dialect))
             }
             CompileErrorKind::Regex { pattern } => {
-                Wording::behind(pattern, " is not a \"regex\"", "", "")
+                Wording::behind(pattern, " is not a \"regex\"", Rest::Name("", ""))
             }
             CompileErrorKind::FractionalNumber => {
                 Wording::alone(

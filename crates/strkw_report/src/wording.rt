@@ -1,8 +1,9 @@
 //! What is said of a text, part by part: the one way from words to bytes, to a formatter and to a `String`.
 
-ghost use Rattle.std.specs.Prelude.{◌≡◌, ℕ, List, ◌++◌, OnOk, OnErr, IfOk, decimal, Some, option_map, string_bytes};
-ghost use Rattle.strkw_report.specs.Wordings.{front, named, spelled};
+ghost use Rattle.std.specs.Prelude.{◌≡◌, ℕ, List, ◌++◌, OnOk, OnErr, IfOk, Some, codes, string_bytes};
+ghost use Rattle.strkw_report.specs.Nouns.{characters};
 ghost use Rattle.strkw_report.specs.Quoting.{quoted};
+ghost use Rattle.strkw_report.specs.Wordings.{told, spelled};
 
 use crate::json_text::push_json_string;
 use crate::quoted::Quoted;
@@ -10,22 +11,21 @@ use itoa::Buffer;
 use std::alloc::{AllocError, Global};
 use std::fmt;
 
-/// What is said: a text as a JSON string, where one is spoken of, and then words, a name, and words.
+/// What is said: a text as a JSON string, where one is spoken of, and then words and the rest.
 #[derive(Clone, Copy)]
 pub(crate) struct Wording<'t, 'n> {
     text: Option<&'t str>,
     before: &'static str,
-    name: Name<'n>,
-    after: &'static str,
+    rest: Rest<'n>,
 }
 
-// What stands between the words.
+/// What stands behind the first words.
 #[derive(Clone, Copy)]
-enum Name<'n> {
-    // It stands as it is.
-    Text(&'n str),
-    // It stands in decimal.
-    Number(u64),
+pub(crate) enum Rest<'n> {
+    /// A name as it stands, and words; both are empty where nothing more is said.
+    Name(&'n str, &'static str),
+    /// So many characters.
+    Characters(u64),
 }
 
 impl<'t, 'n> Wording<'t, 'n> {
@@ -36,42 +36,18 @@ impl<'t, 'n> Wording<'t, 'n> {
         Wording {
             text: None,
             before,
-            name: Name::Text(name),
-            after,
+            rest: Rest::Name(name, after),
         }
     }
 
-    /// A text as a JSON string, and then a name between words; words alone have an empty name.
-    pub(crate) fn behind(
-        text: &'t str,
-        before: &'static str,
-        name: &'n str,
-        after: &'static str,
-    ) -> Wording<'t, 'n>
-        ensures { spelled result ≡ quoted text.now ++ before.now ++ name.now ++ after.now }
+    /// A text as a JSON string, and then words and the rest.
+    pub(crate) fn behind(text: &'t str, before: &'static str, rest: Rest<'n>) -> Wording<'t, 'n>
+        ensures { spelled result ≡ quoted text.now ++ before.now ++ told rest.entry }
     {
         Wording {
             text: Some(text),
             before,
-            name: Name::Text(name),
-            after,
-        }
-    }
-
-    /// A text as a JSON string, and then a number between words.
-    pub(crate) fn counting(
-        text: &'t str,
-        before: &'static str,
-        count: u64,
-        after: &'static str,
-    ) -> Wording<'t, 'n>
-        ensures { spelled result ≡ quoted text.now ++ before.now ++ decimal count ++ after.now }
-    {
-        Wording {
-            text: Some(text),
-            before,
-            name: Name::Number(count),
-            after,
+            rest,
         }
     }
 
@@ -80,10 +56,21 @@ impl<'t, 'n> Wording<'t, 'n> {
         ensures ok { OnOk result (out.new.items ≡ out.old.items ++ spelled self.now) }
         ensures err { OnErr result ((more : List ℕ) × (out.new.items ≡ out.old.items ++ more)) }
     {
-        push_front(self.text, out)?;
+        if let Some(text) = self.text {
+            push_json_string(text, out)?;
+        }
         out.extend_from_slice(self.before.as_bytes())?;
-        push_name(self.name, out)?;
-        out.extend_from_slice(self.after.as_bytes())
+        match self.rest {
+            Rest::Name(name, after) => {
+                out.extend_from_slice(name.as_bytes())?;
+                out.extend_from_slice(after.as_bytes())
+            }
+            Rest::Characters(count) => {
+                let mut digits = Buffer::new();
+                out.extend_from_slice(digits.format(count).as_bytes())?;
+                out.extend_from_slice(characters(count).as_bytes())
+            }
+        }
     }
 
     /// What is said, as a text of its own.
@@ -95,39 +82,23 @@ impl<'t, 'n> Wording<'t, 'n> {
     }
 }
 
-// Appends the text as a JSON string, where there is one.
-fn push_front(text: Option<&str>, out: &mut Vec<u8>) -> Result<(), AllocError>
-    ensures ok { OnOk result (out.new.items ≡ out.old.items
-        ++ front (option_map (λ t. t.now) text.entry)) }
-    ensures err { OnErr result ((more : List ℕ) × (out.new.items ≡ out.old.items ++ more)) }
+// What stands behind a number of characters.
+fn characters(n: u64) -> &'static str
+    ensures { result.now ≡ codes " " ++ characters n }
 {
-    match text {
-        Some(text) => push_json_string(text, out),
-        None => Ok(()),
-    }
+    if n == 1 { " character" } else { " characters" }
 }
 
-// Appends a name as it stands between words.
-fn push_name(name: Name<'_>, out: &mut Vec<u8>) -> Result<(), AllocError>
-    ensures ok { OnOk result (out.new.items ≡ out.old.items ++ named name.entry) }
-    ensures err { OnErr result ((more : List ℕ) × (out.new.items ≡ out.old.items ++ more)) }
-{
-    match name {
-        Name::Text(text) => out.extend_from_slice(text.as_bytes()),
-        Name::Number(n) => {
-            let mut digits = Buffer::new();
-            out.extend_from_slice(digits.format(n).as_bytes())
-        }
-    }
-}
-
-impl fmt::Display for Name<'_> {
-    ghost output = { λ name. Some (named name) };
+impl fmt::Display for Rest<'_> {
+    ghost output = { λ rest. Some (told rest) };
 
     fn fmt<W: fmt::Write>(&self, f: &mut fmt::Formatter<W>) -> fmt::Result {
         match self {
-            Name::Text(text) => f.write_str(text),
-            Name::Number(n) => write!(f, "{n}"),
+            Rest::Name(name, after) => write!(f, "{name}{after}"),
+            Rest::Characters(count) => {
+                let noun = characters(*count);
+                write!(f, "{count}{noun}")
+            }
         }
     }
 }
@@ -136,18 +107,13 @@ impl fmt::Display for Wording<'_, '_> {
     ghost output = { λ wording. Some (spelled wording) };
 
     fn fmt<W: fmt::Write>(&self, f: &mut fmt::Formatter<W>) -> fmt::Result {
-        let Wording {
-            before,
-            name,
-            after,
-            ..
-        } = *self;
+        let Wording { before, rest, .. } = *self;
         match self.text {
             Some(text) => {
                 let text = Quoted(text);
-                write!(f, "{text}{before}{name}{after}")
+                write!(f, "{text}{before}{rest}")
             }
-            None => write!(f, "{before}{name}{after}"),
+            None => write!(f, "{before}{rest}"),
         }
     }
 }

@@ -5,8 +5,9 @@ use crate::tally::Tally;
 use serde_json::Value;
 use std::alloc::{AllocError, Global};
 use strkw_coding::{
-    BuiltinMediaType, Codec, DecodeError, from_base16, from_base32, from_base32hex, from_base64,
-    from_base64url, is_base16, is_base32, is_base32hex, is_base64, is_base64url, is_json,
+    BuiltinMediaType, Codec, DecodeError, JsonError, from_base16, from_base32, from_base32hex,
+    from_base64, from_base64url, is_base16, is_base32, is_base32hex, is_base64, is_base64url,
+    is_json,
 };
 
 // An answer that two calls agree on.
@@ -177,24 +178,25 @@ pub fn ask_names(alloc: Global, row: &Value, tally: &mut Tally) -> Result<(), Al
     Ok(())
 }
 
-fn ask_error(
-    alloc: Global,
-    error: &DecodeError,
-    text: Option<&str>,
-    tally: &mut Tally,
-) -> Result<(), AllocError> {
-    let shown = error.to_string(alloc)?;
-    tally.count(text == Some(shown.as_str()), &shown, "another text")
+// The text that an error shows.
+fn ask_error(shown: &str, text: Option<&str>, tally: &mut Tally) -> Result<(), AllocError> {
+    tally.count(text == Some(shown), shown, "another text")
 }
 
 /// The texts of the errors of decoders.
-pub fn ask_errors(alloc: Global, row: &Value, tally: &mut Tally) -> Result<(), AllocError> {
-    let texts = items(row, "texts");
-    for (error, text) in [DecodeError::NotUtf8, DecodeError::Memory]
-        .iter()
-        .zip(texts)
-    {
-        ask_error(alloc, error, text.as_str(), tally)?;
+pub fn ask_decode_errors(alloc: Global, row: &Value, tally: &mut Tally) -> Result<(), AllocError> {
+    let errors = [DecodeError::NotUtf8, DecodeError::Memory];
+    for (error, text) in errors.iter().zip(items(row, "texts")) {
+        ask_error(&error.to_string(alloc)?, text.as_str(), tally)?;
+    }
+    Ok(())
+}
+
+/// The texts of the errors of reading JSON.
+pub fn ask_json_errors(alloc: Global, row: &Value, tally: &mut Tally) -> Result<(), AllocError> {
+    let errors = [JsonError::NotJson, JsonError::Memory];
+    for (error, text) in errors.iter().zip(items(row, "texts")) {
+        ask_error(&error.to_string(alloc)?, text.as_str(), tally)?;
     }
     Ok(())
 }

@@ -4,7 +4,7 @@ use crate::row::{elements, items, number, text_at};
 use crate::tally::Tally;
 use serde_json::Value;
 use std::alloc::{AllocError, Global};
-use strkw_label::{decode_punycode, validate_unicode_label};
+use strkw_label::{DerivedProperty, decode_punycode, derived_property, validate_unicode_label};
 
 /// Whether a text is admitted as a label.
 pub fn admits(alloc: Global, text: &str) -> Result<bool, AllocError> {
@@ -81,6 +81,47 @@ pub fn ask_payloads(row: &Value, tally: &mut Tally) -> Result<(), AllocError> {
             let payload = payload.as_str().unwrap_or("");
             let is_expected = encodes(payload, last.as_str());
             tally.count(is_expected, payload, "another text")?;
+        }
+    }
+    Ok(())
+}
+
+// The name of a derived property in RFC 5892, section 2.
+fn property_name(property: DerivedProperty) -> &'static str {
+    match property {
+        DerivedProperty::ProtocolValid => "PVALID",
+        DerivedProperty::ContextJ => "CONTEXTJ",
+        DerivedProperty::ContextO => "CONTEXTO",
+        DerivedProperty::Disallowed => "DISALLOWED",
+        DerivedProperty::Unassigned => "UNASSIGNED",
+    }
+}
+
+// The derived property of each character of a range.
+fn ask_range(
+    alloc: Global,
+    first: char,
+    last: char,
+    wanted: &str,
+    tally: &mut Tally,
+) -> Result<(), AllocError> {
+    for point in u32::from(first)..=u32::from(last) {
+        let Some(character) = char::from_u32(point) else {
+            continue;
+        };
+        let found = property_name(derived_property(alloc, character)?);
+        let told = format!(in alloc; "{character}")?;
+        tally.count(found == wanted, &told, found)?;
+    }
+    Ok(())
+}
+
+/// The derived properties of the characters of a row's ranges.
+pub fn ask_properties(alloc: Global, row: &Value, tally: &mut Tally) -> Result<(), AllocError> {
+    for entry in items(row, "rows") {
+        let mut ends = text_at(entry, 0).chars();
+        if let (Some(first), Some(last)) = (ends.next(), ends.next()) {
+            ask_range(alloc, first, last, text_at(entry, 1), tally)?;
         }
     }
     Ok(())

@@ -69,6 +69,7 @@ fn ask(alloc: Global, row: &Value, tally: &mut Tally) -> Result<(), AllocError> 
         "first labels" => net::ask_first_labels(row, tally),
         "characters of labels" => label::ask_characters(alloc, row, tally),
         "payloads" => label::ask_payloads(row, tally),
+        "properties" => label::ask_properties(alloc, row, tally),
         what => ask_of_others(alloc, what, row, tally),
     }
 }
@@ -83,7 +84,8 @@ fn ask_of_others(
     match what {
         "decoded" => coding::ask_decoded(alloc, row, tally),
         "names" => coding::ask_names(alloc, row, tally),
-        "decode errors" => coding::ask_errors(alloc, row, tally),
+        "decode errors" => coding::ask_decode_errors(alloc, row, tally),
+        "JSON errors" => coding::ask_json_errors(alloc, row, tally),
         "analyses" => pattern::ask_analyses(alloc, row, tally),
         "equal analyses" => pattern::ask_equal(alloc, row, tally),
         "characters of patterns" => pattern::ask_characters(alloc, row, tally),

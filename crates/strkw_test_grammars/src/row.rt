@@ -15,9 +15,11 @@
 //! - `characters of labels`: each character below `below` between two texts: the label is admitted with those of
 //!   `settled` and with no others but those of `possible`, both texts of the first and the last character of a range;
 //! - `payloads`: `rows` of payloads, and last what they encode, or null;
+//! - `properties`: `rows` of a range, a text of its first and last character, and of the derived property of each, by
+//!   its name in RFC 5892;
 //! - `decoded`: `of` an encoding `rows` of a text and the bytes that it encodes, in hexadecimal, or null;
 //! - `names`: `of` encodings or media types `rows` of a name and the variant, or null;
-//! - `decode errors`: the `texts` of the variants, in their order;
+//! - `decode errors`, `JSON errors`: the `texts` of the variants, in their order;
 //! - `analyses`: `rows` of a pattern and its analysis; `equal analyses`: `rows` of two patterns, and whether theirs are
 //!   equal;
 //! - `characters of patterns`: each ASCII character at each of `places`, which have what stands before it and behind it

@@ -15,7 +15,7 @@ ghost use Rattle.strkw_keywords.specs.Settings.{place_in, settings_of};
 ghost use Rattle.strkw_keywords.specs.Without.{IsWithoutSchema};
 
 use crate::checks::{Checks, ContentCodec, Format, MediaTypeCheck};
-use crate::compile::{Refused, locate, member};
+use crate::compile::{Refused, member, origin_of, refusal};
 use crate::content_rule::ContentRule;
 use crate::findings::{Findings, Found};
 use crate::keyed::Keyed;
@@ -57,7 +57,9 @@ impl Untested {
         ensures keyword { IfOk result (λ v. v.test.keyword ≡ keyword) }
         ensures value { IfOk result (λ v. view v.test.value ≡ view value) }
     {
-        Keyed::of(ctx, Untested { keyword, value })
+        let origin = origin_of(ctx)?;
+        let test = Untested { keyword, value };
+        Ok(Keyed { origin, test })
     }
 }
 
@@ -65,11 +67,14 @@ impl Test for Untested {
     ghost remark = { λ t location. Some (remark_at location t.keyword (view t.value)) };
 
     fn parts<'a>(&'a self, origin: &'a Origin) -> Parts<'a> {
-        Parts::noting(origin, Noted::Value(self.keyword, &self.value))
+        Parts::quiet(origin, Some(Noted::Value(self.keyword, &self.value)))
     }
 
     fn findings<N: Node>(&self, _: Global, _: &TextNode<'_, N>, _: &Checks) -> Found<'_> {
-        Ok(Findings::one(None))
+        Ok(Findings {
+            first: None,
+            second: None,
+        })
     }
 }
 
@@ -167,8 +172,11 @@ pub fn compile_moved_schema<B: EngineBuilder>(
     if ctx.options.is_overridden(Keyword::ContentSchema) {
         return None;
     }
-    let built = build_moved_schema(ctx, media_type, schema);
-    locate(alloc, &ctx.location, built)
+    match build_moved_schema(ctx, media_type, schema) {
+        Ok(None) => None,
+        Ok(Some(validator)) => Some(Ok(validator)),
+        Err(refused) => Some(Err(refusal(alloc, &ctx.location, refused))),
+    }
 }
 
 /// Takes the value at `contentSchema` out of an object, and makes the validator of its entry, as `compile_moved_schema`

@@ -12,7 +12,7 @@ ghost use Rattle.strkw_keywords.specs.Settings.{place_in, settings_of};
 
 use super::{accepts, chosen_codec, chosen_media_type, decode, is_encoding};
 use crate::checks::{Checks, Choice, ContentCodec, Format, MediaTypeCheck};
-use crate::compile::{Refused, no_string};
+use crate::compile::{Refused, no_string, origin_of};
 use crate::content_rule::ContentRule;
 use crate::findings::{Findings, Found, FoundOne};
 use crate::keyed::Keyed;
@@ -52,7 +52,10 @@ impl Test for OfMediaType {
     ) -> Found<'_> {
         let is_accepted = accepts(alloc, &self.media_type, checks, text.as_str())?;
         let failure = Failure::ContentMediaType(chosen_media_type(&self.media_type));
-        Ok(Findings::one((!is_accepted).then_some(failure)))
+        Ok(Findings {
+            first: (!is_accepted).then_some(failure),
+            second: None,
+        })
     }
 }
 
@@ -92,7 +95,10 @@ impl Test for Encoded {
         text: &TextNode<'_, N>,
         checks: &Checks,
     ) -> Found<'_> {
-        Ok(Findings::one(self.finding(alloc, text.as_str(), checks)?))
+        Ok(Findings {
+            first: self.finding(alloc, text.as_str(), checks)?,
+            second: None,
+        })
     }
 }
 
@@ -143,7 +149,10 @@ impl Test for EncodedMediaType {
         text: &TextNode<'_, N>,
         checks: &Checks,
     ) -> Found<'_> {
-        Ok(Findings::one(self.finding(alloc, text.as_str(), checks)?))
+        Ok(Findings {
+            first: self.finding(alloc, text.as_str(), checks)?,
+            second: None,
+        })
     }
 }
 
@@ -205,8 +214,9 @@ pub(crate) fn build_media_type<B: EngineBuilder, O: Object>(
         return Ok(None);
     };
     let Some(encoding) = parent.value(Keyword::ContentEncoding) else {
+        let origin = origin_of(ctx)?;
         let test = OfMediaType { media_type };
-        return Ok(Some(Validator::ContentMediaType(Keyed::of(ctx, test)?)));
+        return Ok(Some(Validator::ContentMediaType(Keyed { origin, test })));
     };
     let Some(codec) = encoding.as_str() else {
         return Err(no_string(encoding, Keyword::ContentEncoding));
@@ -214,8 +224,9 @@ pub(crate) fn build_media_type<B: EngineBuilder, O: Object>(
     let Some(codec) = codec_known(alloc, ctx, codec)? else {
         return Ok(None);
     };
+    let origin = origin_of(ctx)?;
     let test = EncodedMediaType { codec, media_type };
-    Ok(Some(Validator::ContentMediaTypeAndEncoding(Keyed::of(ctx, test)?)))
+    Ok(Some(Validator::ContentMediaTypeAndEncoding(Keyed { origin, test })))
 }
 
 pub(crate) fn build_encoding<B: EngineBuilder, O: Object>(
@@ -238,5 +249,7 @@ pub(crate) fn build_encoding<B: EngineBuilder, O: Object>(
     let Some(codec) = codec_known(alloc, ctx, name)? else {
         return Ok(None);
     };
-    Ok(Some(Validator::ContentEncoding(Keyed::of(ctx, Encoded { codec })?)))
+    let origin = origin_of(ctx)?;
+    let test = Encoded { codec };
+    Ok(Some(Validator::ContentEncoding(Keyed { origin, test })))
 }

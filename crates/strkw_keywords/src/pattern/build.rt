@@ -43,8 +43,9 @@ pub(crate) fn build_pattern<B: EngineBuilder>(
     }
     match ctx.builder.build(alloc, text) {
         Ok(engine) => {
+            let origin = origin_of(ctx)?;
             let test = Matching { pattern, engine };
-            Ok(Some(Validator::Pattern(Keyed::of(ctx, test)?)))
+            Ok(Some(Validator::Pattern(Keyed { origin, test })))
         }
         Err(BuildRefusal::Pattern) => Err(Refused::Malformed(
             Keyword::Pattern,

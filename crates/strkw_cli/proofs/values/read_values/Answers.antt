@@ -34,6 +34,7 @@ returns-in_ok-read_members-in-BeginObject-clause-ok c =
 pub returns-in_default-clause-ok : goal.returns-in_default-clause-ok
 returns-in_default-clause-ok c =
     let first : c.args.tokens.now ≡ token_of c.in_ok-token.token ∷ c.next.new.self = grind arith in
-    let (d, read, none) = no_object_passed member_depth c.in_ok-token.token c.next.new.self c.passes_json.new.tokens (λ is some. c.in_default.not-BeginObject is)
+    let (d, read, none) = no_object_passed member_depth c.in_ok-token.token c.next.new.self
+    c.passes_json.new.tokens (λ is some. c.in_default.not-BeginObject is)
     (grind arith) in
     (d, ap (value_read member_depth) first ∙ read, none)

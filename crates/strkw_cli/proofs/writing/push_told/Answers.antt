@@ -1,14 +1,21 @@
 use Rattle.std.proofs.Common.{rules}
-use Rattle.strkw_cli.proofs.AnswerCases.{told_notes, told_refusal}
+use Rattle.strkw_object.proofs.Results.{on_ok}
+use Rattle.strkw_cli.specs.Kept.{IsTold}
+use Rattle.strkw_cli.proofs.AnswerCases.{made_appended, told_notes, told_refusal}
 use Rattle.strkw_cli.proofs.writing.push_told.Goals as goal
 
-pub returns-in_ok-push_notes-in-Ok-clause-ok : goal.returns-in_ok-push_notes-in-Ok-clause-ok
-returns-in_ok-push_notes-in-Ok-clause-ok c =
-    let last = c.extend_from_slice in
-    rw c.in-Ok.is (told_notes last.result c.in-Ok.keywords c.args.out.now.items c.push_notes.new.out.items last.new.self.items
-    c.in_ok-push_notes-in-Ok.ensures.ok (search rules))
+pub returns-in-Some-default-clause-ok : goal.returns-in-Some-default-clause-ok
+returns-in-Some-default-clause-ok c =
+    made_appended c.extend_from_slice.result (IsTold c.args.compiled.now) c.args.out.now.items c.extend_from_slice.new.self.items c.in-Some-default.told.now
+    (on_ok c.extend_from_slice.result (search rules)) (search rules)
 
-pub returns-in-Err-clause-ok : goal.returns-in-Err-clause-ok
-returns-in-Err-clause-ok c =
-    rw c.in-Err.is (told_refusal c.push_refusal.result c.in-Err.refusal c.args.out.now.items c.push_refusal.new.out.items c.push_refusal.ensures.ok
+pub returns-in_ok-push_notes-in-None-Ok-clause-ok : goal.returns-in_ok-push_notes-in-None-Ok-clause-ok
+returns-in_ok-push_notes-in-None-Ok-clause-ok c =
+    let last = c.extend_from_slice-in-None-Ok in
+    rw c.in-None-Ok.is-1 (told_notes last.result c.in-None-Ok.keywords c.args.out.now.items c.push_notes.new.out.items last.new.self.items
+    c.in_ok-push_notes-in-None-Ok.ensures.ok (search rules))
+
+pub returns-in-None-Err-clause-ok : goal.returns-in-None-Err-clause-ok
+returns-in-None-Err-clause-ok c =
+    rw c.in-None-Err.is-1 (told_refusal c.push_refusal.result c.in-None-Err.refusal c.args.out.now.items c.push_refusal.new.out.items c.push_refusal.ensures.ok
     c.push_refusal.ensures.memory)

@@ -34,8 +34,7 @@ loop-validator-preserved g c =
     written_more g.E.RegexEngine.outcome checks (Some c.args.text.now) c.validators-validator-items.result.now c.loop-validator.validator-index
     c.validator-item.result _ _ _ c.loop-validator-test.true c.validator-item.is c.loop-validator.invariant
     (of_text _ _ _ _ _ _ _ _ _ c.in_ok-found.ensures.found
-    (rw (c.origin-origin.ensures, c.as_str-text.ensures) at c.in_ok-push_found_line.ensures.ok)
-    (rw (c.origin-origin.ensures, c.as_str-text.ensures) at c.in_ok-push_found_line-2.ensures.ok))
+    (rw c.as_str-text.ensures at c.in_ok-push_found_line.ensures.ok) (rw c.as_str-text.ensures at c.in_ok-push_found_line-2.ensures.ok))
 
 pub returns-in_err-found-clause-err : goal.returns-in_err-found-clause-err
 returns-in_err-found-clause-err g c =

@@ -70,6 +70,11 @@ returns g c =
     let (messages, goes_on, counted, grown, among) = c.loop-place.invariant in
     let all = goes_on [] (subst (λ es. DocumentMessages form s (members_view es) document []) (sym c.in-None.ensures.steps.0) (no_places form s document)) in
     record {
-      messages = (messages, subst (DocumentMessages form s (members_view c.args.plan.now.schemas.now.entries) document) (append-nil messages) all, counted, grown);
+      messages = (
+        messages,
+        subst (DocumentMessages form s (members_view c.args.plan.now.schemas.now.entries) document) (append-nil messages) all,
+        counted,
+        grown,
+      );
       why = tt;
     }

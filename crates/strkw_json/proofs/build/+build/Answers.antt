@@ -1,9 +1,9 @@
-use Rattle.std.proofs.Common.{◌≡◌, ◌-◌, ◌<◌, length, Some, None, string_bytes, sym, ap, ◌∙◌, arith, rules}
+use Rattle.std.proofs.Common.{◌≡◌, ◌-◌, ◌<◌, ◌∷◌, length, Some, None, string_bytes, sym, ap, ◌∙◌, arith, rules}
 use Rattle.json.specs.Json.{after_end_array, read_key, value, items, members, parse_map}
 use Rattle.json.specs.Reads.{token_of}
 use Rattle.json.proofs.Grammar.{read_key-shorter}
 use Rattle.serde_json.specs.Data.{put}
-use Rattle.serde_json.specs.Read.{of_items, of_members, converted}
+use Rattle.serde_json.specs.Read.{of_json, of_items, of_members, converted}
 use Rattle.serde_json.specs.View.{view, members_view}
 use Rattle.serde_json.proofs.Views.{view-Array, view-Object, members_view-insert_entry}
 use Rattle.strkw_json.proofs.Reading.{array_read, object_read, items_end, next_item, no_next_item, members_end, next_member, no_next_member, no_key}
@@ -11,18 +11,24 @@ use Rattle.strkw_json.proofs.Built.{behind_built, all_built, none_built, one_mor
 use Rattle.strkw_json.specs.Passing.{items_read}
 use Rattle.strkw_json.proofs.build.+build.Goals as goal
 
-pub build_from-returns-in_ok-build_items-in-BeginArray-clause-ok :
-    goal.build_from-returns-in_ok-build_items-in-BeginArray-clause-ok
-build_from-returns-in_ok-build_items-in-BeginArray-clause-ok t c =
+pub build_json-returns-in_ok-build_items-in-BeginArray-clause-ok :
+    goal.build_json-returns-in_ok-build_items-in-BeginArray-clause-ok
+build_json-returns-in_ok-build_items-in-BeginArray-clause-ok t c =
+    let rest = c.next.new.self in
+    let first : c.args.tokens.now ≡ token_of c.in_ok-token.token ∷ rest = grind arith in
     let built = c.in_ok-build_items-in-BeginArray in
-    array_read c.args.depth c.args.tokens.now (token_of c.args.token) (ap token_of c.in-BeginArray.is) (omega (arith, c.if-depth-gt0.true)) _ _ built.ensures.ok
+    ap (λ ts. converted of_json (value c.args.depth ts)) first
+    ∙ array_read c.args.depth rest (token_of c.in_ok-token.token) (ap token_of c.in-BeginArray.is) (omega (arith, c.if-depth-gt0.true)) _ _ built.ensures.ok
     ∙ ap (λ d. Some (d, c.build_items.new.tokens)) (sym (view-Array built.field-0))
 
-pub build_from-returns-in_ok-build_members-in-BeginObject-clause-ok :
-    goal.build_from-returns-in_ok-build_members-in-BeginObject-clause-ok
-build_from-returns-in_ok-build_members-in-BeginObject-clause-ok t c =
+pub build_json-returns-in_ok-build_members-in-BeginObject-clause-ok :
+    goal.build_json-returns-in_ok-build_members-in-BeginObject-clause-ok
+build_json-returns-in_ok-build_members-in-BeginObject-clause-ok t c =
+    let rest = c.next.new.self in
+    let first : c.args.tokens.now ≡ token_of c.in_ok-token.token ∷ rest = grind arith in
     let built = c.in_ok-build_members-in-BeginObject in
-    object_read c.args.depth c.args.tokens.now (token_of c.args.token) (ap token_of c.in-BeginObject.is) (omega (arith, c.if-depth-gt0-2.true)) _ _
+    ap (λ ts. converted of_json (value c.args.depth ts)) first
+    ∙ object_read c.args.depth rest (token_of c.in_ok-token.token) (ap token_of c.in-BeginObject.is) (omega (arith, c.if-depth-gt0-2.true)) _ _
     built.ensures.ok
     ∙ ap (λ d. Some (d, c.build_members.new.tokens)) (sym (view-Object built.field-0))
 

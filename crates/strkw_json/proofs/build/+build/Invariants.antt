@@ -7,16 +7,13 @@ use Rattle.strkw_json.proofs.Built.{behind_built}
 use Rattle.strkw_json.proofs.build.+build.Given as goal
 
 abbrev pub decreases-build_json : goal.decreases-build_json
-decreases-build_json l = 3 * l.depth + 1
-
-abbrev pub decreases-build_from : goal.decreases-build_from
-decreases-build_from l = 3 * l.depth
+decreases-build_json l = 2 * l.depth
 
 abbrev pub decreases-build_items : goal.decreases-build_items
-decreases-build_items l = 3 * l.depth + 2
+decreases-build_items l = 2 * l.depth + 1
 
 abbrev pub decreases-build_members : goal.decreases-build_members
-decreases-build_members l = 3 * l.depth + 2
+decreases-build_members l = 2 * l.depth + 1
 
 -- what is built stands before the items that are to come
 abbrev pub invariant-build_items-items : goal.invariant-build_items-items

@@ -34,7 +34,8 @@ returns-in_ok-build_members-in-BeginObject-clause-ok c =
     let built = c.in_ok-build_members-in-BeginObject in (
       object (members_view built.field-0.entries),
       ap (λ ts. converted of_json (value c.args.depth ts)) first
-          ∙ object_read c.args.depth rest (token_of c.in_ok-token.token) (ap token_of c.in-BeginObject.is) (omega (arith, c.if-depth-gt0.true)) _ _ built.ensures.ok,
+          ∙ object_read c.args.depth rest (token_of c.in_ok-token.token) (ap token_of c.in-BeginObject.is)
+          (omega (arith, c.if-depth-gt0.true)) _ _ built.ensures.ok,
       refl,
     )
 

@@ -4,8 +4,8 @@ use Rattle.strkw_keywords.specs.Settings.{settings_of}
 use Rattle.strkw_keywords.proofs.FormatEntry.{builtin_stands}
 use Rattle.strkw_keywords.proofs.format.build_format.Goals as goal
 
-pub returns-in_ok-of-in-Some-builtin_format : goal.returns-in_ok-of-in-Some-builtin_format
-returns-in_ok-of-in-Some-builtin_format g c =
+pub returns-in_ok-origin-in-Some-builtin_format : goal.returns-in_ok-origin-in-Some-builtin_format
+returns-in_ok-origin-in-Some-builtin_format g c =
     let s = settings_of g.B.EngineBuilder.takes g.B.EngineBuilder.outcome
     (λ f. (goal.Format-dyn g (f.vtable, f.value)).admits f.value)
     (λ m. (goal.MediaTypeCheck-dyn g (m.vtable, m.value)).accepted m.value)

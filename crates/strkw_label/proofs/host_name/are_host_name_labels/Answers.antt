@@ -33,5 +33,6 @@ loop-label-preserved c =
 pub returns : goal.returns
 returns c = (
   λ t. absurd (false≢true t),
-  λ w. absurd (c.in_default.ensures (front_label IsHostNameLabel c.loop-label.rest.now (c.loop-label.invariant.1 ((labels_by_parts c.args.bytes.now).0 w))).ascii),
+  λ w. absurd (c.in_default.ensures (front_label IsHostNameLabel c.loop-label.rest.now
+      (c.loop-label.invariant.1 ((labels_by_parts c.args.bytes.now).0 w))).ascii),
 )

@@ -11,5 +11,6 @@ invariant-loop-at g l =
     let lists = lists_of (λ b. (goal.Format-dyn g b).admits b.1) (λ b. (goal.MediaTypeCheck-dyn g b).accepted b.1)
     (λ b. (goal.ContentCodec-dyn g b).encoded b.1) (λ b. (goal.ContentCodec-dyn g b).decoding b.1) l.fn.checks in
     (messages : List (List ℕ))
-    × OfFirst (ColumnMessages (g.F.FieldForm.writes l.fn.form) g.E.RegexEngine.outcome lists) l.fn.columns l.fn.row.line (fields_of l.fn.row.fields.now) l.at messages
+    × OfFirst (ColumnMessages (g.F.FieldForm.writes l.fn.form) g.E.RegexEngine.outcome lists) l.fn.columns l.fn.row.line
+    (fields_of l.fn.row.fields.now) l.at messages
     × (l.count ≡ length messages) × (string_bytes l.out ≡ string_bytes l.fn.out ++ concat messages)

@@ -20,5 +20,6 @@ returns-clause-paged c =
     let len : c.len-column.result ≡ length keys = cc in
     let count : c.len.result ≡ length cells = c.len.ensures ∙ c.args.self.now.cells.ok.0 in
     let few : length keys < 255 = omega (arith, c.requires.may_grow.paged.few_columns, len, c.if-column-eq-MOST_COLUMNS.false) in
-    column_added c.args.classes.now keys _ plain _ c.args.self.now.pages.items cells _ c.answers-key.result _ c.requires.may_grow.paged few c.in_ok-push.ensures.items
+    column_added c.args.classes.now keys _ plain _ c.args.self.now.pages.items cells _ c.answers-key.result _
+    c.requires.may_grow.paged few c.in_ok-push.ensures.items
     (c.in_ok-push-3.ensures.items ∙ ap (λ (n : ℕ). plain ++ n ∷ []) count) c.in_ok-push-4.ensures.items (ap (replicate 64) len)

@@ -1,10 +1,12 @@
-use Rattle.std.proofs.Common.{◌≡◌, ◌≤◌, ◌<◌, ◌+◌, ◌-◌, ℕ, suc, false, Bool, List, [], ◌∷◌, length, drop, take, drop-cons, get_or, slice_get, sym, ap, ◌∙◌, arith}
+use Rattle.std.proofs.Common.{◌≡◌, ◌≤◌, ◌<◌, ◌+◌, ◌-◌, ℕ, suc, false, Bool, List, []}
+use Rattle.std.proofs.Common.{◌∷◌, length, drop, take, drop-cons, get_or, slice_get, sym, ap, ◌∙◌, arith}
 use Rattle.strkw_ecma.specs.declared.code.Instruction.TheVariants.{Read, Turn}
 use Rattle.strkw_ecma.specs.Program.{Instruction, read_count, has_loop}
 use Rattle.strkw_ecma.specs.machine.Shape.{turned, reading, peeking}
 use Rattle.strkw_ecma.specs.machine.Walk.{Asked, asked}
 use Rattle.strkw_ecma.specs.machine.Machine.{program_of}
-use Rattle.strkw_ecma.proofs.Machines.{there, from_class, from_peek, from_turn, from_end, one_read, none_peeked, none_read, one_mark_less, marks_are_reads, known_before_loops}
+use Rattle.strkw_ecma.proofs.Machines.{there, from_class, from_peek, from_turn, from_end, one_read, none_peeked}
+use Rattle.strkw_ecma.proofs.Machines.{none_read, one_mark_less, marks_are_reads, known_before_loops}
 use Rattle.strkw_ecma.proofs.Machines.{peeked_within, asked_reading, asked_peeking, asked_turned}
 use Rattle.strkw_ecma.proofs.program.Program.ask.Goals as goal
 

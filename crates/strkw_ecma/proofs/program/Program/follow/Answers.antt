@@ -192,7 +192,8 @@ module _ (p : Program) (k at : ℕ) (within : k < length p.code.instructions.ite
       let same : set marks at false ≡ marks = ap (set marks at) (sym (no_mark enters mark none)) ∙ set-get_or marks at false in
       subst (λ (ms : List Bool). all ≡ with_marks last next (take (at + 1) ms)
       (followed last next (drop (k + 1) (program_of p)) (following_of enters old) (drop (at + 1) ms))) same
-      (class_followed class again optional reads_it false enters old here (λ n rs. ap (λ (b : Bool). following_of b old) (goes_nowhere enters mark optional none))
+      (class_followed class again optional reads_it false enters old here
+      (λ n rs. ap (λ (b : Bool). following_of b old) (goes_nowhere enters mark optional none))
       reads_is (none_comes enters mark again reads_it none) marked)
 
 pub loop-instruction-preserved : goal.loop-instruction-preserved

@@ -13,8 +13,8 @@ returns-in-Some-2 g c =
     (c.matcher_answers_search.ensures (chars c.in-Some.text.now) c.in-Some-2.literal (rw c.in-Some-2.is at c.in_ok-literal.ensures))
     (search rules) c.literal_validator.ensures.remark (search rules)
 
-pub returns-in_ok-of-in-Ok : goal.returns-in_ok-of-in-Ok
-returns-in_ok-of-in-Ok g c =
+pub returns-in_ok-origin-in-Ok : goal.returns-in_ok-origin-in-Ok
+returns-in_ok-origin-in-Ok g c =
     engine_stands _ _ (view c.args.value.now) c.in-Some.text.now _
     (search rules) (rw c.in_default-2.is at c.in_ok-literal.ensures)
     (c.in-Ok.ensures.taken) (search rules) refl (search rules)
@@ -37,9 +37,9 @@ returns-in_err-origin_of g c =
     let (e, is, same) = err_from_is_err_and c.from_residual-in_err-origin_of.result c.from_residual-in_err-origin_of.ensures.1 in
     rw is (memory_refused _ _ (view c.args.value.now) e same)
 
-pub returns-in_err-of-in-Ok : goal.returns-in_err-of-in-Ok
-returns-in_err-of-in-Ok g c =
-    let (e, is, same) = err_from_is_err_and c.from_residual-in_err-of-in-Ok.result c.from_residual-in_err-of-in-Ok.ensures.1 in
+pub returns-in_err-origin-in-Ok : goal.returns-in_err-origin-in-Ok
+returns-in_err-origin-in-Ok g c =
+    let (e, is, same) = err_from_is_err_and c.from_residual-in_err-origin-in-Ok.result c.from_residual-in_err-origin-in-Ok.ensures.1 in
     rw is (memory_refused _ _ (view c.args.value.now) e same)
 
 pub returns-in-Err-Pattern : goal.returns-in-Err-Pattern

@@ -15,7 +15,8 @@ pub returns-then-end-delimiter-clause-ok : goal.returns-then-end-delimiter-claus
 returns-then-end-delimiter-clause-ok g c text e =
     let past = c.take_plain.ensures.passes text e in
     let comma = rw c.unread-unread.ensures at c.if-end-delimiter.true in
-    let head = head-behind c.args.input.now.piece c.take_plain.new.self.piece c.args.count c.args.delimiter.byte c.take_plain.ensures.piece c.requires.within comma in
+    let head = head-behind c.args.input.now.piece c.take_plain.new.self.piece c.args.count c.args.delimiter.byte
+    c.take_plain.ensures.piece c.requires.within comma in
     let next = rw head at (c.in_ok-take_byte.ensures.passes _ past.left) in
     let run = rw c.unread-unread.ensures at c.in_ok-end_field.ensures.fields in (
       ends-comma c.args.delimiter.byte g.R.Read.remaining c.args.input.now c.take_plain.new.self c.take_byte.new.self text _ _ _ c.args.self.now
@@ -41,7 +42,8 @@ returns-in_err-check_delimiter-clause-fails g c text e =
     let (x, is, same) = err_from_is_err_and c.from_residual.result c.from_residual.ensures.1 in
     let (comma, long) = c.in_err-check_delimiter.ensures.long in
     let here = rw c.unread-unread.ensures at comma in
-    let front = byte-front c.args.input.now.piece (g.R.Read.remaining c.args.input.now.source) text c.args.count c.args.delimiter.byte e c.requires.within here in
+    let front = byte-front c.args.input.now.piece (g.R.Read.remaining c.args.input.now.source) text c.args.count c.args.delimiter.byte e
+    c.requires.within here in
     let size = sym (take-length c.args.count c.args.input.now.piece (omega (arith, c.requires.within))) in
     rw (is, same) (long-comma c.args.delimiter.byte _ _ text _ front.0 c.args.count _ size front.1 c.requires.run c.requires.counted c.requires.room long)
 

@@ -33,7 +33,8 @@ returns-in_err-take_quoted-clause-fails g c text e =
     let next = rw head at (c.in_ok-take_byte.ensures.passes text kept.0) in
     let at = next.place ∙ ap (λ (z : Place). place_after z (quote ∷ [])) c.is_quote_next.ensures.place in
     let line = ap (λ (z : Place). z.line) c.is_quote_next.ensures.place in
-    rw (is, same) (at_field-quoted c.args.delimiter.byte _ _ text _ _ c.args.self.now _ next.splits at line (c.in_err-take_quoted.ensures.fails c.args.delimiter.byte _ next.left))
+    rw (is, same) (at_field-quoted c.args.delimiter.byte _ _ text _ _ c.args.self.now _ next.splits at line
+    (c.in_err-take_quoted.ensures.fails c.args.delimiter.byte _ next.left))
 
 pub returns-clause-ok : goal.returns-clause-ok
 returns-clause-ok g c text e =

@@ -10,4 +10,4 @@ returns-clause-found g c =
     (λ m. (goal.MediaTypeCheck-dyn g (m.vtable, m.value)).accepted m.value)
     (λ k. (goal.ContentCodec-dyn g (k.vtable, k.value)).encoded k.value)
     (λ k. (goal.ContentCodec-dyn g (k.vtable, k.value)).decoding k.value) c.args.checks.now in
-    rw c.one.ensures (finds_one (is_encoded (choice_of c.args.self.now.codec)) checks c.args.text.now _ (rw c.as_str.ensures at c.in_ok-finding.ensures))
+    finds_one (is_encoded (choice_of c.args.self.now.codec)) checks c.args.text.now _ (rw c.as_str.ensures at c.in_ok-finding.ensures)
