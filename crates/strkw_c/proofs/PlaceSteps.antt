@@ -28,26 +28,33 @@ pub use Rattle.strkw_c.specs.contracts.kept.Kept.{the_row as Kept}
 use Rattle.strkw_c.proofs.kept.Kept.TheLaws.{the_row_laws as Kept_laws}
 use Rattle.strkw_c.specs.contracts.place.Place as place
 
+-- the box of what is kept, in the memory of the heap
 abbrev pub E : Bx
 E = record { row = Kept; laws = Kept_laws; al = record { row = Heap; laws = Heap_laws; g = ghosts; d = impl [] tnil dnil; drops = impl [] tnil dnil } }
 
+-- an option that has something has one thing
 pub the_one : {X : Type 0} (k : Option X) → IsSome k → (x : X) × (k ≡ Some x)
 the_one (Some x) e = (x, refl)
 the_one None e = absurd (subst (λ (y : Bool). T (not y)) e tt)
 
+-- a place, as a row
 abbrev pub Place : RattleType
 Place = place.the_row
 
+-- the value of a place in the machine: its pointer
 abbrev pub word : Ptr → Val
 word p = vstruct (vcons (ptr_val p) vnil)
 
+-- a value is of a type, and is formed as the machine wants it
 abbrev pub Good : Ty → Val → Type 0
 Good τ v = T (has_ty τ v) × WT v
 
+-- each pointer is
 pub pointer_good : (p : Ptr) → Good ty_ptr (ptr_val p)
 pointer_good (block_ptr b o) = (tt, tt)
 pointer_good null_ptr = (tt, record { fits = lit< tt })
 
+-- so is the value of each place
 pub good : (p : Ptr) → Good (layout Place) (word p)
 good (block_ptr b o) = (tt, (tt, tt))
 good null_ptr = (tt, (record { fits = lit< tt }, tt))

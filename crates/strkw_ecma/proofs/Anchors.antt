@@ -40,6 +40,7 @@ word_before text (suc k) =
           ap is_word (before_next text k) ∙ at.1 (found.1.0, ap (slice_get text) same ∙ found.1.1, found.1.2),
     )
 
+-- a character of a word stands behind a place exactly where `\w` matches from it on
 word_behind : (text : List ℕ) (i : ℕ) → (is_word (slice_get text i) ≡ true) ↔ ((k : ℕ) × Matches text word_character i k)
 word_behind text i =
     let at = word_member (slice_get text i) in
@@ -74,6 +75,7 @@ tests_differ true false = (λ e. inl (refl, refl), λ s. refl)
 tests_differ false true = (λ e. inr (refl, refl), λ s. refl)
 tests_differ false false = (λ e. absurd (true≢false (sym e)), ⊎_elim (λ p. p.0) (λ p. p.1))
 
+-- and two tests agree exactly where both hold, or neither does
 pub tests_agree : (b a : Bool) → (not (differ b a) ≡ true)
     ↔ (((differ false b ≡ true) × (differ false a ≡ true)) ⊎ ((differ true b ≡ true) × (differ true a ≡ true)))
 tests_agree true true = (λ e. inl (refl, refl), λ s. refl)

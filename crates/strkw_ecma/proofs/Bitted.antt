@@ -101,6 +101,7 @@ unfolding bits_in
 bits_count w zero = refl
 bits_count w (suc n) = omega (arith, length-append (bits_in w n) (bit w n ∷ []), bits_count w n)
 
+-- words have 64 bits each
 pub words_count : (ws : List ℕ) → length (bits_of_words ws) ≡ 64 * length ws
 words_count [] = refl
 words_count (w ∷ ws) = omega (arith, length-append (bits_in w 64) (bits_of_words ws), bits_count w 64, words_count ws)

@@ -18,6 +18,7 @@ one_within : (b : Bool) (p : Pattern) (text : List ℕ) → are_told p ≡ b →
 one_within true p text told bare = searched_within (2 * search_steps p) p text (omega (arith, told_steps p told))
 one_within false p text far bare = sought_within (2 * search_steps p) p text bare (omega (arith, far_steps p far))
 
+-- parts without marks are searched within twice the steps of their patterns, one part after the other
 pub parts_searched_within : (xs : List Part) (most : ℕ) (text : List ℕ) → are_parts_clean xs ≡ true → 2 * steps_of_parts xs ≤ most
     → AreSearchedWithin most xs text
 parts_searched_within [] most text c h = tt

@@ -156,6 +156,7 @@ pub star_class : (p : Pattern) → is_class p ≡ true → steps (star p) ≡ st
 star_class (class m n rs) h = refl
 star_class _ h = absurd (true≢false (sym h))
 
+-- a class once or more takes the steps of the class
 pub plus_class : (p : Pattern) → is_class p ≡ true → steps (plus p) ≡ steps p
 plus_class (class m n rs) h = refl
 plus_class _ h = absurd (true≢false (sym h))
@@ -168,6 +169,7 @@ star_same p r classes same = by_class (is_class p) refl
     by_class true e = star_class p e ∙ same ∙ sym (star_class r (sym classes ∙ e))
     by_class false e = omega (arith, star_steps p e, star_steps r (sym classes ∙ e), same)
 
+-- once or more, patterns of as many steps take as many, where both are classes or neither is
 plus_same : (p r : Pattern) → is_class p ≡ is_class r → steps p ≡ steps r → steps (plus p) ≡ steps (plus r)
 plus_same p r classes same = by_class (is_class p) refl
   where
@@ -196,6 +198,7 @@ alike_star p r u =
       apart_beside = wide;
     }
 
+-- once or more, patterns that are alike are alike
 pub alike_plus : (p r : Pattern) → Alike p r → Alike (plus p) (plus r)
 alike_plus p r u =
     let wide = plus_same (spread p) (spread r) (spread_class p ∙ u.class ∙ sym (spread_class r)) u.apart in
@@ -241,6 +244,7 @@ alike_behind n p r u = record {
   apart_beside = omega (arith, spread_look n (spread p), spread_look n (spread r), u.apart);
 }
 
+-- lookaheads for patterns that are alike are alike
 pub alike_ahead : (n : Bool) (p r : Pattern) → Alike p r → Alike (lookahead n p) (lookahead n r)
 alike_ahead n p r u = record {
   meaning = λ text i j. (
@@ -264,6 +268,7 @@ alike_repeated : (n : ℕ) (p r : Pattern) → Alike p r → Alike (repeated n p
 alike_repeated zero p r u = alike_refl empty
 alike_repeated (suc n) p r u = alike_cat _ _ _ _ u (alike_repeated n p r u)
 
+-- with a quantifier, patterns that are alike are alike
 pub alike_times : (t : Times) (p r : Pattern) → Alike p r → Alike (quantified_pattern t p) (quantified_pattern t r)
 alike_times any_times p r u = alike_star p r u
 alike_times some_times p r u = alike_plus p r u
@@ -351,6 +356,7 @@ mirror_class (lookahead n p) = refl
 abbrev TakesSame : Pattern → Pattern → Type 0
 TakesSame p q = (steps (spread p) ≡ steps (spread q)) × (steps_of (alternatives (spread p)) ≡ steps_of (alternatives (spread q)))
 
+-- the mirror of a pattern takes as many so as the pattern does
 mirror_spread : (p : Pattern) → TakesSame (mirror p) p
 mirror_spread empty = (refl, refl)
 mirror_spread (class m n rs) = (refl, refl)
@@ -388,6 +394,7 @@ mirror_spread (lookahead n p) =
     omega (arith, spread_look n (spread (mirror p)), spread_look n (spread p), (mirror_spread p).0) in
     (same, same)
 
+-- so it has as many by itself
 pub mirror_steps : (p : Pattern) → steps (spread (mirror p)) ≡ steps (spread p)
 mirror_steps p = (mirror_spread p).0
 

@@ -10,6 +10,7 @@ use Rattle.strkw_ecma.proofs.Answers.{search_is_exact}
 use Rattle.strkw_ecma.proofs.Sights.{begins_right, found_right}
 use Rattle.strkw_ecma.proofs.Unmarked.{clean_unmarked}
 
+-- the search finds a pattern without marks exactly where its meaning has it in the text
 pub found_in_right : (p : Pattern) (text : List ℕ) → unmarked p ≡ true → IsTrue (found_in p text) ↔ Found p text
 found_in_right p text bare = by_test (are_told p) refl
   where

@@ -25,6 +25,7 @@ is_nothing Nothing = true
 is_nothing Anchored = false
 is_nothing Past = false
 
+-- it is `^`, with terms behind it that read nothing
 abbrev is_anchored : Lead → Bool
 is_anchored Nothing = false
 is_anchored Anchored = true

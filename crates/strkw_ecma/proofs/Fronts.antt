@@ -83,6 +83,7 @@ node_not_far (Outline-F.Repeated q b) other =
 node_not_far (Outline-F.Behind n b) other = ap is_far (fold-roll-Outline Pattern outlined_node (Outline-F.Behind n b))
 node_not_far (Outline-F.Ahead n b) other = absurd (other n b (rolls-Ahead n b))
 
+-- an outline that is no lookahead stands for no lookahead that looks far
 pub not_far : (o : Outline) → ((n : Bool) (b : Box Outline Global) → o ≡ Ahead n b → ⊥) → is_far (outlined o) ≡ false
 not_far = ind-Outline (λ o. ((n : Bool) (b : Box Outline Global) → o ≡ Ahead n b → ⊥) → is_far (outlined o) ≡ false)
     (λ x y is. node_not_far x)
@@ -106,6 +107,7 @@ node_one_term (Outline-F.Repeated q b) w other = absurd (true≢false (sym w ∙
 node_one_term (Outline-F.Behind n b) w other = subst IsOneTerm (sym (fold-roll-Outline Pattern outlined_node (Outline-F.Behind n b))) (refl, refl, refl)
 node_one_term (Outline-F.Ahead n b) w other = subst IsOneTerm (sym (fold-roll-Outline Pattern outlined_node (Outline-F.Ahead n b))) (refl, refl, refl)
 
+-- an outline that is plain and no sequence stands for one term
 pub one_term : (o : Outline) → is_plain o ≡ true → ((a b : Box Outline Global) → o ≡ Then a b → ⊥) → IsOneTerm (outlined o)
 one_term = ind-Outline (λ o. is_plain o ≡ true → ((a b : Box Outline Global) → o ≡ Then a b → ⊥) → IsOneTerm (outlined o))
     (λ x y is. node_one_term x)

@@ -92,6 +92,7 @@ neither_first : (x y : Bool) → (x || y) ≡ false → x ≡ false
 neither_first true y h = absurd (true≢false h)
 neither_first false y h = refl
 
+-- where neither of two is so, the second is not
 neither_second : (x y : Bool) → (x || y) ≡ false → y ≡ false
 neither_second true y h = absurd (true≢false h)
 neither_second false y h = h

@@ -106,6 +106,7 @@ without_turned c low [] w = tt
 without_turned c low (d ∷ ds) w =
     subst (Without c) (sym (reverse-append (d ∷ []) ds)) (Without-append c low (reverse ds) (d ∷ []) (without_turned c low ds w.1) (w.0, tt))
 
+-- a text without the character is without it in either direction
 without_along : (c : ℕ) → c < 128 → (b : Bool) (text : List ℕ) → Without c text → Without c (along b text)
 without_along c low false text w = w
 without_along c low true text w = without_turned c low text w

@@ -37,6 +37,7 @@ one_more fs gs b None (Some p) u = absurd u
 one_more fs gs b (Some k) None u = absurd u
 one_more fs gs b (Some k) (Some p) u = (u.0, at_front fs gs k u.0 u.1, u.2, u.3)
 
+-- so do many with more quests
 pub told_more : (fs gs : List Quest) (b : Bool) (ts : List (Option ℕ)) (ss : List (Option Pattern)) → AreToldAs fs b ts ss → AreToldAs (fs ++ gs) b ts ss
 told_more fs gs b [] [] u = tt
 told_more fs gs b [] (s ∷ ss) u = absurd u
@@ -69,9 +70,11 @@ copied_more (suc n) m xs =
     let next : suc (n + m) ≡ suc n + m = omega arith in
     append_assoc xs (copied n xs) (copied m xs) ∙ ap (λ ys. xs ++ ys) (copied_more n m xs) ∙ ap (λ (k : ℕ). copied k xs) next
 
+-- a list is one copy of it
 copied_once : {A : Type 0} (xs : List A) → xs ≡ copied 1 xs
 copied_once xs = sym (append-nil xs)
 
+-- the spots of a pattern with a quantifier are as many copies of its spots as it is copied
 pub times_spots : (t : Times) (p : Pattern) → spots (quantified_pattern t p) ≡ copied (all_copies t) (spots p)
 times_spots any_times p = copied_once (spots p)
 times_spots some_times p = copied_once (spots p)
@@ -91,6 +94,7 @@ copies_aside : (n : ℕ) (p : Pattern) → aside (repeated n p) ≡ repeated n (
 copies_aside zero p = refl
 copies_aside (suc n) p = ap (cat (aside p)) (copies_aside n p)
 
+-- and with none of the marks set it is the pattern with none set, with the quantifier
 pub times_aside : (t : Times) (p : Pattern) → aside (quantified_pattern t p) ≡ quantified_pattern t (aside p)
 times_aside any_times p = refl
 times_aside some_times p = refl

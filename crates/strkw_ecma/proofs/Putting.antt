@@ -33,6 +33,7 @@ use Rattle.strkw_ecma.proofs.Widths.{times_if}
 some_copy : (n : ℕ) → (suc n == 0) ≡ false
 some_copy n = grind (arith, nat_tests)
 
+-- one or more, less none, is not none
 some_left : (n : ℕ) → (suc n - zero == 0) ≡ false
 some_left n = grind (arith, nat_tests)
 
@@ -41,9 +42,11 @@ some_left n = grind (arith, nat_tests)
 pub cat_bare : (whole p q : Pattern) → whole ≡ cat p q → unmarked whole ≡ true → (unmarked p ≡ true) × (unmarked q ≡ true)
 cat_bare whole p q is h = let both : (unmarked p && unmarked q) ≡ true = sym (ap unmarked is) ∙ h in (and_left _ _ both, and_right (unmarked p) _ both)
 
+-- both alternatives of a pattern without marks have none
 pub alt_bare : (whole p q : Pattern) → whole ≡ alt p q → unmarked whole ≡ true → (unmarked p ≡ true) × (unmarked q ≡ true)
 alt_bare whole p q is h = let both : (unmarked p && unmarked q) ≡ true = sym (ap unmarked is) ∙ h in (and_left _ _ both, and_right (unmarked p) _ both)
 
+-- a sequence without marks has none in the other order
 pub turned_bare : (whole p q : Pattern) → whole ≡ cat p q → unmarked whole ≡ true → unmarked (cat q p) ≡ true
 turned_bare whole p q is h = let both = cat_bare whole p q is h in and_true _ _ both.1 both.0
 
@@ -52,6 +55,7 @@ copies_bare : (n : ℕ) (p : Pattern) → (n == 0) ≡ false → unmarked (repea
 copies_bare zero p some h = absurd (true≢false some)
 copies_bare (suc n) p some h = and_left _ _ h
 
+-- what a quantifier stands behind has no mark where the whole has none, and it is not left out
 times_bare : (t : Times) (p : Pattern) → is_never t ≡ false → unmarked (quantified_pattern t p) ≡ true → unmarked p ≡ true
 times_bare any_times p some h = h
 times_bare some_times p some h = h
@@ -62,6 +66,7 @@ times_bare (range_times zero zero) p some h = absurd (true≢false some)
 times_bare (range_times zero (suc m)) p some h = copies_bare (suc m - zero) (alt empty p) (some_left m) (and_right (unmarked (repeated zero p)) _ h)
 times_bare (range_times (suc n) m) p some h = and_left _ _ (and_left (unmarked (repeated (suc n) p)) _ h)
 
+-- the same of a pattern that equals such a whole
 pub repeated_bare : (t : Times) (whole p : Pattern) → whole ≡ quantified_pattern t p → is_never t ≡ false → unmarked whole ≡ true → unmarked p ≡ true
 repeated_bare t whole p is some h = times_bare t p some (sym (ap unmarked is) ∙ h)
 
@@ -93,6 +98,7 @@ one_most p q = by_option (is_empty p && is_class q) refl
     by_option true e = omega (arith, none p (and_left _ _ e))
     by_option false e = omega (arith, alt_steps p q e, beside_most p)
 
+-- the second of two alternatives has at most the steps of both
 other_most : (p q : Pattern) → steps q ≤ steps (alt p q)
 other_most p q = by_option (is_empty p && is_class q) refl
   where
@@ -108,6 +114,7 @@ star_most p = by_class (is_class p) refl
     by_class true e = omega (arith, star_class p e)
     by_class false e = omega (arith, star_steps p e)
 
+-- a pattern has at most the steps that it has once or more
 plus_most : (p : Pattern) → steps p ≤ steps (plus p)
 plus_most p = by_class (is_class p) refl
   where
@@ -115,10 +122,12 @@ plus_most p = by_class (is_class p) refl
     by_class true e = omega (arith, plus_class p e)
     by_class false e = omega (arith, plus_steps p e)
 
+-- a pattern has at most the steps of its copies, where there is one
 copies_most : (n : ℕ) (p : Pattern) → (n == 0) ≡ false → steps p ≤ steps (repeated n p)
 copies_most zero p some = absurd (true≢false some)
 copies_most (suc n) p some = omega (arith, cat_steps p (repeated n p))
 
+-- a pattern has at most the steps that it has with a quantifier, where it is not left out
 times_most : (t : Times) (p : Pattern) → is_never t ≡ false → steps p ≤ steps (quantified_pattern t p)
 times_most any_times p some = star_most p
 times_most some_times p some = plus_most p
@@ -132,30 +141,36 @@ times_most (range_times zero (suc m)) p some =
 times_most (range_times (suc n) m) p some =
     omega (arith, cat_steps (repeated (suc n) p) (repeated (m - suc n) (alt empty p)), copies_most (suc n) p (some_copy n))
 
+-- both parts of a small sequence are small
 pub cat_small : (whole p q : Pattern) → whole ≡ cat p q → IsSmall whole → IsSmall p × IsSmall q
 cat_small whole p q is h =
     let both : steps (cat (spread p) (spread q)) ≤ max_steps = subst IsSmall is h in
     (omega (arith, cat_steps (spread p) (spread q), both), omega (arith, cat_steps (spread p) (spread q), both))
 
+-- a small sequence is small in the other order
 pub turned_small : (whole p q : Pattern) → whole ≡ cat p q → IsSmall whole → IsSmall (cat q p)
 turned_small whole p q is h =
     let both : steps (cat (spread p) (spread q)) ≤ max_steps = subst IsSmall is h in
     omega (arith, cat_steps (spread p) (spread q), cat_steps (spread q) (spread p), both)
 
+-- both alternatives of a small pattern are small
 pub alt_small : (whole p q : Pattern) → whole ≡ alt p q → IsSmall whole → IsSmall p × IsSmall q
 alt_small whole p q is h =
     let both : steps (alt (spread p) (spread q)) ≤ max_steps = subst IsSmall is h in
     (omega (arith, one_most (spread p) (spread q), both), omega (arith, other_most (spread p) (spread q), both))
 
+-- what a quantifier stands behind is small where the whole is, and it is not left out
 pub repeated_small : (t : Times) (whole p : Pattern) → whole ≡ quantified_pattern t p → is_never t ≡ false → IsSmall whole → IsSmall p
 repeated_small t whole p is some h =
     let all : steps (spread (quantified_pattern t p)) ≤ max_steps = subst IsSmall is h in
     omega (arith, all, ap steps (times_if true t p), times_most t (spread p) some)
 
+-- what a small lookbehind looks for is small
 pub behind_small : (n : Bool) (whole p : Pattern) → whole ≡ lookbehind n p → IsSmall whole → IsSmall p
 behind_small n whole p is h =
     let all : steps (spread (lookbehind n p)) ≤ max_steps = subst IsSmall is h in omega (arith, all, spread_look n (spread p))
 
+-- what a small lookahead looks for is small
 pub ahead_small : (n : Bool) (whole p : Pattern) → whole ≡ lookahead n p → IsSmall whole → IsSmall p
 ahead_small n whole p is h =
     let all : steps (spread (lookahead n p)) ≤ max_steps = subst IsSmall is h in omega (arith, all, spread_look n (spread p))
@@ -170,10 +185,12 @@ nothing_faced : (b : Bool) → empty ≡ facing b empty
 nothing_faced true = refl
 nothing_faced false = refl
 
+-- a boundary of a word is the same from either end
 boundary_faced : (b : Bool) → look boundary ≡ facing b (look boundary)
 boundary_faced true = refl
 boundary_faced false = refl
 
+-- and so is what is no boundary
 no_boundary_faced : (b : Bool) → look no_boundary ≡ facing b (look no_boundary)
 no_boundary_faced true = refl
 no_boundary_faced false = refl
@@ -183,10 +200,12 @@ edge_faced : (b : Bool) → look (if not b then start else end) ≡ facing b (lo
 edge_faced true = refl
 edge_faced false = refl
 
+-- the end of the text is its start from the other end
 end_faced : (b : Bool) → look (if b then start else end) ≡ facing b (look end)
 end_faced true = refl
 end_faced false = refl
 
+-- a class is the same from either end
 class_faced : (b m n : Bool) (rs : List CharSet) → class m n rs ≡ facing b (class m n rs)
 class_faced true m n rs = refl
 class_faced false m n rs = refl

@@ -50,6 +50,7 @@ use Rattle.strkw_ecma.proofs.RegexSound.{held_push}
 abbrev pub run : Standing → Mode → List ℕ → Bool
 run s m cs = is_read_from (at s m) cs
 
+-- whether the rest is taken from a state, where there is one
 abbrev pub after : Option State → List ℕ → Bool
 after o cs = holds_of (λ u. is_read_from u cs) o
 
@@ -293,6 +294,7 @@ reads_comma : (s : Standing) (ds : List ℕ) → AreDecimal ds → (cs : List �
     → run s (counting (low ds)) (byte "," ∷ cs) ≡ run s (counting (high ds [])) cs
 reads_comma s ds h cs = ap (λ (b : Bool). after (state_if b (Some (at s (counting (high ds []))))) cs) h.1
 
+-- behind the first number, a closing brace
 reads_exact : (s : Standing) (ds : List ℕ) → AreDecimal ds → (cs : List ℕ)
     → run s (counting (low ds)) (byte "}" ∷ cs) ≡ after (then_stands (quantified s)) cs
 reads_exact s ds h cs = ap (λ (b : Bool). after (state_if b (then_stands (quantified s))) cs) h.1
@@ -349,27 +351,35 @@ no_digit c d h k = is_not is_digit c d (c == d) refl k h
 abbrev rest8 : ℕ → Escape
 rest8 c = if is_one_of (codes "dDsSwW") c then set else unknown
 
+-- or one of the letters of control characters
 abbrev rest7 : ℕ → Escape
 rest7 c = if is_one_of (codes "fnrtv") c then control else rest8 c
 
+-- or a character that stands for itself
 abbrev rest6 : ℕ → Escape
 rest6 c = if is_one_of (codes "^$\\.*+?()[]{}|/") c then itself else rest7 c
 
+-- or a `P`
 abbrev rest5 : ℕ → Escape
 rest5 c = if c == byte "P" then no_property else rest6 c
 
+-- or a `p`
 abbrev rest4 : ℕ → Escape
 rest4 c = if c == byte "p" then property else rest5 c
 
+-- or a `u`
 abbrev rest3 : ℕ → Escape
 rest3 c = if c == byte "u" then unicode else rest4 c
 
+-- or an `x`
 abbrev rest2 : ℕ → Escape
 rest2 c = if c == byte "x" then hexadecimal else rest3 c
 
+-- or a `c`
 abbrev rest1 : ℕ → Escape
 rest1 c = if c == byte "c" then letter else rest2 c
 
+-- or a zero
 abbrev rest0 : ℕ → Escape
 rest0 c = if c == byte "0" then null else rest1 c
 

@@ -73,11 +73,13 @@ two_tell b r s fs xs t u one can =
       total_append one.more two.more ∙ omega (arith, one.takes, two.takes),
     )
 
+-- there are such for a sequence where there are for both parts, and they take the steps of both
 cat_tells : (b : Bool) (r s : Pattern) (t u : ℕ) → CanTell b r t → CanTell b s u → CanTell b (cat r s) (t + u)
 cat_tells b r s t u one two = λ fs xs are.
     let both = two_tell b r s fs xs t u (one fs xs are) two in
     record { added = both.0; more = both.1; asides = both.2; numbers = both.3; told = both.4; takes = both.5 }
 
+-- and so for two alternatives
 alt_tells : (b : Bool) (r s : Pattern) (t u : ℕ) → CanTell b r t → CanTell b s u → CanTell b (alt r s) (t + u)
 alt_tells b r s t u one two = λ fs xs are.
     let both = two_tell b r s fs xs t u (one fs xs are) two in
@@ -132,6 +134,7 @@ facing_nothing : (b : Bool) (p : Pattern) → is_empty (facing b p) ≡ is_empty
 facing_nothing false p = refl
 facing_nothing true p = mirror_nothing p
 
+-- a pattern is a class from either end exactly where it is one
 facing_class : (b : Bool) (p : Pattern) → is_class (facing b p) ≡ is_class p
 facing_class false p = refl
 facing_class true p = mirror_class p

@@ -99,10 +99,12 @@ pub seekings_append : (xs ys : List Seeker) → seekings (xs ++ ys) ≡ seekings
 seekings_append [] ys = refl
 seekings_append (x ∷ xs) ys = ap (λ (l : List Seeking). seeking x ∷ l) (seekings_append xs ys)
 
+-- the quests of one more are theirs and its own
 pub quests_append : (xs : List Aside) (x : Aside) → quests (xs ++ (x ∷ [])) ≡ quests xs ++ (quest x ∷ [])
 quests_append [] x = refl
 quests_append (y ∷ xs) x = ap (λ (l : List Seeking). quest y ∷ l) (quests_append xs x)
 
+-- there are as many quests as are put aside
 pub quests_count : (xs : List Aside) → length (quests xs) ≡ length xs
 quests_count [] = refl
 quests_count (x ∷ xs) = ap suc (quests_count xs)
@@ -111,12 +113,14 @@ quests_count (x ∷ xs) = ap suc (quests_count xs)
 one_fit : (fs : List Quest) (x : Seeking) (f : Quest) → IsAside fs x f → IsSmall f.pattern → IsFit x.pattern
 one_fit fs x f u w = subst IsFit (sym u.slotted) (aside_fit f.pattern u.bare w)
 
+-- all that is put aside of small patterns is
 pub are_fit : (xs : List Aside) (fs gs : List Quest) → AreAsides fs (quests xs) gs → AreSmall gs → AreFit xs
 are_fit [] fs [] u w = tt
 are_fit [] fs (g ∷ gs) u w = absurd u
 are_fit (x ∷ xs) fs [] u w = absurd u
 are_fit (x ∷ xs) fs (g ∷ gs) u w = (one_fit fs (quest x) g u.0 w.0, are_fit xs (fs ++ (g ∷ [])) gs u.1 w.1)
 
+-- a pattern that is set aside is fit
 pub set_fit : (b : Bool) (p : Pattern) (x : Seeking) (fs : List Quest) (xs : List Seeking) → SetsAside b p x fs xs → IsFit x.pattern
 set_fit b p x fs xs set = one_fit (fs ++ set.added) x record { backward = b; pattern = set.made } set.is set.made_small
 

@@ -296,6 +296,7 @@ early_row [] r k h = absurd (omega (arith, h))
 early_row (s ∷ rows) r zero h = refl
 early_row (s ∷ rows) r (suc k) h = early_row rows r k (omega (arith, h))
 
+-- the row of the last place is the one that was added
 last_row : (rows : List (List Bool)) (r : List Bool) (k : ℕ) → k ≡ length rows → get_or (rows ++ (r ∷ [])) k [] ≡ r
 last_row [] r zero h = refl
 last_row [] r (suc k) h = absurd (omega (arith, h))

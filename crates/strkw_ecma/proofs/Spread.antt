@@ -67,6 +67,7 @@ fewer_star t p r classes less = by_class (is_class p) refl
     by_class true e = omega (arith, star_class p e, star_class r (sym classes ∙ e), less)
     by_class false e = omega (arith, star_steps p e, star_steps r (sym classes ∙ e), less)
 
+-- the same once or more
 pub fewer_plus : (t : ℕ) (p r : Pattern) → is_class p ≡ is_class r → t + steps p ≤ steps r → t + steps (plus p) ≤ steps (plus r)
 fewer_plus t p r classes less = by_class (is_class p) refl
   where
@@ -78,6 +79,7 @@ fewer_plus t p r classes less = by_class (is_class p) refl
 abbrev TakesLess : Pattern → Pattern → Type 0
 TakesLess p q = (steps p ≤ steps q) × (steps_of (alternatives p) ≤ steps_of (alternatives q))
 
+-- with no mark set a pattern takes no more so than with a mark beside each lookaround
 takes_less : (p : Pattern) → TakesLess (aside p) (spread p)
 takes_less empty = (omega arith, omega arith)
 takes_less (class m n rs) = (omega arith, omega arith)
@@ -112,6 +114,7 @@ takes_less (lookahead n p) =
     omega (arith, behind_steps n (class false false []), mark, spread_look n (spread p)) in
     (less, less)
 
+-- so it has no more by itself
 pub aside_steps : (p : Pattern) → steps (aside p) ≤ steps (spread p)
 aside_steps p = (takes_less p).0
 

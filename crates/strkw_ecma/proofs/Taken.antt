@@ -87,6 +87,7 @@ one_faced p q b way told = by_test (is_backward p) refl
         ap (λ (x : Bool). not x || are_told q) (way ∙ e) ∙ told ∙ ap (λ (x : Bool). are_told (facing x p)) e
         ∙ and_right (not (are_told p)) _ e
 
+-- so it is of each pass
 all_faced : (xs : List Pass) (us : List Part) → ArePasses xs us → are_passes_faced xs ≡ true
 all_faced [] [] u = refl
 all_faced [] (a ∷ us) u = absurd u

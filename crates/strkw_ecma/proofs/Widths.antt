@@ -24,6 +24,7 @@ pub nothing_if : (b : Bool) → spread_if b empty ≡ empty
 nothing_if true = refl
 nothing_if false = refl
 
+-- a pattern is that of nothing with marks exactly where it is without
 pub same_nothing_if : (b : Bool) (p : Pattern) → is_empty (spread_if b p) ≡ is_empty p
 same_nothing_if true p = spread_nothing p
 same_nothing_if false p = refl
@@ -33,6 +34,7 @@ pub class_if : (b m n : Bool) (rs : List CharSet) → spread_if b (class m n rs)
 class_if true m n rs = refl
 class_if false m n rs = refl
 
+-- and it is a class with marks exactly where it is one without
 pub same_class_if : (b : Bool) (p : Pattern) → is_class (spread_if b p) ≡ is_class p
 same_class_if true p = spread_class p
 same_class_if false p = refl
@@ -42,6 +44,7 @@ copies_spread : (n : ℕ) (p : Pattern) → spread (repeated n p) ≡ repeated n
 copies_spread zero p = refl
 copies_spread (suc n) p = ap (cat (spread p)) (copies_spread n p)
 
+-- marks go through a quantifier
 times_spread : (t : Times) (p : Pattern) → spread (quantified_pattern t p) ≡ quantified_pattern t (spread p)
 times_spread any_times p = refl
 times_spread some_times p = refl
@@ -52,6 +55,7 @@ times_spread (range_times n m) p =
     ap (λ (q : Pattern). cat q (spread (repeated (m - n) (alt empty p)))) (copies_spread n p)
     ∙ ap (cat (repeated n (spread p))) (copies_spread (m - n) (alt empty p))
 
+-- the same where there may be no marks
 pub times_if : (b : Bool) (t : Times) (p : Pattern) → spread_if b (quantified_pattern t p) ≡ quantified_pattern t (spread_if b p)
 times_if true t p = times_spread t p
 times_if false t p = refl
@@ -61,6 +65,7 @@ pub behind_if : (b n : Bool) (p : Pattern) → steps (spread_if b (lookbehind n 
 behind_if true n p = omega (arith, spread_look n (spread p))
 behind_if false n p = omega (arith, behind_steps n p)
 
+-- with its marks a lookahead has three steps more than what it looks for
 pub ahead_if : (n : Bool) (p : Pattern) → steps (spread (lookahead n p)) ≡ 1 + steps (spread p) + 2
 ahead_if n p = omega (arith, spread_look n (spread p))
 

@@ -12,9 +12,11 @@ use Rattle.strkw_mail.proofs.Rows.{plain_more, plain_none, row_more, row_none}
 abbrev pub Colon : Form
 Colon = Literal (58 ∷ [])
 
+-- two colons
 abbrev pub TwoColons : Form
 TwoColons = Literal (58 ∷ 58 ∷ [])
 
+-- an IPv4 address
 abbrev V4 : Form
 V4 = Ipv4AddressLiteral
 

@@ -45,6 +45,7 @@ one_more old said new grown some =
     let bytes : length new ≡ length old + length said = ap (λ l. length l) grown ∙ length-append old said in
     omega (arith, bytes, some)
 
+-- two appended in turn have as many bytes as there are messages of both
 pub two_more : (old mid new n m : ℕ) → old + n ≤ mid → mid + m ≤ new → old + (n + m) ≤ new
 two_more old mid new n m first second = omega (arith, first, second)
 

@@ -6,14 +6,17 @@ use Rattle.strkw_coding.specs.Groups.{EncodesByThrees, EncodesByFives, EncodesBy
 use Rattle.strkw_coding.proofs.ByGroups.{threes-1, threes-2, threes-group, fives-1, fives-2, fives-3, fives-4, fives-group, ones-group}
 use Rattle.strkw_coding.proofs.laws.encoded_by_groups.Goals as goal
 
+-- base64 encodes three bytes at a time
 base64 : EncodesByThrees Base64
 unfolding letters
 base64 = record { none = refl; one = threes-1 (alphabet Base64); two = threes-2 (alphabet Base64); group = threes-group (alphabet Base64) }
 
+-- and so does base64url
 base64url : EncodesByThrees Base64Url
 unfolding letters
 base64url = record { none = refl; one = threes-1 (alphabet Base64Url); two = threes-2 (alphabet Base64Url); group = threes-group (alphabet Base64Url) }
 
+-- base32 encodes five bytes at a time
 base32 : EncodesByFives Base32
 unfolding letters code32
 base32 = record {
@@ -25,6 +28,7 @@ base32 = record {
   group = fives-group (alphabet Base32);
 }
 
+-- and so does base32hex
 base32hex : EncodesByFives Base32Hex
 unfolding letters code32
 base32hex = record {
@@ -36,6 +40,7 @@ base32hex = record {
   group = fives-group (alphabet Base32Hex);
 }
 
+-- base16 encodes one byte at a time
 base16 : EncodesByOnes Base16
 unfolding letters
 base16 = record { none = refl; group = ones-group (alphabet Base16) }

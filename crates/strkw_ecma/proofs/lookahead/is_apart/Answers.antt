@@ -6,6 +6,7 @@ use Rattle.strkw_ecma.specs.Lookahead.{may_precede}
 use Rattle.strkw_ecma.proofs.Apart.{turn_stops, turn_goes, turn_ends}
 use Rattle.strkw_ecma.proofs.lookahead.is_apart.Goals as goal
 
+-- one character more makes a text one longer
 longer : (xs : List ℕ) (c : ℕ) → length (xs ++ c ∷ []) ≡ suc (length xs)
 longer xs c = length-append xs (c ∷ []) ∙ omega arith
 

@@ -2,6 +2,7 @@ use Rattle.std.proofs.Common.{◌≡◌, Bool, true, false, not, IsTrue, refl, s
 use Rattle.strkw_ecma.proofs.Marked.{none_among}
 use Rattle.strkw_ecma.proofs.marks.are_unmarked.Goals as goal
 
+-- what is so when it is negated is false
 not_true : (b : Bool) → IsTrue (not b) → b ≡ false
 not_true true h = absurd (true≢false (sym h))
 not_true false h = refl

@@ -7,6 +7,7 @@ use Rattle.strkw_ecma.specs.machine.Recognising.{next as spec_next}
 use Rattle.strkw_ecma.proofs.RegexRun.{turn_stops, turn_goes, turn_ends}
 use Rattle.strkw_ecma.proofs.recogniser.is_read.Goals as goal
 
+-- one character more makes a text one longer
 longer : (xs : List ℕ) (c : ℕ) → length (xs ++ c ∷ []) ≡ suc (length xs)
 longer xs c = length-append xs (c ∷ []) ∙ omega arith
 

@@ -5,12 +5,15 @@ use Rattle.strkw_formats.specs.Formats.{IsOfBuiltin, window_of}
 use Rattle.strkw_formats.specs.FormatLaws.{IsInside}
 use Rattle.strkw_formats.proofs.laws.texts_are_inside_their_windows.Goals as goal
 
+-- a length between both ends of a window is inside it
 inside : (least greatest n : ℕ) → least ≤ n → n ≤ greatest → IsInside (record { least = least; greatest = Some greatest }) n
 inside least greatest n l g = record { long_enough = l; short_enough = g }
 
+-- a length from the least on is inside a window that is open above
 above : (least n : ℕ) → least ≤ n → IsInside (record { least = least; greatest = None }) n
 above least n l = record { long_enough = l; short_enough = tt }
 
+-- the only length of a window is inside it
 exactly : (length n : ℕ) → n ≡ length → IsInside (record { least = length; greatest = Some length }) n
 exactly length n e = inside length length n (omega arith) (omega arith)
 

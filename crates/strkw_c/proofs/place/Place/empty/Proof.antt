@@ -16,9 +16,11 @@ use Rattle.strkw_c.specs.contracts.place.Place.empty as f
 use Rattle.strkw_c.proofs.place.Place.empty.Statement.{statement}
 use Rattle.strkw_c.proofs.place.Place.empty.Code as code
 
+-- no parameter stays behind
 abbrev stayed : Stays f.ended.signature.params f.ended.kept
 stayed = tt
 
+-- `Place::empty` meets its contract
 pub empty_spec : {M : Type 1} → statement M
 empty_spec 𝓤 𝓛 𝓜 𝓡 wired =
     let c = f.clauses 𝓛 𝓜.mem 𝓡.returns in

@@ -33,12 +33,15 @@ use Rattle.strkw_c.proofs.PlaceSteps.{E, Kept, Heap, Place, word, good, place_ou
 use Rattle.strkw_c.proofs.place.Place.into_unboxed.Statement.{statement}
 use Rattle.strkw_c.proofs.place.Place.into_unboxed.Code as code
 
+-- the parts of a box, as a row
 abbrev Parts : RattleType
 Parts = unboxed.the_row Kept Heap ghosts
 
+-- the place and the allocator are dropped
 abbrev stayed : Stays f.ended.signature.params f.ended.kept
 stayed = (stay_dropped (plain (λ _. Place)) yes, (stay_dropped (plain (λ _. Heap)) yes, tt))
 
+-- `Place::into_unboxed` meets its contract
 pub into_unboxed_spec : {M : Type 1} → statement M
 into_unboxed_spec 𝓤 𝓛 𝓜 𝓡 wired =
     let c = f.clauses 𝓛 𝓜.mem 𝓡.returns in let 𝓣 = tables 𝓤 𝓛.H 𝓜 𝓡 𝓡.env in

@@ -29,12 +29,15 @@ use Rattle.strkw_c.proofs.PlaceSteps.{E, Kept, Heap, Place, word, good, place_in
 use Rattle.strkw_c.proofs.place.Place.of.Statement.{statement}
 use Rattle.strkw_c.proofs.place.Place.of.Code as code
 
+-- the parts of a box, as a row
 abbrev Parts : RattleType
 Parts = unboxed.the_row Kept Heap ghosts
 
+-- the parts are dropped
 abbrev stayed : Stays f.ended.signature.params f.ended.kept
 stayed = (stay_dropped (plain (λ _. Parts)) yes, tt)
 
+-- `Place::of` meets its contract
 pub of_spec : {M : Type 1} → statement M
 of_spec 𝓤 𝓛 𝓜 𝓡 wired =
     let c = f.clauses 𝓛 𝓜.mem 𝓡.returns in let 𝓣 = tables 𝓤 𝓛.H 𝓜 𝓡 𝓡.env in

@@ -38,6 +38,7 @@ use Rattle.strkw_c.specs.contracts.unboxed.Unboxed.into_box as f
 use Rattle.strkw_c.proofs.unboxed.Unboxed.into_box.Statement.{statement}
 use Rattle.strkw_c.proofs.unboxed.Unboxed.into_box.Code as code
 
+-- `Unboxed::into_box` meets its contract
 pub into_box_spec : {M : Type 1} → statement M
 into_box_spec 𝓤 𝓛 𝓜 𝓡 wired T A LT LA g d dd allocator no_glue =
     let E : Bx = record { row = T; laws = LT; al = record { row = A; laws = LA; g = g; d = d; drops = dd } } in

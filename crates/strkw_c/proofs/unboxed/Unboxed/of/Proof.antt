@@ -40,6 +40,7 @@ use Rattle.strkw_c.specs.contracts.unboxed.Unboxed.of as f
 use Rattle.strkw_c.proofs.unboxed.Unboxed.of.Statement.{statement}
 use Rattle.strkw_c.proofs.unboxed.Unboxed.of.Code as code
 
+-- `Unboxed::of` meets its contract
 pub of_spec : {M : Type 1} → statement M
 of_spec 𝓤 𝓛 𝓜 𝓡 wired T A LT LA g d dd dx allocator no_glue glue =
     let E : Bx = record { row = T; laws = LT; al = record { row = A; laws = LA; g = g; d = d; drops = dd } } in

@@ -100,6 +100,7 @@ no_mark : (enters mark : Bool) → (enters || mark) ≡ false → mark ≡ false
 no_mark true mark none = absurd (true≢false none)
 no_mark false mark none = none
 
+-- so no mark comes from it, whether it is read again or not
 none_comes : (enters mark again reads_it : Bool) → (enters || mark) ≡ false → false ≡ ((enters || (again && mark)) && reads_it)
 none_comes true mark again reads_it none = absurd (true≢false none)
 none_comes false true again reads_it none = absurd (true≢false none)
