@@ -184,7 +184,7 @@ static void give_back(strkw_schema *schema, struct handle *handle) {
     free_handle(handle);
 }
 
-/* The status of a call by a handle, or by an empty one in place of one that there was no memory for. */
+/* The status of a call by a handle, or by an empty one where making one was out of memory. */
 static uint8_t status_by(const struct handle *handle, uint8_t status) {
     return handle == NULL && status == STRKW_NO_SCHEMA ? STRKW_OUT_OF_MEMORY : status;
 }

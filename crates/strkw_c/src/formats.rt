@@ -200,7 +200,8 @@ pub extern "C" fn strkw_nonnull_is_uuid(text: &[u8]) -> bool
     }
 }
 
-/// Whether the bytes are a mail address: `Mailbox` of RFC 5321, section 4.1.2. No schema object knows it as a format.
+/// Whether the bytes are a mail address: `Mailbox` of RFC 5321, section 4.1.2. A schema object knows it as a format
+/// where its options say so.
 #[unsafe(no_mangle)]
 pub extern "C" fn strkw_nonnull_is_email(text: &[u8]) -> bool
     ensures { IsTrue result ↔ (IsUtf8 text.now × IsMailbox (chars text.now)) }

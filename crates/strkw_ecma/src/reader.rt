@@ -214,7 +214,7 @@ impl Reader {
         }
     }
 
-    // Takes one more character, and tells whether it may stand there. Where it may not, or memory is out, this reader
+    // Takes one more character, and tells whether it may stand there. Where it may not, or out of memory, this reader
     // is of no more use.
     fn next(&mut self, alloc: Global, c: char) -> Result<bool, AllocError>
         ensures { IfOk result (λ taken. when taken (Some (parts_of self.new))

@@ -219,7 +219,7 @@ impl Recogniser {
         true
     }
 
-    // Takes one more character, and tells whether it may stand there. Where it may not, or memory is out, this
+    // Takes one more character, and tells whether it may stand there. Where it may not, or out of memory, this
     // recogniser is of no more use.
     fn next(&mut self, alloc: Global, c: char) -> Result<bool, AllocError>
         ensures { IfOk result (λ taken. state_if taken (Some (state_of self.new))

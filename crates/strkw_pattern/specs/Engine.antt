@@ -5,7 +5,7 @@ use Rattle.strkw_pattern.specs.declared.engine.Outcome.TheVariants as outcome
 use Rattle.strkw_pattern.specs.declared.engine.EngineFailure.{EngineFailure}
 use Rattle.strkw_pattern.specs.declared.engine.EngineFailure.TheVariants as failure
 
--- the answer is that of the outcome, unless memory ran out
+-- the answer is that of the outcome, or out of memory
 abbrev pub IsAnswer : Outcome → Result Bool EngineFailure → Type 0
 IsAnswer o (Ok true) = o ≡ outcome.Match
 IsAnswer o (Ok false) = o ≡ outcome.NoMatch

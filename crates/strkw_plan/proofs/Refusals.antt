@@ -8,7 +8,7 @@ use Rattle.strkw_keywords.specs.Compiled.{out_of_memory}
 use Rattle.strkw_keywords.specs.Object.{Settings, FirstRefusal}
 use Rattle.strkw_plan.specs.Messages.{IsRefused}
 
--- a schema object that is refused, and not since memory is out, has a first refusal
+-- a schema object that is refused, and not by out of memory, has a first refusal
 pub has_refusal : (s : Settings) (schema : Data) (object : Members) (e : CompileError) → as_object schema ≡ Some object
     → (refusal_of e ≡ out_of_memory) ⊎ FirstRefusal s object (Some (refusal_of e)) → reason_of e.kind ≢ memory → IsRefused s schema (refusal_of e)
 has_refusal s schema object e is (inl none) had = absurd (had (ap (λ r. r.reason) none))

@@ -20,7 +20,7 @@ pub enum CompileErrorKind {
     Regex { pattern: String },
     /// A value that would be printed or kept holds, at any depth, a number that is no whole number of 64 bits.
     FractionalNumber,
-    /// There was no memory.
+    /// Out of memory.
     Memory,
 }
 

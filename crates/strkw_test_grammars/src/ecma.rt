@@ -7,7 +7,7 @@ use std::alloc::{AllocError, Global};
 use strkw_ecma::{EcmaPatterns, why_refused};
 use strkw_pattern::{BuildRefusal, EngineBuilder, RegexEngine};
 
-/// Whether a text is a pattern that is taken; `None` where memory ran out.
+/// Whether a text is a pattern that is taken; `None` out of memory.
 pub fn is_taken(alloc: Global, pattern: &str) -> Option<bool> {
     match EcmaPatterns.build(alloc, pattern) {
         Ok(_) => Some(true),

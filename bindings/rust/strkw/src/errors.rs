@@ -3,7 +3,7 @@
 use std::error::Error;
 use std::fmt;
 
-/// A call got no memory.
+/// A call was out of memory.
 #[derive(Clone, Copy, Debug, PartialEq, Eq)]
 pub struct OutOfMemory;
 
@@ -34,7 +34,7 @@ pub enum CompileError {
     NoObject,
     /// The object is refused: the place of the first keyword that is, a colon, and why.
     Refused(String),
-    /// The call got no memory.
+    /// The call was out of memory.
     OutOfMemory,
 }
 

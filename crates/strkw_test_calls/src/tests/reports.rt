@@ -101,8 +101,8 @@ fn error_of(alloc: Global, failure: Failure, text: &str) -> Result<ValidationErr
     error_at(alloc, kind, "k", text, &location, &None, &root_site(alloc))
 }
 
-// Whether an error of a text says so. Where it had no memory to say it, it is as it was, and out of memory is an error
-// here.
+// Whether an error of a text says so. Where it was out of memory to say it, it is as it was, and out of memory is an
+// error here.
 fn is_said(
     alloc: Global,
     error: &ValidationError,
@@ -239,8 +239,8 @@ const REFUSALS: &[Refused] = &[
     },
 ];
 
-// Whether a refusal says so. Where it had no memory to say it, it says so when it is asked again, and out of memory is
-// an error here.
+// Whether a refusal says so. Where it was out of memory to say it, it says so when it is asked again, and out of memory
+// is an error here.
 fn is_told(alloc: Global, refusal: &CompileError, want: &str) -> Result<bool, AllocError> {
     if let Ok(said) = refusal.text(alloc) {
         return Ok(said.as_str() == want);
@@ -344,7 +344,7 @@ const PLACES: &[Joined] = &[
     },
 ];
 
-// The place of these segments. `None` where a place was changed by a join that had no memory.
+// The place of these segments. `None` where a place was changed by a join that was out of memory.
 fn place_of(alloc: Global, segments: &[&str]) -> Result<Option<Location>, AllocError> {
     let mut place = Location::root(alloc);
     for segment in segments {
