@@ -9,9 +9,9 @@ use crate::statuses::{DONE, NO_ROOM, OUT_OF_MEMORY};
 use std::alloc::Global;
 use strkw_cli::{MemorySink, MemorySource, run};
 
-/// Answers requests, one a line, as the program does. Status 0: the answers are at the head of `out`, and their count
-/// of bytes is in `written`; 1: out of memory, and both are as they were; 2: `out` has too little room and is as it
-/// was, and `written` is the room that is needed.
+/// Answers requests, one a line, as the program does. `DONE`: the answers are at the head of `out`, and their count of
+/// bytes is in `written`. `OUT_OF_MEMORY`: both are as they were. `NO_ROOM`: `out` is as it was, and `written` is the
+/// room that is needed.
 #[unsafe(no_mangle)]
 pub extern "C" fn strkw_nonnull_answer(
     alloc: Global,

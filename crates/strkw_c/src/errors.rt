@@ -30,15 +30,14 @@ use strkw_object::laws::{
 use strkw_report::draft_numbered;
 
 /// Writes the errors of one text by a schema object, and then what the object notes of it, under a draft and options as
-/// `strkw_nonnull_check` has them. Status 0: at the head of `out` stands a line for each, and the count of bytes is in
+/// `strkw_nonnull_check` has them. `DONE`: at the head of `out` stands a line for each, and the count of bytes is in
 /// `written`. A line of an error is as `error /format: "2023-02-29" is not a "date"`, with a space for each control
 /// character. A line of a note is as `note /format: "date"`, with the value as compact JSON. Each ends with a line
 /// feed. A text that is valid has no line of an error.
 ///
-/// The others: 2, `out` has too little room and is as it was, and `written` is the room that is needed; 3, the draft is
-/// none of the five; 6, a bit of the options is none of the three; 8, the text is not UTF-8; 4, `schema` is no JSON
-/// object; 5, an entry of it is refused; 1, out of memory, where none of 3, 6 and 8 holds. After all but 0 and 2 `out`
-/// and `written` are as they were.
+/// `NO_ROOM`: `out` is as it was, and `written` is the room that is needed. The others, after which both are as they
+/// were, are `NO_DRAFT`, `NO_OPTION`, `NOT_UTF8`, `NO_SCHEMA`, `REFUSED`, and `OUT_OF_MEMORY` where neither the draft,
+/// an option nor the text is wrong.
 #[unsafe(no_mangle)]
 pub extern "C" fn strkw_nonnull_errors(
     alloc: Global,

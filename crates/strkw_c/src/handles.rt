@@ -30,10 +30,10 @@ use std::alloc::Global;
 use strkw_report::draft_numbered;
 
 /// Compiles a schema object under a draft and options, as `strkw_nonnull_check` has them, and keeps it in a handle. One
-/// of zeroed memory keeps nothing. Status 0: the handle keeps the object, and what it kept before is freed.
+/// of zeroed memory keeps nothing. `DONE`: the handle keeps the object, and what it kept before is freed.
 ///
-/// The others: 3, the draft is none of the five; 6, a bit of the options is none of the three; 4, `schema` is no JSON
-/// object; 5, an entry of it is refused; 1, out of memory, where neither 3 nor 6 holds. The handle is then as it was.
+/// The others are `NO_DRAFT`, `NO_OPTION`, `NO_SCHEMA`, `REFUSED`, and `OUT_OF_MEMORY` where neither the draft nor an
+/// option is wrong. The handle is then as it was.
 #[unsafe(no_mangle)]
 pub extern "C" fn strkw_nonnull_schema_compile(
     alloc: Global,
@@ -72,11 +72,12 @@ pub extern "C" fn strkw_nonnull_schema_compile(
     }
 }
 
-/// Checks many texts, as `strkw_nonnull_check` does, by the schema object that a handle keeps. Status 0: `verdicts` has
-/// a verdict on each text. After any other it is as it was.
+/// Checks many texts, as `strkw_nonnull_check` does, by the schema object that a handle keeps. `DONE`: `verdicts` has a
+/// verdict on each text. After any other it is as it was.
 ///
-/// The others, of which the first that holds is told: 2, an end is less than the one before it or past `texts`, or
-/// there are more or fewer verdicts than ends; 4, the handle keeps nothing. 1: out of memory, where neither holds.
+/// The others, of which the first that holds is told: `NO_TEXTS`, an end is less than the one before it or past
+/// `texts`, or there are more or fewer verdicts than ends; `NO_SCHEMA`, the handle keeps nothing. `OUT_OF_MEMORY` comes
+/// where neither holds.
 #[unsafe(no_mangle)]
 pub extern "C" fn strkw_nonnull_schema_check(
     alloc: Global,
@@ -123,9 +124,9 @@ pub extern "C" fn strkw_nonnull_schema_check(
 /// Writes the errors of one text by the schema object that a handle keeps, and then what the object notes of it, as
 /// `strkw_nonnull_errors` does.
 ///
-/// Status 0: they are written. 2: `out` has too little room and is as it was, and `written` is the room that is needed.
-/// The others, after which `out` and `written` are as they were: 8, the text is not UTF-8; 4, the handle keeps nothing,
-/// where 8 does not hold; 1, out of memory, where neither holds.
+/// `DONE`: they are written. `NO_ROOM`: `out` is as it was, and `written` is the room that is needed. The others, after
+/// which `out` and `written` are as they were: `NOT_UTF8`; `NO_SCHEMA`, the handle keeps nothing, and the text is
+/// UTF-8; `OUT_OF_MEMORY`, where neither holds.
 #[unsafe(no_mangle)]
 pub extern "C" fn strkw_nonnull_schema_errors(
     alloc: Global,

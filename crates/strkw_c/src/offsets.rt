@@ -9,8 +9,9 @@ use crate::verdicts::check_from;
 use std::alloc::Global;
 
 /// `strkw_nonnull_check` of texts that lie between offsets, as those of Apache Arrow do (Columnar Format,
-/// "Variable-size Binary Layout"): the first begins at the first offset, and each ends at the next one. Status 2: there
-/// is no offset, one is less than the one before it or past `texts`, or there is not one verdict less than offsets.
+/// "Variable-size Binary Layout"): the first begins at the first offset, and each ends at the next one. `NO_TEXTS`:
+/// there is no offset, one is less than the one before it or past `texts`, or there is not one verdict less than
+/// offsets.
 #[unsafe(no_mangle)]
 pub extern "C" fn strkw_nonnull_check_offsets(
     alloc: Global,

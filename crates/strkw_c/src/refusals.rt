@@ -22,15 +22,15 @@ use strkw_keywords::Checks;
 use strkw_object::StringKeywords;
 use strkw_report::{CompileError, CompileErrorKind, draft_numbered};
 
-/// Tells why a schema object is refused, under a draft and options as `strkw_nonnull_check` has them. Status 5: it is
+/// Tells why a schema object is refused, under a draft and options as `strkw_nonnull_check` has them. `REFUSED`: it is
 /// refused, and the text of its first refusal is at the head of `out`, with its count of bytes in `written`: the JSON
 /// pointer of the keyword, a colon with a space, and the reason, as `/maxLength: the limit is ..`. The text is UTF-8;
-/// the name of an unknown format stands in it as it is, with a zero byte or a line feed if it has one. Status 0: it is
+/// the name of an unknown format stands in it as it is, with a zero byte or a line feed if it has one. `DONE`: it is
 /// not refused, and `written` is 0.
 ///
-/// The others: 2, `out` has too little room and is as it was, and `written` is the room that is needed; 3, the draft is
-/// none of the five; 6, a bit of the options is none of the three; 4, `schema` is no JSON object; 1, out of memory, where
-/// neither 3 nor 6 holds. After 1, 3, 4 and 6 `out` and `written` are as they were.
+/// `NO_ROOM`: it is refused, `out` has too little room for the text and is as it was, and `written` is the room that is
+/// needed. The others, after which `out` and `written` are as they were, are `NO_DRAFT`, `NO_OPTION`, `NO_SCHEMA`, and
+/// `OUT_OF_MEMORY` where neither the draft nor an option is wrong.
 #[unsafe(no_mangle)]
 pub extern "C" fn strkw_nonnull_refusal(
     alloc: Global,

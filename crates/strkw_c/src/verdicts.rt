@@ -37,14 +37,13 @@ const NOT_UTF8: u8 = 2;
 /// formats are checked in every draft, and an unknown one is refused; bit 1 leaves it to the draft whether they are
 /// checked, bit 2 lets unknown ones pass, and by bit 4 the companions of the draft are checked, `email`, `regex` and
 /// from draft 7 on `idn-email` and `idn-hostname`. Patterns are those of ECMA-262 that `strkw_ecma` takes. The texts
-/// stand one after the other at the head of `texts`, and `ends` has the end of each. Status 0: `verdicts` has a verdict
+/// stand one after the other at the head of `texts`, and `ends` has the end of each. `DONE`: `verdicts` has a verdict
 /// on each text in its order, 1 where it is valid, 0 where it is not, 2 where its bytes are not UTF-8. After any other
 /// status it is as it was.
 ///
-/// The others, of which the first that holds is told: 2, an end is less than the one before it or past `texts`, or
-/// there are more or fewer verdicts than ends; 3, the draft is none of the five; 6, a bit of the options is none of the
-/// three; 4, `schema` is no JSON object; 5, an entry of it is refused. 1: out of memory, where none of 2, 3 and 6
-/// holds.
+/// The others, of which the first that holds is told: `NO_TEXTS`, an end is less than the one before it or past
+/// `texts`, or there are more or fewer verdicts than ends; `NO_DRAFT`; `NO_OPTION`; `NO_SCHEMA`; `REFUSED`.
+/// `OUT_OF_MEMORY` comes where none of the first three holds.
 #[unsafe(no_mangle)]
 pub extern "C" fn strkw_nonnull_check(
     alloc: Global,
