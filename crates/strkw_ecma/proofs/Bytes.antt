@@ -78,6 +78,7 @@ module _ (text : List ℕ) (k : ℕ) (within : k < length text) (utf8 : IsUtf8 (
   byte : (i : ℕ) → get_or (drop k text) i 0 ≡ get_or text (k + i) 0
   byte i = get_or-drop k text i 0
 
+  -- the first of them is the byte at the place
   first : get_or (drop k text) 0 0 ≡ get_or text k 0
   first = let same : k + 0 ≡ k = omega arith in byte 0 ∙ ap (λ (n : ℕ). get_or text n 0) same
 
@@ -85,9 +86,11 @@ module _ (text : List ℕ) (k : ℕ) (within : k < length text) (utf8 : IsUtf8 (
   pub one_more : 128 ≤ get_or text k 0 → k + 1 < length text
   one_more low = omega (arith, (wide (drop k text) utf8 some).0 (omega (arith, first, low)), length-drop k text)
 
+  -- two more, behind one from 224 on
   pub two_more : 224 ≤ get_or text k 0 → k + 2 < length text
   two_more low = omega (arith, (wide (drop k text) utf8 some).1 (omega (arith, first, low)), length-drop k text)
 
+  -- three more, behind one from 240 on
   pub three_more : 240 ≤ get_or text k 0 → k + 3 < length text
   three_more low = omega (arith, (wide (drop k text) utf8 some).2 (omega (arith, first, low)), length-drop k text)
 
@@ -95,9 +98,11 @@ module _ (text : List ℕ) (k : ℕ) (within : k < length text) (utf8 : IsUtf8 (
   abbrev pub page_of_two : ℕ
   page_of_two = get_or text k 0 % 32
 
+  -- of three bytes
   abbrev pub page_of_three : ℕ
   page_of_three = get_or text k 0 % 16 * 64 + get_or text (k + 1) 0 % 64
 
+  -- of four bytes
   abbrev pub page_of_four : ℕ
   page_of_four = (get_or text k 0 % 8 * 64 + get_or text (k + 1) 0 % 64) * 64 + get_or text (k + 2) 0 % 64
 

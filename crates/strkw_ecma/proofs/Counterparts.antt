@@ -280,6 +280,7 @@ alike_times (range_times n m) p r u =
 
 -- two patterns one behind the other match what they do in the other order
 module _ (text : List ℕ) where
+  -- wherever the one and then the other match, the other and then the one do
   abbrev Swaps : Pattern → Pattern → Type 0
   Swaps q r = (i j : ℕ) → ((m : ℕ) × Matches text q i m × Matches text r m j) → (m : ℕ) × Matches text r i m × Matches text q m j
 
@@ -291,6 +292,7 @@ module _ (text : List ℕ) where
       let more = swaps_copies q r f n one.0 j (x, one.2, c) in
       (more.0, (one.0, one.1, more.1), more.2)
 
+  -- copies of a pattern and another
   copies_swap : (r q : Pattern) → Swaps r q → (n : ℕ) → Swaps (repeated n r) q
   copies_swap r q f zero i j (m, e, a) = (j, subst (λ (z : ℕ). Matches text q z j) (sym e) a, refl)
   copies_swap r q f (suc n) i j (m, (x, b, c), a) =
@@ -305,9 +307,11 @@ module _ (text : List ℕ) where
       let last = last_of R j m l s rs in
       (last.0, a_round i m r last.1, last.2)
 
+  -- a pattern and any number of it
   swaps_star : (q : Pattern) → Swaps q (star q)
   swaps_star q i j (m, a, rs) = last_of (Matches text q) j i m a rs
 
+  -- any number of a pattern and the pattern
   star_swaps : (q : Pattern) → Swaps (star q) q
   star_swaps q i j (m, rs, a) = first_of (Matches text q) m j i rs a
 
@@ -316,6 +320,7 @@ module _ (text : List ℕ) where
   swaps_option q i j (m, a, inl e) = (i, inl refl, subst (λ (z : ℕ). Matches text q i z) e a)
   swaps_option q i j (m, a, inr b) = (m, inr a, b)
 
+  -- what may be missing and one
   option_swaps : (q : Pattern) → Swaps (alt empty q) q
   option_swaps q i j (m, inl e, a) = (j, subst (λ (z : ℕ). Matches text q z j) (sym e) a, inl refl)
   option_swaps q i j (m, inr b, a) = (m, b, inr a)

@@ -53,6 +53,7 @@ module _ (text : List ℕ) where
   Hold [] i = ⊤
   Hold (x ∷ xs) i = Unless x.negated ((k : ℕ) × Matches text x.pattern i k) × Hold xs i
 
+  -- parts of two lists hold where those of each do
   hold_append : (xs ys : List Part) (i : ℕ) → Hold (xs ++ ys) i ↔ (Hold xs i × Hold ys i)
   hold_append [] ys i = (λ h. (tt, h), λ h. h.1)
   hold_append (x ∷ xs) ys i = (
@@ -124,6 +125,7 @@ module _ (text : List ℕ) where
       absurd (never_nothing (reads_nothing q) (sym (ap (λ (l : Lead). is_nothing (lead_behind l q)) is) ∙ e))
   rest_nothing_cat p q i j first Past is e m = absurd (true≢false (sym e ∙ ap (λ (l : Lead). is_nothing (lead_behind l q)) is))
 
+  -- of each pattern
   rest_nothing : (p : Pattern) (i j : ℕ) → is_nothing (lead p) ≡ true → Matches text (rest p) i j → i ≡ j
   rest_nothing empty i j e m = first_nothing empty i j e m
   rest_nothing (class b n rs) i j e m = first_nothing (class b n rs) i j e m
@@ -163,6 +165,7 @@ module _ (text : List ℕ) where
       (anchored_on (reads_nothing q) (sym (ap (λ (l : Lead). is_anchored (lead_behind l q)) is) ∙ e)) refl m
   rest_anchored_cat p q i j first Past is e m = absurd (true≢false (sym e ∙ ap (λ (l : Lead). is_anchored (lead_behind l q)) is))
 
+  -- so the rest of a front that is anchored reads nothing, and stands at the beginning of the text
   rest_anchored : (p : Pattern) (i j : ℕ) → is_anchored (lead p) ≡ true → Matches text (rest p) i j → (i ≡ j) × (is_edge (before text i) ≡ true)
   rest_anchored empty i j e m = first_anchored empty i j e m
   rest_anchored (class b n rs) i j e m = first_anchored (class b n rs) i j e m
@@ -236,6 +239,7 @@ module _ (text : List ℕ) where
             ),
       )
 
+  -- each pattern does so
   by_parts : (p : Pattern) (i j : ℕ) → ByParts p i j
   by_parts empty i j = (λ m. (m, tt), λ m. m.0)
   by_parts (class b n rs) i j = (λ m. (m, tt), λ m. m.0)
@@ -259,10 +263,12 @@ module _ (text : List ℕ) where
   Begin [] = ⊤
   Begin (x ∷ xs) = ((q : Pattern) × (x.pattern ≡ cat (look start) q)) × Begin xs
 
+  -- so do those of two lists
   begin_append : (xs ys : List Part) → Begin xs → Begin ys → Begin (xs ++ ys)
   begin_append [] ys u w = w
   begin_append (x ∷ xs) ys u w = (u.0, begin_append xs ys u.1 w)
 
+  -- a term that is a part begins so
   part_begins : (q : Pattern) → Begin (part_of q)
   part_begins empty = tt
   part_begins (class b n rs) = tt
@@ -274,6 +280,7 @@ module _ (text : List ℕ) where
   part_begins (lookbehind n p) = tt
   part_begins (lookahead n p) = ((p, refl), tt)
 
+  -- and so does each part of a pattern
   fronts_begin : (p : Pattern) → Begin (fronts p)
   fronts_begin empty = tt
   fronts_begin (class b n rs) = tt
@@ -327,6 +334,7 @@ module _ (text : List ℕ) where
       let n : Matches text (cat (rest p) q) i j = subst (λ r. Matches text r i j) (rest_with p q with) m in
       anchored_with p q i with (first n.0 n.1)
 
+  -- of each pattern
   anchored_by_parts : (p : Pattern) (i j : ℕ) → Matches text (rest p) i j → IsAnchored p i
   anchored_by_parts empty i j m = inl refl
   anchored_by_parts (class b n rs) i j m = inl refl

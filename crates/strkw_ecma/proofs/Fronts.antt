@@ -130,6 +130,7 @@ module _ (p t : Pattern) where
   pub fronts_apart : is_apart_behind (lead p) t ≡ true → fronts (cat p t) ≡ fronts p ++ part_of t
   fronts_apart e = ap (λ (b : Bool). fronts p ++ (if b then part_of t else [])) e
 
+  -- and the rest is as it was
   pub rest_apart : is_apart_behind (lead p) t ≡ true → rest (cat p t) ≡ rest p
   rest_apart e = ap (λ (b : Bool). if b then rest p else cat (rest p) t) e
 
@@ -137,6 +138,7 @@ module _ (p t : Pattern) where
   pub fronts_with : is_apart_behind (lead p) t ≡ false → fronts (cat p t) ≡ fronts p
   fronts_with e = ap (λ (b : Bool). fronts p ++ (if b then part_of t else [])) e ∙ append-nil (fronts p)
 
+  -- so the rest has it last
   pub rest_with : is_apart_behind (lead p) t ≡ false → rest (cat p t) ≡ cat (rest p) t
   rest_with e = ap (λ (b : Bool). if b then rest p else cat (rest p) t) e
 

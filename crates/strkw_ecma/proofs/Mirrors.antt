@@ -24,6 +24,7 @@ module _ (text : List ℕ) where
   rounds_stay R f j i h (no_round _ e) = omega (arith, e)
   rounds_stay R f j i h (a_round _ l m s) = rounds_stay R f j l (f i l h m) s
 
+  -- nor does a pattern
   pub stays : (p : Pattern) (i j : ℕ) → i ≤ length text → Matches text p i j → j ≤ length text
   stays empty i j h m = omega (arith, m)
   stays (class b n rs) i j h w = omega (arith, w.3, slice_get_within text i w.0 w.1)
@@ -78,6 +79,7 @@ module _ (n : ℕ) where
       let d : m + (n - m) ≡ n = left_over m (omega (arith, rounds_forwards R f j m rs, g)) in
       one_more S (n - m) k l (rounds_turned R S f u j m (n - m) l d g rs) (u i m k (n - m) e d r)
 
+  -- the same in the words of what flips
   rounds_flip : (R S : ℕ → ℕ → Type 0) → IsForwards R → Flips n R S → Flips n (λ i j. Rounds R j i) (λ i j. Rounds S j i)
   rounds_flip R S f u i j k l e g rs = rounds_turned R S f u j i k l e g rs
 
@@ -98,11 +100,13 @@ module _ (n : ℕ) where
         (n - m.0, v l m.0 i (n - m.0) (omega (arith, e)) d m.1),
   )
 
+  -- a lookbehind becomes a lookahead
   behind_flips : (b : Bool) (R S : ℕ → ℕ → Type 0) → IsForwards R → StaysWithin n S → Flips n R S → Flips n S R
       → Flips n (λ i j. Unless b ((a : ℕ) × R a i) × (i ≡ j)) (λ i j. Unless b ((a : ℕ) × S i a) × (i ≡ j))
   behind_flips b R S f w u v i j k l e g (m, d) =
       (unless_same b _ _ (up_to R S f w u v i l (omega (arith, g, d))) m, omega (arith, e, g, d))
 
+  -- and a lookahead becomes a lookbehind
   ahead_flips : (b : Bool) (R S : ℕ → ℕ → Type 0) → IsForwards R → StaysWithin n S → Flips n R S → Flips n S R
       → Flips n (λ i j. Unless b ((a : ℕ) × S i a) × (i ≡ j)) (λ i j. Unless b ((a : ℕ) × R a i) × (i ≡ j))
   ahead_flips b R S f w u v i j k l e g (m, d) =
@@ -170,6 +174,7 @@ module _ (text back : List ℕ) (as_long : length back ≡ length text)
   stays_back : (p : Pattern) → StaysWithin (length text) (Matches back p)
   stays_back p i j h m = omega (arith, as_long, stays back p i j (omega (arith, as_long, h)) m)
 
+  -- each pattern and its mirror match the same, turned round
   pub turned : (p : Pattern) → AreTurned p (mirror p)
   turned empty = (λ i j k l e g m. omega (arith, e, g, m), λ i j k l e g m. omega (arith, e, g, m))
   turned (class b n rs) = (

@@ -58,6 +58,7 @@ module _ (b a : Option ℕ) (q : Pattern) where
       ap (λ (w : Walked). marked w.marks q) (walk_of b a q) ∙ sym (step_marked b a (marks_of r) q true)
       ∙ ap (λ (ms : List Bool). marked ms r) (sym (append-nil (marks_of r))) ∙ own_marks r []
 
+  -- and its answer is that of the step
   left_answer : (walking b a (program q) (marks_of q)).result.leaves ≡ leaves b a q true
   left_answer = ap (λ (w : Walked). w.leaves) (walk_of b a q)
 
@@ -132,6 +133,7 @@ module _ (text : List ℕ) where
       ∙ ap (λ (rows : List (List Bool)). is_any (ends_from rows x.told x.pattern None (along x.backward text))) (rowing_result xs [])
       ∙ any_ends (rows_behind [] text xs) x.told (along x.backward text) x.pattern None
 
+  -- in twice the steps of all and of what is sought, for each place
   pub seeking_steps : (xs : List Seeking) (x : Seeking) → (seeking_by xs x text).steps ≡ 2 * (total xs + steps x.pattern) * (length text + 1)
   seeking_steps xs x =
       ap (λ (n : ℕ). n + (ending (rowing [] text xs).result x.told x.pattern None (along x.backward text)).steps) (rowing_steps xs [])

@@ -242,6 +242,7 @@ module _ (b : Bool) (fs : List Quest) (xs : List Seeking) (are : AreAsides [] xs
   same_node (Outline-F.Behind n p) old no_start no_end no_class no_then no_or no_times no_behind no_ahead = absurd (no_behind n p (rolls-Behind n p))
   same_node (Outline-F.Ahead n p) old no_start no_end no_class no_then no_or no_times no_behind no_ahead = absurd (no_ahead n p (rolls-Ahead n p))
 
+  -- nothing and the assertions about boundaries of words stay as they are
   pub others_put : (o : Outline) (old : List (Option ℕ)) → (o ≡ Start → ⊥) → (o ≡ End → ⊥)
       → ((n : Bool) (s : Vec CharSet Global) → o ≡ Class n s → ⊥) → ((p q : Box Outline Global) → o ≡ Then p q → ⊥)
       → ((p q : Box Outline Global) → o ≡ Or p q → ⊥) → ((t : Quantifier) (p : Box Outline Global) → o ≡ Repeated t p → ⊥)
@@ -260,12 +261,14 @@ module _ (b : Bool) (fs : List Quest) (xs : List Seeking) (are : AreAsides [] xs
   edge_put whole o l old is faced =
       none_put b fs (look l) (facing b whole) o xs old [] old are (alike_same (look l) (facing b whole) faced) is tt (sym (append-nil old))
 
+  -- the beginning
   pub start_put : (whole o : Pattern) (other : Bool) (old : List (Option ℕ)) → other ≡ not b → whole ≡ look start
       → o ≡ look (if other then start else end) → PutsAside b whole o fs xs old old
   start_put whole o other old way is made =
       edge_put whole o (if not b then start else end) old (made ∙ ap (λ (x : Bool). look (if x then start else end)) way)
       (edge_faced b ∙ sym (ap (facing b) is))
 
+  -- the end
   pub end_put : (whole o : Pattern) (old : List (Option ℕ)) → whole ≡ look end → o ≡ look (if b then start else end)
       → PutsAside b whole o fs xs old old
   end_put whole o old is made = edge_put whole o (if b then start else end) old made (end_faced b ∙ sym (ap (facing b) is))
@@ -325,6 +328,7 @@ module _ (b : Bool) (fs : List Quest) where
   behind_found n whole p pv o xs old new is same puts =
       subst (λ (z : Pattern). PutsAside b z o fs xs old new) (ap (lookbehind n) same ∙ sym is) (behind_faced b n p o fs xs old new puts)
 
+  -- of one that looks ahead
   pub ahead_found : (n other : Bool) (whole p pv o : Pattern) (xs : List Seeking) (old new : List (Option ℕ)) → other ≡ not b → whole ≡ lookahead n pv
       → p ≡ pv → PutsLook other n b p o fs xs old new → PutsAside b whole o fs xs old new
   ahead_found n other whole p pv o xs old new way is same puts =

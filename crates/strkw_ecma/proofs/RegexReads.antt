@@ -147,6 +147,7 @@ module _ (s : Standing) where
   abbrev number_behind : NumberPart → List ℕ → Bool
   number_behind k cs = run s (numbering k) cs
 
+  -- behind a whole one
   abbrev number_whole : Form → ℕ → List ℕ → Bool
   number_whole f n cs = run (with_last s atom) between cs
 
@@ -195,6 +196,7 @@ module _ (s : Standing) where
   abbrev property_behind : PropertyPart → List ℕ → Option syntax.Disjunction
   property_behind k cs = wrap (run s (in_property k) cs)
 
+  -- behind a whole one
   abbrev property_whole : Bool → Expression → List ℕ → Option syntax.Disjunction
   property_whole n e cs = wrap (after (state_if (is_property e) (Some (stands (with_last s atom)))) cs)
 
@@ -223,6 +225,7 @@ module _ (s : Standing) (g : Naming) (n : List ℕ) where
   abbrev name_behind : reading.Coding → List ℕ → Option syntax.Disjunction
   name_behind k cs = wrap (run s (name_coding g n (coding_image k)) cs)
 
+  -- behind a whole one
   abbrev name_whole : Code → List ℕ → Option syntax.Disjunction
   name_whole d cs = wrap (after (with_name_char s g n (code_value d)) cs)
 

@@ -141,6 +141,7 @@ facing_class true p = mirror_class p
 
 -- of two, one behind the other, in either order
 module _ (p q : Pattern) where
+  -- there are such for what is left of both, in no more steps than both have with their marks
   cat_told : (b : Bool) (r s : Pattern) (t u : ℕ) → CanTell b r t → CanTell b s u
       → (t + u) + (steps (aside r) + steps (aside s)) ≤ steps (spread p) + steps (spread q)
       → (v : ℕ) × CanTell b (cat r s) v × (v + steps (aside (cat r s)) ≤ steps (spread (cat p q)))
@@ -150,6 +151,7 @@ module _ (p q : Pattern) where
     omega (arith, cat_steps (aside r) (aside s), cat_steps (spread p) (spread q), w),
   )
 
+  -- so two are told where each is, in either direction
   told_cat : (b : Bool) → IsTold b p → IsTold b q → IsTold b (cat p q)
   told_cat false u w =
       let all = cat_told false p q u.t w.t u.can w.can (omega (arith, u.fits, w.fits)) in

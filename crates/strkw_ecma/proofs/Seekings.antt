@@ -32,12 +32,15 @@ module _ (rows : List (List Bool)) (ts : List (Option ℕ)) (p : Pattern) (last 
   abbrev here : Pattern
   here = told_by (said rows (suc (length rest))) ts p
 
+  -- the pattern that is asked is that one
   told_here : q ≡ here
   told_here = q_is ∙ ap (λ (n : ℕ). told_by (said rows n) ts p) (ahead_is ∙ ap length begins)
 
+  -- so it is that one of which the answer tells
   answer_here : e ≡ leaves last (Some c) here true
   answer_here = e_is ∙ ap (λ (z : Pattern). leaves last (Some c) z true) told_here
 
+  -- and that one which goes on
   step_here : r ≡ step last (Some c) here true
   step_here = r_is ∙ ap (λ (z : Pattern). step last (Some c) z true) told_here
 
@@ -57,22 +60,27 @@ module _ (rows : List (List Bool)) (ts : List (Option ℕ)) (p : Pattern) (last 
       ∙ ap (λ (z : Pattern). leaves last (Some c) here true || ends_within rows ts z (Some c) rest) step_here
       ∙ sym (ap (ends_within rows ts p last) begins) ∙ so_far
 
+  -- where it does not end here, the search of the rest does
   pub within_turn : (answer : Bool) → ends_within rows ts p last left ≡ answer → e ≡ false → ends_within rows ts r (Some c) rest ≡ answer
   within_turn answer so_far not_here = sym (ap (λ (b : Bool). b || ends_within rows ts r (Some c) rest) not_here) ∙ turned answer so_far
 
+  -- where it does, the answer is yes
   pub within_found : (answer : Bool) → ends_within rows ts p last left ≡ answer → e ≡ true → true ≡ answer
   within_found answer so_far is_here = sym (ap (λ (b : Bool). b || ends_within rows ts r (Some c) rest) is_here) ∙ turned answer so_far
 
 -- at the end of the text
 module _ (rows : List (List Bool)) (ts : List (Option ℕ)) (p : Pattern) (last : Option ℕ) (left : List ℕ) (none : left ≡ [])
     (q : Pattern) (q_is : q ≡ told_by (said rows 0) ts p) (e : Bool) (e_is : e ≡ leaves last None q true) where
+  -- the last answer is that of the marks that the rows tell there
   end_here : e ≡ leaves last None (told_by (said rows 0) ts p) true
   end_here = e_is ∙ ap (λ (z : Pattern). leaves last None z true) q_is
 
+  -- it is the last of the answers
   pub row_ends : (bits whole : List Bool) → bits ++ ends_from rows ts p last left ≡ whole → bits ++ (e ∷ []) ≡ whole
   row_ends bits whole so_far =
       ap (λ (b : Bool). bits ++ (b ∷ [])) end_here ∙ sym (ap (λ (l : List ℕ). bits ++ ends_from rows ts p last l) none) ∙ so_far
 
+  -- and the answer of the search
   pub within_ends : (answer : Bool) → ends_within rows ts p last left ≡ answer → e ≡ answer
   within_ends answer so_far = end_here ∙ sym (ap (ends_within rows ts p last) none) ∙ so_far
 

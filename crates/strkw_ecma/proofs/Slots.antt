@@ -76,6 +76,7 @@ spots_count (lookahead n p) = refl
 
 -- What is said by numbers, `now`, is what `see` says of the lookaheads that they stand for.
 module _ (now : ℕ → Bool) (see : Pattern → Bool) where
+  -- each number says so of the lookahead that it stands for
   abbrev pub AreSaid : List (Option ℕ) → List (Option Pattern) → Type 0
   AreSaid ts [] = Unit {0}
   AreSaid ts (None ∷ ss) = (get_or ts 0 None ≡ None) × AreSaid (drop 1 ts) ss

@@ -81,6 +81,7 @@ module _ (rows : List (List Bool)) (ts : List (Option ℕ)) (text : List ℕ) (p
   at_end : (i : ℕ) → i ≤ length text → drop i text ≡ [] → i + 0 ≡ length text
   at_end i h e = omega (arith, h, sym (length-drop i text) ∙ ap length e)
 
+  -- so none is found there
   none_there : (i : ℕ) → i ≤ length text → drop i text ≡ [] → None ≡ slice_get text i
   none_there i h e = sym (slice_get_past text i (omega (arith, at_end i h e)))
 
@@ -185,6 +186,7 @@ other_way false chars = refl
 other_way true chars = sym (reverse-reverse chars)
 
 module _ (chars : List ℕ) (rows : List (List Bool)) (fs : List Quest) (right : AreRows chars rows fs) (b : Bool) (n : ℕ) where
+  -- the text from the end that the search begins at
   abbrev T : List ℕ
   T = along b chars
 
@@ -226,9 +228,11 @@ module _ (chars : List ℕ) (rows : List (List Bool)) (fs : List Quest) (right :
 
 -- a quest put aside, whose lookaheads are told by rows that are right
 module _ (chars : List ℕ) (fs : List Quest) (x : Seeking) (f : Quest) (is : IsAside fs x f) (rows : List (List Bool)) (right : AreRows chars rows fs) where
+  -- the text from the end that the quest begins at
   abbrev U : List ℕ
   U = along f.backward chars
 
+  -- what the text says of a lookahead at a place
   abbrev see : ℕ → Pattern → Bool
   see = begins_at (depth f.pattern) U
 

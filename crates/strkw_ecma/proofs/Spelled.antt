@@ -97,6 +97,7 @@ module _ (os : List Open) (ns : List (List ℕ)) (o : Open) (l : Level) (x : Las
   abbrev outside : Outer
   outside = record { groups = os; names = ns }
 
+  -- with it
   abbrev inside : Outer
   inside = record { groups = o ∷ os; names = ns }
 

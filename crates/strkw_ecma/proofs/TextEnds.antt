@@ -21,6 +21,7 @@ one_char c scalar =
 
 -- where a text ends with a character, what is before it is a text
 module _ (bytes rest : List ℕ) (c : ℕ) (utf8 : IsUtf8 bytes) (scalar : IsScalar c) (is : bytes ≡ rest ++ encode_utf8 c) where
+  -- it is a text
   pub before_last : IsUtf8 rest
   before_last =
       subst IsUtf8 (ap (take (length rest)) is ∙ take_at rest (encode_utf8 c) (length rest) refl)
@@ -54,6 +55,7 @@ module _ (bytes rest : List ℕ) (utf8 : is_utf8 bytes ≡ true) where
   next_forth A None is false e = no_chars bytes is.0
   next_forth A (Some c) is false e = chars_past_char bytes rest c (IsUtf8-from_is_utf8 bytes utf8) is
 
+  -- what is left then is a text
   pub still_forth : (A : Type 0) → (A → rest ≡ bytes) → (o : Option ℕ)
       → MatchOption o ((length bytes ≡ 0) × A) (λ c. bytes ≡ encode_utf8 c ++ rest) → is_utf8 rest ≡ true
   still_forth A f None is = ap is_utf8 (f is.1) ∙ utf8

@@ -138,11 +138,13 @@ by_values (Err e) q Second Both Done done along second = tt
 
 -- the same of a result that is said to be that of both
 module _ {S T E : Type 0} (r : Result S E) (q both : Result T E) (is : both ≡ result_and r q) (Done : Type 0) (done : OnOk r Done) where
+  -- what holds of a fault of each holds of a fault of both
   pub if_err-and : (First Second Both : E → Type 0) → ((e : E) → First e → Both e) → IfErr r First → ((e : E) → Done → Second e → Both e) → IfErr q Second
       → IfErr both Both
   if_err-and First Second Both alone first along second =
       subst (λ b. IfErr b Both) (sym is) (by_faults r q First Second Both Done alone first done along second)
 
+  -- what holds of a value of the second holds of a value of both
   pub if_ok-and : (Second Both : T → Type 0) → ((x : T) → Done → Second x → Both x) → IfOk q Second → IfOk both Both
   if_ok-and Second Both along second = subst (λ b. IfOk b Both) (sym is) (by_values r q Second Both Done done along second)
 

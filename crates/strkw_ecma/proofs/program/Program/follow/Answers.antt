@@ -49,9 +49,11 @@ bounds-reads-class-in-Peek c =
 module _ (p : Program) (k : ℕ) (items : List CodeInstruction) (same : items ≡ p.code.instructions.items) (within : k < length items)
     (class : ℕ) (again optional : Bool) (here : get_or items k (Read 0 false false) ≡ Read class again optional)
     (at : ℕ) (counted : at + read_count (drop k (program_of p)) ≡ p.marks) where
+  -- with its mark, those before it and those behind it are all
   pub one_more_mark : at + 1 + read_count (drop (suc k) (program_of p)) ≡ p.marks
   one_more_mark = one_mark_more p k (omega (arith, ap length same, within)) class again optional (there _ _ _ _ same here) at counted
 
+  -- so a list of all marks has one for it
   pub has_mark : (n : ℕ) → classes (pattern_of p) ≤ n → at < n
   has_mark n h = omega (arith, one_more_mark, p.counted, h)
 
@@ -118,12 +120,15 @@ goes_nowhere false false false none = refl
 module _ (p : Program) (k at : ℕ) (within : k < length p.code.instructions.items) (last next : Option ℕ) (enters : Bool) (old : CodeWalk) (all : Walked)
     (marks : List Bool)
     (h : all ≡ with_marks last next (take at marks) (followed last next (drop k (program_of p)) (following_of enters old) (drop at marks))) where
+  -- one more is the next place
   next_place : k + 1 ≡ suc k
   next_place = omega arith
 
+  -- and the next mark
   next_mark : at + 1 ≡ suc at
   next_mark = omega arith
 
+  -- it is a turn
   pub turn_followed : (t : CodeTurn) (comes : Bool) (new : CodeWalk) → get_or p.code.instructions.items k (Read 0 false false) ≡ Turn t
       → ((m : Bool) → following_of comes new ≡ over last next (turned t) m (following_of enters old))
       → all ≡ with_marks last next (take at marks) (followed last next (drop (k + 1) (program_of p)) (following_of comes new) (drop at marks))
@@ -134,6 +139,7 @@ module _ (p : Program) (k at : ℕ) (within : k < length p.code.instructions.ite
       (from_turn p k within t here)
       ∙ ap (with_marks last next (take at marks)) (followed_turned last next t (drop (suc k) (program_of p)) (drop at marks) _ _ behind))
 
+  -- it looks at the next character
   pub peek_followed : (class : ℕ) (reads_it : Bool) → get_or p.code.instructions.items k (Read 0 false false) ≡ Peek class
       → reads_it ≡ class_reads next (slice_get p.code.classes.items class)
       → all ≡ with_marks last next (take at marks) (followed last next (drop (k + 1) (program_of p)) (following_of (enters && reads_it) old) (drop at marks))
@@ -146,6 +152,7 @@ module _ (p : Program) (k at : ℕ) (within : k < length p.code.instructions.ite
       (followed_peeking last next (slice_get p.code.classes.items class) reads_it (drop (suc k) (program_of p)) (drop at marks)
       (following_of enters old) reads_is))
 
+  -- it reads a class
   pub class_followed : (class : ℕ) (again optional reads_it behind comes : Bool) (new : CodeWalk)
       → get_or p.code.instructions.items k (Read 0 false false) ≡ Read class again optional
       → ((n : Bool) (rs : List CharSet) → following_of comes new ≡ over last next (read again optional n rs) (get_or marks at false) (following_of enters old))
@@ -278,6 +285,7 @@ loop-instruction-preserved c =
 module _ (p : Program) (k at : ℕ) (last next : Option ℕ) (enters : Bool) (w : CodeWalk) (all : Walked) (marks : List Bool)
     (end : length p.code.instructions.items ≤ k)
     (h : all ≡ with_marks last next (take at marks) (followed last next (drop k (program_of p)) (following_of enters w) (drop at marks))) where
+  -- behind the last instruction the walk is what all of it was to be
   pub all_followed : all ≡ record { leaves = enters; marks = marks }
   all_followed =
       h ∙ ap (λ (is : List Instruction). with_marks last next (take at marks) (followed last next is (following_of enters w) (drop at marks)))

@@ -9,15 +9,18 @@ use Rattle.strkw_ecma.proofs.program.Program.step_by.Goals as goal
 
 module _ (p : Program) (last next : Option ℕ) (marks again : List Bool) (known : again ≡ (asked last next (program_of p) marks).again)
     (fits : classes (pattern_of p) ≤ length marks) where
+  -- the walk of the code is that of the pattern
   walk_is : followed last next (program_of p) (begun again) marks ≡ walked last next (program (pattern_of p)) marks
   walk_is =
       ap (λ (bs : List Bool). followed last next (program_of p) (begun bs) marks) known
       ∙ ap (λ (is : List Instruction). walked last next is marks) p.right
 
+  -- so its answer is that of the marked pattern
   pub left_is : (answer : Bool) → answer ≡ (followed last next (program_of p) (begun again) marks).leaves
       → answer ≡ leaves last next (marked marks (pattern_of p)) true
   left_is answer is = is ∙ ap (λ (w : Walked). w.leaves) walk_is ∙ (walk_steps last next (pattern_of p) marks fits).leaves_is
 
+  -- and its marks are those after a step
   pub marks_are : (behind : List Bool) → behind ≡ (followed last next (program_of p) (begun again) marks).marks
       → marked behind (pattern_of p) ≡ step last next (marked marks (pattern_of p)) true
   marks_are behind is =
