@@ -144,7 +144,7 @@ fn piece_room(alloc: Global) -> Result<Vec<u8>, AllocError>
 ///
 /// Each line, ended by a line feed or the last one without, is a request: a JSON object with the members `draft` (4, 6,
 /// 7, 201909 or 202012), `schema` (an object) and `instance`, and at will `validate_formats`, `ignore_unknown_formats`
-/// and `fold` (true or false). Its answer is lines: `bad request` where the line is no such object; `refused L: T`
+/// and `fold` (true or false). Its answer is lines: `bad request` where the line is not such an object; `refused L: T`
 /// where the schema object is refused at the location L, with the text T; where `fold` is true, `fold true` or `fold
 /// false`, as `folds_to_false` says; `error L: T` for each error, or `valid`, and then `note L: V` for each note, with
 /// its value V as compact JSON; and at last `end`. No check is registered, and a pattern that is not literal is
