@@ -35,7 +35,7 @@ GRAMMARS, KEYWORDS, FILES = "strkw_test_grammars", "strkw_test_rows", "strkw_tes
 ROWS = {
     "strkw_json": (GRAMMARS, KEYWORDS),
     "strkw_report": (KEYWORDS, FILES), "strkw_formats": (KEYWORDS,), "strkw_keywords": (KEYWORDS,),
-    "strkw_object": (KEYWORDS,), "strkw_cli": (KEYWORDS,),
+    "strkw_object": (KEYWORDS,), "strkw_print": (KEYWORDS,), "strkw_cache": (KEYWORDS,), "strkw_cli": (KEYWORDS,),
     "strkw_plan": (FILES,), "strkw_records": (FILES,), "strkw_table": (FILES,), "strkw_document": (FILES,),
 }
 SUMS = '{"ask":"sums"'

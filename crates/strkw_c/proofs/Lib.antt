@@ -1,5 +1,4 @@
 mod KeptLemmas
-mod LineLemmas
 mod PlaceSteps
 mod RegisteredLemmas
 mod StatusLemmas

@@ -1,6 +1,5 @@
 -- What is written of one text: a line for each error, and then one for each note.
 use Rattle.std.specs.Prelude.{◌≡◌, ℕ, List, ◌++◌, Some, None}
-use Rattle.std.specs.List.{flat_map}
 use Rattle.serde_json.specs.Data.{Members}
 use Rattle.strkw_report.specs.Kinds.{Report}
 use Rattle.strkw_report.specs.Standings.{root_site}
@@ -11,11 +10,11 @@ use Rattle.strkw_keywords.specs.Object.{Settings, Errors, FirstRefusal, Notes}
 use Rattle.strkw_keywords.specs.Remarks.{Remark}
 use Rattle.strkw_object.specs.declared.strings.StringKeywords.{StringKeywords}
 use Rattle.strkw_object.specs.Compiled.{keywords_assertions, keywords_remarks}
-use Rattle.strkw_cli.specs.Printed.{error_line, note_lines}
+use Rattle.strkw_print.specs.Printed.{error_lines, note_lines}
 use Rattle.strkw_c.specs.Verdicts.{IsSchema}
 
 abbrev pub lines_of : List Report → List Remark → List ℕ
-lines_of errors notes = flat_map error_line errors ++ note_lines notes
+lines_of errors notes = error_lines errors ++ note_lines notes
 
 -- these lines are those of the errors of a text by a schema object, and of what it notes
 abbrev pub AreLines : Settings → Members → List ℕ → List ℕ → Type 0

@@ -2,7 +2,9 @@
 use Rattle.std.proofs.Common.{◌≡◌, ◌≢◌, ◌↔◌, ◌⊎◌, inl, inr, ℕ, List, [], Bool, true, false, ◌++◌, Option}
 use Rattle.std.proofs.Common.{Some, None, Result, Ok, Err, OnOk, OnErr, refl, sym, ap}
 use Rattle.std.proofs.Common.{◌∙◌, subst, codes, append_assoc, if◌then◌else◌, is_ok, option_and_then}
-use Rattle.serde_json.specs.Data.{Data, Members}
+use Rattle.std.proofs.Common.{length, take, arith}
+use Rattle.std.proofs.lemmas.List.{take-append-le, take_all}
+use Rattle.serde_json.specs.Data.{Data}
 use Rattle.strkw_report.specs.Kinds.{Report}
 use Rattle.strkw_report.specs.Refusals.{reason_of, refusal_of, memory}
 use Rattle.strkw_report.specs.declared.refusal.CompileError.{CompileError}
@@ -19,19 +21,12 @@ use Rattle.strkw_object.specs.Compiled.{IsCompiledFrom, keywords_assertions, key
 use Rattle.strkw_keywords.specs.Compiled.{out_of_memory}
 use Rattle.strkw_json.specs.Json.{IsReading}
 use Rattle.strkw_cli.specs.Request.{Request, request_in}
-use Rattle.strkw_object.specs.Printable.{ArePrintable}
-use Rattle.strkw_cli.specs.Printed.{refused_line, TellsFold, verdict_lines, note_lines}
+use Rattle.strkw_print.specs.Printed.{note_lines, refused_line}
 use Rattle.strkw_report.specs.Standings.{root_site}
-use Rattle.strkw_cli.specs.Answer.{settings_for, Answers, IsAnswer}
-use Rattle.strkw_cli.specs.Kept.{IsTold}
+use Rattle.strkw_cli.specs.Answer.{settings_for, Answers, IsAnswer, TellsFold, verdict_lines}
+use Rattle.strkw_cache.specs.Told.{IsTold}
 use Rattle.strkw_cli.proofs.Asked.{nothing_read}
 use Rattle.strkw_object.proofs.Meaning.{compiled_folds}
-use Rattle.strkw_object.proofs.Printable.{notes_printable}
-
--- what a compiled object notes has a text
-pub compiled_printable : {E : Type 0} (outcome : E → List ℕ → Outcome) (s : Settings) (ms : Members) (k : StringKeywords E) → IsCompiledFrom outcome s ms k
-    → (node : Option (List ℕ)) (rs : List Remark) → rs ≡ remarks_on node (keywords_remarks k) → ArePrintable rs
-compiled_printable outcome s ms k of node rs is = notes_printable s ms node rs (of.entries, of.are_entries, is ∙ ap (remarks_on node) of.notes)
 
 -- what is told of folding, by what holds exactly where P does
 pub tells_alike : {P Q : Type 0} (asked : Bool) (told : List ℕ) → P ↔ Q → TellsFold asked P told → TellsFold asked Q told
@@ -70,16 +65,27 @@ answer_of_refusal r e (inl none) had = absurd (had (ap (λ r. r.reason) none))
 answer_of_refusal r e (inr first) had = (Some (refusal_of e), first, refl)
 
 -- what is told was appended, where the call succeeded
-pub told_appended : {T E : Type 0} (result : Result T E) (asked : Bool) (P : Type 0) (old new told kept : List ℕ) → asked ≡ true → TellsFold true P told
-    → new ≡ (if is_ok result then old ++ told else kept) → OnOk result ((x : List ℕ) × (new ≡ old ++ x) × TellsFold asked P x)
-told_appended (Ok x) asked P old new told kept asks tells grown = (told, grown, rw asks tells)
-told_appended (Err e) asked P old new told kept asks tells grown = tt
+pub told_appended : {T E : Type 0} (result : Result T E) (P : Type 0) (old new told kept : List ℕ) → TellsFold true P told
+    → new ≡ (if is_ok result then old ++ told else kept) → OnOk result ((x : List ℕ) × (new ≡ old ++ x) × TellsFold true P x)
+told_appended (Ok x) P old new told kept tells grown = (told, grown, tells)
+told_appended (Err e) P old new told kept tells grown = tt
 
 -- where the first of two steps appended, the second was refused
 pub appended_more : {T E : Type 0} (result : Result T E) (old mid new front : List ℕ) → mid ≡ old ++ front
     → OnErr result ((more : List ℕ) × (new ≡ mid ++ more)) → OnErr result ((more : List ℕ) × (new ≡ old ++ more))
 appended_more (Ok x) old mid new front first second = tt
 appended_more (Err e) old mid new front first second = (front ++ second.0, second.1 ∙ ap (λ l. l ++ second.0) first ∙ append_assoc old front second.0)
+
+-- where a call changed nothing, what the next one left behind stands behind what was there before
+pub grown_anyway : {T E : Type 0} (result : Result T E) (P : List ℕ → Type 0) (old mid new : List ℕ) → mid ≡ old
+    → OnOk result ((made : List ℕ) × (new ≡ mid ++ made) × P made) → OnErr result ((more : List ℕ) × (new ≡ mid ++ more)) → (more : List ℕ) × (new ≡ old ++ more)
+grown_anyway (Ok x) P old mid new same (made, is, holds) err = (made, is ∙ ap (λ l. l ++ made) same)
+grown_anyway (Err e) P old mid new same ok (more, is) = (more, is ∙ ap (λ l. l ++ more) same)
+
+-- what stands behind so many bytes is cut off
+pub cut_back : (n : ℕ) (old mid new more : List ℕ) → n ≡ length old → mid ≡ old ++ more → new ≡ take n mid → new ≡ old
+cut_back n old mid new more is grown cut =
+    cut ∙ ap (take n) grown ∙ take-append-le n old more (omega (arith, is)) ∙ take_all n old (omega (arith, is))
 
 -- the lines of an instance
 abbrev pub found_lines : Option (List ℕ) → List Report → List Remark → List ℕ
@@ -107,28 +113,6 @@ appended_text (Ok x) assertions lists node text k old mid new (errors, first, re
     ∙ ap (λ l. old ++ l) (sym (append_assoc lines notes (codes "end\n"))) in
     (errors, rw is whole, rw is reports)
 appended_text (Err e) assertions lists node text k old mid new found rest is = tt
-
--- what is told was appended
-pub made_appended : {T F : Type 0} (result : Result T F) (P : List ℕ → Type 0) (old new told : List ℕ) → OnOk result (P told) → OnOk result (new ≡ old ++ told)
-    → OnOk result ((made : List ℕ) × (new ≡ old ++ made) × P made)
-made_appended (Ok x) P old new told is grown = (told, grown, is)
-made_appended (Err e) P old new told is grown = tt
-
--- the notes and the end are told behind the errors of a text
-pub told_notes : {T F : Type 0} (result : Result T F) (k : StringKeywords LiteralMatcher) (old mid new : List ℕ)
-    → mid ≡ old ++ note_lines (keywords_remarks k) → OnOk result (new ≡ mid ++ codes "end\n")
-    → OnOk result ((told : List ℕ) × (new ≡ old ++ told) × IsTold (Ok k) told)
-told_notes (Ok x) k old mid new first second =
-    let notes = note_lines (keywords_remarks k) in
-    (notes ++ codes "end\n", second ∙ ap (λ l. l ++ codes "end\n") first ∙ append_assoc old notes (codes "end\n"), refl)
-told_notes (Err e) k old mid new first second = tt
-
--- and of a refusal its line, and the end
-pub told_refusal : {T F : Type 0} (result : Result T F) (e : CompileError) (old new : List ℕ)
-    → OnOk result (new ≡ old ++ (refused_line (refusal_of e) ++ codes "end\n")) → OnOk result (reason_of e.kind ≢ memory)
-    → OnOk result ((told : List ℕ) × (new ≡ old ++ told) × IsTold (Err e) told)
-told_refusal (Ok x) e old new grown had = (refused_line (refusal_of e) ++ codes "end\n", grown, (had, refl))
-told_refusal (Err f) e old new grown had = tt
 
 -- what is told, and then the lines of an instance, are an answer
 pub appended_found : {T E F : Type 0} (result : Result T F) (outcome : E → List ℕ → Outcome) (r : Request) (s : Settings) (k : StringKeywords E)

@@ -9,10 +9,10 @@ use Rattle.strkw_keywords.specs.Meanings.{no_lists}
 use Rattle.strkw_keywords.proofs.Entries.{first_refusal_exists, notes_exist}
 use Rattle.strkw_json.specs.Json.{IsReading}
 use Rattle.strkw_cli.specs.Request.{Request, request_in}
-use Rattle.strkw_cli.specs.Printed.{TellsFold, refused_line, verdict_lines, note_lines}
+use Rattle.strkw_print.specs.Printed.{note_lines, refused_line}
 use Rattle.strkw_cli.specs.Lines.{lines}
 use Rattle.strkw_report.specs.Standings.{root_site}
-use Rattle.strkw_cli.specs.Answer.{settings_for, AnswersBy, Answers, IsAnswer, AreAnswers, IsOutput}
+use Rattle.strkw_cli.specs.Answer.{settings_for, verdict_lines, TellsFold, AnswersBy, Answers, IsAnswer, AreAnswers, IsOutput}
 
 -- it cannot be that no text is what is told of folding
 told_there : (asked : Bool) (P : Type 0) → ((told : List ℕ) → TellsFold asked P told → ⊥) → ⊥

@@ -9,11 +9,11 @@ use Rattle.strkw_keywords.specs.Remarks.{Remark}
 use Rattle.strkw_keywords.specs.Object.{Settings, Errors, FirstRefusal, Notes}
 use Rattle.strkw_json.specs.Json.{IsReading}
 use Rattle.strkw_cli.specs.Request.{Request, request_in}
-use Rattle.strkw_cli.specs.Printed.{TellsFold, verdict_lines, note_lines}
+use Rattle.strkw_print.specs.Printed.{note_lines}
 use Rattle.strkw_cli.specs.Lines.{lines}
 use Rattle.strkw_keywords.specs.Folding.{FoldsToFalse}
 use Rattle.strkw_report.specs.Standings.{root_site}
-use Rattle.strkw_cli.specs.Answer.{settings_for, AnswersBy, Answers, IsAnswer, AreAnswers, IsOutput}
+use Rattle.strkw_cli.specs.Answer.{settings_for, verdict_lines, TellsFold, AnswersBy, Answers, IsAnswer, AreAnswers, IsOutput}
 
 -- what a schema object means is determined
 -- what the first refusal of a schema object is, if there is one, is determined

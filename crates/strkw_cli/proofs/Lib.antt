@@ -1,5 +1,4 @@
 mod FirstPlaces
-pub mod Notes
 pub mod AnswerCases
 pub mod AnswerMeaning
 pub mod LineLemmas
@@ -8,9 +7,7 @@ pub mod OutcomeLemmas
 pub mod BoundLemmas
 pub mod RunLemmas
 pub mod AnswerExistence
-pub mod Lines
 pub mod Asked
 pub mod Parts
 pub mod Scalars
-pub mod KeptReading
-pub mod KeptCompiling
+pub mod Verdicts

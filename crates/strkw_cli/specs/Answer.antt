@@ -1,43 +1,38 @@
 -- The answer to a line, and to lines: a relation, since it stands on facts that no test decides.
-use Rattle.std.specs.Prelude.{◌≡◌, ℕ, List, [], ◌∷◌, ◌++◌, false, Option, Some, None}
+use Rattle.std.specs.Prelude.{◌≡◌, ◌⊎◌, ℕ, List, [], ◌∷◌, ◌++◌, Bool, true, false, Option, Some, None}
 use Rattle.std.specs.Prelude.{option_and_then, codes}
 use Rattle.serde_json.specs.Data.{Data}
 use Rattle.strkw_report.specs.Kinds.{Report}
 use Rattle.strkw_report.specs.Refusals.{Refusal}
 use Rattle.strkw_report.specs.Standings.{root_site}
-use Rattle.strkw_pattern.specs.declared.engine.Outcome.TheVariants.{NoMatch}
-use Rattle.strkw_keywords.specs.declared.options.Options.{Options}
 use Rattle.strkw_keywords.specs.Meanings.{no_lists}
 use Rattle.strkw_keywords.specs.Remarks.{Remark}
-use Rattle.strkw_keywords.specs.Object.{Settings, default_options, Errors, FirstRefusal, Notes}
+use Rattle.strkw_keywords.specs.Object.{Settings, Errors, FirstRefusal, Notes}
 use Rattle.strkw_keywords.specs.Folding.{FoldsToFalse}
 use Rattle.strkw_json.specs.Json.{IsReading}
+use Rattle.strkw_print.specs.Printed.{error_lines, note_lines, refused_line}
+use Rattle.strkw_cache.specs.Cached.{settings_under}
 use Rattle.strkw_cli.specs.Request.{Request, request_in}
-use Rattle.strkw_cli.specs.Printed.{refused_line, TellsFold, verdict_lines, note_lines}
 use Rattle.strkw_cli.specs.Lines.{lines}
 
--- the options of a request: it sets two of them
-abbrev pub options_for : Request → Options
-options_for r = record {
+-- what the schema object of a request is compiled under: its terms
+abbrev pub settings_for : Request → Settings
+settings_for r = settings_under (record {
+  draft = r.draft;
   validate_formats = r.validate_formats;
   ignore_unknown_formats = r.ignore_unknown_formats;
-  formats_by_dialect = default_options.formats_by_dialect;
-  json_media_type = default_options.json_media_type;
-  codecs = default_options.codecs;
-  overridden = default_options.overridden;
-}
+})
 
--- What the schema object of a request is compiled under: it stands at the root, there is no
--- absolute prefix, no check is registered, and the builder takes no pattern.
-abbrev pub settings_for : Request → Settings
-settings_for r = record {
-  draft = r.draft;
-  place = record { schema = []; prefix = None };
-  options = options_for r;
-  lists = no_lists;
-  takes = λ pattern. false;
-  outcome = λ pattern text. NoMatch;
-}
+-- the errors, or that there are none
+abbrev pub verdict_lines : List Report → List ℕ
+verdict_lines [] = codes "valid\n"
+verdict_lines (r ∷ rs) = error_lines (r ∷ rs)
+
+-- what is told of folding: nothing where it is not asked, or else whether P holds
+abbrev pub TellsFold : Bool → Type 0 → List ℕ → Type 0
+TellsFold false P told = told ≡ []
+TellsFold true P told = (P × (told ≡ codes "fold true\n"))
+    ⊎ ((P → ⊥) × (told ≡ codes "fold false\n"))
 
 -- the answer to a request, by the first refusal of its schema object
 abbrev pub AnswersBy : Option Refusal → Request → List ℕ → Type 0

@@ -1,7 +1,6 @@
 pub mod Request
 pub mod Both
 pub mod Borrowed
-pub mod Printed
 pub mod Answer
 pub mod Lines
 pub mod Outcome
@@ -11,5 +10,4 @@ pub mod Faults
 pub mod Tokens
 pub mod Parts
 pub mod Unread
-pub mod KeptTokens
-pub mod Kept
+pub mod Held

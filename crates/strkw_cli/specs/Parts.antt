@@ -18,8 +18,8 @@ abbrev pub instance_of : Parts → Option (Option (List ℕ))
 instance_of p = option_map (option_map (λ text. text.now)) p.instance
 
 -- these are the parts of an object of these members, with the values that were read of its schema
--- object, and where an object may be kept
-pub record AreParts (kept : Bool) (values : OwnedValues) (p : Parts) (ms : Members) : Type 0 where
+-- object, and where an object may be cached
+pub record AreParts (cached : Bool) (values : OwnedValues) (p : Parts) (ms : Members) : Type 0 where
   pub draft : p.draft ≡ option_and_then draft_in (get_member (codes "draft") ms)
   pub schema : AreBoth (IsObject values) p.schema
       (option_and_then as_object (get_member (codes "schema") ms))
@@ -29,7 +29,7 @@ pub record AreParts (kept : Bool) (values : OwnedValues) (p : Parts) (ms : Membe
       ≡ flag_in (get_member (codes "ignore_unknown_formats") ms)
   pub fold : p.fold ≡ flag_in (get_member (codes "fold") ms)
   pub known : p.has_only_request_keys ≡ has_only_request_keys ms
-  pub right : IfSome p.schema (IsRight kept)
+  pub right : IfSome p.schema (IsRight cached)
 
 -- what a member of the name `taken` makes of the part of this name: its own, or what it was
 abbrev pub after : {A : Type 0} → List ℕ → List ℕ → A → A → A
@@ -37,7 +37,7 @@ after name taken own was = if bytes_eq name taken then own else was
 
 -- A member of this name and value was taken: its part is replaced, and the others are as they were.
 -- The values are read anew with the schema object, and with no other part.
-pub record Takes (kept : Bool) (name : List ℕ) (d : Data) (v w : OwnedValues) (p q : Parts) : Type 0
+pub record Takes (cached : Bool) (name : List ℕ) (d : Data) (v w : OwnedValues) (p q : Parts) : Type 0
   where
     pub draft : q.draft ≡ after (codes "draft") name (draft_in d) p.draft
     pub schema : MatchBool (bytes_eq (codes "schema") name)
@@ -50,4 +50,4 @@ pub record Takes (kept : Bool) (name : List ℕ) (d : Data) (v w : OwnedValues) 
         p.ignore_unknown_formats
     pub fold : q.fold ≡ after (codes "fold") name (flag_in (Some d)) p.fold
     pub known : q.has_only_request_keys ≡ (is_request_key name && p.has_only_request_keys)
-    pub right : IfSome p.schema (IsRight kept) → IfSome q.schema (IsRight kept)
+    pub right : IfSome p.schema (IsRight cached) → IfSome q.schema (IsRight cached)

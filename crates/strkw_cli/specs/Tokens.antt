@@ -1,14 +1,6 @@
 -- The tokens of a line. No public clause speaks of them.
-use Rattle.std.specs.Prelude.{ℕ, Bool, true, false, List, [], ◌∷◌}
+use Rattle.std.specs.Prelude.{Bool, true, false, List, [], ◌∷◌}
 use Rattle.json.specs.Token.{Token}
-
--- a line nests one level deeper than the value of a member
-abbrev pub member_depth : ℕ
-member_depth = 126
-
--- and a value of its schema object nests one level less
-abbrev pub value_depth : ℕ
-value_depth = 125
 
 abbrev pub begins_object : List Token → Bool
 begins_object [] = false

@@ -1,25 +1,30 @@
 //! The answer to one line.
 
-ghost use Rattle.std.specs.Prelude.{◌++◌, ◌≡◌, ℕ, Bool, IfSome, IsErrOf, List, None, OnErr, OnOk, Some, option_map, true};
+ghost use Rattle.std.specs.Prelude.{◌++◌, ◌≡◌, ℕ, Bool, IfSome, IsErrOf, List, None, OnErr, OnOk, Some, codes, option_map, true};
 ghost use Rattle.strkw_keywords.specs.Lengths.{IsEmpty};
-ghost use Rattle.strkw_cli.specs.Answer.{Answers, IsAnswer, settings_for};
-ghost use Rattle.strkw_cli.specs.Kept.{CanAnswer, IsCompiledTo, IsKept, IsSound, IsTold};
+ghost use Rattle.strkw_keywords.specs.Errors.{NodeReports};
+ghost use Rattle.strkw_keywords.specs.Demands.{IsInUse};
+ghost use Rattle.strkw_keywords.specs.Meanings.{no_lists};
+ghost use Rattle.strkw_report.specs.Kinds.{Report};
+ghost use Rattle.strkw_report.specs.Standings.{root_site};
+ghost use Rattle.strkw_object.specs.Compiled.{keywords_assertions, keywords_demands, keywords_interval};
+ghost use Rattle.strkw_cache.specs.Cached.{IsCached, IsCompiledTo};
+ghost use Rattle.strkw_cache.specs.Told.{CanAnswer, IsTold};
+ghost use Rattle.strkw_cli.specs.Answer.{Answers, IsAnswer, TellsFold, settings_for, verdict_lines};
+ghost use Rattle.strkw_cli.specs.Held.{IsSound};
 ghost use Rattle.strkw_cli.specs.Request as asked;
-ghost use Rattle.strkw_object.specs.Compiled.{keywords_interval};
-ghost use Rattle.strkw_cli.specs.Printed.{TellsFold};
 
-use super::compiling::{Compiled, compile, no_checks};
 use super::held::Held;
-use super::kept::{KeptObject, Sight};
-use super::printing::push_bad_request;
 use super::request::{Request, Schema, read_request};
 use super::unread::Unanswered;
-use super::writing::{push_told, push_verdict};
 use json::Scratch;
 use std::alloc::{AllocError, Global};
+use strkw_cache::{CachedObject, Compiled, Occurrence, compile, push_told};
+use strkw_keywords::Checks;
 use strkw_object::{OwnedValues, StringKeywords};
 use strkw_pattern::RegexEngine;
-use strkw_report::TextNode;
+use strkw_print::push_errors;
+use strkw_report::{Node, TextNode};
 
 /// Appends the answer to a line. Out of memory, the vector is as it was.
 pub fn answer(alloc: Global, line: &[u8], out: &mut Vec<u8>) -> Result<(), AllocError>
@@ -27,7 +32,7 @@ pub fn answer(alloc: Global, line: &[u8], out: &mut Vec<u8>) -> Result<(), Alloc
         × IsAnswer line.now made) }
     ensures err { OnErr result (out.new.items ≡ out.old.items) }
 {
-    answer_with(alloc, line, &mut Held::for_one_line(alloc), out)
+    answer_with(alloc, line, &mut Held::new(alloc, 0), out)
 }
 
 /// The same with what is held from line to line.
@@ -47,45 +52,23 @@ pub(super) fn answer_with(
         return push_bad_request(out);
     }
     let before = out.len();
-    let result = answer_keeping(alloc, line, held, out);
+    let values = &mut held.values;
+    let object = held.cache.object.as_ref();
+    let result = match answer_line(alloc, line, &mut held.scratch, object, values, out) {
+        Ok(seen) => held.cache.see(alloc, &mut held.scratch, values, line, seen),
+        Err(Unanswered::Memory) => Err(AllocError),
+        Err(Unanswered::Differs) => {
+            held.cache.forget();
+            answer_anew(alloc, line, &mut held.scratch, values, out)
+        }
+    };
     if result.is_err() {
         out.truncate(before);
     }
     result
 }
 
-// Appends the answer to a line, or a beginning of it where it is out of memory, and sees its schema object.
-fn answer_keeping(
-    alloc: Global,
-    line: &[u8],
-    held: &mut Held,
-    out: &mut Vec<u8>,
-) -> Result<(), AllocError>
-    requires { IsSound held.old }
-    ensures ok { OnOk result ((made : List ℕ) × (out.new.items ≡ out.old.items ++ made)
-        × IsAnswer line.now made) }
-    ensures err { OnErr result ((more : List ℕ) × (out.new.items ≡ out.old.items ++ more)) }
-    ensures sound { IsSound held.new }
-{
-    let values = &mut held.values;
-    match answer_line(
-        alloc,
-        line,
-        &mut held.scratch,
-        held.kept.object.as_ref(),
-        values,
-        out,
-    ) {
-        Ok(sight) => held.kept.see(alloc, &mut held.scratch, values, line, sight),
-        Err(Unanswered::Memory) => Err(AllocError),
-        Err(Unanswered::Differs) => {
-            held.kept.forget();
-            answer_anew(alloc, line, &mut held.scratch, values, out)
-        }
-    }
-}
-
-// Appends the answer to a line, or a beginning of it where it is out of memory, and keeps nothing.
+// Appends the answer to a line, or a beginning of it where it is out of memory, and caches nothing.
 fn answer_anew(
     alloc: Global,
     line: &[u8],
@@ -104,40 +87,40 @@ fn answer_anew(
     }
 }
 
-// Appends the answer to a line, or a beginning of it where it is out of memory, and tells what it asked of its schema
-// object, where that was compiled anew. It differs where the object is kept, and was asked otherwise.
+// Appends the answer to a line, or a beginning of it where it is out of memory, and tells where its schema object
+// stands, where that was compiled anew. It differs where the object is cached, and compiled under other terms.
 fn answer_line(
     alloc: Global,
     line: &[u8],
     scratch: &mut Scratch,
-    kept: Option<&KeptObject>,
+    cached: Option<&CachedObject>,
     values: &mut OwnedValues,
     out: &mut Vec<u8>,
-) -> Result<Option<Sight>, Unanswered>
-    requires { IfSome kept (λ object. IsKept object.now) }
+) -> Result<Option<Occurrence>, Unanswered>
+    requires { IfSome cached (λ object. IsCached object.now) }
     ensures ok { OnOk result ((made : List ℕ) × (out.new.items ≡ out.old.items ++ made)
         × IsAnswer line.now made) }
     ensures err { OnErr result ((more : List ℕ) × (out.new.items ≡ out.old.items ++ more)) }
     ensures differs { IsErrOf result Unanswered.Differs → out.new.items ≡ out.old.items }
-    ensures same { kept.entry ≡ None → IsErrOf result Unanswered.Differs → ⊥ }
+    ensures same { cached.entry ≡ None → IsErrOf result Unanswered.Differs → ⊥ }
 {
-    let Some(request) = read_request(alloc, line, scratch, kept, values)? else {
+    let Some(request) = read_request(alloc, line, scratch, cached, values)? else {
         push_bad_request(out)?;
         return Ok(None);
     };
-    let asked = request.asked;
+    let terms = request.terms;
     match request.schema {
         Schema::Read(start, end) => {
-            let compiled = compile(alloc, asked, values);
+            let compiled = compile(alloc, terms, values);
             push_answer(alloc, &request, &compiled, None, out)?;
-            Ok(Some(Sight { asked, start, end }))
+            Ok(Some(Occurrence { terms, start, end }))
         }
-        Schema::Kept(object) if object.is_compiled_as(asked) => {
+        Schema::Cached(object) if object.is_compiled_under(terms) => {
             let told = Some(object.told.as_slice());
             push_answer(alloc, &request, &object.compiled, told, out)?;
             Ok(None)
         }
-        Schema::Kept(_) => Err(Unanswered::Differs),
+        Schema::Cached(_) => Err(Unanswered::Differs),
     }
 }
 
@@ -162,33 +145,43 @@ fn push_answer(
 {
     match compiled {
         Ok(keywords) => {
-            push_fold(request.fold, keywords, out)?;
+            if request.fold {
+                push_fold(keywords, out)?;
+            }
             let Some(text) = TextNode::of(&request.instance) else {
                 return out.extend_from_slice(b"valid\nend\n");
             };
-            push_verdict(alloc, keywords, &text, &no_checks(), out)?;
+            let before = out.len();
+            push_errors(alloc, keywords, &text, &Checks::none(), out)?;
+            if out.len() == before {
+                out.extend_from_slice(b"valid\n")?;
+            }
             push_told(alloc, compiled, told, out)
         }
         Err(_) => push_told(alloc, compiled, told, out),
     }
 }
 
-// Appends whether an object folds to false, where that is asked.
+// Appends whether an object folds to false.
 fn push_fold<E: RegexEngine>(
-    asked: bool,
     keywords: &StringKeywords<E>,
     out: &mut Vec<u8>,
 ) -> Result<(), AllocError>
     ensures ok { OnOk result ((told : List ℕ) × (out.new.items ≡ out.old.items ++ told)
-        × TellsFold asked (IsEmpty (keywords_interval E.outcome keywords.now)) told) }
+        × TellsFold true (IsEmpty (keywords_interval E.outcome keywords.now)) told) }
     ensures err { OnErr result ((more : List ℕ) × (out.new.items ≡ out.old.items ++ more)) }
 {
-    if !asked {
-        return Ok(());
-    }
     if keywords.folds_to_false() {
         out.extend_from_slice(b"fold true\n")
     } else {
         out.extend_from_slice(b"fold false\n")
     }
+}
+
+// Appends the answer to a line that is no request.
+fn push_bad_request(out: &mut Vec<u8>) -> Result<(), AllocError>
+    ensures ok { OnOk result (out.new.items ≡ out.old.items ++ codes "bad request\nend\n") }
+    ensures err { OnErr result (out.new.items ≡ out.old.items) }
+{
+    out.extend_from_slice(b"bad request\nend\n")
 }

@@ -1,43 +1,29 @@
 //! What is held from line to line.
 
-ghost use Rattle.strkw_cli.specs.Kept.{IsSound};
+ghost use Rattle.strkw_cli.specs.Held.{IsSound};
 
-use super::kept::Kept;
 use json::Scratch;
 use std::alloc::Global;
+use strkw_cache::Cache;
 use strkw_object::OwnedValues;
 
-// The longest text of a schema object that a run keeps.
-const LONGEST_KEPT: usize = 65536;
-
-/// The scratch of the reader, the values of the schema object that a line has, and the one that is kept.
+/// The scratch of the reader, the values of the schema object that a line has, and the one that is cached.
 #[derive(Drop)]
 pub(super) struct Held {
     pub(super) scratch: Scratch,
     pub(super) values: OwnedValues,
-    pub(super) kept: Kept,
+    pub(super) cache: Cache,
 }
 
 impl Held {
-    /// What a run holds: it may keep a schema object.
-    pub(super) fn for_lines(alloc: Global) -> Self
+    /// Nothing is read yet, and then no schema object is cached whose text is longer than so many bytes.
+    pub(super) fn new(alloc: Global, longest_cached: usize) -> Self
         ensures { IsSound result }
     {
         Held {
             scratch: Scratch::new(alloc),
             values: OwnedValues::none(),
-            kept: Kept::new(alloc, LONGEST_KEPT),
-        }
-    }
-
-    /// What one line needs: no schema object is kept.
-    pub(super) fn for_one_line(alloc: Global) -> Self
-        ensures { IsSound result }
-    {
-        Held {
-            scratch: Scratch::new(alloc),
-            values: OwnedValues::none(),
-            kept: Kept::new(alloc, 0),
+            cache: Cache::new(alloc, longest_cached),
         }
     }
 }

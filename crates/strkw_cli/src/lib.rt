@@ -3,18 +3,12 @@
 #![tactic(auto)]
 
 mod answering;
-mod compiling;
 mod faults;
 mod held;
-mod kept;
-mod kept_tokens;
 pub mod laws;
-mod printing;
 mod request;
 mod running;
 mod unread;
-mod values;
-mod writing;
 
 pub use answering::answer;
 pub use faults::{BoundedRunFault, RunFault};

@@ -8,22 +8,21 @@ ghost use Rattle.serde_json.specs.Find.{as_object};
 ghost use Rattle.serde_json.specs.Read.{read as read_text};
 ghost use Rattle.serde_json.specs.View.{view};
 ghost use Rattle.strkw_json.specs.Passing.{members_read, value_read};
+ghost use Rattle.strkw_cache.specs.Cached.{IsCached};
+ghost use Rattle.strkw_cache.specs.Depths.{member_depth};
 ghost use Rattle.strkw_cli.specs.Borrowed.{IsObject, IsRequest, IsRight};
 ghost use Rattle.strkw_cli.specs.Both.{AreBoth};
-ghost use Rattle.strkw_cli.specs.Kept.{IsKept};
 ghost use Rattle.strkw_cli.specs.Parts.{AreParts, Takes};
 ghost use Rattle.strkw_report.specs.Drafts.{draft_in, draft_numbered};
 ghost use Rattle.strkw_json.specs.Json.{IsReading};
 ghost use Rattle.strkw_cli.specs.Request.{flag_in, request_in, request_of_members};
-ghost use Rattle.strkw_cli.specs.Tokens.{begins_object, member_depth};
+ghost use Rattle.strkw_cli.specs.Tokens.{begins_object};
 
-use super::compiling::Asked;
-use super::kept::KeptObject;
 use super::unread::{Unanswered, Unread};
-use super::values::read_values;
 use json::{Reader, Scratch, Token};
 use serde_json::Value;
 use std::alloc::Global;
+use strkw_cache::{CachedObject, MEMBER_DEPTH, Terms, read_values};
 use strkw_json::{json_scalar, json_text};
 use strkw_object::OwnedValues;
 use strkw_report::{Draft, draft_in};
@@ -31,7 +30,7 @@ use strkw_report::{Draft, draft_in};
 /// A request. The text of its instance stands in its line, or unescaped in the scratch that its line was read with.
 #[derive(Drop)]
 pub(super) struct Request<'a> {
-    pub(super) asked: Asked,
+    pub(super) terms: Terms,
     pub(super) schema: Schema<'a>,
     /// The text that the instance is, or `None` where it is another value.
     pub(super) instance: Option<&'a str>,
@@ -43,8 +42,8 @@ pub(super) struct Request<'a> {
 pub(super) enum Schema<'a> {
     /// Its values were read of its line, where it stands from the first place on, and before the second.
     Read(usize, usize),
-    /// It is the one that is kept.
-    Kept(&'a KeptObject),
+    /// It is the one that is cached.
+    Cached(&'a CachedObject),
 }
 
 fn flag_in(value: &Value) -> Option<Option<bool>>
@@ -52,9 +51,6 @@ fn flag_in(value: &Value) -> Option<Option<bool>>
 {
     Some(Some(value.as_bool()?))
 }
-
-/// How deep the value of a member may nest: one less than the line.
-pub(super) const MEMBER_DEPTH: usize = 126;
 
 // No text of a JSON object is shorter.
 const SHORTEST_OBJECT: usize = 2;
@@ -87,14 +83,14 @@ fn read_flag(tokens: &mut Reader<'_>) -> Result<Option<Option<bool>>, Unread>
     }
 }
 
-/// The text of a line, and the schema object that is kept.
+/// The text of a line, and the schema object that is cached.
 #[derive(Clone, Copy)]
 pub(super) struct Line<'a> {
     text: &'a str,
-    kept: Option<&'a KeptObject>,
+    cached: Option<&'a CachedObject>,
 }
 
-// The schema object that the value of a member is: the one that is kept, where the line has its text here, or else one
+// The schema object that the value of a member is: the one that is cached, where the line has its text here, or else one
 // whose values are read. Any other value is passed over, and not built. It differs where the text is not that of the
 // tokens.
 fn read_schema<'a>(
@@ -103,20 +99,20 @@ fn read_schema<'a>(
     tokens: &mut Reader<'_>,
     values: &mut OwnedValues,
 ) -> Result<Option<Schema<'a>>, Unread>
-    requires { IfSome line.kept (λ object. IsKept object.now) }
+    requires { IfSome line.cached (λ object. IsCached object.now) }
     ensures ok { IfOk result (λ schema. (d : Data)
         × (value_read member_depth tokens.old ≡ Some (d, tokens.new))
         × AreBoth (IsObject values.new) schema (as_object d)) }
-    ensures right { IfOk result (λ schema. IfSome schema (IsRight (is_some line.entry.kept))) }
+    ensures right { IfOk result (λ schema. IfSome schema (IsRight (is_some line.entry.cached))) }
     ensures none { IsErrOf result Unread.NotJson → value_read member_depth tokens.old ≡ None }
-    ensures same { line.entry.kept ≡ None → IsErrOf result Unread.Differs → ⊥ }
+    ensures same { line.entry.cached ≡ None → IsErrOf result Unread.Differs → ⊥ }
     ensures shorter { OnOk result (length tokens.new < length tokens.old) }
 {
     let start = tokens.offset();
-    match line.kept {
-        Some(object) if object.seems_at(line.text.as_bytes(), start) => {
+    match line.cached {
+        Some(object) if object.stands_at(line.text.as_bytes(), start) => {
             if object.takes(tokens) {
-                Ok(Some(Schema::Kept(object)))
+                Ok(Some(Schema::Cached(object)))
             } else {
                 Err(Unread::Differs)
             }
@@ -141,20 +137,6 @@ struct Parts<'a> {
 }
 
 impl<'a> Parts<'a> {
-    fn of_no_members() -> Self
-        ensures { (kept : Bool) (values : OwnedValues) → AreParts kept values result no_members }
-    {
-        Parts {
-            draft: None,
-            schema: None,
-            instance: None,
-            validate_formats: Some(None),
-            ignore_unknown_formats: Some(None),
-            fold: Some(None),
-            has_only_request_keys: true,
-        }
-    }
-
     // Takes the value of a member of this name.
     fn take_member(
         &mut self,
@@ -164,12 +146,12 @@ impl<'a> Parts<'a> {
         tokens: &mut Reader<'a>,
         values: &mut OwnedValues,
     ) -> Result<(), Unread>
-        requires { IfSome line.kept (λ object. IsKept object.now) }
+        requires { IfSome line.cached (λ object. IsCached object.now) }
         ensures ok { OnOk result ((d : Data)
             × (value_read member_depth tokens.old ≡ Some (d, tokens.new))
-            × Takes (is_some line.entry.kept) name.now d values.old values.new self.old self.new) }
+            × Takes (is_some line.entry.cached) name.now d values.old values.new self.old self.new) }
         ensures none { IsErrOf result Unread.NotJson → value_read member_depth tokens.old ≡ None }
-        ensures same { line.entry.kept ≡ None → IsErrOf result Unread.Differs → ⊥ }
+        ensures same { line.entry.cached ≡ None → IsErrOf result Unread.Differs → ⊥ }
         ensures shorter { OnOk result (length tokens.new < length tokens.old) }
     {
         match name {
@@ -190,11 +172,11 @@ impl<'a> Parts<'a> {
     // The request that these are the parts of.
     #[inline(always)]
     fn into_request(self) -> Option<Request<'a>>
-        ensures request { (kept : Bool) (values : OwnedValues) (ms : Members)
-            → AreParts kept values self.entry ms
+        ensures request { (cached : Bool) (values : OwnedValues) (ms : Members)
+            → AreParts cached values self.entry ms
             → AreBoth (IsRequest values) result (request_of_members ms) }
-        ensures right { (kept : Bool) → IfSome self.entry.schema (IsRight kept)
-            → IfSome result (λ request. IsRight kept request.schema) }
+        ensures right { (cached : Bool) → IfSome self.entry.schema (IsRight cached)
+            → IfSome result (λ request. IsRight cached request.schema) }
     {
         if !self.has_only_request_keys {
             return None;
@@ -205,7 +187,7 @@ impl<'a> Parts<'a> {
         let ignore_unknown_formats = self.ignore_unknown_formats?;
         let fold = self.fold?;
         Some(Request {
-            asked: Asked {
+            terms: Terms {
                 draft,
                 validate_formats,
                 ignore_unknown_formats: ignore_unknown_formats.unwrap_or(true),
@@ -225,14 +207,22 @@ fn parts_in<'a>(
     tokens: &mut Reader<'a>,
     values: &mut OwnedValues,
 ) -> Result<Parts<'a>, Unread>
-    requires { IfSome line.kept (λ object. IsKept object.now) }
+    requires { IfSome line.cached (λ object. IsCached object.now) }
     ensures ok { IfOk result (λ parts. (ms : Members)
         × (members_read member_depth tokens.old ≡ Some (ms, tokens.new))
-        × AreParts (is_some line.entry.kept) values.new parts ms) }
+        × AreParts (is_some line.entry.cached) values.new parts ms) }
     ensures none { IsErrOf result Unread.NotJson → members_read member_depth tokens.old ≡ None }
-    ensures same { line.entry.kept ≡ None → IsErrOf result Unread.Differs → ⊥ }
+    ensures same { line.entry.cached ≡ None → IsErrOf result Unread.Differs → ⊥ }
 {
-    let mut parts = Parts::of_no_members();
+    let mut parts = Parts {
+        draft: None,
+        schema: None,
+        instance: None,
+        validate_formats: Some(None),
+        ignore_unknown_formats: Some(None),
+        fold: Some(None),
+        has_only_request_keys: true,
+    };
     'members: while let Some(name) = tokens.next_key()? {
         parts.take_member(alloc, line, name, tokens, values)?;
     }
@@ -240,21 +230,21 @@ fn parts_in<'a>(
 }
 
 /// The request that a line is, or `None` where it is none. The scratch is held from line to line, and a schema object
-/// may be kept, which is then not read anew; of another one the values are read. It differs where the line has the text
-/// of the object that is kept, and other tokens.
+/// may be cached, which is then not read anew; of another one the values are read. It differs where the line has the text
+/// of the object that is cached, and other tokens.
 pub(super) fn read_request<'a>(
     alloc: Global,
     line: &'a [u8],
     scratch: &'a mut Scratch,
-    kept: Option<&'a KeptObject>,
+    cached: Option<&'a CachedObject>,
     values: &mut OwnedValues,
 ) -> Result<Option<Request<'a>>, Unanswered>
-    requires { IfSome kept (λ object. IsKept object.now) }
+    requires { IfSome cached (λ object. IsCached object.now) }
     ensures ok { IfOk result (λ request. (read : Option Data) × IsReading line.now read
         × AreBoth (IsRequest values.new) request (option_and_then request_in read)) }
     ensures right { IfOk result (λ request. IfSome request
-        (λ r. IsRight (is_some kept.entry) r.schema)) }
-    ensures same { kept.entry ≡ None → IsErrOf result Unanswered.Differs → ⊥ }
+        (λ r. IsRight (is_some cached.entry) r.schema)) }
+    ensures same { cached.entry ≡ None → IsErrOf result Unanswered.Differs → ⊥ }
 {
     let Ok(text) = simdutf8::basic::from_utf8(line) else {
         return Ok(None);
@@ -266,7 +256,7 @@ pub(super) fn read_request<'a>(
     let Some(Token::BeginObject) = tokens.next() else {
         return Ok(None);
     };
-    match parts_in(alloc, Line { text, kept }, &mut tokens, values) {
+    match parts_in(alloc, Line { text, cached }, &mut tokens, values) {
         Ok(parts) => match tokens.next() {
             None => Ok(parts.into_request()),
             Some(_) => Ok(None),

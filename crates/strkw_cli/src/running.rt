@@ -1,12 +1,12 @@
 //! The loop over the pieces of the input.
 
-ghost use Rattle.std.specs.Prelude.{◌++◌, ◌<◌, ◌↔◌, ◌≡◌, ◌≤◌, ℕ, IfOk, IfSome, IsErrOf, List, OnErr, OnOk, [], false, length, position, take, true, vec_len};
+ghost use Rattle.std.specs.Prelude.{◌++◌, ◌<◌, ◌↔◌, ◌≡◌, ◌≤◌, ℕ, IfOk, IfSome, IsErrOf, List, OnErr, OnOk, [], false, length, take, true, vec_len};
 ghost use Rattle.std.specs.Io.KnownBytes.{Appends, Consumes, IsAtEnd};
 ghost use Rattle.strkw_cli.specs.Answer.{AreAnswers, IsAnswer};
 ghost use Rattle.strkw_cli.specs.Bounds.{HasShortLines, IsBoundedOutcome, IsOutcomeWithin, IsTaken};
-ghost use Rattle.strkw_cli.specs.Kept.{IsSound};
+ghost use Rattle.strkw_cli.specs.Held.{IsSound};
 ghost use Rattle.strkw_cli.specs.declared.running.Ending.TheVariants.{AtEnd};
-ghost use Rattle.strkw_cli.specs.Lines.{ended_lines, is_line_feed, last_part, lines};
+ghost use Rattle.strkw_cli.specs.Lines.{ended_lines, last_part, lines};
 ghost use Rattle.strkw_cli.specs.Outcome.{AnswersSome, IsOutcome};
 ghost use Rattle.strkw_cli.specs.Serving.{Serves};
 
@@ -20,12 +20,8 @@ use strkw_devices::{Sink, Source};
 // The room for a piece of the input.
 const PIECE_LEN: usize = 65536;
 
-// The place of the first line feed.
-fn find_line_feed(bytes: &[u8]) -> Option<usize>
-    ensures { result ≡ position is_line_feed bytes.now }
-{
-    memchr(b'\n', bytes)
-}
+// The longest text of a schema object that is cached.
+const LONGEST_CACHED: usize = 65536;
 
 // Goes on from a line that has begun by a piece of the input, and appends the answers to the lines
 // that end in it. An `Err` has appended the answers to some beginning of them.
@@ -46,7 +42,7 @@ fn answer_piece(
     ensures sound { IsSound held.new }
 {
     let mut at = 0;
-    while let Some(offset) = find_line_feed(&piece[at..]) {
+    while let Some(offset) = memchr(b'\n', &piece[at..]) {
         let end = at + offset;
         answer_ending(alloc, &piece[at..end], line, held, out)?;
         at = end + 1;
@@ -227,7 +223,7 @@ fn fitting_front(bound: Option<usize>, begun: &[u8], piece: &[u8]) -> usize
     };
     let mut at = 0;
     let mut room = longest - begun.len();
-    while let Some(offset) = find_line_feed(&piece[at..]) {
+    while let Some(offset) = memchr(b'\n', &piece[at..]) {
         if room < offset {
             return at + room;
         }
@@ -258,7 +254,7 @@ fn run_within<S: Source, K: Sink>(
     ensures read_fault { IsErrOf result RunFault.Read ↔ (S.has_failed source.new ≡ true) }
     ensures write_fault { IsErrOf result RunFault.Write ↔ (K.has_failed sink.new ≡ true) }
 {
-    let mut held = Held::for_lines(alloc);
+    let mut held = Held::new(alloc, LONGEST_CACHED);
     run_lines(alloc, bound, &mut held, source, sink)
 }
 

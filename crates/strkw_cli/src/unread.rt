@@ -16,7 +16,7 @@ pub(super) enum Unread {
     NotJson,
     /// Out of memory.
     Memory,
-    /// The line has the text of the object that is kept, and other tokens.
+    /// The line has the text of the cached object, and other tokens.
     Differs,
 }
 
@@ -44,7 +44,7 @@ impl From<Invalid> for Unread {
 pub(super) enum Unanswered {
     /// Out of memory.
     Memory,
-    /// The line has the text of the object that is kept, and other tokens or another request.
+    /// The line has the text of the cached object, and other tokens or another request.
     Differs,
 }
 

@@ -1,5 +1,6 @@
 //! The calls with a growth refused, those of the crates below too, devices that fail, and a check that keeps a closure.
 
+mod cached;
 mod companions;
 mod context;
 mod devices;

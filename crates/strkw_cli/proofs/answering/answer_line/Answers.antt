@@ -1,9 +1,9 @@
-use Rattle.std.proofs.Common.{◌≡◌, Some, option_and_then, subst, sym, ap}
+use Rattle.std.proofs.Common.{option_and_then, subst, sym, ap}
 use Rattle.strkw_object.specs.Values.{AreOwnedOf}
 use Rattle.strkw_cli.specs.Answer.{settings_for}
 use Rattle.strkw_cli.specs.Both.{AreBoth}
 use Rattle.strkw_cli.specs.Borrowed.{IsObject, IsRequest}
-use Rattle.strkw_cli.specs.Kept.{IsCompiledTo, Keeps, settings_asked}
+use Rattle.strkw_cache.specs.Cached.{IsCompiledTo, Keeps, settings_under}
 use Rattle.strkw_cli.specs.Request.{request_in}
 use Rattle.strkw_cli.proofs.AnswerCases.{answered_by}
 use Rattle.strkw_cli.proofs.answering.answer_line.Goals as goal
@@ -18,14 +18,14 @@ returns-in_ok-push_answer-in-Read-clause-ok c =
     (c.in_ok-push_answer-in-Read.ensures.ok r (sym (ap (λ q. q.fold) is.others)) (sym (ap (λ q. q.instance) is.others))
     (subst (λ q. IsCompiledTo (settings_for q) r.schema c.compile-compiled.result) is.others (c.compile-compiled.ensures.compiled r.schema are)))
 
-pub returns-in_ok-push_answer-in-Kept-clause-ok : goal.returns-in_ok-push_answer-in-Kept-clause-ok
-returns-in_ok-push_answer-in-Kept-clause-ok c =
+pub returns-in_ok-push_answer-in-Cached-clause-ok : goal.returns-in_ok-push_answer-in-Cached-clause-ok
+returns-in_ok-push_answer-in-Cached-clause-ok c =
     let values = c.read_request.new.values in
-    let object = c.in-Kept.object.now in
+    let object = c.in-Cached.object.now in
     let (read, reading, both) = c.in_ok-request.ensures.ok in
     let (r, asked, is) = subst (λ found. AreBoth (IsRequest values) found (option_and_then request_in read)) c.in-Some.is both in
-    let keeps : Keeps object r.schema = subst (λ s. IsObject values s r.schema) c.in-Kept.is is.object in
-    answered_by c.args.line.now c.args.out.now.items c.push_answer-in-Kept.new.out.items read r reading asked
-    (c.in_ok-push_answer-in-Kept.ensures.ok r (sym (ap (λ q. q.fold) is.others)) (sym (ap (λ q. q.instance) is.others))
+    let keeps : Keeps object r.schema = subst (λ s. IsObject values s r.schema) c.in-Cached.is is.object in
+    answered_by c.args.line.now c.args.out.now.items c.push_answer-in-Cached.new.out.items read r reading asked
+    (c.in_ok-push_answer-in-Cached.ensures.ok r (sym (ap (λ q. q.fold) is.others)) (sym (ap (λ q. q.instance) is.others))
     (subst (λ q. IsCompiledTo (settings_for q) r.schema object.compiled) is.others
-    (subst (λ a. IsCompiledTo (settings_asked a) r.schema object.compiled) (c.is_compiled_as.ensures c.if-is_compiled_as.true) keeps.is_compiled)))
+    (subst (λ a. IsCompiledTo (settings_under a) r.schema object.compiled) (c.is_compiled_under.ensures.0 c.if-is_compiled_under.true) keeps.is_compiled)))

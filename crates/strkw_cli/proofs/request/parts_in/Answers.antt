@@ -2,7 +2,7 @@ use Rattle.std.proofs.Common.{◌≡◌, ◌-◌, ◌∙◌, Some, length, refl,
 use Rattle.json.specs.Json.{read_key, value}
 use Rattle.json.proofs.Grammar.{read_key-shorter}
 use Rattle.serde_json.specs.Data.{no_members, put}
-use Rattle.strkw_cli.specs.Tokens.{member_depth}
+use Rattle.strkw_cache.specs.Depths.{member_depth}
 use Rattle.strkw_json.proofs.Reading.{members_end, next_member, no_next_member, no_key}
 use Rattle.strkw_cli.proofs.Parts.{parts_taken}
 use Rattle.strkw_cli.proofs.request.parts_in.Goals as goal
@@ -13,7 +13,16 @@ members-init c = record {
   enough = omega arith;
   found = no_members;
   same = refl;
-  are = c.of_no_members-parts.ensures _ _;
+  are = record {
+    draft = refl;
+    schema = refl;
+    instance = refl;
+    validate_formats = refl;
+    ignore_unknown_formats = refl;
+    fold = refl;
+    known = refl;
+    right = tt;
+  };
 }
 
 pub returns-in_err-name-clause-none : goal.returns-in_err-name-clause-none

@@ -4,7 +4,7 @@ use Rattle.serde_json.specs.Data.{Members}
 use Rattle.serde_json.specs.Read.{of_members, converted}
 use Rattle.strkw_cli.specs.Parts.{AreParts}
 use Rattle.strkw_json.specs.Passing.{members_read}
-use Rattle.strkw_cli.specs.Tokens.{member_depth}
+use Rattle.strkw_cache.specs.Depths.{member_depth}
 use Rattle.strkw_cli.proofs.request.parts_in.Given as goal
 
 -- the parts are those of what was read, and the members that are to come go into it
@@ -14,7 +14,7 @@ invariant-members l = record {
   enough : length l.tokens ≤ turns;
   found : Members;
   same : members_read member_depth l.initial.tokens ≡ converted (λ js. of_members js found) (members (value member_depth) turns l.tokens);
-  are : AreParts (is_some l.line.kept) l.values l.parts found;
+  are : AreParts (is_some l.line.cached) l.values l.parts found;
 }
 
 abbrev pub decreases-members : goal.decreases-members

@@ -5,6 +5,7 @@ use Rattle.strkw_cli.specs.Lines.{is_line_feed, ended_lines, last_part}
 use Rattle.strkw_cli.specs.Answer.{AreAnswers, IsAnswer}
 use Rattle.strkw_object.proofs.Results.{on_ok, on_err}
 use Rattle.strkw_cli.proofs.AnswerLemmas.{ends_line, goes_on, some_answered, none_ended, one_more}
+use Rattle.strkw_cli.proofs.FirstPlaces.{IsFirstByte-position}
 use Rattle.strkw_cli.proofs.running.answer_piece.Goals as goal
 use Rattle.strkw_cli.proofs.running.answer_piece.Goals.{In-Some}
 
@@ -38,7 +39,7 @@ loop-offset-preserved c =
     let piece = c.args.piece.now in
     let at = c.loop-offset.at in
     let offset = c.in-Some.offset in
-    let found : position is_line_feed (drop at piece) ≡ Some offset = ap (position is_line_feed) (sym (take_rest piece at)) ∙ sym c.find_line_feed.ensures
+    let found : position is_line_feed (drop at piece) ≡ Some offset = ap (position is_line_feed) (sym (take_rest piece at)) ∙ sym (IsFirstByte-position is_line_feed _ c.memchr.result c.memchr.ensures)
     ∙ c.in-Some.is in
     let line = ends_line start piece at offset found in
     let count : at + offset - at ≡ offset = omega arith in
@@ -60,7 +61,7 @@ loop-offset-preserved c =
     }
 
 no_more : (c : goal.After-extend_from_slice) → position is_line_feed (drop c.loop-offset.at c.args.piece.now) ≡ None
-no_more c = ap (position is_line_feed) (sym (take_rest c.args.piece.now c.loop-offset.at)) ∙ sym c.find_line_feed.ensures ∙ c.in_default.is
+no_more c = ap (position is_line_feed) (sym (take_rest c.args.piece.now c.loop-offset.at)) ∙ sym (IsFirstByte-position is_line_feed _ c.memchr.result c.memchr.ensures) ∙ c.in_default.is
 
 pub returns-clause-answered : goal.returns-clause-answered
 returns-clause-answered c =

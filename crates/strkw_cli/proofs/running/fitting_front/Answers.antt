@@ -4,6 +4,7 @@ use Rattle.strkw_cli.specs.Bounds.{HasShortLines}
 use Rattle.strkw_cli.specs.Lines.{is_line_feed}
 use Rattle.strkw_cli.proofs.AnswerLemmas.{ends_line}
 use Rattle.strkw_cli.proofs.BoundLemmas.{Reaches, reaches_next, taken_all, taken_before, taken_short, taken_unbounded}
+use Rattle.strkw_cli.proofs.FirstPlaces.{IsFirstByte-position}
 use Rattle.strkw_cli.proofs.running.fitting_front.Goals as goal
 
 pub returns-in_default-clause-taken : goal.returns-in_default-clause-taken
@@ -13,18 +14,18 @@ pub returns-then-room-offset-clause-taken : goal.returns-then-room-offset-clause
 returns-then-room-offset-clause-taken c start is short =
     let piece = c.args.piece.now in
     let at = c.loop-offset.at in
-    let found : position is_line_feed (drop at piece) ≡ Some c.in-Some-find_line_feed.offset =
-    ap (position is_line_feed) (sym (take_rest piece at)) ∙ sym c.find_line_feed.ensures ∙ c.in-Some-find_line_feed.is in
+    let found : position is_line_feed (drop at piece) ≡ Some c.in-Some-memchr.offset =
+    ap (position is_line_feed) (sym (take_rest piece at)) ∙ sym (IsFirstByte-position is_line_feed _ c.memchr.result c.memchr.ensures) ∙ c.in-Some-memchr.is in
     let reaches = c.loop-offset.invariant.reaches start is (subst (λ b. HasShortLines b start) c.in-Some.is short) in
-    rw c.in-Some.is (taken_before c.in-Some.longest start piece at c.in-Some-find_line_feed.offset c.loop-offset.room reaches found c.if-room-offset.true)
+    rw c.in-Some.is (taken_before c.in-Some.longest start piece at c.in-Some-memchr.offset c.loop-offset.room reaches found c.if-room-offset.true)
 
 pub loop-offset-preserved : goal.loop-offset-preserved
 loop-offset-preserved c =
     let piece = c.args.piece.now in
     let at = c.loop-offset.at in
-    let offset = c.in-Some-find_line_feed.offset in
+    let offset = c.in-Some-memchr.offset in
     let found : position is_line_feed (drop at piece) ≡ Some offset =
-    ap (position is_line_feed) (sym (take_rest piece at)) ∙ sym c.find_line_feed.ensures ∙ c.in-Some-find_line_feed.is in
+    ap (position is_line_feed) (sym (take_rest piece at)) ∙ sym (IsFirstByte-position is_line_feed _ c.memchr.result c.memchr.ensures) ∙ c.in-Some-memchr.is in
     let count : at + offset + 1 ≡ at + (offset + 1) = omega arith in
     record {
       within = let line = ends_line [] piece at offset found in omega (arith, line.within);
@@ -38,7 +39,7 @@ pub returns-then-room-piece-clause-taken : goal.returns-then-room-piece-clause-t
 returns-then-room-piece-clause-taken c start is short =
     let piece = c.args.piece.now in
     let none : position is_line_feed (drop c.loop-offset.at piece) ≡ None =
-    ap (position is_line_feed) (sym (take_rest piece c.loop-offset.at)) ∙ sym c.find_line_feed.ensures ∙ c.in_default-find_line_feed.is in
+    ap (position is_line_feed) (sym (take_rest piece c.loop-offset.at)) ∙ sym (IsFirstByte-position is_line_feed _ c.memchr.result c.memchr.ensures) ∙ c.in_default-memchr.is in
     let reaches = c.loop-offset.invariant.reaches start is (subst (λ b. HasShortLines b start) c.in-Some.is short) in
     rw c.in-Some.is (taken_short c.in-Some.longest start piece c.loop-offset.at c.loop-offset.room reaches none c.if-room-piece.true)
 
@@ -46,6 +47,6 @@ pub returns-else-room-piece-clause-taken : goal.returns-else-room-piece-clause-t
 returns-else-room-piece-clause-taken c start is short =
     let piece = c.args.piece.now in
     let none : position is_line_feed (drop c.loop-offset.at piece) ≡ None =
-    ap (position is_line_feed) (sym (take_rest piece c.loop-offset.at)) ∙ sym c.find_line_feed.ensures ∙ c.in_default-find_line_feed.is in
+    ap (position is_line_feed) (sym (take_rest piece c.loop-offset.at)) ∙ sym (IsFirstByte-position is_line_feed _ c.memchr.result c.memchr.ensures) ∙ c.in_default-memchr.is in
     let reaches = c.loop-offset.invariant.reaches start is (subst (λ b. HasShortLines b start) c.in-Some.is short) in
     rw c.in-Some.is (taken_all c.in-Some.longest start piece c.loop-offset.at c.loop-offset.room reaches none c.if-room-piece.false)

@@ -1,0 +1,7 @@
+use Rattle.std.proofs.Common.{◌++◌, ◌≡◌, take}
+use Rattle.strkw_cache.specs.Tokens.{tokens_owned}
+use Rattle.strkw_cache.proofs.tokens.take_same.Given as goal
+
+-- the tokens up to this one were taken
+abbrev pub invariant-loop-token : goal.invariant-loop-token
+invariant-loop-token l = l.initial.tokens ≡ tokens_owned (take l.token-index l.kept) ++ l.tokens

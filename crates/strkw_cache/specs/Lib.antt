@@ -1,0 +1,4 @@
+pub mod Depths
+pub mod Tokens
+pub mod Told
+pub mod Cached

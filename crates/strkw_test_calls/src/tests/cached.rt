@@ -1,0 +1,170 @@
+//! The schema object of a request: its lines, and when it is cached. With ample memory a row has to pass.
+//! `tools/refusals.py` runs it with each growth refused in turn too: then it ends as out of memory.
+
+ghost use Rattle.strkw_cache.specs.Told.{CanAnswer};
+
+use json::{Reader, Scratch};
+use std::alloc::{AllocError, Global};
+use std::test::Fail;
+use strkw_cache::{
+    Cache, CachedObject, Compiled, Occurrence, Terms, compile, push_told, read_values,
+};
+use strkw_json::JsonError;
+use strkw_keywords::Checks;
+use strkw_object::OwnedValues;
+use strkw_print::{push_errors, push_notes, push_refusal};
+use strkw_report::{Draft, TextNode};
+
+const TERMS: Terms = Terms {
+    draft: Draft::Draft7,
+    validate_formats: None,
+    ignore_unknown_formats: true,
+};
+
+const OTHER_TERMS: Terms = Terms {
+    draft: Draft::Draft6,
+    validate_formats: None,
+    ignore_unknown_formats: true,
+};
+
+// A schema object, the lines of a text by it, and what is told of every text.
+struct Row {
+    schema: &'static str,
+    lines: &'static str,
+    told: &'static str,
+}
+
+const TEXT: &str = "a\nb";
+
+const ROWS: &[Row] = &[
+    Row {
+        schema: r#"{"format":"ipv4","maxLength":1,"minLength":1}"#,
+        lines: "error /format: \"a\\nb\" is not a \"ipv4\"\n\
+            error /maxLength: \"a\\nb\" is longer than 1 character\n\
+            note /format: \"ipv4\"\n",
+        told: "note /format: \"ipv4\"\nend\n",
+    },
+    Row {
+        schema: r#"{"minLength":1}"#,
+        lines: "",
+        told: "end\n",
+    },
+    Row {
+        schema: r#"{"minLength":-1}"#,
+        lines: "refused /minLength: the limit is not a non-negative whole number of 64 bits\n",
+        told: "refused /minLength: the limit is not a non-negative whole number of 64 bits\nend\n",
+    },
+];
+
+// The values of a schema object, or none where a text is no object.
+fn values_of(alloc: Global, schema: &str) -> Result<OwnedValues, AllocError> {
+    let mut scratch = Scratch::new(alloc);
+    let mut values = OwnedValues::none();
+    let mut tokens = Reader::new(schema, &mut scratch)?;
+    match read_values(alloc, &mut tokens, &mut values) {
+        Ok(_) | Err(JsonError::NotJson) => Ok(values),
+        Err(JsonError::Memory) => Err(AllocError),
+    }
+}
+
+// The lines of the text by what a schema object is compiled to, or those of its refusal.
+fn lines_by(alloc: Global, compiled: &Compiled) -> Result<Vec<u8>, AllocError>
+    requires { CanAnswer compiled.now }
+{
+    let mut lines = Vec::new(alloc);
+    let Some(text) = TextNode::of(&TEXT) else {
+        return Ok(lines);
+    };
+    match compiled {
+        Ok(keywords) => {
+            push_errors(alloc, keywords, &text, &Checks::none(), &mut lines)?;
+            push_notes(alloc, keywords, &mut lines)?;
+        }
+        Err(refusal) => push_refusal(alloc, refusal, &mut lines)?,
+    }
+    Ok(lines)
+}
+
+// Whether a row has the lines and tells what it is to.
+fn is_printed_so(alloc: Global, row: &Row) -> Result<bool, AllocError> {
+    let mut values = values_of(alloc, row.schema)?;
+    let compiled = compile(alloc, TERMS, &mut values);
+    drop(values);
+    let lines = lines_by(alloc, &compiled)?;
+    let mut told = Vec::new(alloc);
+    push_told(alloc, &compiled, None, &mut told)?;
+    drop(compiled);
+    Ok(lines.as_slice() == row.lines.as_bytes() && told.as_slice() == row.told.as_bytes())
+}
+
+#[test]
+fn lines_under_refusal(rt: HostRuntime) -> Result<(), Fail> {
+    for row in ROWS {
+        if !is_printed_so(rt.alloc(), row)? {
+            return Err(Fail::new(row.schema));
+        }
+    }
+    Ok(())
+}
+
+// A line, and the place of its object.
+const LINE: &str = r#"{"schema":{"maxLength":1}}"#;
+
+const START: usize = 10;
+
+const END: usize = 25;
+
+// As many lines as it takes until an object is cached, at most so many.
+fn lines_before(alloc: Global, cache: &mut Cache, most: usize) -> Result<usize, AllocError> {
+    let mut scratch = Scratch::new(alloc);
+    let mut values = OwnedValues::none();
+    let seen = Occurrence {
+        terms: TERMS,
+        start: START,
+        end: END,
+    };
+    for lines in 0..most {
+        if cache.object.is_some() {
+            return Ok(lines);
+        }
+        cache.see(
+            alloc,
+            &mut scratch,
+            &mut values,
+            LINE.as_bytes(),
+            Some(seen),
+        )?;
+    }
+    Ok(most)
+}
+
+// Whether the object stands in the line at its place alone, and is compiled under its terms alone.
+fn is_that_of_the_line(object: &CachedObject) -> bool {
+    let line = LINE.as_bytes();
+    object.stands_at(line, START)
+        && !object.stands_at(line, START + 1)
+        && object.is_compiled_under(TERMS)
+        && !object.is_compiled_under(OTHER_TERMS)
+}
+
+#[test]
+fn cached_object_under_refusal(rt: HostRuntime) -> Result<(), Fail> {
+    let alloc = rt.alloc();
+    let mut cache = Cache::new(alloc, END - START);
+    if lines_before(alloc, &mut cache, 100)? != 16 {
+        return Err(Fail::new("16 lines"));
+    }
+    match &cache.object {
+        Some(object) if is_that_of_the_line(object) => {}
+        _ => return Err(Fail::new("the object")),
+    }
+    cache.forget();
+    if lines_before(alloc, &mut cache, 100)? != 32 {
+        return Err(Fail::new("32 lines after the first"));
+    }
+    let mut short = Cache::new(alloc, END - START - 1);
+    if lines_before(alloc, &mut short, 100)? != 100 {
+        return Err(Fail::new("too long an object"));
+    }
+    Ok(())
+}
