@@ -9,6 +9,8 @@ mod document_tests;
 #[cfg(test)]
 mod fault_tests;
 #[cfg(test)]
+mod flush_tests;
+#[cfg(test)]
 mod instance_tests;
 #[cfg(test)]
 mod limit_tests;
