@@ -385,6 +385,18 @@ def content_by_product():
         yield asked(draft, members, texts[:1] if is_noted or draft == 4 else texts, **rows_for(media_type, codec))
 
 
+def keywords_by_options():
+    """What is said of formats says nothing of content, lengths and patterns."""
+    media_type, encoding, content_schema = KEYWORDS[:3]
+    schemas = [{"minLength": 2}, {"maxLength": 0}, {"minLength": -1}, {"pattern": "^a"}, {"pattern": "("},
+               *({encoding: it} for it in ("base64", "rot13", parsed("5"))),
+               *({media_type: it} for it in (JSON, "text/x", parsed("5"))),
+               *({media_type: name, encoding: codec} for name, codec in product((JSON, "text/x"), ("base64", "rot13"))),
+               {media_type: JSON, content_schema: True}]
+    for draft, schema, options in product(DRAFTS, schemas, OPTIONS):
+        yield asked(draft, schema, ["x"], **options)
+
+
 def entries_of_content():
     """The validator of each content entry alone."""
     for draft, keyword in product((4, 6, 202012), KEYWORDS[:3]):
@@ -413,6 +425,7 @@ def other_names_of_content():
     for draft, name in product((6, 7, 202012), UNKNOWN_MEDIA_TYPES):
         yield asked(draft, {"contentMediaType": name}, ["{:}"])
         yield asked(draft, {"contentMediaType": name, "contentEncoding": 5})
+        yield asked(draft, {"contentMediaType": name, "contentEncoding": "base64"}, ["!", "ezp9"])
 
 
 def content_over_built_ins():
@@ -702,7 +715,8 @@ WORDS = ("x", "draft", "7x", "{", "}", "[", "]", ",", ":", "\"draft\"", "{]", "[
 # Names that other programs have, and some of other shapes.
 OTHER_MEMBERS = ("validateFormats", "validate-formats", "ignoreUnknownFormats", "ignore-unknown-formats", "$schema",
                  "$ref", "data", "value", "text", "id", "patterns", "formats_by_dialect", "draft\0", "\u00e9",
-                 "n" * 300)
+                 "n" * 300, "$comment", "comment", "//", "$id", "$defs", "jsonrpc", "method", "params", "version", "name",
+                 "title", "description", "type", "x-draft", "_draft", "json_media_type", "codecs", "overridden")
 
 
 def lines_of_each_shape():
@@ -990,6 +1004,7 @@ SECTIONS = (
     ("ends that checks see", ends_that_checks_see),
     ("limits of 64 bits", limits_of_64_bits),
     ("good limits beside bad ones", good_beside_bad_limits), ("content by product", content_by_product),
+    ("other keywords by the options of formats", keywords_by_options),
     ("entries of content", entries_of_content), ("texts of encodings", texts_of_encodings),
     ("names of content one letter off", other_names_of_content), ("content over built-ins", content_over_built_ins),
     ("schemas beside media types", schemas_beside_media_types), ("patterns", patterns),

@@ -175,7 +175,10 @@ UNKNOWN_MEDIA_TYPES = ("Application/JSON", "application/JSON", "Application/json
                        "application/problem+json", "application/schema+json", "application/x-json", "json", "text/json",
                        "application/vnd.api+json", "application/geo+json", "application/json-patch+json",
                        "application/json-seq", "application/json5", "application/x-ndjson", "application/javascript",
-                       "text/x-json", "application", "application/*", "*/*", "text/plain", "text/html", "")
+                       "text/x-json", "application", "application/*", "*/*", "text/plain", "text/html",
+                       "text/plain; charset=utf-8", "text/plain;charset=us-ascii", "text/csv", "text/xml",
+                       "application/xml", "application/octet-stream", "application/yaml", "application/cbor",
+                       "image/png", "message/rfc822", "multipart/mixed", "")
 # JSON texts (RFC 8259), and texts that are none.
 JSON_TEXTS = ("{}", "[1]", "\"a\"", "null", " 1 ", "-0.5e2", "{\"a\":[true,{}]}", "0", "\t\r\n[ ]\n",
               "{\"a\":1,\"a\":2}", "\"\\u00e9\\/\"", "\"\u2028\x7f\"", "1E+2")
