@@ -99,7 +99,10 @@ impl<'a> Row<Arg<'a>> for Argument {
 }
 
 /// What each row calls for.
-pub(crate) fn made<T: Drop, R: Row<T>>(alloc: Global, rows: &[R]) -> Result<Vec<T>, AllocError> {
+pub(crate) fn make_all<T: Drop, R: Row<T>>(
+    alloc: Global,
+    rows: &[R],
+) -> Result<Vec<T>, AllocError> {
     let mut made = Vec::new(alloc);
     for row in rows {
         made.push(row.make(alloc)?)?;
@@ -116,7 +119,7 @@ pub(crate) fn subcommand<'a>(
     after_help: &'static str,
     arguments: &[Argument],
 ) -> Result<Command<'a>, AllocError> {
-    let arguments = made(alloc, arguments)?;
+    let arguments = make_all(alloc, arguments)?;
     Command::new(alloc, name)
         .about(about)
         .after_help(after_help)

@@ -109,7 +109,7 @@ pub(crate) fn fault_of_missing(
     header: Header,
     found: &[String],
 ) -> Fault {
-    Fault::told(Reach::File, words_of_missing(alloc, plan, header, found))
+    Fault::with_words(Reach::File, words_of_missing(alloc, plan, header, found))
 }
 
 // What it tells.

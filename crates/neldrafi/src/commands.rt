@@ -9,7 +9,7 @@ mod plan;
 mod requests;
 mod text;
 
-use crate::building::{Row, made};
+use crate::building::{Row, make_all};
 use crate::faults::Fault;
 use crate::options::OutputForm;
 use crate::outcome::Outcome;
@@ -81,7 +81,7 @@ impl<'a> Row<Command<'a>> for Subcommand {
 
 /// The command with its subcommands. The only error is out of memory.
 pub(crate) fn command<'a>(alloc: Global) -> Result<Command<'a>, AllocError> {
-    let subcommands = made(alloc, SUBCOMMANDS)?;
+    let subcommands = make_all(alloc, SUBCOMMANDS)?;
     Command::new(alloc, NAME)
         .about(ABOUT)
         .version(VERSION)

@@ -54,7 +54,7 @@ fn reach_of(fault: &FileFault) -> Reach {
 
 impl Fault {
     /// What these words say; out of memory, where there was none for them.
-    pub(crate) fn told(reach: Reach, words: Result<String, AllocError>) -> Fault {
+    pub(crate) fn with_words(reach: Reach, words: Result<String, AllocError>) -> Fault {
         match words {
             Ok(words) => Fault::Told { reach, words },
             Err(_) => Fault::Memory,
@@ -65,7 +65,7 @@ impl Fault {
     pub(crate) fn of_check(alloc: Global, fault: &FileFault) -> Fault {
         match fault {
             FileFault::Memory => Fault::Memory,
-            _ => Fault::told(reach_of(fault), format!(in alloc; "{fault}")),
+            _ => Fault::with_words(reach_of(fault), format!(in alloc; "{fault}")),
         }
     }
 
@@ -80,7 +80,7 @@ impl Fault {
     pub(crate) fn of_table(alloc: Global, fault: TableFault) -> Fault {
         let told = match &fault {
             TableFault::Memory => Fault::Memory,
-            _ => Fault::told(Reach::File, format!(in alloc; "{fault}")),
+            _ => Fault::with_words(Reach::File, format!(in alloc; "{fault}")),
         };
         drop(fault);
         told

@@ -54,7 +54,7 @@ fn check_file<C: FileCheck>(
 }
 
 // Tells why the check of a file ended early, and answers what that comes to.
-fn told(rt: &HostRuntime, subject: Subject<'_>, wanted: Wanted, fault: &Fault) -> Outcome {
+fn tell_fault(rt: &HostRuntime, subject: Subject<'_>, wanted: Wanted, fault: &Fault) -> Outcome {
     match fault {
         Fault::Stopped(_) if wanted.is_quiet => Outcome::Errors,
         Fault::Stopped(_) => {
@@ -93,7 +93,7 @@ fn outcome_of_fault(
         file: Some(path),
         label,
     };
-    Ok(Some(told(rt, subject, wanted, &fault)))
+    Ok(Some(tell_fault(rt, subject, wanted, &fault)))
 }
 
 // Checks one of so many files, and tells of its fault. What comes is as above.

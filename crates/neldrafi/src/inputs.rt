@@ -68,7 +68,7 @@ impl Source {
             Err(error) => {
                 let path = Shown(path);
                 let words = format!(in rt.alloc(); "`{path}` cannot be read: {error}");
-                Err(Fault::told(Reach::NamedFile, words))
+                Err(Fault::with_words(Reach::NamedFile, words))
             }
         }
     }

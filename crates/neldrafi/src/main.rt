@@ -47,7 +47,7 @@ fn words_of(rt: &HostRuntime) -> Result<Vec<String>, Fault> {
 }
 
 // What running came to. A fault is told in this form.
-fn told(rt: &HostRuntime, form: OutputForm, ran: &Result<Outcome, Fault>) -> Outcome {
+fn tell_outcome(rt: &HostRuntime, form: OutputForm, ran: &Result<Outcome, Fault>) -> Outcome {
     match ran {
         Ok(outcome) => *outcome,
         Err(fault) => {
@@ -75,7 +75,7 @@ fn answer_parsed(
     match parsed {
         Ok(matches) => {
             let ran = commands::run(rt, matches);
-            Ok(told(rt, commands::form_of(matches), &ran))
+            Ok(tell_outcome(rt, commands::form_of(matches), &ran))
         }
         Err(e) if e.use_stderr() => Err(usage::fault_of(rt.alloc(), e)),
         Err(e) => usage::show(rt, e),
@@ -85,5 +85,5 @@ fn answer_parsed(
 // Answers the command line, and ends with the status that says what came of it.
 fn main(rt: HostRuntime) -> ExitCode {
     let answered = answer(&rt);
-    told(&rt, OutputForm::Text, &answered).status()
+    tell_outcome(&rt, OutputForm::Text, &answered).status()
 }

@@ -292,7 +292,7 @@ impl Page {
             Err(error) => {
                 let path = Shown(path);
                 let words = format!(in rt.alloc(); "`{path}` cannot be written: {error}");
-                Err(Fault::told(Reach::Run, words))
+                Err(Fault::with_words(Reach::Run, words))
             }
         }
     }

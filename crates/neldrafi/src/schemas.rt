@@ -78,7 +78,7 @@ pub(crate) fn read_schema(rt: &HostRuntime, path: &str) -> Result<Value, Fault> 
 fn fault_of_file(alloc: Global, fault: PlanFileFault) -> Fault {
     let told = match &fault {
         PlanFileFault::Memory => Fault::Memory,
-        _ => Fault::told(Reach::Run, words_of_file(alloc, &fault)),
+        _ => Fault::with_words(Reach::Run, words_of_file(alloc, &fault)),
     };
     drop(fault);
     told
@@ -116,7 +116,7 @@ fn require_plan(alloc: Global, plan: &Value) -> Result<(), Fault> {
 
 // The fault of a schema that has a member which would be the plan's own if it stood in one.
 fn fault_of_member(alloc: Global, member: &str) -> Fault {
-    Fault::told(Reach::Run, words_of_unknown(alloc, member, None))
+    Fault::with_words(Reach::Run, words_of_unknown(alloc, member, None))
 }
 
 // Puts into a plan the schema, as the only one, and the names that are let pass. The only error is out of memory.
@@ -200,7 +200,7 @@ fn fault_of_schema(alloc: Global, fault: PlanFault) -> Fault {
 fn refused(alloc: Global, fault: &PlanFault) -> Fault {
     match fault {
         PlanFault::NoObject(_) => {
-            Fault::told(
+            Fault::with_words(
                 Reach::Run,
                 String::from_str(alloc, "the schema is no object"),
             )
@@ -211,13 +211,13 @@ fn refused(alloc: Global, fault: &PlanFault) -> Fault {
             ..
         } => {
             let nearest = nearest_keyword(*nearest);
-            Fault::told(Reach::Run, words_of_unknown(alloc, keyword, nearest))
+            Fault::with_words(Reach::Run, words_of_unknown(alloc, keyword, nearest))
         }
         PlanFault::UncheckedKeyword { keyword, .. } => {
-            Fault::told(Reach::Run, words_of_unchecked(alloc, keyword))
+            Fault::with_words(Reach::Run, words_of_unchecked(alloc, keyword))
         }
         PlanFault::Refused { refusal, .. } => {
-            Fault::told(Reach::Run, words_of_refusal(alloc, refusal))
+            Fault::with_words(Reach::Run, words_of_refusal(alloc, refusal))
         }
         _ => Fault::Memory,
     }

@@ -19,7 +19,7 @@ pub(crate) fn fault_of(alloc: Global, error: &Error) -> Fault {
     if error.kind() == ErrorKind::OutOfMemory {
         return Fault::Memory;
     }
-    Fault::told(Reach::Run, one_line(alloc, error))
+    Fault::with_words(Reach::Run, one_line(alloc, error))
 }
 
 // The first paragraph of an error's text and its advice, on one line.

@@ -1,6 +1,6 @@
 //! Documents under a caller's own rules, with each growth refused, as the tests beside it.
 
-use crate::tests::{json, told};
+use crate::tests::{describe_ending, json};
 use serde_json::Value;
 use std::alloc::{AllocError, Global};
 use std::test::Fail;
@@ -166,7 +166,7 @@ fn describe_document(
     let document = json(alloc, DOCUMENT)?;
     let checked = check_document(alloc, rules, plan, &document, &mut out);
     drop(document);
-    told(alloc, checked, &out)
+    describe_ending(alloc, checked, &out)
 }
 
 // Whether a case is told as it is to be, under these checks.

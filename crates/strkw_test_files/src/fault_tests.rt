@@ -1,6 +1,6 @@
 //! The faults of plans with each growth refused, as the tests beside it.
 
-use crate::tests::{json, told};
+use crate::tests::{describe_ending, json};
 use std::alloc::{AllocError, Global};
 use std::test::Fail;
 use strkw_plan::{PlanKind, plan_in};
@@ -8,7 +8,7 @@ use strkw_plan::{PlanKind, plan_in};
 // What the fault of a plan of columns says.
 fn describe(alloc: Global, plan: &str) -> Result<String, AllocError> {
     let plan = json(alloc, plan)?;
-    let told = told(alloc, plan_in(alloc, PlanKind::Columns, &plan), b"a plan");
+    let told = describe_ending(alloc, plan_in(alloc, PlanKind::Columns, &plan), b"a plan");
     drop(plan);
     told
 }

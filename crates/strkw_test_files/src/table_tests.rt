@@ -2,7 +2,7 @@
 
 use crate::Unwatched;
 use crate::document_tests::{Case, IGNORING, PLAIN, UNCHECKED, format_of};
-use crate::tests::{json, told};
+use crate::tests::{describe_ending, json};
 use std::alloc::{AllocError, Global};
 use std::test::Fail;
 use strkw_keywords::{Checks, NamedFormat};
@@ -69,7 +69,7 @@ fn describe(
         &FieldLines,
     );
     drop(plan);
-    told(alloc, checked, &out)
+    describe_ending(alloc, checked, &out)
 }
 
 // Whether a case is told as it is to be, with these formats registered.

@@ -60,7 +60,7 @@ pub(crate) fn fault_text<F: Fault>(alloc: Global, fault: F) -> Result<String, Al
 }
 
 // The messages of a check, or what its fault says.
-pub(crate) fn told<T: Drop, F: Fault>(
+pub(crate) fn describe_ending<T: Drop, F: Fault>(
     alloc: Global,
     checked: Result<T, F>,
     messages: &[u8],

@@ -34,7 +34,7 @@ macro_rules! ask_each {
             return Ok(false);
         }
         $out.is_valid = word($asked.is_valid(alloc, $node, checks));
-        let mut found = filled(alloc)?;
+        let mut found = lent_errors(alloc)?;
         let outcome = $asked.collect_errors(alloc, $node, site, checks, &mut found);
         push_collected(alloc, outcome, found, &mut $out.collect_errors)?;
         let verdict = $asked.validate(alloc, $node, site, checks);
@@ -168,11 +168,11 @@ pub fn push_evaluated<T: Evaluated>(
 }
 
 /// A vector that holds one error, to be lent to `collect_errors`.
-pub fn filled(alloc: Global) -> Result<Vec<ValidationError>, AllocError> {
-    Ok(vec![in alloc; lent(alloc)?]?)
+pub fn lent_errors(alloc: Global) -> Result<Vec<ValidationError>, AllocError> {
+    Ok(vec![in alloc; lent_error(alloc)?]?)
 }
 
-fn lent(alloc: Global) -> Result<ValidationError, AllocError> {
+fn lent_error(alloc: Global) -> Result<ValidationError, AllocError> {
     let site = Site {
         evaluation: Location::root(alloc),
         instance: Location::root(alloc),

@@ -1,7 +1,7 @@
 //! The validator of one entry and a whole schema object, asked, and what they evaluate to.
 
 use crate::answers::{
-    Answers, Asked, Evaluated, Setting, ask_each, filled, push_collected, push_evaluated,
+    Answers, Asked, Evaluated, Setting, ask_each, lent_errors, push_collected, push_evaluated,
     push_first_error, word,
 };
 use crate::shown::push_errors;

@@ -297,7 +297,7 @@ fn require_other_path(
     }
     let page = Shown(page);
     let words = format!(in alloc; "the page cannot be written to `{page}`");
-    Err(Fault::told(Reach::Run, words))
+    Err(Fault::with_words(Reach::Run, words))
 }
 
 /// Runs the subcommand.

@@ -100,7 +100,7 @@ fn unknown(alloc: Global, draft: Draft, name: &str) -> Result<String, AllocError
 fn format_named(alloc: Global, draft: Draft, name: &str) -> Result<KnownFormat, Fault> {
     match KnownFormat::named(draft, name) {
         Some(format) => Ok(format),
-        None => Err(Fault::told(Reach::Run, unknown(alloc, draft, name))),
+        None => Err(Fault::with_words(Reach::Run, unknown(alloc, draft, name))),
     }
 }
 

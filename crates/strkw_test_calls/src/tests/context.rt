@@ -119,14 +119,14 @@ pub(super) fn only_if(holds: bool, answer: Answer) -> Answer {
 
 /// What is asked of a schema object in a draft.
 pub(super) trait Asked {
-    fn given(&self) -> Given;
+    fn subject(&self) -> Given;
 
     fn is_answered(&self, alloc: Global, ctx: &Lent<'_>, schema: &Map<String, Value>) -> Answer;
 }
 
 // Whether this is answered in a context as it is to be. The schema object is as it was, whatever was answered.
 fn is_answered_in<A: Asked>(alloc: Global, ctx: &Lent<'_>, asked: &A) -> Answer {
-    let schema = json(alloc, asked.given().schema)?;
+    let schema = json(alloc, asked.subject().schema)?;
     let answer = is_answered_by(alloc, ctx, asked, &schema);
     drop(schema);
     answer
@@ -138,7 +138,7 @@ fn is_answered_by<A: Asked>(alloc: Global, ctx: &Lent<'_>, asked: &A, schema: &V
         Some(object) => asked.is_answered(alloc, ctx, object),
         None => Ok(false),
     };
-    only_if(is_json(alloc, schema, asked.given().schema)?, answer)
+    only_if(is_json(alloc, schema, asked.subject().schema)?, answer)
 }
 
 /// Whether a value is that of a JSON text.
@@ -152,7 +152,7 @@ pub(super) fn is_json(alloc: Global, value: &Value, text: &str) -> Answer {
 /// Whether this is answered as it is to be, in a context of its own. The context and the schema object are as they
 /// were, whatever was answered.
 pub(super) fn is_answered<A: Asked>(alloc: Global, asked: &A) -> Answer {
-    let draft = asked.given().draft;
+    let draft = asked.subject().draft;
     let builder = builder();
     let formats = [even_format(alloc)?];
     let ctx = context(alloc, draft, &builder, &formats)?;

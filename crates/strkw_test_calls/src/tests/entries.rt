@@ -145,7 +145,7 @@ fn is_made_so<V: Drop>(made: Made<V>, place: Option<&str>) -> Result<bool, Alloc
 }
 
 impl Asked for Compiling {
-    fn given(&self) -> Given {
+    fn subject(&self) -> Given {
         Given {
             draft: self.row.draft,
             schema: self.row.schema,
@@ -361,7 +361,7 @@ fn is_told_so<V: Validate<Value> + Drop>(
 }
 
 impl Asked for Asking {
-    fn given(&self) -> Given {
+    fn subject(&self) -> Given {
         Given {
             draft: self.row.draft,
             schema: self.row.schema,

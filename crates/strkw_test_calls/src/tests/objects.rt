@@ -37,7 +37,7 @@ struct Asking {
 }
 
 impl Asked for Asking {
-    fn given(&self) -> Given {
+    fn subject(&self) -> Given {
         Given {
             draft: self.draft,
             schema: self.schema,

@@ -55,7 +55,7 @@ const OBJECTS: &[Noted] = &[
 ];
 
 impl Asked for Noted {
-    fn given(&self) -> Given {
+    fn subject(&self) -> Given {
         Given {
             draft: Draft::Draft202012,
             schema: self.schema,
@@ -118,8 +118,8 @@ struct ByValues<'a> {
 }
 
 impl Asked for ByValues<'_> {
-    fn given(&self) -> Given {
-        self.row.given()
+    fn subject(&self) -> Given {
+        self.row.subject()
     }
 
     fn is_answered(&self, alloc: Global, ctx: &Lent<'_>, _schema: &Map<String, Value>) -> Answer {
@@ -189,7 +189,7 @@ const SCHEMAS: &[TakenFrom] = &[
 ];
 
 impl Asked for TakenFrom {
-    fn given(&self) -> Given {
+    fn subject(&self) -> Given {
         Given {
             draft: Draft::Draft202012,
             schema: self.schema,
