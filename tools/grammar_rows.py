@@ -269,14 +269,14 @@ def addresses_of_six():
         for last in ("", "1.2.3.4", "255.255.255.255", "256.1.1.1", "01.2.3.4", "1.2.3", "1.2.3.4.5"):
             end = f"{back}:{last}" if back and last else back + last
             yield from (f"{front}::{end}", f"{front}:{end}", f"{front}:::{end}", f"{front}::{end}::1")
-    for last in ("12345", "g", "", ":", "%eth0", "%25e", "/64", " ", "\n", BYTE_ORDER_MARK, "１"):
-        yield from (f"::{last}", f"1:2:3:4:5:6:7:{last}", f"{last}::1", f"[::{last}]")
+    for last in ("12345", "00001", "0abcd", "g", "", ":", "%eth0", "%25e", "/64", " ", "\n", BYTE_ORDER_MARK, "１"):
+        yield from (f"::{last}", f"1:2:3:4:5:6:7:{last}", f"{last}::1", f"[::{last}]", f"1::{last}:1")
 
 
 def addresses_of_four():
     """Each octet at each place, and what stands around or within an address."""
     octets = ["0", "9", "10", "99", "100", "199", "200", "249", "250", "255", "256", "260", "300", "999", "1000", "00",
-              "01", "010", "001", "0255", "", "-1", "+1", "1a", "0x1", "٣", " 1", "1 "]
+              "01", "010", "001", "0255", "0001", "0000", "00000", "", "-1", "+1", "1a", "0x1", "٣", " 1", "1 "]
     for place, octet in itertools.product(range(4), octets):
         yield ".".join([*["1"] * place, octet, *["22"] * (3 - place)])
     for text in ("1.2.3.4", "255.255.255.255"):
@@ -606,6 +606,17 @@ def uri_length_rows():
         yield counts(of, "a", 1, 0, 100, spoilt)
 
 
+def bracket_rows():
+    """Addresses between brackets."""
+    yield "between brackets: groups of five digits, an IPv4 address at the end, zones, and a future version"
+    lasts = ("00001", "0abcd", "1", "abcd", "1.2.3.4", "01.2.3.4", "1.2.3.04", "1.2.3.256", "1.2.3", "0001.2.3.4",
+             "1%25e", "1%e", "v1.a", "[1]")
+    forms = ("::{}", "1:2:3:4:5:6:7:{}", "1:2:3:4:5:6:{}", "{}::1", "1::{}:1", "{}")
+    places = {"uri": "a://{}", "uri-reference": "//{}", "iri": "a://u@{}:8/p", "iri-reference": "//{}?q"}
+    for of, place in places.items():
+        yield texts(of, [place.format(f"[{inside}]") for inside in in_forms(forms, lasts)], URI_RULES[of])
+
+
 def uri_rows():
     """The rows of URIs, IRIs, their references, templates and pointers."""
     yield ("URIs, IRIs and their references: empty parts, userinfos with colons, ports, and what follows "
@@ -618,6 +629,7 @@ def uri_rows():
         yield texts(of, ends_of_authorities(), rule)
     yield from uri_character_rows()
     yield from uri_length_rows()
+    yield from bracket_rows()
     yield from template_rows()
     yield from pointer_rows()
 
@@ -1297,18 +1309,24 @@ def label_rules_of_idn():
     yield idn_texts(in_forms(places, DOTS + "\u00b7\u2024\u3001\ufe12\u0589\u06d4"))
 
 
+# The joiner among letters that join: no joining type lets it stand (RFC 5892, appendix A.2).
+JOINERS = ("\u0628\u200d\u0627\u064b", "\u1820\u200da\u18a9", "\u0628\u200d\u200c\u0627")
+
+
 def context_rows_of_idn():
     """Characters that have contextual rules."""
     yield ("contextual rules: each character that has one, among others of each kind, at each place "
            "(RFC 5892, appendix A)")
     for rule in ("l\u00b7a", "\u03b1\u0375a", "\u05d0\u05f3\u05f4b\u0628", "\u30fb\u30a2\u3042\u4e00a",
-                 "\u0660\u06f0\u0628", "\u094d\u200d\u0915\u200c", "\u0628\u200c\u0627\u064b", "\u1820\u200ca\u18a9"):
+                 "\u0660\u06f0\u0628", "\u094d\u200d\u0915\u200c", "\u0628\u200c\u0627\u064b", "\u1820\u200ca\u18a9",
+                 *JOINERS):
         yield idn_texts(words(rule, (1, 2, 3, 4)))
     digits = [chr(at) for at in (0x65F, 0x660, 0x661, 0x668, 0x669, 0x66A, 0x6EF, 0x6F0, 0x6F1, 0x6F8, 0x6F9, 0x6FA)]
     yield idn_texts([f"\u0628{one}{other}" for one in digits for other in digits])
     yield ("joining types: with a dual-joining letter on the one side, each of a transparent mark and an end of a type "
            "on the other")
-    places = [["", "\u200c\u0628"], ["\u0628\u200c", ""], ["\u0628\u064b\u200c\u064b", ""], ["", "\u064b\u200c\u0628"]]
+    places = [["", "\u200c\u0628"], ["\u0628\u200c", ""], ["\u0628\u064b\u200c\u064b", ""], ["", "\u064b\u200c\u0628"],
+              ["", "\u200d\u0628"], ["\u0628\u200d", ""]]
     for kind in JOINING:
         yield from idn_characters(places, near(JOINING[kind]))
     places = [["\u0628", "\u200c\u0628"], ["\u0628\u200c", "\u0628"], ["\u0628", "\u200c\u0627"],
@@ -1423,6 +1441,75 @@ def is_u_label(text):
     return not runs_to_left(text) or keeps_bidi_rule(text)
 
 
+def stands_in_hostname(points, at):
+    """Whether a character stands in a label of a host name: by blocks, not scripts, and by no joining types."""
+    point, before, behind = points[at], points[:at][-1:], points[at + 1:at + 2]
+    if point in (0x200C, 0x200D):
+        return any(unicodedata.combining(chr(other)) == 9 for other in before)
+    if point == 0xB7:
+        return before == behind == [ord("l")]
+    if point == 0x375:
+        return any(0x370 <= other <= 0x3FF for other in behind)
+    if point in (0x5F3, 0x5F4):
+        return any(0x590 <= other <= 0x5FF for other in before)
+    if point == 0x30FB:
+        return any(0x3040 <= other <= 0x30FF and other != 0x30FB or 0x4E00 <= other <= 0x9FFF for other in points)
+    if 0x660 <= point <= 0x669 and any(0x6F0 <= other <= 0x6F9 for other in points):
+        return False
+    return is_admitted(point)
+
+
+def is_hostname_form(form):
+    """Whether a text may stand behind an XN-label of a host name.
+
+    Neither its hyphens nor its direction, its normal form or mappings are looked at.
+    """
+    points = [ord(character) for character in form]
+    return not (points and is_mark(points[0])) and all(stands_in_hostname(points, at) for at in range(len(points)))
+
+
+def hostname_form_rows():
+    """What XN-labels of a host name encode, and the same labels in mail addresses."""
+    yield ("host names: XN-labels that encode what is no U-label for each reason of its own; those of a host name are "
+           "judged by letters and contexts alone, and those of a mail address by their ASCII characters")
+    forms = WRONG_FORMS + RIGHT_FORMS + COMPOSED + list(MAPPED)
+    heads = ("a", "aa", "\u00fc", "a\u00fc", "\u00fc\u00fc")
+    forms += [f"{one}--{other}" for one in heads for other in ("a", "\u00fc")]
+    forms += words("\u4e00a-\u0300\u0903", (1, 2, 3)) + ["\u4e00--\u4e00", "-\u00fc-", "--\u00fc", "\u00fc--"]
+    forms += [form for rule in JOINERS + ("\u0628\u200c\u0627", "\u094d\u200d\u0915") for form in words(rule, (2, 3))]
+    encoded_forms = {to_a_label(form): form for form in forms}
+    is_label = whole(LABEL)
+
+    def is_right(name):
+        """Whether the name is an XN-label whose form is admitted, alone or beside a label."""
+        label = name.removeprefix("a.").removesuffix(".b")
+        return is_label(label) and is_hostname_form(encoded_forms[label])
+
+    yield texts("hostname", in_forms(("{}", "a.{}", "{}.b"), encoded_forms), is_right)
+    yield texts("hostname of RFC 1034", encoded_forms, whole(NAME))
+    yield texts("email", [f"a@{label}" for label in encoded_forms], is_mailbox)
+    yield texts("idn-email", [f"a@{label}" for label in encoded_forms], is_mailbox)
+    encoded_forms = {to_a_label(form): form for form in words(OF_CLASSES, (1, 2, 3))}
+    yield texts("hostname", encoded_forms, is_right)
+    yield texts("label", [form for rule in JOINERS for form in words(rule, (1, 2, 3, 4))], is_hostname_form)
+
+
+def is_domain_of_labels(text):
+    """Whether what stands behind `a@` is labels in ASCII and U-labels."""
+    return all(whole(LABEL)(label) if label.isascii() else is_u_label(label) for label in text[2:].split("."))
+
+
+def mail_label_rows():
+    """The labels of internationalised mail addresses."""
+    yield "internationalised mail addresses: a label past ASCII is a U-label, each reason for which a text is none"
+    forms = [form for form in WRONG_FORMS + RIGHT_FORMS + COMPOSED + list(MAPPED) if not form.isascii()]
+    yield texts("idn-email", in_forms(("a@{}", "a@b.{}", "a@{}.b"), forms), is_domain_of_labels)
+    forms = [form for form in words(OF_CLASSES, (1, 2, 3)) if not form.isascii()]
+    yield texts("idn-email", [f"a@{form}" for form in forms], is_domain_of_labels)
+    forms = [form for rule in JOINERS for form in words(rule, (1, 2, 3, 4))]
+    yield texts("idn-email", [f"a@{form}" for form in forms if not form.isascii()], is_domain_of_labels)
+
+
 def u_label_rows():
     """The rows of U-labels by themselves."""
     yield ("U-labels by themselves (RFC 5890, section 2.3.2.1): each reason for which a text is none, dots, A-labels, "
@@ -1431,6 +1518,7 @@ def u_label_rows():
     with_dots = [f"{one}{dot}\u00fc" for one in ("", "a", "\u00fc") for dot in DOTS]
     yield texts("u-label", [*forms, *map(to_a_label, forms), *with_dots], is_u_label)
     yield texts("u-label", words(OF_CLASSES, (1, 2, 3)), is_u_label)
+    yield texts("u-label", [form for rule in JOINERS for form in words(rule, (1, 2, 3, 4))], is_u_label)
     yield texts("u-label", labels_about_63() + ["\u4e00" * count for count in range(1, 70)], is_u_label)
 
 
@@ -1438,7 +1526,7 @@ def idn_rows():
     """The rows of internationalised host names."""
     yield "internationalised host names: RFC 5890 to 5893"
     yield from rows_of(permission_rows, normal_form_rows, label_rules_of_idn, context_rows_of_idn, bidi_rows_of_idn,
-                       a_label_rows, size_rows, u_label_rows)
+                       a_label_rows, size_rows, u_label_rows, hostname_form_rows, mail_label_rows)
     yield ("all code points, by the derived property of another edition of Unicode: between two letters of either "
            "direction; of the first 131,072 first, last and beside the characters that have contextual rules")
     yield from (idn_sums(before, behind) for before, behind in WIDE_PLACES)
@@ -1643,6 +1731,22 @@ def binary_searches():
     return searches(rows)
 
 
+# The binary properties that the standard makes itself (ECMA-262 2024, section 22.2.2.9.1, and UTS #18, section 1.2).
+MADE = {"Any": lambda character: True, "ASCII": str.isascii,
+        "Assigned": lambda character: unicodedata.category(character) != "Cn"}
+# The ends of ASCII and of Unicode, and characters of each kind that are not assigned or are for private use.
+AT_ENDS = ("\0\u001f ~\u007f\u0080\u00ff\u0378\u0379\ud7ff\ue000\uf8ff\ufdd0\ufdef\ufffd\ufffe\uffff\U00010000"
+           "\U0001fffe\U000e0001\U000f0000\U000ffffe\U0010fffd\U0010fffe\U0010ffff")
+
+
+def made_searches():
+    """Each of these properties with each of these characters, alone and in classes."""
+    forms = (("^\\p{{{}}}$", True), ("^\\P{{{}}}$", False), ("^[\\p{{{}}}]$", True), ("^[^\\p{{{}}}]$", False),
+             ("^[\\P{{{}}}]$", False), ("^[^\\P{{{}}}]$", True))
+    return searches([[form.format(name), character, has(character) == is_found]
+                     for (name, has), (form, is_found), character in itertools.product(MADE.items(), forms, AT_ENDS)])
+
+
 def binary_names_off(categories):
     """What is no name of a binary property: one letter off, with a value, or where a value stands."""
     names = [name for names in BINARIES for name in names.split("/")]
@@ -1677,6 +1781,8 @@ def property_rows():
            "one letter off, with a value, and as a value")
     yield binary_searches()
     yield texts(PATTERNS, [f"\\p{{{name}}}" for name in binary_names_off(known[CATEGORIES])], never)
+    yield "Any, ASCII and Assigned: the ends of each, and characters that are not assigned"
+    yield made_searches()
 
 
 def escape_rows():
@@ -2299,7 +2405,9 @@ STEPS = {
     "(?:a{7})": 7, "(?:a{0,7})": 7, "(?:(?:ab){0,2})": 10, "(?:a|)": 4, "(?:|a)": 4, "(?:(?:a|b)?)": 8, "(?:(?<=a))": 3,
     "(?:(?<!ab)c)": 5, "(?:(?<=a|b))": 7, "(?:(?<!))": 2, "(?:(?<=a{7}))": 9, "(?:(?<=(?<!a)))": 5, "(?:(?=a))": 3,
     "(?:(?!a)c)": 4, "(?:(?=a|b))": 7, "(?:(?!))": 2, "(?:(?=\\p{L}))": 4, "(?:(?=a?))": 6, "(?:(?=(?!a)))": 5,
-    "(?:(?=a|b|c))": 11, "(?:(?=$))": 3}
+    "(?:(?=a|b|c))": 11, "(?:(?=$))": 3, "(?:a?|b)": 5, "(?:b|a?)": 5, "(?:a?|b?|c?)": 7, "(?:(?:ab)?|c)": 9,
+    "(?:c|(?:ab)?)": 9, "(?:a*|b+)": 5, "(?:|a|b)": 6, "(?:a||b)": 6, "(?:a|b|)": 6, "(?:|)": 3, "(?:||)": 4,
+    "(?:a{0,1}|b)": 5, "(?:\\p{L}?|b)": 6, "(?:^|a)": 5, "(?:a|b|c|d)": 9}
 MOST_STEPS, MOST_STEPS_OF_ALL, MOST_TIMES = 2000, 2600, 1000
 
 
