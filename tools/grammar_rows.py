@@ -217,6 +217,30 @@ def offset_rows():
     yield texts("time", [f"12:30:45{offset}" for offset in others], never)
 
 
+# Dates, times and durations of ISO 8601 that RFC 3339 does not have.
+OTHER_DATES = (
+    "20240229", "2024-0229", "202402-29", "2024-02", "2024", "202402", "--02-29", "---29", "24-02-29", "2024-060",
+    "2024060", "2024-W09-4", "2024W094", "2024-W09", "+2024-02-29", "-2024-02-29", "+002024-02-29", "02024-02-29",
+    "2024-2-29", "2024-02-1", "2024/02/29", "2024.02.29", "29-02-2024", "02-29-2024", "2024-02-29Z",
+    "2024-02-29+01:00", "2024-Feb-29", "2024\u201002\u201029", "2024\u221202\u221229")
+OTHER_TIMES = (
+    "123045Z", "12:3045Z", "1230:45Z", "12:30Z", "1230Z", "12Z", "12:30:45", "12:30:45+0100", "12:30:45-0100",
+    "12:30:45+01", "12:30:45-01", "12:30:45+1:00", "12:30:45+01:0", "12:30:45+1", "12:30:45+01:00:00",
+    "12:30:45.5+0100", "12:30:45.5+01", "12:30:45+0000", "12:30:45-0000", "12:30:45+00", "12:30:45Z+01:00",
+    "12:30:45 Z", "12:30:45 +01:00", "12:30:45\u221201:00", "12:30:45\u201301:00", "12:30:45\u201001:00",
+    "12:30:45,5Z", "12:30:45,5+01:00", "12:30.5Z", "12.5Z", "12:30:45:5Z", "T12:30:45Z", "t12:30:45Z", "12:30:45UTC",
+    "12:30:45GMT", "12:30:45 UTC", "12:30:45A", "12:30:45+Z", "12:30:45ZZ", "12:30:45zZ", "12:30:45Z[Europe/Berlin]",
+    "12-30-45Z", "12.30.45Z", "1:30:45Z", "12:3:45Z", "12:30:5Z", "012:30:45Z", "12:30:45pmZ", "12:30:45 PM",
+    "24:00:00Z", "24:00:00.0Z", "24:00:00+00:00", "24:00:01Z", "23:60:00Z", "12:30:60Z", "12:30:61Z",
+    "12:30:45+24:00", "12:30:45-24:00", "12:30:45+23:60", "12:30:45+12:60", "12:30:45\u00b101:00")
+OTHER_DURATIONS = (
+    "P0.5Y", "P1.5M", "P1.5D", "P0.5W", "PT1.5H", "PT1.5M", "PT1.5S", "PT0,5S", "P1,5D", "PT36.5H", "-P1D", "+P1D",
+    "P-1D", "P+1D", "PT-1H", "P0001-02-03T04:05:06", "P00010203T040506", "P1Y2M3DT04:05:06", "P1Y1W", "P1M1W",
+    "P1W1D", "P1WT1H", "PT1W", "P1H", "P1S", "PT1D", "PT1Y", "P1DT", "P1YT", "PT", "P", "P1", "PT1", "P1D1D", "P2D1Y",
+    "P1M1Y", "PT1M1H", "PT1S1M", "P1Y1D", "PT1H1S", "P 1D", "P1 D", "P1D ", "1D", "T1H", "P1DT1", "P1D1H",
+    "P1Y2M3W4D", "P\u0661D", "P\uff11D", "P1DP1D", "P1D/P1D", "R5/P1D", "R/P1D")
+
+
 def time_rows():
     """The rows of dates, times, date-times and durations."""
     yield from day_rows()
@@ -228,6 +252,14 @@ def time_rows():
         yield texts(of, [text] + around(text), lambda other, text=text: other == text)
     between = ASCII + "\u0085\u00a0\u0422\u1e6a\uff34"
     yield texts("date-time", [f"2024-02-29{sign}12:30:45Z" for sign in between], lambda text: text[10] in "Tt")
+    yield ("forms of ISO 8601 that section 5.6 does not have: basic ones, of less precision, of weeks and of days of a "
+           "year")
+    yield texts("date", OTHER_DATES, never)
+    yield texts("time", OTHER_TIMES, never)
+    others = [f"{date}T12:30:45Z" for date in OTHER_DATES] + [f"2024-02-29T{time}" for time in OTHER_TIMES]
+    others += ["20240229T123045Z", "2024-02-29", "T12:30:45Z", "2024-02-29T", "12:30:45Z"]
+    yield texts("date-time", others, never)
+    yield texts("duration", OTHER_DURATIONS, never)
     yield "each choice of units, and each pair of them (appendix A)"
     yield texts("duration", durations(), whole(DURATION))
     for unit in ("Y", "M", "D", "W"):
@@ -1309,7 +1341,10 @@ def label_rules_of_idn():
     yield idn_texts(in_forms(places, DOTS + "\u00b7\u2024\u3001\ufe12\u0589\u06d4"))
 
 
-# The joiner among letters that join: no joining type lets it stand (RFC 5892, appendix A.2).
+# Each character that has a contextual rule, with letters that let it stand and others (RFC 5892, appendix A).
+CONTEXTS = ("l\u00b7a", "\u03b1\u0375a", "\u05d0\u05f3\u05f4b\u0628", "\u30fb\u30a2\u3042\u4e00a", "\u0660\u06f0\u0628",
+            "\u094d\u200d\u0915\u200c", "\u0628\u200c\u0627\u064b", "\u1820\u200ca\u18a9")
+# The joiner among letters that join: no joining type lets it stand (appendix A.2).
 JOINERS = ("\u0628\u200d\u0627\u064b", "\u1820\u200da\u18a9", "\u0628\u200d\u200c\u0627")
 
 
@@ -1317,9 +1352,7 @@ def context_rows_of_idn():
     """Characters that have contextual rules."""
     yield ("contextual rules: each character that has one, among others of each kind, at each place "
            "(RFC 5892, appendix A)")
-    for rule in ("l\u00b7a", "\u03b1\u0375a", "\u05d0\u05f3\u05f4b\u0628", "\u30fb\u30a2\u3042\u4e00a",
-                 "\u0660\u06f0\u0628", "\u094d\u200d\u0915\u200c", "\u0628\u200c\u0627\u064b", "\u1820\u200ca\u18a9",
-                 *JOINERS):
+    for rule in CONTEXTS + JOINERS:
         yield idn_texts(words(rule, (1, 2, 3, 4)))
     digits = [chr(at) for at in (0x65F, 0x660, 0x661, 0x668, 0x669, 0x66A, 0x6EF, 0x6F0, 0x6F1, 0x6F8, 0x6F9, 0x6FA)]
     yield idn_texts([f"\u0628{one}{other}" for one in digits for other in digits])
@@ -1476,7 +1509,7 @@ def hostname_form_rows():
     heads = ("a", "aa", "\u00fc", "a\u00fc", "\u00fc\u00fc")
     forms += [f"{one}--{other}" for one in heads for other in ("a", "\u00fc")]
     forms += words("\u4e00a-\u0300\u0903", (1, 2, 3)) + ["\u4e00--\u4e00", "-\u00fc-", "--\u00fc", "\u00fc--"]
-    forms += [form for rule in JOINERS + ("\u0628\u200c\u0627", "\u094d\u200d\u0915") for form in words(rule, (2, 3))]
+    forms += [form for rule in CONTEXTS + JOINERS for form in words(rule, (1, 2, 3))]
     encoded_forms = {to_a_label(form): form for form in forms}
     is_label = whole(LABEL)
 
@@ -1491,7 +1524,7 @@ def hostname_form_rows():
     yield texts("idn-email", [f"a@{label}" for label in encoded_forms], is_mailbox)
     encoded_forms = {to_a_label(form): form for form in words(OF_CLASSES, (1, 2, 3))}
     yield texts("hostname", encoded_forms, is_right)
-    yield texts("label", [form for rule in JOINERS for form in words(rule, (1, 2, 3, 4))], is_hostname_form)
+    yield texts("label", [form for rule in CONTEXTS + JOINERS for form in words(rule, (1, 2, 3, 4))], is_hostname_form)
 
 
 def is_domain_of_labels(text):
@@ -1506,7 +1539,7 @@ def mail_label_rows():
     yield texts("idn-email", in_forms(("a@{}", "a@b.{}", "a@{}.b"), forms), is_domain_of_labels)
     forms = [form for form in words(OF_CLASSES, (1, 2, 3)) if not form.isascii()]
     yield texts("idn-email", [f"a@{form}" for form in forms], is_domain_of_labels)
-    forms = [form for rule in JOINERS for form in words(rule, (1, 2, 3, 4))]
+    forms = [form for rule in CONTEXTS + JOINERS for form in words(rule, (1, 2, 3))]
     yield texts("idn-email", [f"a@{form}" for form in forms if not form.isascii()], is_domain_of_labels)
 
 
@@ -1518,7 +1551,7 @@ def u_label_rows():
     with_dots = [f"{one}{dot}\u00fc" for one in ("", "a", "\u00fc") for dot in DOTS]
     yield texts("u-label", [*forms, *map(to_a_label, forms), *with_dots], is_u_label)
     yield texts("u-label", words(OF_CLASSES, (1, 2, 3)), is_u_label)
-    yield texts("u-label", [form for rule in JOINERS for form in words(rule, (1, 2, 3, 4))], is_u_label)
+    yield texts("u-label", [form for rule in CONTEXTS + JOINERS for form in words(rule, (1, 2, 3))], is_u_label)
     yield texts("u-label", labels_about_63() + ["\u4e00" * count for count in range(1, 70)], is_u_label)
 
 
