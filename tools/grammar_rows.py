@@ -2472,6 +2472,10 @@ def limits_of_atoms():
         yield f"{atom}{{{most},}}", (most + 1) * steps <= MOST_STEPS
         yield f"{atom}{{{most - 1},}}", True
         yield f"{atom}{{{most + 1},}}", False
+        if steps < 3:
+            most = MOST_STEPS // (3 * steps)
+            yield f"(?:{atom * 3}){{{most}}}", True
+            yield f"(?:{atom * 3}){{{most + 1}}}", False
     for count, zeros in itertools.product((999, 1000, 1001), ("", "0", "0" * 20)):
         for bounds in (f"{zeros}{count}", f"{zeros}{count},", f"0,{zeros}{count}", f"{zeros}{count},{count}"):
             yield f"a{{{bounds}}}", count <= MOST_TIMES
