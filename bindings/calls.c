@@ -443,11 +443,25 @@ static bool judges_anew(void) {
         && verdicts[1] == 0;
 }
 
+/* Whether a schema that is kept with an option finds a mail address right and another text wrong. */
+static bool judges_mail(const strkw_schema *mail) {
+    static const size_t ends[] = {3, 6};
+    uint8_t verdicts[] = {7, 7};
+    return strkw_schema_check(mail, (const uint8_t *)"a@ba-b", 6, ends, 2, verdicts, 2) == STRKW_DONE
+        && verdicts[0] == 1 && verdicts[1] == 0;
+}
+
 /* What a thread does with the schema that all of them have. It answers NULL where one of its calls was wrong. */
 static void *asks_verdicts(void *slug) {
     for (unsigned round = 0; round < ROUNDS; round++)
         if (!judges(slug)) return NULL;
     return slug;
+}
+
+static void *asks_mail(void *mail) {
+    for (unsigned round = 0; round < ROUNDS; round++)
+        if (!judges_mail(mail)) return NULL;
+    return mail;
 }
 
 static void *asks_errors(void *slug) {
@@ -518,6 +532,13 @@ static void call_together(void) {
     row("schema_check", "right", "in a child after a fork", child_agrees(slug));
     row("schema_check", "right", "in the parent after a fork", judges(slug) && tells_slugs(slug));
     strkw_schema_free(slug);
+    strkw_schema *mail = NULL;
+    row("schema_compile", "right", "a format of an option",
+        strkw_schema_compile(4, STRKW_COMPANION_FORMATS, text_of(MAIL), strlen(MAIL), &mail) == STRKW_DONE);
+    row("schema_check", "right", "an option that is kept", judges_mail(mail));
+    row("schema_check", "right", "an option that objects made later have too",
+        threads_agree(MORE_THREADS, asks_mail, mail));
+    strkw_schema_free(mail);
 }
 
 int main(int count, char **words) {
