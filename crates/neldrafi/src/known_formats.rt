@@ -17,7 +17,7 @@ pub(crate) enum KnownFormat {
 
 impl KnownFormat {
     /// All of them: first the library's own, in the order of their enum.
-    pub(crate) fn all(alloc: Global) -> Result<Vec<KnownFormat>, AllocError> {
+    pub(crate) fn all_formats(alloc: Global) -> Result<Vec<KnownFormat>, AllocError> {
         let mut formats = Vec::new(alloc);
         for format in BuiltinFormat::VARIANTS {
             formats.push(KnownFormat::Builtin(*format))?;
@@ -29,7 +29,7 @@ impl KnownFormat {
     }
 
     /// The format of a name in a draft, where it has one.
-    pub(crate) fn named(draft: Draft, name: &str) -> Option<KnownFormat> {
+    pub(crate) fn by_name(draft: Draft, name: &str) -> Option<KnownFormat> {
         match builtin_format(draft, name) {
             Some(format) => Some(KnownFormat::Builtin(format)),
             None => KnownFormat::companion_named(draft, name),

@@ -115,7 +115,7 @@ pub(crate) struct Wanted {
 
 impl Wanted {
     /// All lines are written.
-    pub(crate) fn all() -> Wanted {
+    pub(crate) fn all_lines() -> Wanted {
         Wanted {
             is_quiet: false,
             is_coloured: false,

@@ -159,7 +159,7 @@ impl FaultyWrite for Output<'_> {
 
 /// Writes a text to standard output. That nobody reads it is no fault.
 pub(crate) fn write_text(rt: &HostRuntime, text: &str) -> Result<(), Fault> {
-    let mut output = Output::new(rt, "", Wanted::all());
+    let mut output = Output::new(rt, "", Wanted::all_lines());
     if output.write_all(text.as_bytes()).is_ok() {
         return Ok(());
     }

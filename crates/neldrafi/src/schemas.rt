@@ -191,13 +191,13 @@ pub(crate) fn compile<B: EngineBuilder>(
 
 // The fault that tells why a schema is refused.
 fn fault_of_schema(alloc: Global, fault: PlanFault) -> Fault {
-    let told = refused(alloc, &fault);
+    let told = schema_fault(alloc, &fault);
     drop(fault);
     told
 }
 
 // The same, of a fault that is kept.
-fn refused(alloc: Global, fault: &PlanFault) -> Fault {
+fn schema_fault(alloc: Global, fault: &PlanFault) -> Fault {
     match fault {
         PlanFault::NoObject(_) => {
             Fault::with_words(

@@ -1,7 +1,7 @@
 //! Nanoseconds to count the characters of a text, beside the standard library's count.
 
-use crate::texts::repeated;
-use crate::timing::{self, least};
+use crate::texts::repeat_piece;
+use crate::timing::{self, least_round};
 use std::alloc::Global;
 use std::io;
 use strkw_report::char_count;
@@ -55,7 +55,7 @@ const LENGTHS: &[Length] = &[
 ];
 
 fn time(rt: HostRuntime, name: &str, call: Call, text: &str, calls: u32) -> io::Result<()> {
-    let tenths = least(rt, &call, &[text], calls)?.tenths_a_call(calls);
+    let tenths = least_round(rt, &call, &[text], calls)?.tenths_a_call(calls);
     println!(rt;
         "{name}, {} bytes: {}.{} ns",
         text.len(),
@@ -65,7 +65,7 @@ fn time(rt: HostRuntime, name: &str, call: Call, text: &str, calls: u32) -> io::
 }
 
 fn time_length(rt: HostRuntime, row: &Length) -> io::Result<()> {
-    let text = repeated(rt.alloc(), "", PART, row.parts, "")?;
+    let text = repeat_piece(rt.alloc(), "", PART, row.parts, "")?;
     time(rt, "char_count", Call::Counted, &text, row.calls)?;
     time(
         rt,

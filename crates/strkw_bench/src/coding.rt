@@ -1,7 +1,7 @@
 //! Megabytes of text a second, of each check and decoder of the encodings and of the JSON check.
 
-use crate::texts::repeated;
-use crate::timing::{self, least};
+use crate::texts::repeat_piece;
+use crate::timing::{self, least_round};
 use std::alloc::Global;
 use std::io;
 use strkw_coding::{Codec, is_json};
@@ -115,8 +115,8 @@ const MEGABYTES: &[Megabyte] = &[
 ];
 
 fn time(rt: HostRuntime, row: &Megabyte) -> io::Result<()> {
-    let text = repeated(rt.alloc(), row.start, row.piece, 32768, row.end)?;
-    let round = least(rt, &row.call, &[text.as_str()], CALLS)?;
+    let text = repeat_piece(rt.alloc(), row.start, row.piece, 32768, row.end)?;
+    let round = least_round(rt, &row.call, &[text.as_str()], CALLS)?;
     let bytes = (text.len() as u128).wrapping_mul(u128::from(CALLS));
     println!(rt;
         "{}: {} MB/s, {} accepted",

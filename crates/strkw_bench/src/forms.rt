@@ -1,7 +1,7 @@
 //! Nanoseconds a round of texts: URI templates, JSON pointers, IRIs, literal patterns, encodings, and JSON beside the
 //! reading of it that builds a value.
 
-use crate::texts::repeated;
+use crate::texts::repeat_piece;
 use crate::timing::{self, time};
 use serde_json::Value;
 use std::alloc::{AllocError, Global};
@@ -261,7 +261,7 @@ const LONG_TEXTS: &[Long] = &[
 ];
 
 fn time_long(rt: HostRuntime, row: &Long) -> io::Result<()> {
-    let text = repeated(rt.alloc(), row.start, row.piece, row.count, "")?;
+    let text = repeat_piece(rt.alloc(), row.start, row.piece, row.count, "")?;
     time(rt, row.name, &row.call, &[text.as_str()], LONG)
 }
 
@@ -356,7 +356,7 @@ const SOLID_TEXTS: &[Solid] = &[
 ];
 
 fn time_solid(rt: HostRuntime, row: &Solid) -> io::Result<()> {
-    let text = repeated(rt.alloc(), "", row.piece, row.count, "")?;
+    let text = repeat_piece(rt.alloc(), "", row.piece, row.count, "")?;
     time(
         rt,
         row.name,
@@ -435,7 +435,7 @@ const JSON_TEXTS: &[Json] = &[
 ];
 
 fn time_json(rt: HostRuntime, row: &Json) -> io::Result<()> {
-    let text = repeated(rt.alloc(), row.start, row.piece, row.count, row.end)?;
+    let text = repeat_piece(rt.alloc(), row.start, row.piece, row.count, row.end)?;
     println!(rt; "{}", row.name)?;
     time(rt, "  is_json", &Call::Json, &[text.as_str()], row.calls)?;
     time(

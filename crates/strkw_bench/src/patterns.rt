@@ -2,7 +2,7 @@
 //! the texts are lines of the standard input: a pattern, a piece of text, how often it stands there, and what stands
 //! behind, with a tab between each two.
 
-use crate::texts::repeated;
+use crate::texts::repeat_piece;
 use crate::timing::Round;
 use regex::{Matcher, Regex};
 use std::alloc::Global;
@@ -33,7 +33,7 @@ impl Search for Matcher<'_> {
 
 // The least time of some rounds of so many searches.
 #[inline(never)]
-fn least<S: Search>(
+fn least_round<S: Search>(
     rt: HostRuntime,
     search: &mut S,
     text: &str,
@@ -68,7 +68,7 @@ fn time_search<S: Search>(
     text: &str,
     searches: u32,
 ) -> io::Result<()> {
-    let round = least(rt, search, text, searches)?;
+    let round = least_round(rt, search, text, searches)?;
     let tenths = round.tenths_a_call(searches);
     print!(rt;
         "\t{name} {}.{} ns, {} found",
@@ -110,7 +110,7 @@ fn time_line(rt: HostRuntime, line: &str) -> io::Result<()> {
         return Ok(());
     };
     let count = count.parse::<u32>().unwrap_or(1);
-    let text = repeated(rt.alloc(), "", piece, count, fields.next().unwrap_or(""))?;
+    let text = repeat_piece(rt.alloc(), "", piece, count, fields.next().unwrap_or(""))?;
     time(rt, pattern, &text)
 }
 

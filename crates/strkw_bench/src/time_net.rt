@@ -1,7 +1,7 @@
 //! Nanoseconds a call of the recognisers of times, addresses, host names and UUIDs, each over its own list of texts.
 
 use crate::texts::LONGEST_HOST_NAME;
-use crate::timing::{self, least};
+use crate::timing::{self, least_round};
 use std::alloc::Global;
 use std::io;
 use strkw_net::{is_valid_hostname_rfc1034, is_valid_ipv4, is_valid_ipv6, is_valid_uuid};
@@ -205,7 +205,7 @@ const ROWS: &[Row] = &[
 ];
 
 fn time(rt: HostRuntime, row: &Row) -> io::Result<()> {
-    let round = least(rt, &row.call, &[row.text], CALLS)?;
+    let round = least_round(rt, &row.call, &[row.text], CALLS)?;
     let tenths = round.tenths_a_call(CALLS);
     println!(rt;
         "{}, {} bytes: {}.{} ns, {} accepted",

@@ -43,7 +43,12 @@ impl Round {
 // Compiled by itself, where nothing is known of the texts: else a call on a text that stays the same is made once for
 // all.
 #[inline(never)]
-pub fn least<C: Call>(rt: HostRuntime, call: &C, texts: &[&str], calls: u32) -> io::Result<Round> {
+pub fn least_round<C: Call>(
+    rt: HostRuntime,
+    call: &C,
+    texts: &[&str],
+    calls: u32,
+) -> io::Result<Round> {
     let alloc = rt.alloc();
     let mut least = Round {
         nanoseconds: u128::MAX,
@@ -76,7 +81,7 @@ pub fn time<C: Call>(
     texts: &[&str],
     calls: u32,
 ) -> io::Result<()> {
-    let round = least(rt, call, texts, calls)?;
+    let round = least_round(rt, call, texts, calls)?;
     let tenths = round.tenths_a_call(calls);
     println!(rt;
         "{name}: {}.{} ns, {} accepted",

@@ -2,7 +2,7 @@
 //! bytes that reads no parts.
 
 use crate::plain_parts::PlainParts;
-use crate::texts::repeated;
+use crate::texts::repeat_piece;
 use crate::timing::{Call, time};
 use std::alloc::Global;
 use std::io;
@@ -147,7 +147,7 @@ const SHORT: &[Texts] = &[
 
 // A URI of 64 KiB and some bytes, of such a piece.
 fn time_long(rt: HostRuntime, name: &str, piece: &str) -> io::Result<()> {
-    let text = repeated(rt.alloc(), "http://example.com/", piece, 4096, "")?;
+    let text = repeat_piece(rt.alloc(), "http://example.com/", piece, 4096, "")?;
     time_all(rt, name, &[text.as_str()], 500)
 }
 

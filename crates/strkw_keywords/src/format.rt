@@ -45,7 +45,7 @@ impl Test for OfBuiltin {
         Some (remark_at location keyword.Format (string (format_name t.format))) };
 
     fn parts<'a>(&'a self, origin: &'a Origin) -> Parts<'a> {
-        Parts::quiet(
+        Parts::of_quiet(
             origin,
             Some(Noted::Text(Keyword::Format, self.format.as_str())),
         )
@@ -92,7 +92,7 @@ impl Test for OfRow {
                 name: self.name.as_str(),
             }),
             is_quiet: false,
-            ..Parts::quiet(origin, None)
+            ..Parts::of_quiet(origin, None)
         }
     }
 
@@ -127,7 +127,7 @@ pub(crate) fn build_format<B: EngineBuilder>(
         return Err(no_string(value, Keyword::Format));
     };
     if !checks_formats(&ctx.options, ctx.draft) {
-        let noting = Untested::keyed(ctx, Keyword::Format, value.clone()?)?;
+        let noting = Untested::keyed_validator(ctx, Keyword::Format, value.clone()?)?;
         return Ok(Some(Validator::AnnotationOnlyFormat(noting)));
     }
     if let Some(position) = ctx.checks.format_named(name) {

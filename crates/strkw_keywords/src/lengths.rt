@@ -58,7 +58,7 @@ impl Test for AtLeast {
     ghost demands = { λ t. at_least t.limit ∷ [] };
 
     fn parts<'a>(&'a self, origin: &'a Origin) -> Parts<'a> {
-        Parts::quiet(origin, None)
+        Parts::of_quiet(origin, None)
     }
 
     fn findings<N: Node>(&self, _: Global, text: &TextNode<'_, N>, _: &Checks) -> Found<'_> {
@@ -73,7 +73,7 @@ impl Test for AtMost {
     ghost demands = { λ t. at_most t.limit ∷ [] };
 
     fn parts<'a>(&'a self, origin: &'a Origin) -> Parts<'a> {
-        Parts::quiet(origin, None)
+        Parts::of_quiet(origin, None)
     }
 
     fn findings<N: Node>(&self, _: Global, text: &TextNode<'_, N>, _: &Checks) -> Found<'_> {
@@ -88,7 +88,7 @@ impl Test for Between {
     ghost demands = { λ t. at_least t.min ∷ at_most t.max ∷ [] };
 
     fn parts<'a>(&'a self, origin: &'a Origin) -> Parts<'a> {
-        Parts::quiet(origin, None)
+        Parts::of_quiet(origin, None)
     }
 
     fn findings<N: Node>(&self, _: Global, text: &TextNode<'_, N>, _: &Checks) -> Found<'_> {

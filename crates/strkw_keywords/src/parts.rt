@@ -102,7 +102,7 @@ impl Parts<'_> {
 
 impl<'a> Parts<'a> {
     // Those of a validator that rests on no row and takes no memory.
-    pub(crate) fn quiet(origin: &'a Origin, noted: Option<Noted<'a>>) -> Parts<'a>
+    pub(crate) fn of_quiet(origin: &'a Origin, noted: Option<Noted<'a>>) -> Parts<'a>
         ensures { result ≡ quiet_parts origin.entry noted.entry }
     {
         Parts {
@@ -134,7 +134,7 @@ impl<'a> Parts<'a> {
             media_type,
             codec,
             is_quiet: false,
-            ..Parts::quiet(origin, None)
+            ..Parts::of_quiet(origin, None)
         }
     }
 }

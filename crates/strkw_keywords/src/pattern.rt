@@ -85,7 +85,11 @@ pub struct Literal<K: Kind> {
 
 impl<K: Kind> Literal<K> {
     // The validator that compares texts by a matcher of its kind.
-    fn keyed(origin: Origin, pattern: String, matcher: LiteralMatcher) -> Keyed<Literal<K>>
+    fn keyed_validator(
+        origin: Origin,
+        pattern: String,
+        matcher: LiteralMatcher,
+    ) -> Keyed<Literal<K>>
         requires { kind_of matcher ≡ K.kind }
         ensures origin { result.origin ≡ origin }
         ensures pattern { result.test.pattern ≡ pattern }
@@ -105,7 +109,7 @@ impl<K: Kind> Test for Literal<K> {
     ghost demands = { λ t. compares (string_bytes t.pattern) (literal_outcome t.matcher) ∷ [] };
 
     fn parts<'a>(&'a self, origin: &'a Origin) -> Parts<'a> {
-        Parts::quiet(origin, None)
+        Parts::of_quiet(origin, None)
     }
 
     fn findings<N: Node>(&self, alloc: Global, text: &TextNode<'_, N>, _: &Checks) -> Found<'_> {

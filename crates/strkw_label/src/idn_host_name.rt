@@ -270,7 +270,7 @@ fn a_label_facts(alloc: Global, label: &[char]) -> Result<Option<LabelFacts>, Al
         return Ok(None);
     }
     let payload = lowercase(alloc, &label[PREFIX_LENGTH..])?;
-    let Some(form) = decoded(alloc, payload.as_str())? else {
+    let Some(form) = payload_text(alloc, payload.as_str())? else {
         return Ok(None);
     };
     if !is_unicode_label(alloc, &form)? {
@@ -301,7 +301,7 @@ fn lowercase(alloc: Global, text: &[char]) -> Result<String, AllocError>
 }
 
 /// The text that a payload encodes, if it encodes one (RFC 3492, section 6.2).
-fn decoded(alloc: Global, payload: &str) -> Result<Option<Vec<char>>, AllocError>
+fn payload_text(alloc: Global, payload: &str) -> Result<Option<Vec<char>>, AllocError>
     requires { length payload.now ≤ 63 }
     ensures { IfOk result (λ found. option_map (λ text. text.items) found ≡ decode payload.now) }
 {

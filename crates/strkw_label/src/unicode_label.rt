@@ -67,14 +67,14 @@ fn is_composed(alloc: Global, label: &[char]) -> Result<bool, AllocError>
         IsNormalized::Yes => Ok(true),
         IsNormalized::No => Ok(false),
         IsNormalized::Maybe => {
-            let composed = composed(alloc, label)?;
+            let composed = compose(alloc, label)?;
             Ok(are_same(&composed, label))
         }
     }
 }
 
 /// The characters in the normal form NFC.
-fn composed(alloc: Global, text: &[char]) -> Result<Vec<char>, AllocError>
+fn compose(alloc: Global, text: &[char]) -> Result<Vec<char>, AllocError>
     ensures { IfOk result (λ composed. composed.items ≡ nfc text.now) }
 {
     let mut composed = Vec::new(alloc);

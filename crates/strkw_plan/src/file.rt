@@ -87,7 +87,7 @@ pub fn read_marked_plan_file(rt: &HostRuntime, path: &str) -> Result<Value, Plan
 fn text_of(rt: &HostRuntime, path: &str) -> Result<String, PlanFileFault> {
     match fs::read_to_string(rt, path) {
         Ok(text) => Ok(text),
-        Err(error) => Err(unread(rt, path, error)?),
+        Err(error) => Err(unread_fault(rt, path, error)?),
     }
 }
 
@@ -107,7 +107,11 @@ fn plan_of_text(rt: &HostRuntime, path: &str, text: &str) -> Result<Value, PlanF
 }
 
 // The fault that a file of this path cannot be read. The only error is out of memory.
-fn unread(rt: &HostRuntime, path: &str, error: io::Error) -> Result<PlanFileFault, AllocError> {
+fn unread_fault(
+    rt: &HostRuntime,
+    path: &str,
+    error: io::Error,
+) -> Result<PlanFileFault, AllocError> {
     if error.kind() == io::ErrorKind::OutOfMemory {
         return Err(AllocError);
     }

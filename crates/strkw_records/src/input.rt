@@ -83,7 +83,7 @@ impl<R: Read> Input<R> {
             → IfErr result (Fails self.old.place text) }
     {
         let byte = self.piece.unread()[0];
-        self.place = self.place.behind(byte).ok_or(ReadFault::TooLong)?;
+        self.place = self.place.place_behind(byte).ok_or(ReadFault::TooLong)?;
         self.piece.advance(1);
         Ok(())
     }

@@ -35,7 +35,7 @@ impl Place {
 
     /// The place behind one more byte; none where its line is past a `u64`.
     #[inline(always)]
-    pub(crate) fn behind(self, byte: u8) -> Option<Place>
+    pub(crate) fn place_behind(self, byte: u8) -> Option<Place>
         ensures some { IfSome result (λ place. place ≡ place_after self (byte ∷ [])) }
         ensures none { IfNone result (2 ^ 64 ≤ (place_after self (byte ∷ [])).line) }
     {
@@ -66,7 +66,7 @@ impl Place {
             if count == rest.len() {
                 return Some(place);
             }
-            place = place.behind(rest[count])?;
+            place = place.place_behind(rest[count])?;
             at += count + 1;
         }
         Some(place)

@@ -89,37 +89,37 @@ impl<'a> Failure<'a> {
     {
         match *self {
             Failure::MinLength(limit) => {
-                Wording::behind(text, " is shorter than ", Rest::Characters(limit))
+                Wording::text_before(text, " is shorter than ", Rest::Characters(limit))
             }
             Failure::MaxLength(limit) => {
-                Wording::behind(text, " is longer than ", Rest::Characters(limit))
+                Wording::text_before(text, " is longer than ", Rest::Characters(limit))
             }
             Failure::Pattern(pattern) => {
-                Wording::behind(text, " does not match \"", Rest::Name(pattern, "\""))
+                Wording::text_before(text, " does not match \"", Rest::Name(pattern, "\""))
             }
-            Failure::BacktrackLimitExceeded(_) => Wording::alone(
+            Failure::BacktrackLimitExceeded(_) => Wording::name_between(
                 "Error executing regex: Max limit for backtracking count exceeded",
                 "",
                 "",
             ),
             Failure::RegexEngineFailure(pattern) => {
-                Wording::alone("Regex engine failed to evaluate pattern '", pattern, "'")
+                Wording::name_between("Regex engine failed to evaluate pattern '", pattern, "'")
             }
             Failure::Format(name) => {
-                Wording::behind(text, " is not a \"", Rest::Name(name, "\""))
+                Wording::text_before(text, " is not a \"", Rest::Name(name, "\""))
             }
-            Failure::ContentEncoding(name) => Wording::behind(
+            Failure::ContentEncoding(name) => Wording::text_before(
                 text,
                 " is not compliant with \"",
                 Rest::Name(name, "\" content encoding"),
             ),
-            Failure::ContentMediaType(name) => Wording::behind(
+            Failure::ContentMediaType(name) => Wording::text_before(
                 text,
                 " is not compliant with \"",
                 Rest::Name(name, "\" media type"),
             ),
             Failure::FromUtf8 => {
-                Wording::behind(text, " does not decode to UTF-8 text", Rest::Name("", ""))
+                Wording::text_before(text, " does not decode to UTF-8 text", Rest::Name("", ""))
             }
         }
     }

@@ -83,32 +83,32 @@ impl CompileErrorKind {
             ≡ explanation (reason_of self.now) }
     {
         match self {
-            CompileErrorKind::NotString { .. } => Wording::alone(
+            CompileErrorKind::NotString { .. } => Wording::name_between(
                 " is not of type \"string\"",
                 "",
                 "",
             ),
             CompileErrorKind::Size => {
-                Wording::alone(
+                Wording::name_between(
                     "the limit is not a non-negative whole number of 64 bits",
                     "",
                     "",
                 )
             }
             CompileErrorKind::UnknownFormat { name, by_dialect } => {
-                Wording::alone("Unknown format: '", name, advice(*by_dialect))
+                Wording::name_between("Unknown format: '", name, advice(*by_dialect))
             }
             CompileErrorKind::Regex { pattern } => {
-                Wording::behind(pattern, " is not a \"regex\"", Rest::Name("", ""))
+                Wording::text_before(pattern, " is not a \"regex\"", Rest::Name("", ""))
             }
             CompileErrorKind::FractionalNumber => {
-                Wording::alone(
+                Wording::name_between(
                     "the value holds a number that is no whole number of 64 bits",
                     "",
                     "",
                 )
             }
-            CompileErrorKind::Memory => Wording::alone("out of memory", "", ""),
+            CompileErrorKind::Memory => Wording::name_between("out of memory", "", ""),
         }
     }
 }

@@ -30,7 +30,11 @@ pub(crate) enum Rest<'n> {
 
 impl<'t, 'n> Wording<'t, 'n> {
     /// A name between words; words alone have an empty name.
-    pub(crate) fn alone(before: &'static str, name: &'n str, after: &'static str) -> Wording<'t, 'n>
+    pub(crate) fn name_between(
+        before: &'static str,
+        name: &'n str,
+        after: &'static str,
+    ) -> Wording<'t, 'n>
         ensures { spelled result ≡ before.now ++ name.now ++ after.now }
     {
         Wording {
@@ -41,7 +45,11 @@ impl<'t, 'n> Wording<'t, 'n> {
     }
 
     /// A text as a JSON string, and then words and the rest.
-    pub(crate) fn behind(text: &'t str, before: &'static str, rest: Rest<'n>) -> Wording<'t, 'n>
+    pub(crate) fn text_before(
+        text: &'t str,
+        before: &'static str,
+        rest: Rest<'n>,
+    ) -> Wording<'t, 'n>
         ensures { spelled result ≡ quoted text.now ++ before.now ++ told rest.entry }
     {
         Wording {

@@ -72,7 +72,7 @@ pub(crate) fn describe_ending<T: Drop, F: Fault>(
 }
 
 // What was counted, if there was no fault. Out of memory is an error here.
-fn counted<T: Drop, F: Fault>(checked: Result<T, F>) -> Result<Option<T>, AllocError> {
+fn count_of<T: Drop, F: Fault>(checked: Result<T, F>) -> Result<Option<T>, AllocError> {
     match checked {
         Ok(count) => Ok(Some(count)),
         Err(fault) if fault.is_memory() => Err(AllocError),
@@ -111,7 +111,7 @@ fn is_one_error_written(
         records: 1,
         errors: 1,
     };
-    Ok(counted(checked)? == Some(one) && out.as_slice() == message.as_bytes())
+    Ok(count_of(checked)? == Some(one) && out.as_slice() == message.as_bytes())
 }
 
 // Where it had memory it writes every line.
@@ -147,7 +147,7 @@ fn are_four_errors_written(
     )?;
     let errors = check_document(alloc, &Rules::new(&NoPatterns), plan, &document, &mut out);
     drop(document);
-    Ok(counted(errors)? == Some(4) && out.as_slice() == messages.as_bytes())
+    Ok(count_of(errors)? == Some(4) && out.as_slice() == messages.as_bytes())
 }
 
 // The draft that the text of a plan names, or the name that stands twice in it.

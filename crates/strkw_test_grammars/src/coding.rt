@@ -136,7 +136,7 @@ pub fn ask_decoded(alloc: Global, row: &Value, tally: &mut Tally) -> Result<(), 
 }
 
 // The variant of a name, and the name of that variant.
-fn named(
+fn named_variant(
     alloc: Global,
     of: &str,
     name: &str,
@@ -160,7 +160,7 @@ fn is_named(
     name: &str,
     variant: Option<&str>,
 ) -> Result<bool, AllocError> {
-    let found = named(alloc, of, name)?;
+    let found = named_variant(alloc, of, name)?;
     Ok(match (&found, variant) {
         (Some((found, its_name)), Some(variant)) => found.as_str() == variant && *its_name == name,
         (None, None) => true,

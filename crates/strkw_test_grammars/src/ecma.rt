@@ -58,7 +58,7 @@ pub fn ask_searches(alloc: Global, row: &Value, tally: &mut Tally) -> Result<(),
 }
 
 /// Parts of a text, each so many times.
-pub fn repeated(alloc: Global, parts: &[Value]) -> Result<String, AllocError> {
+pub fn repeat_parts(alloc: Global, parts: &[Value]) -> Result<String, AllocError> {
     let mut text = String::new(alloc);
     for part in parts {
         for _ in 0..part.get(1).and_then(Value::as_u64).unwrap_or(0) {
@@ -71,8 +71,8 @@ pub fn repeated(alloc: Global, parts: &[Value]) -> Result<String, AllocError> {
 /// The searches of a row whose patterns and texts are said by their parts.
 pub fn ask_long_searches(alloc: Global, row: &Value, tally: &mut Tally) -> Result<(), AllocError> {
     for row in items(row, "rows") {
-        let pattern = repeated(alloc, items(row, "pattern"))?;
-        let text = repeated(alloc, items(row, "text"))?;
+        let pattern = repeat_parts(alloc, items(row, "pattern"))?;
+        let text = repeat_parts(alloc, items(row, "text"))?;
         let found = row.get("found").and_then(Value::as_bool);
         ask_search(alloc, &pattern, &text, found, tally)?;
     }
@@ -114,7 +114,7 @@ pub fn ask_refusals(alloc: Global, row: &Value, tally: &mut Tally) -> Result<(),
         ask_refusal(alloc, pattern.as_str().unwrap_or(""), wanted, tally)?;
     }
     for row in items(row, "long") {
-        let pattern = repeated(alloc, items(row, "pattern"))?;
+        let pattern = repeat_parts(alloc, items(row, "pattern"))?;
         ask_refusal(alloc, &pattern, wanted, tally)?;
     }
     Ok(())

@@ -1,6 +1,6 @@
 //! What each grammar and each encoding says of a text.
 
-use crate::ecma::repeated;
+use crate::ecma::repeat_parts;
 use crate::row::{elements, items, text};
 use crate::tally::Tally;
 use crate::{coding, ecma, label};
@@ -109,10 +109,10 @@ pub fn ask(alloc: Global, row: &Value, tally: &mut Tally) -> Result<(), AllocErr
 pub fn ask_long(alloc: Global, row: &Value, tally: &mut Tally) -> Result<(), AllocError> {
     let of = text(row, "of");
     for item in items(row, "yes") {
-        ask_made(alloc, of, repeated(alloc, elements(item)), true, tally)?;
+        ask_made(alloc, of, repeat_parts(alloc, elements(item)), true, tally)?;
     }
     for item in items(row, "no") {
-        ask_made(alloc, of, repeated(alloc, elements(item)), false, tally)?;
+        ask_made(alloc, of, repeat_parts(alloc, elements(item)), false, tally)?;
     }
     Ok(())
 }

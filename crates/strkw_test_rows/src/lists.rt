@@ -138,7 +138,7 @@ fn push_with_builder(
     let ctx = Context {
         draft,
         location: row::location(alloc, row, "location")?,
-        absolute: row::absolute(alloc, row)?,
+        absolute: row::absolute_location(alloc, row)?,
         options: row::options(row),
         checks: checks_of(row, all),
         builder,

@@ -85,7 +85,7 @@ pub fn location(alloc: Global, row: &Value, key: &str) -> Result<Location, Alloc
 }
 
 /// What stands before the `#` of absolute locations, where a row has it.
-pub fn absolute(alloc: Global, row: &Value) -> Result<Option<String>, AllocError> {
+pub fn absolute_location(alloc: Global, row: &Value) -> Result<Option<String>, AllocError> {
     match row.get("absolute").and_then(Value::as_str) {
         Some(text) => Ok(Some(String::from_str(alloc, text)?)),
         None => Ok(None),

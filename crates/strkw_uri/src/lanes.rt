@@ -30,7 +30,7 @@ const HEXADECIMAL: Table = [
 
 /// The table in each half of the lanes.
 #[inline(always)]
-fn twice(table: &[u8; 16]) -> u8x32
+fn double(table: &[u8; 16]) -> u8x32
     ensures { result ≡ table.now ++ table.now }
 {
     u8x16::from_array(*table).swizzle([
@@ -45,7 +45,7 @@ fn look_up(table: &[u8; 16], places: u8x32) -> u8x32
     requires { Each1 (λ p. p < 16) places }
     ensures { result ≡ map (λ p. slice_index table.now p) places }
 {
-    twice(table).swizzle_dyn_within::<16>(places)
+    double(table).swizzle_dyn_within::<16>(places)
 }
 
 /// The place of the lowest bit that is set, or 32.

@@ -82,7 +82,7 @@ fn lengths(alloc: Global, least: u64, greatest: u64) -> Result<String, AllocErro
 // What a format is checked for.
 fn words_of_format(alloc: Global, draft: Draft, name: &str) -> Result<String, AllocError> {
     let shown = Shown(name);
-    let Some(format) = KnownFormat::named(draft, name) else {
+    let Some(format) = KnownFormat::by_name(draft, name) else {
         return format!(in alloc; "the draft has no format \"{shown}\" that is known here");
     };
     match format.length_window() {

@@ -63,7 +63,7 @@ fn push_row(
 // Appends the table.
 fn push_table(alloc: Global, out: &mut String) -> Result<(), AllocError> {
     push_row("name", "first", "last", "example", out)?;
-    for format in KnownFormat::all(alloc)? {
+    for format in KnownFormat::all_formats(alloc)? {
         let (first, last) = drafts_of(format);
         push_row(format.as_str(), first, last, format.example(), out)?;
     }
@@ -72,7 +72,7 @@ fn push_table(alloc: Global, out: &mut String) -> Result<(), AllocError> {
 
 // Appends an object for each format.
 fn push_objects(alloc: Global, out: &mut String) -> Result<(), AllocError> {
-    for format in KnownFormat::all(alloc)? {
+    for format in KnownFormat::all_formats(alloc)? {
         let (first, last) = drafts_of(format);
         let members = [
             ("name", Datum::Text(format.as_str())),

@@ -125,10 +125,10 @@ struct Column {
 }
 
 // The formats of a draft that are proposed.
-fn proposed(alloc: Global, draft: Draft) -> Result<Vec<KnownFormat>, AllocError> {
+fn proposed_formats(alloc: Global, draft: Draft) -> Result<Vec<KnownFormat>, AllocError> {
     let mut formats = Vec::new(alloc);
     for name in PROPOSED {
-        if let Some(format) = KnownFormat::named(draft, name) {
+        if let Some(format) = KnownFormat::by_name(draft, name) {
             formats.push(format)?;
         }
     }
@@ -150,7 +150,7 @@ impl Column {
         Ok(Column {
             has_empty: false,
             has_others: false,
-            formats: proposed(alloc, draft)?,
+            formats: proposed_formats(alloc, draft)?,
             least: u64::MAX,
             greatest: 0,
         })

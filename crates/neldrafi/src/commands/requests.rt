@@ -115,7 +115,7 @@ pub(crate) fn run(rt: &HostRuntime, matches: &ArgMatches<'_>) -> Result<Outcome,
 
 // Writes the answers to the lines of a file, also where a fault ends them before the end of the file.
 fn answer_file(rt: &HostRuntime, form: OutputForm, lines: &mut Lines) -> Result<(), Fault> {
-    let mut output = Output::new(rt, "", Wanted::all());
+    let mut output = Output::new(rt, "", Wanted::all_lines());
     let mut answers = Gathered::new(rt.alloc(), &mut output);
     let mut answering = Answering {
         rt,

@@ -73,7 +73,7 @@ fn nearest_format(
     if name.len() > LONGEST_NAME {
         return Ok(None);
     }
-    for format in KnownFormat::all(alloc)? {
+    for format in KnownFormat::all_formats(alloc)? {
         let other = format.as_str();
         if format.is_of(draft) && osa_distance(alloc, name, other)? == 1 {
             return Ok(Some(other));
@@ -83,7 +83,7 @@ fn nearest_format(
 }
 
 // That no format of the draft has this name.
-fn unknown(alloc: Global, draft: Draft, name: &str) -> Result<String, AllocError> {
+fn unknown_message(alloc: Global, draft: Draft, name: &str) -> Result<String, AllocError> {
     let nearest = nearest_format(alloc, draft, name)?;
     let (name, draft) = (Shown(name), draft_name(draft));
     match nearest {
@@ -98,9 +98,9 @@ fn unknown(alloc: Global, draft: Draft, name: &str) -> Result<String, AllocError
 
 // The format of a name in a draft.
 fn format_named(alloc: Global, draft: Draft, name: &str) -> Result<KnownFormat, Fault> {
-    match KnownFormat::named(draft, name) {
+    match KnownFormat::by_name(draft, name) {
         Some(format) => Ok(format),
-        None => Err(Fault::with_words(Reach::Run, unknown(alloc, draft, name))),
+        None => Err(Fault::with_words(Reach::Run, unknown_message(alloc, draft, name))),
     }
 }
 

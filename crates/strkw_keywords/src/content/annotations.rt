@@ -48,7 +48,7 @@ pub struct Untested {
 
 impl Untested {
     // The validator that notes a value at a keyword, in the schema object of a context.
-    pub(crate) fn keyed<B>(
+    pub(crate) fn keyed_validator<B>(
         ctx: &Context<'_, B>,
         keyword: Keyword,
         value: Value,
@@ -67,7 +67,7 @@ impl Test for Untested {
     ghost remark = { λ t location. Some (remark_at location t.keyword (view t.value)) };
 
     fn parts<'a>(&'a self, origin: &'a Origin) -> Parts<'a> {
-        Parts::quiet(origin, Some(Noted::Value(self.keyword, &self.value)))
+        Parts::of_quiet(origin, Some(Noted::Value(self.keyword, &self.value)))
     }
 
     fn findings<N: Node>(&self, _: Global, _: &TextNode<'_, N>, _: &Checks) -> Found<'_> {
@@ -90,7 +90,7 @@ pub(crate) fn build_text_annotation<B: EngineBuilder>(
     if value.as_str().is_none() {
         return Ok(None);
     }
-    let noting = Untested::keyed(ctx, keyword, value.clone()?)?;
+    let noting = Untested::keyed_validator(ctx, keyword, value.clone()?)?;
     Ok(Some(match keyword {
         Keyword::ContentMediaType => Validator::ContentMediaTypeAnnotation(noting),
         _ => Validator::ContentEncodingAnnotation(noting),
@@ -108,7 +108,7 @@ pub(crate) fn build_schema_annotation<B: EngineBuilder, O: Object>(
     if !notes_schema(parent.value(Keyword::ContentMediaType), value)? {
         return Ok(None);
     }
-    let noting = Untested::keyed(ctx, Keyword::ContentSchema, value.clone()?)?;
+    let noting = Untested::keyed_validator(ctx, Keyword::ContentSchema, value.clone()?)?;
     Ok(Some(Validator::ContentSchemaAnnotation(noting)))
 }
 
@@ -128,7 +128,7 @@ fn build_moved_schema<B: EngineBuilder>(
     {
         return Ok(None);
     }
-    let noting = Untested::keyed(ctx, Keyword::ContentSchema, schema)?;
+    let noting = Untested::keyed_validator(ctx, Keyword::ContentSchema, schema)?;
     Ok(Some(Validator::ContentSchemaAnnotation(noting)))
 }
 

@@ -68,19 +68,19 @@ fn literal_validator<E: RegexEngine>(
     match literal {
         PatternOptimization::Prefix(literal) => {
             let matcher = LiteralMatcher::Prefix { literal };
-            Validator::PrefixPattern(Literal::keyed(origin, pattern, matcher))
+            Validator::PrefixPattern(Literal::keyed_validator(origin, pattern, matcher))
         }
         PatternOptimization::Exact(exact) => {
             let matcher = LiteralMatcher::Exact { exact };
-            Validator::ExactPattern(Literal::keyed(origin, pattern, matcher))
+            Validator::ExactPattern(Literal::keyed_validator(origin, pattern, matcher))
         }
         PatternOptimization::Alternation(alternatives) => {
             let matcher = LiteralMatcher::Alternation { alternatives };
-            Validator::AlternationPattern(Literal::keyed(origin, pattern, matcher))
+            Validator::AlternationPattern(Literal::keyed_validator(origin, pattern, matcher))
         }
         PatternOptimization::NoWhitespace => {
             let matcher = LiteralMatcher::NoWhitespace;
-            Validator::NoWhitespacePattern(Literal::keyed(origin, pattern, matcher))
+            Validator::NoWhitespacePattern(Literal::keyed_validator(origin, pattern, matcher))
         }
     }
 }

@@ -164,7 +164,7 @@ impl Asked for Compiling {
     }
 }
 
-fn compiled(alloc: Global, by: Compile) -> Result<(), Fail> {
+fn ask_places(alloc: Global, by: Compile) -> Result<(), Fail> {
     for row in PLACES {
         if !is_answered(alloc, &Compiling { row, by })? {
             return Err(Fail::new(row.schema));
@@ -175,12 +175,12 @@ fn compiled(alloc: Global, by: Compile) -> Result<(), Fail> {
 
 #[test]
 fn compile_functions_under_refusal(rt: HostRuntime) -> Result<(), Fail> {
-    compiled(rt.alloc(), Compile::OfKeyword)
+    ask_places(rt.alloc(), Compile::OfKeyword)
 }
 
 #[test]
 fn compile_among_under_refusal(rt: HostRuntime) -> Result<(), Fail> {
-    compiled(rt.alloc(), Compile::Among)
+    ask_places(rt.alloc(), Compile::Among)
 }
 
 // An entry of a schema object, a text, the lines of its errors, and whether a test of it takes no memory.

@@ -10,5 +10,5 @@ pub returns : goal.returns
 returns c =
     let t = c.args.table.now in
     let long : length t ≡ 16 = omega arith in
-    look_up_is t c.twice.result c.args.places 0 (λ k l. ap (λ xs. get_or xs k 0) c.twice.ensures ∙ twice_at t long k l) (omega (arith, c.fits-places.0))
+    look_up_is t c.double.result c.args.places 0 (λ k l. ap (λ xs. get_or xs k 0) c.double.ensures ∙ twice_at t long k l) (omega (arith, c.fits-places.0))
     c.requires

@@ -10,5 +10,5 @@ returns-in-Format c =
     let name = c.in-Format.name.now in
     let before = quoted c.args.text.now ++ codes " is not a \"" in
     let kind : kind_failed c.args.self.now ≡ format name = ap kind_failed c.in-Format.is in
-    c.behind-in-Format.ensures ∙ sym (append_assoc before name (codes "\""))
+    c.text_before-in-Format.ensures ∙ sym (append_assoc before name (codes "\""))
     ∙ ap (λ k. message k (quoted c.args.text.now)) (sym kind)

@@ -2,7 +2,7 @@ use Rattle.std.proofs.Common.{◌≡◌, ◌%◌, ◌++◌, length, get_or, sym,
 use Rattle.std.proofs.lemmas.List.{ext_get_or, length-append, get_or_append_left}
 use Rattle.std.proofs.lemmas.List.FromFn.{get_or-map-range_with_len}
 use Rattle.strkw_uri.proofs.Blocks.{twice_at}
-use Rattle.strkw_uri.proofs.lanes.twice.Goals as goal
+use Rattle.strkw_uri.proofs.lanes.double.Goals as goal
 
 pub returns : goal.returns
 returns c =

@@ -2,7 +2,7 @@ use Rattle.std.proofs.Common.{◌≡◌, ◌≤◌, ◌+◌, arith, true, false}
 use Rattle.std.specs.Prelude.{◌^◌}
 use Rattle.strkw_records.specs.Lines.{ends_line}
 use Rattle.strkw_records.proofs.LineLemmas.{place_after-next, place_after-past, place_after-same}
-use Rattle.strkw_records.proofs.place.Place.behind.Goals as goal
+use Rattle.strkw_records.proofs.place.Place.place_behind.Goals as goal
 
 pub returns-then-not-is_ended_by-clause-some : goal.returns-then-not-is_ended_by-clause-some
 returns-then-not-is_ended_by-clause-some c =
