@@ -264,7 +264,7 @@ pub(crate) struct JsonLine<'a> {
 }
 
 impl MessageForm for JsonLine<'_> {
-    ghost said = { λ form r. line_of (line_error form.file.now form.line r) };
+    ghost words_of = { λ form r. line_of (line_error form.file.now form.line r) };
 
     #[tactic(auto, using(crate::proofs::LineLemmas::line_some))]
     fn push(

@@ -179,7 +179,7 @@ pub(crate) fn compile<B: EngineBuilder>(
     draft: Draft,
     schema: &Value,
 ) -> Result<StringKeywords<B::Engine>, Fault>
-    ensures in_use { let lists = lists_of admits accepted encoded decoding rules.now.checks in
+    ensures in_use { let lists = lists_of admits accepts is_encoding decoding rules.now.checks in
         IfOk result (λ k. IsInUse (keywords_demands B.Engine.outcome k) lists) }
 {
     // The kind and the name would say where the schema stands in a plan. It stands in none.

@@ -61,14 +61,14 @@ good null_ptr = (tt, (record { fits = lit< tt }, tt))
 
 module _ {M : Type 1} {𝓤 : Ura M} {𝓛 : Logic 𝓤} {K : Type 0} {Γ : List (Item 𝓤)} {G : Goal 𝓤 𝓛.H} where
   -- out of a place by value: its pointer, and what it keeps there
-  pub place_out : K → (d : Place.Denot) (vs : List Val) → (vs ≡ word d.at ∷ [] → Seq K 𝓛 (‵ (kept_at Kept d.at d.kept) ∷ Γ) G)
+  pub place_out : K → (d : Place.Denot) (vs : List Val) → (vs ≡ word d.at ∷ [] → Seq K 𝓛 (‵ (kept_at Kept d.at d.kept_object) ∷ Γ) G)
       → Seq K 𝓛 (‵ (Place.own_val d vs) ∷ Γ) G
   place_out t d vs k =
       fsplit t $ fpick t (λ vss. fsplit t $ feq_l t (λ ev. fsplit t $ feq_l t (λ ep. drop t $
       k (ev ∙ ap (λ (ps : List Val). vstruct (of_list (ps ++ [])) ∷ []) ep))))
 
   -- and back into one
-  pub place_in : K → (d : Place.Denot) → Step K 𝓛 (‵ (Place.own_val d (word d.at ∷ [])) ∷ Γ) G (‵ (kept_at Kept d.at d.kept) ∷ Γ) G
+  pub place_in : K → (d : Place.Denot) → Step K 𝓛 (‵ (Place.own_val d (word d.at ∷ [])) ∷ Γ) G (‵ (kept_at Kept d.at d.kept_object) ∷ Γ) G
   place_in t d = step (λ s.
       nothing t $ feq_i t (List Val) (ptr_val d.at ∷ []) (ptr_val d.at ∷ []) refl $ fjoin t $ feq_i t (List Val) (word d.at ∷ []) (word d.at ∷ []) refl $
       fjoin t $

@@ -99,9 +99,9 @@ impl Question for LinesOf<'_> {
     ghost use Rattle.std.specs.Prelude.{⊤};
     ghost use Rattle.strkw_c.specs.Errors.{AreLines};
 
-    ghost askable = { λ _. ⊤ };
+    ghost can_be_asked = { λ _. ⊤ };
 
-    ghost answered = { λ asked s object made. AreLines s object asked.text.now made };
+    ghost is_answered_by = { λ asked s object made. AreLines s object asked.text.now made };
 
     fn ask(
         &self,

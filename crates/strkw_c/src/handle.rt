@@ -15,13 +15,13 @@ pub struct Handle {
     is_full: bool,
     /// What it keeps.
     pub place: Place,
-    ghost full: { is_full ≡ is_some place.kept },
+    ghost fullness: { is_full ≡ is_some place.kept_object },
 }
 
 impl Handle {
     // One that keeps nothing.
     fn empty() -> Handle
-        ensures { result.place.kept ≡ None }
+        ensures { result.place.kept_object ≡ None }
     {
         Handle {
             is_full: false,
@@ -31,7 +31,7 @@ impl Handle {
 
     // One that keeps this.
     fn of(value: Box<Kept>) -> Handle
-        ensures { result.place.kept ≡ Some (box_value value) }
+        ensures { result.place.kept_object ≡ Some (box_value value) }
     {
         Handle {
             is_full: true,
@@ -41,7 +41,7 @@ impl Handle {
 
     // What it keeps.
     fn into_box(self, alloc: Global) -> Option<Box<Kept>>
-        ensures { option_map box_value result ≡ self.place.kept }
+        ensures { option_map box_value result ≡ self.place.kept_object }
     {
         let Handle { is_full, place } = self;
         if is_full {
@@ -53,7 +53,7 @@ impl Handle {
 
     /// Puts a kept object in. The one that was there is dropped.
     pub(crate) fn put(&mut self, alloc: Global, value: Box<Kept>)
-        ensures { self.new.place.kept ≡ Some (box_value value) }
+        ensures { self.new.place.kept_object ≡ Some (box_value value) }
     {
         let before = replace(self, Handle::of(value));
         drop(before.into_box(alloc));
@@ -61,8 +61,8 @@ impl Handle {
 
     /// Takes the kept object out.
     pub(crate) fn take(&mut self, alloc: Global) -> Option<Box<Kept>>
-        ensures taken { option_map box_value result ≡ self.old.place.kept }
-        ensures empty { self.new.place.kept ≡ None }
+        ensures taken { option_map box_value result ≡ self.old.place.kept_object }
+        ensures empty { self.new.place.kept_object ≡ None }
     {
         replace(self, Handle::empty()).into_box(alloc)
     }

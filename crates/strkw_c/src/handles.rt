@@ -52,8 +52,8 @@ pub extern "C" fn strkw_nonnull_schema_compile(
     ensures done { result ≡ DONE → (s : Settings) × (object : Members)
         × (settings_of draft options ≡ Some s)
         × IsSchema schema.now (Some object) × FirstRefusal s object None
-        × Keeps handle.new.place.kept s object }
-    ensures kept { result ≢ DONE → handle.new.place.kept ≡ handle.old.place.kept }
+        × Keeps handle.new.place.kept_object s object }
+    ensures kept { result ≢ DONE → handle.new.place.kept_object ≡ handle.old.place.kept_object }
 {
     let Some(draft) = draft_numbered(u64::from(draft)) else {
         return NO_DRAFT;
@@ -86,16 +86,17 @@ pub extern "C" fn strkw_nonnull_schema_check(
     ends: &[usize],
     verdicts: &mut [u8],
 ) -> u8
-    requires { MayBeAsked handle.old.place.kept }
+    requires { MayBeAsked handle.old.place.kept_object }
     ensures status { (result ≤ NO_TEXTS) ⊎ (result ≡ NO_SCHEMA) }
-    ensures same { handle.new.place.kept ≡ handle.old.place.kept }
+    ensures same { handle.new.place.kept_object ≡ handle.old.place.kept_object }
     ensures kept { result ≢ DONE → verdicts.new ≡ verdicts.old }
     ensures no_texts { (result ≡ NO_TEXTS)
         ↔ (HaveRoom texts.now ends.now (length verdicts.old) → ⊥) }
     ensures no_schema { (result ≡ NO_SCHEMA)
-        ↔ (HaveRoom texts.now ends.now (length verdicts.old) × (handle.old.place.kept ≡ None)) }
+        ↔ (HaveRoom texts.now ends.now (length verdicts.old)
+        × (handle.old.place.kept_object ≡ None)) }
     ensures done { result ≡ DONE → (s : Settings) (object : Members)
-        → Keeps handle.old.place.kept s object → (list : List (List ℕ))
+        → Keeps handle.old.place.kept_object s object → (list : List (List ℕ))
         × AreTexts texts.now ends.now list × AreVerdicts (IsValid s object) list verdicts.new }
 {
     let ends = Ends::Wide(ends);
@@ -135,18 +136,18 @@ pub extern "C" fn strkw_nonnull_schema_errors(
     out: &mut [u8],
     written: &mut usize,
 ) -> u8
-    requires { MayBeAsked handle.old.place.kept }
+    requires { MayBeAsked handle.old.place.kept_object }
     ensures status { (result ≤ NO_ROOM) ⊎ (result ≡ NO_SCHEMA) ⊎ (result ≡ NOT_UTF8) }
-    ensures same { handle.new.place.kept ≡ handle.old.place.kept }
+    ensures same { handle.new.place.kept_object ≡ handle.old.place.kept_object }
     ensures not_utf8 { (result ≡ NOT_UTF8) ↔ (IsUtf8 text.now → ⊥) }
     ensures no_schema { (result ≡ NO_SCHEMA)
-        ↔ (IsUtf8 text.now × (handle.old.place.kept ≡ None)) }
+        ↔ (IsUtf8 text.now × (handle.old.place.kept_object ≡ None)) }
     ensures done { result ≡ DONE → (lines : List ℕ)
-        × ((s : Settings) (object : Members) → Keeps handle.old.place.kept s object
+        × ((s : Settings) (object : Members) → Keeps handle.old.place.kept_object s object
         → AreLines s object text.now lines)
         × IsPut lines out.old out.new written.new }
     ensures short { result ≡ NO_ROOM → (lines : List ℕ)
-        × ((s : Settings) (object : Members) → Keeps handle.old.place.kept s object
+        × ((s : Settings) (object : Members) → Keeps handle.old.place.kept_object s object
         → AreLines s object text.now lines)
         × IsTooLong lines out.old out.new written.new }
     ensures kept { result ≢ DONE → result ≢ NO_ROOM
@@ -175,7 +176,7 @@ pub extern "C" fn strkw_nonnull_schema_errors(
 /// Frees the schema object that a handle keeps. The handle then keeps nothing.
 #[unsafe(no_mangle)]
 pub extern "C" fn strkw_nonnull_schema_free(alloc: Global, handle: &mut Handle)
-    ensures { handle.new.place.kept ≡ None }
+    ensures { handle.new.place.kept_object ≡ None }
 {
     drop(handle.take(alloc));
 }

@@ -49,10 +49,10 @@ impl Kept {
         alloc: Global,
         question: &Q,
     ) -> Result<Vec<u8>, Failure>
-        requires askable { Q.askable question.now }
+        requires askable { Q.can_be_asked question.now }
         requires kept { IsKept self.now }
         ensures done { IfOk result (λ made. (s : Settings) (object : Members)
-            → IsKeptOf self.now s object → Q.answered question.now s object made.items) }
+            → IsKeptOf self.now s object → Q.is_answered_by question.now s object made.items) }
     {
         answer_by(alloc, self.draft, self.choices, &self.keywords, question)
     }
@@ -69,7 +69,7 @@ impl Task for Compiling<'_> {
 
     ghost schema = { λ task. Some task.schema.now };
 
-    ghost ready = { λ _ _. ⊤ };
+    ghost needs = { λ _ _. ⊤ };
 
     ghost makes = { λ task s keywords. (object : Members) × IsSchema task.schema.now (Some object)
         × IsCompiledFrom engine_outcome s object keywords };

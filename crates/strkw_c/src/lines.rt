@@ -22,10 +22,10 @@ pub(crate) fn lines_on<E: RegexEngine>(
     text: &str,
 ) -> Result<Vec<u8>, AllocError>
     requires in_use { IsInUse (keywords_demands E.outcome keywords.now)
-        (lists_of admits accepted encoded decoding checks.now) }
+        (lists_of admits accepts is_encoding decoding checks.now) }
     requires printable { ArePrintable (keywords_remarks keywords.now) }
     ensures { IfOk result (λ lines. AreLinesOf E.outcome keywords.now
-        (lists_of admits accepted encoded decoding checks.now) text.now lines.items) }
+        (lists_of admits accepts is_encoding decoding checks.now) text.now lines.items) }
 {
     let Some(text) = TextNode::of(&text) else {
         unreachable!()

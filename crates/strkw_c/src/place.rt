@@ -18,24 +18,24 @@ use std::ptr::null_mut;
 pub struct Place {
     at: *mut u8,
     /// The kept object, where there is one.
-    pub ghost kept: { Option Kept } by { coded_option the_row.coded },
+    pub ghost kept_object: { Option Kept } by { coded_option the_row.coded },
 }
 
 impl Model for Place {
-    ghost also_owns = { λ p. kept_at the_row p.at p.kept };
+    ghost also_owns = { λ p. kept_at the_row p.at p.kept_object };
 }
 
 impl Place {
     /// A place with nothing.
     pub(crate) fn empty() -> Place
-        ensures { result.kept ≡ None }
+        ensures { result.kept_object ≡ None }
     {
         Place { at: null_mut() }
     }
 
     /// A place with what a box has.
     pub(crate) fn of(value: Unboxed<Kept, Global>) -> Place
-        ensures { result.kept ≡ Some value.value }
+        ensures { result.kept_object ≡ Some value.value }
     {
         let Unboxed { at, alloc: _ } = value;
         Place { at: at as *mut u8 }
@@ -43,15 +43,15 @@ impl Place {
 
     /// Drops a place with nothing.
     pub(crate) fn discard(self)
-        requires { IsNone self.kept }
+        requires { IsNone self.kept_object }
     {
         let Place { at: _ } = self;
     }
 
     /// What a place has, as a box that is taken apart.
     pub(crate) fn into_unboxed(self, alloc: Global) -> Unboxed<Kept, Global>
-        requires { IsSome self.kept }
-        ensures { self.kept ≡ Some result.value }
+        requires { IsSome self.kept_object }
+        ensures { self.kept_object ≡ Some result.value }
     {
         let Place { at } = self;
         Unboxed {

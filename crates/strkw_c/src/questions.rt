@@ -24,10 +24,10 @@ use strkw_report::Draft;
 /// What is asked of a compiled object.
 pub(crate) trait Question {
     /// Whether it can be asked.
-    ghost askable: { Self → Type 0 };
+    ghost can_be_asked: { Self → Type 0 };
 
     /// Whether bytes answer it, by a schema object under settings.
-    ghost answered: { Self → Settings → Members → List ℕ → Type 0 };
+    ghost is_answered_by: { Self → Settings → Members → List ℕ → Type 0 };
 
     /// The answer by a compiled object, with the checks that it was compiled with.
     fn ask(
@@ -36,16 +36,16 @@ pub(crate) trait Question {
         keywords: &StringKeywords<EcmaMatcher>,
         checks: &Checks,
     ) -> Result<Vec<u8>, AllocError>
-        requires askable { askable self.now }
+        requires askable { can_be_asked self.now }
         requires compiled { (s : Settings) × (object : Members)
-            × (s.lists ≡ lists_of admits accepted encoded decoding checks.now)
+            × (s.lists ≡ lists_of admits accepts is_encoding decoding checks.now)
             × IsCompiledFrom engine_outcome s object keywords.now }
         requires in_use { IsInUse (keywords_demands engine_outcome keywords.now)
-            (lists_of admits accepted encoded decoding checks.now) }
+            (lists_of admits accepts is_encoding decoding checks.now) }
         ensures { IfOk result (λ made. (s : Settings) (object : Members)
-            → s.lists ≡ lists_of admits accepted encoded decoding checks.now
+            → s.lists ≡ lists_of admits accepts is_encoding decoding checks.now
             → IsCompiledFrom engine_outcome s object keywords.now
-            → answered self.now s object made.items) };
+            → is_answered_by self.now s object made.items) };
 }
 
 /// The answer to a question by the schema object of some bytes.
@@ -56,10 +56,10 @@ pub(crate) fn answer_to<Q: Question>(
     schema: &[u8],
     question: &Q,
 ) -> Result<Vec<u8>, Failure>
-    requires { Q.askable question.now }
+    requires { Q.can_be_asked question.now }
     ensures done { IfOk result (λ made. (object : Members) × IsSchema schema.now (Some object)
         × FirstRefusal (settings_for draft choices) object None
-        × Q.answered question.now (settings_for draft choices) object made.items) }
+        × Q.is_answered_by question.now (settings_for draft choices) object made.items) }
     ensures failed { IfErr result
         (λ failure. Fails failure (settings_for draft choices) schema.now) }
 {
@@ -74,12 +74,12 @@ pub(crate) fn answer_by<Q: Question>(
     keywords: &StringKeywords<EcmaMatcher>,
     question: &Q,
 ) -> Result<Vec<u8>, Failure>
-    requires askable { Q.askable question.now }
+    requires askable { Q.can_be_asked question.now }
     requires compiled { (object : Members)
         × IsCompiledFrom engine_outcome (settings_for draft choices) object keywords.now }
     ensures done { IfOk result (λ made. (object : Members)
         → IsCompiledFrom engine_outcome (settings_for draft choices) object keywords.now
-        → Q.answered question.now (settings_for draft choices) object made.items) }
+        → Q.is_answered_by question.now (settings_for draft choices) object made.items) }
     ensures failed { IfErr result (λ failure. failure ≡ Memory) }
 {
     run(alloc, draft, choices, &OfCompiled { keywords, question })
@@ -97,10 +97,10 @@ impl<Q: Question> Task for OfSchema<'_, Q> {
 
     ghost schema = { λ task. Some task.schema.now };
 
-    ghost ready = { λ task _. Q.askable task.question.now };
+    ghost needs = { λ task _. Q.can_be_asked task.question.now };
 
     ghost makes = { λ task s made. (object : Members) × IsSchema task.schema.now (Some object)
-        × FirstRefusal s object None × Q.answered task.question.now s object made.items };
+        × FirstRefusal s object None × Q.is_answered_by task.question.now s object made.items };
 
     fn run(
         &self,
@@ -126,12 +126,12 @@ impl<Q: Question> Task for OfCompiled<'_, Q> {
 
     ghost schema = { λ _. None };
 
-    ghost ready = { λ task s. Q.askable task.question.now
+    ghost needs = { λ task s. Q.can_be_asked task.question.now
         × ((object : Members) × IsCompiledFrom engine_outcome s object task.keywords.now) };
 
     ghost makes = { λ task s made. (object : Members)
         → IsCompiledFrom engine_outcome s object task.keywords.now
-        → Q.answered task.question.now s object made.items };
+        → Q.is_answered_by task.question.now s object made.items };
 
     fn run(
         &self,

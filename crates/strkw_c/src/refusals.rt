@@ -80,9 +80,9 @@ struct NothingMore;
 impl Question for NothingMore {
     ghost use Rattle.std.specs.Prelude.{⊤};
 
-    ghost askable = { λ _. ⊤ };
+    ghost can_be_asked = { λ _. ⊤ };
 
-    ghost answered = { λ _ _ _ _. ⊤ };
+    ghost is_answered_by = { λ _ _ _ _. ⊤ };
 
     fn ask(
         &self,

@@ -50,11 +50,11 @@ pub(crate) fn compile(
 ) -> Result<StringKeywords<EcmaMatcher>, Failure>
     ensures compiled { IfOk result (λ k. (object : Members) × IsSchema schema.now (Some object)
         × IsCompiledFrom engine_outcome (settings_by draft options
-        (lists_of admits accepted encoded decoding checks.now)) object k) }
+        (lists_of admits accepts is_encoding decoding checks.now)) object k) }
     ensures in_use { IfOk result (λ k. IsInUse (keywords_demands engine_outcome k)
-        (lists_of admits accepted encoded decoding checks.now)) }
+        (lists_of admits accepts is_encoding decoding checks.now)) }
     ensures failed { IfErr result (λ failure. Fails failure (settings_by draft options
-        (lists_of admits accepted encoded decoding checks.now)) schema.now) }
+        (lists_of admits accepts is_encoding decoding checks.now)) schema.now) }
 {
     let Some(value) = read_value(alloc, schema)? else {
         return Err(Failure::NoSchema);
@@ -73,12 +73,12 @@ fn compile_object(
     object: &Map<String, Value>,
 ) -> Result<StringKeywords<EcmaMatcher>, Failure>
     ensures compiled { IfOk result (λ k. IsCompiledFrom engine_outcome (settings_by draft options
-        (lists_of admits accepted encoded decoding checks.now))
+        (lists_of admits accepts is_encoding decoding checks.now))
         (members_view object.now.entries) k) }
     ensures in_use { IfOk result (λ k. IsInUse (keywords_demands engine_outcome k)
-        (lists_of admits accepted encoded decoding checks.now)) }
+        (lists_of admits accepts is_encoding decoding checks.now)) }
     ensures failed { IfErr result (λ failure. FailsObject failure (settings_by draft options
-        (lists_of admits accepted encoded decoding checks.now))
+        (lists_of admits accepts is_encoding decoding checks.now))
         (members_view object.now.entries)) }
 {
     let mut ctx = Context::new(alloc, draft, &EcmaPatterns);

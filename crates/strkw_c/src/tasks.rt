@@ -25,7 +25,7 @@ pub(crate) trait Task {
     ghost schema: { Self → Option (List ℕ) };
 
     /// What it needs, under settings.
-    ghost ready: { Self → Settings → Type 0 };
+    ghost needs: { Self → Settings → Type 0 };
 
     /// Whether it makes this.
     ghost makes: { Self → Settings → Self.Made → Type 0 };
@@ -38,12 +38,12 @@ pub(crate) trait Task {
         options: Options,
         checks: &Checks,
     ) -> Result<Self::Made, Failure>
-        requires { ready self.now
-            (settings_by draft options (lists_of admits accepted encoded decoding checks.now)) }
+        requires { needs self.now
+            (settings_by draft options (lists_of admits accepts is_encoding decoding checks.now)) }
         ensures made { IfOk result (λ made. makes self.now (settings_by draft options
-            (lists_of admits accepted encoded decoding checks.now)) made) }
+            (lists_of admits accepts is_encoding decoding checks.now)) made) }
         ensures failed { IfErr result (λ failure. FailsOn failure (settings_by draft options
-            (lists_of admits accepted encoded decoding checks.now)) (schema self.now)) };
+            (lists_of admits accepts is_encoding decoding checks.now)) (schema self.now)) };
 }
 
 /// Does a task with the companions registered, where these are chosen.
@@ -53,7 +53,7 @@ pub(crate) fn run<T: Task>(
     choices: Choices,
     task: &T,
 ) -> Result<T::Made, Failure>
-    requires { T.ready task.now (settings_for draft choices) }
+    requires { T.needs task.now (settings_for draft choices) }
     ensures made { IfOk result (λ made. T.makes task.now (settings_for draft choices) made) }
     ensures failed { IfErr result
         (λ failure. FailsOn failure (settings_for draft choices) (T.schema task.now)) }
@@ -76,7 +76,7 @@ fn run_with<T: Task>(
     host: Box<dyn Format>,
     task: &T,
 ) -> Result<T::Made, Failure>
-    requires ready { T.ready task.now (settings_for draft choices) }
+    requires ready { T.needs task.now (settings_for draft choices) }
     requires email { (text : List ℕ) → admits email text ≡ companions.admits Email text }
     requires regex { (text : List ℕ) → admits regex text ≡ companions.admits Regex text }
     requires idn_email { (text : List ℕ)
@@ -121,8 +121,8 @@ fn run_by<T: Task>(
     checks: &Checks,
     task: &T,
 ) -> Result<T::Made, Failure>
-    requires ready { T.ready task.now (settings_for draft choices) }
-    requires registered { lists_of admits accepted encoded decoding checks.now
+    requires ready { T.needs task.now (settings_for draft choices) }
+    requires registered { lists_of admits accepts is_encoding decoding checks.now
         ≡ lists_for draft choices.companions }
     ensures made { IfOk result (λ made. T.makes task.now (settings_for draft choices) made) }
     ensures failed { IfErr result

@@ -137,10 +137,10 @@ impl Question for VerdictsOn<'_> {
     ghost use Rattle.strkw_c.specs.Texts.{AreTextsFrom, numbers};
     ghost use Rattle.strkw_c.specs.Verdicts.{AreVerdicts, IsValid};
 
-    ghost askable = { λ asked. (list : List (List ℕ))
+    ghost can_be_asked = { λ asked. (list : List (List ℕ))
         × AreTextsFrom asked.start asked.texts.now (numbers asked.ends.now) list };
 
-    ghost answered = { λ asked s object made. (length made ≡ length (numbers asked.ends.now))
+    ghost is_answered_by = { λ asked s object made. (length made ≡ length (numbers asked.ends.now))
         × ((list : List (List ℕ))
         × AreTextsFrom asked.start asked.texts.now (numbers asked.ends.now) list
         × AreVerdicts (IsValid s object) list made) };
@@ -166,14 +166,14 @@ fn verdicts_on<E: RegexEngine>(
     ends: &Ends,
 ) -> Result<Vec<u8>, AllocError>
     requires in_use { IsInUse (keywords_demands E.outcome keywords.now)
-        (lists_of admits accepted encoded decoding checks.now) }
+        (lists_of admits accepts is_encoding decoding checks.now) }
     requires texts { (list : List (List ℕ))
         × AreTextsFrom start texts.now (numbers ends.now) list }
     ensures count { IfOk result (λ made. length made.items ≡ length (numbers ends.now)) }
     ensures verdicts { IfOk result (λ made. (list : List (List ℕ))
         × AreTextsFrom start texts.now (numbers ends.now) list
         × AreVerdicts (Passes E.outcome keywords.now
-        (lists_of admits accepted encoded decoding checks.now)) list made.items) }
+        (lists_of admits accepts is_encoding decoding checks.now)) list made.items) }
 {
     let mut made = Vec::with_capacity(alloc, ends.len())?;
     let mut from = start;
@@ -193,9 +193,9 @@ fn verdict_on<E: RegexEngine>(
     text: &[u8],
 ) -> Result<u8, AllocError>
     requires { IsInUse (keywords_demands E.outcome keywords.now)
-        (lists_of admits accepted encoded decoding checks.now) }
+        (lists_of admits accepts is_encoding decoding checks.now) }
     ensures { IfOk result (λ verdict. IsVerdict (Passes E.outcome keywords.now
-        (lists_of admits accepted encoded decoding checks.now)) text.now verdict) }
+        (lists_of admits accepts is_encoding decoding checks.now)) text.now verdict) }
 {
     let Some(text) = text_of(text) else {
         return Ok(NOT_UTF8);

@@ -86,7 +86,8 @@ fn serve_piece<K: Sink>(
     requires sound { IsSound held.old }
     requires begun { last_part line.old.items ≡ line.old.items }
     requires sink_works { K.has_failed sink.old ≡ false }
-    ensures written { (written : List ℕ) × Appends (K.taken sink.old) (K.taken sink.new) written
+    ensures written { (written : List ℕ)
+        × Appends (K.bytes_taken sink.old) (K.bytes_taken sink.new) written
         × Serves result (ended_lines (line.old.items ++ piece.now)) (line.old.items ++ piece.now)
         written }
     ensures begun { OnOk result (line.new.items ≡ last_part (line.old.items ++ piece.now)) }
@@ -113,7 +114,8 @@ fn serve_last<K: Sink>(
     requires sound { IsSound held.old }
     requires begun { last_part line.now ≡ line.now }
     requires sink_works { K.has_failed sink.old ≡ false }
-    ensures written { (written : List ℕ) × Appends (K.taken sink.old) (K.taken sink.new) written
+    ensures written { (written : List ℕ)
+        × Appends (K.bytes_taken sink.old) (K.bytes_taken sink.new) written
         × Serves result (lines line.now) line.now written }
     ensures write_fault { IsErrOf result RunFault.Write ↔ (K.has_failed sink.new ≡ true) }
     ensures sound { IsSound held.new }
@@ -160,10 +162,10 @@ pub fn run<S: Source, K: Sink>(alloc: Global, source: &mut S, sink: &mut K) -> R
     requires sink_works { K.has_failed sink.old ≡ false }
     // What was read, and what was written for it.
     ensures written { (read : List ℕ) × (written : List ℕ)
-        × Consumes (S.left source.old) (S.left source.new) read
-        × Appends (K.taken sink.old) (K.taken sink.new) written
+        × Consumes (S.bytes_left source.old) (S.bytes_left source.new) read
+        × Appends (K.bytes_taken sink.old) (K.bytes_taken sink.new) written
         × IsOutcome result read written }
-    ensures end { OnOk result (IsAtEnd (S.left source.new)) }
+    ensures end { OnOk result (IsAtEnd (S.bytes_left source.new)) }
     // A failure of a device is never passed over, and no other fault stands for it.
     ensures read_fault { IsErrOf result RunFault.Read ↔ (S.has_failed source.new ≡ true) }
     ensures write_fault { IsErrOf result RunFault.Write ↔ (K.has_failed sink.new ≡ true) }
@@ -186,10 +188,10 @@ pub fn run_bounded<S: Source, K: Sink>(
     requires source_works { S.has_failed source.old ≡ false }
     requires sink_works { K.has_failed sink.old ≡ false }
     ensures written { (read : List ℕ) × (written : List ℕ)
-        × Consumes (S.left source.old) (S.left source.new) read
-        × Appends (K.taken sink.old) (K.taken sink.new) written
+        × Consumes (S.bytes_left source.old) (S.bytes_left source.new) read
+        × Appends (K.bytes_taken sink.old) (K.bytes_taken sink.new) written
         × IsBoundedOutcome longest result read written }
-    ensures end { OnOk result (IsAtEnd (S.left source.new)) }
+    ensures end { OnOk result (IsAtEnd (S.bytes_left source.new)) }
     ensures read_fault { IsErrOf result (BoundedRunFault.Run RunFault.Read)
         ↔ (S.has_failed source.new ≡ true) }
     ensures write_fault { IsErrOf result (BoundedRunFault.Run RunFault.Write)
@@ -247,10 +249,10 @@ fn run_within<S: Source, K: Sink>(
     requires source_works { S.has_failed source.old ≡ false }
     requires sink_works { K.has_failed sink.old ≡ false }
     ensures written { (read : List ℕ) × (written : List ℕ)
-        × Consumes (S.left source.old) (S.left source.new) read
-        × Appends (K.taken sink.old) (K.taken sink.new) written
+        × Consumes (S.bytes_left source.old) (S.bytes_left source.new) read
+        × Appends (K.bytes_taken sink.old) (K.bytes_taken sink.new) written
         × IsOutcomeWithin bound result read written }
-    ensures end { IfOk result (λ ending. ending ≡ AtEnd → IsAtEnd (S.left source.new)) }
+    ensures end { IfOk result (λ ending. ending ≡ AtEnd → IsAtEnd (S.bytes_left source.new)) }
     ensures read_fault { IsErrOf result RunFault.Read ↔ (S.has_failed source.new ≡ true) }
     ensures write_fault { IsErrOf result RunFault.Write ↔ (K.has_failed sink.new ≡ true) }
 {
@@ -270,10 +272,10 @@ fn run_lines<S: Source, K: Sink>(
     requires source_works { S.has_failed source.old ≡ false }
     requires sink_works { K.has_failed sink.old ≡ false }
     ensures written { (read : List ℕ) × (written : List ℕ)
-        × Consumes (S.left source.old) (S.left source.new) read
-        × Appends (K.taken sink.old) (K.taken sink.new) written
+        × Consumes (S.bytes_left source.old) (S.bytes_left source.new) read
+        × Appends (K.bytes_taken sink.old) (K.bytes_taken sink.new) written
         × IsOutcomeWithin bound result read written }
-    ensures end { IfOk result (λ ending. ending ≡ AtEnd → IsAtEnd (S.left source.new)) }
+    ensures end { IfOk result (λ ending. ending ≡ AtEnd → IsAtEnd (S.bytes_left source.new)) }
     ensures read_fault { IsErrOf result RunFault.Read ↔ (S.has_failed source.new ≡ true) }
     ensures write_fault { IsErrOf result RunFault.Write ↔ (K.has_failed sink.new ≡ true) }
 {

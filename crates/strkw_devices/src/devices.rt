@@ -12,7 +12,7 @@ pub struct DeviceFailed;
 /// What bytes are read from.
 pub trait Source {
     /// The bytes that are left, where the source tells them.
-    ghost left: { Self → Option (List ℕ) };
+    ghost bytes_left: { Self → Option (List ℕ) };
 
     /// Whether a read has failed.
     ghost has_failed: { Self → Bool };
@@ -21,7 +21,7 @@ pub trait Source {
     /// at the end. An `Err` moves none of the bytes that are told.
     fn read(&mut self, buffer: &mut [u8]) -> Result<usize, DeviceFailed>
         ensures count { IfOk result (λ count. count ≤ length buffer.new) }
-        ensures moved { ReadConsumes (left self.old) (left self.new) result buffer.new }
+        ensures moved { ReadConsumes (bytes_left self.old) (bytes_left self.new) result buffer.new }
         ensures ok { OnOk result (has_failed self.new ≡ has_failed self.old) }
         ensures err { OnErr result (has_failed self.new ≡ true) };
 
@@ -33,7 +33,7 @@ pub trait Source {
 /// What bytes are written to.
 pub trait Sink {
     /// The bytes that were taken, where the sink tells them.
-    ghost taken: { Self → Option (List ℕ) };
+    ghost bytes_taken: { Self → Option (List ℕ) };
 
     /// Whether a write has failed.
     ghost has_failed: { Self → Bool };
@@ -43,7 +43,8 @@ pub trait Sink {
     fn write(&mut self, bytes: &[u8]) -> Result<usize, DeviceFailed>
         ensures count { IfOk result (λ count. count ≤ length bytes.now) }
         ensures some { IfOk result (λ count. 0 < length bytes.now → 0 < count) }
-        ensures moved { WriteAppends (taken self.old) (taken self.new) result bytes.now }
+        ensures moved { WriteAppends (bytes_taken self.old) (bytes_taken self.new)
+            result bytes.now }
         ensures ok { OnOk result (has_failed self.new ≡ has_failed self.old) }
         ensures err { OnErr result (has_failed self.new ≡ true) };
 
@@ -54,9 +55,9 @@ pub trait Sink {
     /// Takes all the bytes, write by write. An `Err` comes where a write fails; the bytes taken before it are a front
     /// of them, less than all.
     final fn write_all(&mut self, bytes: &[u8]) -> Result<(), DeviceFailed>
-        ensures ok { OnOk result (Appends (taken self.old) (taken self.new) bytes.now) }
+        ensures ok { OnOk result (Appends (bytes_taken self.old) (bytes_taken self.new) bytes.now) }
         ensures short { OnErr result ((count : ℕ) × (count < length bytes.now)
-            × Appends (taken self.old) (taken self.new) (take count bytes.now)) }
+            × Appends (bytes_taken self.old) (bytes_taken self.new) (take count bytes.now)) }
         ensures works { OnOk result (has_failed self.new ≡ has_failed self.old) }
         ensures failed { OnErr result (has_failed self.new ≡ true) }
     {

@@ -29,7 +29,7 @@ impl<R: Read> HostSource<R> {
 }
 
 impl<R: Read> Source for HostSource<R> {
-    ghost left = { λ _. None };
+    ghost bytes_left = { λ _. None };
 
     ghost has_failed = { λ source. not source.reader_works };
 
@@ -98,7 +98,7 @@ impl<W: Write> HostSink<W> {
 }
 
 impl<W: Write> Sink for HostSink<W> {
-    ghost taken = { λ _. None };
+    ghost bytes_taken = { λ _. None };
 
     ghost has_failed = { λ sink. not sink.writer_works };
 

@@ -10,13 +10,13 @@ use std::alloc::Global;
 pub struct MemorySource {
     bytes: Vec<u8>,
     passed: usize,
-    ghost within: { passed ≤ vec_len bytes },
+    ghost passed_bound: { passed ≤ vec_len bytes },
 }
 
 impl MemorySource {
     /// A source that has these bytes left.
     pub fn new(bytes: Vec<u8>) -> Self
-        ensures left { ⟦<MemorySource as Source>⟧.left result ≡ Some bytes.items }
+        ensures left { ⟦<MemorySource as Source>⟧.bytes_left result ≡ Some bytes.items }
         ensures failed { ⟦<MemorySource as Source>⟧.has_failed result ≡ false }
     {
         MemorySource { bytes, passed: 0 }
@@ -24,7 +24,7 @@ impl MemorySource {
 }
 
 impl Source for MemorySource {
-    ghost left = { λ source. Some (drop source.passed source.bytes.items) };
+    ghost bytes_left = { λ source. Some (drop source.passed source.bytes.items) };
 
     ghost has_failed = { λ _. false };
 
@@ -51,7 +51,7 @@ pub struct MemorySink {
 impl MemorySink {
     /// A sink that has taken nothing.
     pub fn new(alloc: Global) -> Self
-        ensures taken { ⟦<MemorySink as Sink>⟧.taken result ≡ Some [] }
+        ensures taken { ⟦<MemorySink as Sink>⟧.bytes_taken result ≡ Some [] }
         ensures failed { ⟦<MemorySink as Sink>⟧.has_failed result ≡ false }
     {
         MemorySink {
@@ -62,14 +62,14 @@ impl MemorySink {
 
     /// The bytes taken, in the order of the writes.
     pub fn bytes(&self) -> &[u8]
-        ensures { ⟦<MemorySink as Sink>⟧.taken self.now ≡ Some result.now }
+        ensures { ⟦<MemorySink as Sink>⟧.bytes_taken self.now ≡ Some result.now }
     {
         &self.bytes
     }
 }
 
 impl Sink for MemorySink {
-    ghost taken = { λ sink. Some sink.bytes.items };
+    ghost bytes_taken = { λ sink. Some sink.bytes.items };
 
     ghost has_failed = { λ sink. not sink.works };
 

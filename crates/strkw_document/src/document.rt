@@ -46,14 +46,14 @@ pub fn check_document<B: EngineBuilder, W: Write>(
 ) -> Result<u64, DocumentFault>
     ensures plan { OnOk result (plan_problem Places (view plan.now) ≡ None) }
     ensures messages { let s =
-        rules_settings B.takes B.outcome admits accepted encoded decoding rules.now in
+        rules_settings B.takes B.outcome admits accepts is_encoding decoding rules.now in
         IfOk result (λ count. (p : PlanView) × (messages : List (List ℕ))
         × (plan_of Places (view plan.now) ≡ Some p)
         × DocumentMessages text_form (s p.draft) p.schemas (view document.now) messages
         × Appends (W.contents writer.old) (W.contents writer.new) (concat messages)
         × (count ≡ length messages)) }
     ensures why { let s =
-        rules_settings B.takes B.outcome admits accepted encoded decoding rules.now in
+        rules_settings B.takes B.outcome admits accepts is_encoding decoding rules.now in
         IfErr result (λ fault. IsWhy s (view plan.now) fault) }
     ensures unwritten { IfErr result (λ fault. (fault ≡ DocumentFault.Write)
         ⊎ (W.contents writer.new ≡ W.contents writer.old)) }
@@ -75,14 +75,14 @@ pub fn check_document_as<B: EngineBuilder, W: Write, F: PlaceForm>(
 ) -> Result<u64, DocumentFault>
     ensures plan { OnOk result (plan_problem Places (view plan.now) ≡ None) }
     ensures messages { let s =
-        rules_settings B.takes B.outcome admits accepted encoded decoding rules.now in
+        rules_settings B.takes B.outcome admits accepts is_encoding decoding rules.now in
         IfOk result (λ count. (p : PlanView) × (messages : List (List ℕ))
         × (plan_of Places (view plan.now) ≡ Some p)
         × DocumentMessages (F.writes form.now) (s p.draft) p.schemas (view document.now) messages
         × Appends (W.contents writer.old) (W.contents writer.new) (concat messages)
         × (count ≡ length messages)) }
     ensures why { let s =
-        rules_settings B.takes B.outcome admits accepted encoded decoding rules.now in
+        rules_settings B.takes B.outcome admits accepts is_encoding decoding rules.now in
         IfErr result (λ fault. IsWhy s (view plan.now) fault) }
     ensures unwritten { IfErr result (λ fault. (fault ≡ DocumentFault.Write)
         ⊎ (W.contents writer.new ≡ W.contents writer.old)) }
@@ -106,14 +106,14 @@ fn check_places<B: EngineBuilder, F: PlaceForm>(
     out: &mut String,
 ) -> Result<u64, DocumentFault>
     ensures messages { let s =
-        rules_settings B.takes B.outcome admits accepted encoded decoding rules.now in
+        rules_settings B.takes B.outcome admits accepts is_encoding decoding rules.now in
         IfOk result (λ count. (messages : List (List ℕ))
         × DocumentMessages (F.writes form.now) (s plan.now.draft)
         (members_view plan.now.schemas.now.entries) (view document.now) messages
         × (count ≡ length messages)
         × (string_bytes out.new ≡ string_bytes out.old ++ concat messages)) }
     ensures why { let s =
-        rules_settings B.takes B.outcome admits accepted encoded decoding rules.now in
+        rules_settings B.takes B.outcome admits accepts is_encoding decoding rules.now in
         let schemas = members_view plan.now.schemas.now.entries in
         IfErr result (λ fault. IsWhyInPlan (s plan.now.draft) schemas fault) }
 {

@@ -96,7 +96,7 @@ pub(crate) struct AtPlace<'a, F> {
 }
 
 impl<F: PlaceForm> MessageForm for AtPlace<'_, F> {
-    ghost said = { λ at. (F.writes at.form.now).said at.place.now };
+    ghost words_of = { λ at. (F.writes at.form.now).said at.place.now };
 
     fn push(
         &self,

@@ -40,14 +40,14 @@ pub(crate) fn check_place<B: EngineBuilder, F: PlaceForm>(
     out: &mut String,
 ) -> Result<u64, DocumentFault>
     ensures messages { let s =
-        rules_settings B.takes B.outcome admits accepted encoded decoding rules.now draft in
+        rules_settings B.takes B.outcome admits accepts is_encoding decoding rules.now draft in
         IfOk result (λ count. (messages : List (List ℕ))
         × PlaceMessages (F.writes form.now) s place.now (view schema.now) (view document.now)
         messages
         × (count ≡ length messages)
         × (string_bytes out.new ≡ string_bytes out.old ++ concat messages)) }
     ensures refused { let s =
-        rules_settings B.takes B.outcome admits accepted encoded decoding rules.now draft in
+        rules_settings B.takes B.outcome admits accepts is_encoding decoding rules.now draft in
         IfErr result (λ fault. IsWhyOfPlace s place.now (view schema.now) fault) }
 {
     if !is_valid_json_pointer(place) {
@@ -75,9 +75,9 @@ fn check_spots<E: RegexEngine, F: PlaceForm>(
     out: &mut String,
 ) -> Result<u64, DocumentFault>
     requires { IsInUse (keywords_demands E.outcome keywords.now)
-        (lists_of admits accepted encoded decoding checks.now) }
+        (lists_of admits accepts is_encoding decoding checks.now) }
     ensures messages { (s : Settings) (members : Members)
-        → IsCheckedBy E.outcome s (lists_of admits accepted encoded decoding checks.now)
+        → IsCheckedBy E.outcome s (lists_of admits accepts is_encoding decoding checks.now)
         (view schema.now) members keywords.now
         → IfOk result (λ count. (messages : List (List ℕ))
         × SpotsMessages (F.writes form.now) s members (map spot_view spots.now) messages
@@ -109,9 +109,9 @@ fn check_found<E: RegexEngine, F: PlaceForm>(
     out: &mut String,
 ) -> Result<u64, AllocError>
     requires { IsInUse (keywords_demands E.outcome keywords.now)
-        (lists_of admits accepted encoded decoding checks.now) }
+        (lists_of admits accepts is_encoding decoding checks.now) }
     ensures { (s : Settings) (members : Members)
-        → IsCheckedBy E.outcome s (lists_of admits accepted encoded decoding checks.now)
+        → IsCheckedBy E.outcome s (lists_of admits accepts is_encoding decoding checks.now)
         (view schema.now) members keywords.now
         → IfOk result (λ count. (messages : List (List ℕ))
         × FoundMessages (F.writes form.now) s members place.now

@@ -15,9 +15,9 @@ abbrev pub lists_of : {X : Type 0} {F : X → Type 0} {Y : Type 0} {M : Y
     → ((x : X) × F x → List ℕ → Bool) → ((y : Y) × M y → List ℕ → Bool)
     → ((z : Z) × C z → List ℕ → Bool) → ((z : Z) × C z → List ℕ → Decoded) → Checks X Y Z F M C
     → Lists
-lists_of admits accepted encoded decoding checks =
-    lists.lists_of (λ b. admits (b.vtable, b.value)) (λ b. accepted (b.vtable, b.value))
-    (λ b. encoded (b.vtable, b.value))
+lists_of admits accepts is_encoding decoding checks =
+    lists.lists_of (λ b. admits (b.vtable, b.value)) (λ b. accepts (b.vtable, b.value))
+    (λ b. is_encoding (b.vtable, b.value))
     (λ b. decoding (b.vtable, b.value)) checks
 
 -- and what a context says, by those and the meanings of its builder
@@ -27,7 +27,7 @@ abbrev pub settings_of : {B X : Type 0} {F : X → Type 0} {Y : Type 0} {M : Y
     → ((y : Y) × M y → List ℕ → Bool)
     → ((z : Z) × C z → List ℕ → Bool) → ((z : Z) × C z → List ℕ → Decoded) → Context B X Y Z F M C
     → Settings
-settings_of takes outcome admits accepted encoded decoding ctx =
+settings_of takes outcome admits accepts is_encoding decoding ctx =
     settings.settings_of takes outcome (λ b. admits (b.vtable, b.value))
-    (λ b. accepted (b.vtable, b.value)) (λ b. encoded (b.vtable, b.value))
+    (λ b. accepts (b.vtable, b.value)) (λ b. is_encoding (b.vtable, b.value))
     (λ b. decoding (b.vtable, b.value)) ctx

@@ -10,14 +10,14 @@ abbrev pub lists_of : {X : Type 0} {F : X → Type 0} {Y : Type 0} {M : Y
     → (DynBox X Global F → List ℕ → Bool) → (DynBox Y Global M → List ℕ → Bool)
     → (DynBox Z Global C → List ℕ → Bool) → (DynBox Z Global C → List ℕ → Decoded)
     → Checks X Y Z F M C → Lists
-lists_of admits accepted encoded decoding checks = record {
+lists_of admits accepts is_encoding decoding checks = record {
   formats = map (λ f. record { name = string_bytes f.name; admits = admits f.check })
       checks.formats.now;
-  media_types = map (λ m. record { name = string_bytes m.name; admits = accepted m.check })
+  media_types = map (λ m. record { name = string_bytes m.name; admits = accepts m.check })
       checks.media_types.now;
   codecs = map (λ c. record {
     name = string_bytes c.name;
-    is_encoded = encoded c.codec;
+    is_encoded = is_encoding c.codec;
     decode = decoding c.codec;
   }) checks.codecs.now;
 }

@@ -21,11 +21,11 @@ abbrev pub settings_of : {B X : Type 0} {F : X → Type 0} {Y : Type 0} {M : Y
     → (DynBox Y Global M → List ℕ → Bool)
     → (DynBox Z Global C → List ℕ → Bool) → (DynBox Z Global C → List ℕ → Decoded)
     → Context B X Y Z F M C → Settings
-settings_of takes outcome admits accepted encoded decoding ctx = record {
+settings_of takes outcome admits accepts is_encoding decoding ctx = record {
   draft = ctx.draft;
   place = place_in ctx;
   options = ctx.options;
-  lists = lists_of admits accepted encoded decoding ctx.checks;
+  lists = lists_of admits accepts is_encoding decoding ctx.checks;
   takes = takes ctx.builder.now;
   outcome = outcome ctx.builder.now;
 }

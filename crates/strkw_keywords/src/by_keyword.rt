@@ -34,8 +34,8 @@ pub fn compile_format<B: EngineBuilder>(
 ) -> Option<Result<Validator<B::Engine>, CompileError>>
     requires { value_at ctx.now.options Keyword.Format (members_view parent.now.entries)
         ≡ Some (view value.now) }
-    ensures { IsCompiledAt B.Engine.outcome (settings_of B.takes B.outcome admits accepted encoded
-        decoding ctx.now) (members_view parent.now.entries) Keyword.Format result }
+    ensures { IsCompiledAt B.Engine.outcome (settings_of B.takes B.outcome admits accepts
+        is_encoding decoding ctx.now) (members_view parent.now.entries) Keyword.Format result }
 {
     compile_value(alloc, ctx, parent, value, Keyword::Format)
 }
@@ -56,8 +56,8 @@ pub fn compile_pattern<B: EngineBuilder>(
 ) -> Option<Result<Validator<B::Engine>, CompileError>>
     requires { value_at ctx.now.options Keyword.Pattern (members_view parent.now.entries)
         ≡ Some (view value.now) }
-    ensures { IsCompiledAt B.Engine.outcome (settings_of B.takes B.outcome admits accepted encoded
-        decoding ctx.now) (members_view parent.now.entries) Keyword.Pattern result }
+    ensures { IsCompiledAt B.Engine.outcome (settings_of B.takes B.outcome admits accepts
+        is_encoding decoding ctx.now) (members_view parent.now.entries) Keyword.Pattern result }
 {
     compile_value(alloc, ctx, parent, value, Keyword::Pattern)
 }
@@ -77,8 +77,8 @@ pub fn compile_min_length<B: EngineBuilder>(
 ) -> Option<Result<Validator<B::Engine>, CompileError>>
     requires { value_at ctx.now.options Keyword.MinLength (members_view parent.now.entries)
         ≡ Some (view value.now) }
-    ensures { IsCompiledAt B.Engine.outcome (settings_of B.takes B.outcome admits accepted encoded
-        decoding ctx.now) (members_view parent.now.entries) Keyword.MinLength result }
+    ensures { IsCompiledAt B.Engine.outcome (settings_of B.takes B.outcome admits accepts
+        is_encoding decoding ctx.now) (members_view parent.now.entries) Keyword.MinLength result }
 {
     compile_value(alloc, ctx, parent, value, Keyword::MinLength)
 }
@@ -97,8 +97,8 @@ pub fn compile_max_length<B: EngineBuilder>(
 ) -> Option<Result<Validator<B::Engine>, CompileError>>
     requires { value_at ctx.now.options Keyword.MaxLength (members_view parent.now.entries)
         ≡ Some (view value.now) }
-    ensures { IsCompiledAt B.Engine.outcome (settings_of B.takes B.outcome admits accepted encoded
-        decoding ctx.now) (members_view parent.now.entries) Keyword.MaxLength result }
+    ensures { IsCompiledAt B.Engine.outcome (settings_of B.takes B.outcome admits accepts
+        is_encoding decoding ctx.now) (members_view parent.now.entries) Keyword.MaxLength result }
 {
     compile_value(alloc, ctx, parent, value, Keyword::MaxLength)
 }
@@ -122,8 +122,9 @@ pub fn compile_media_type<B: EngineBuilder>(
 ) -> Option<Result<Validator<B::Engine>, CompileError>>
     requires { value_at ctx.now.options Keyword.ContentMediaType (members_view parent.now.entries)
         ≡ Some (view value.now) }
-    ensures { IsCompiledAt B.Engine.outcome (settings_of B.takes B.outcome admits accepted encoded
-        decoding ctx.now) (members_view parent.now.entries) Keyword.ContentMediaType result }
+    ensures { IsCompiledAt B.Engine.outcome (settings_of B.takes B.outcome admits accepts
+        is_encoding decoding ctx.now) (members_view parent.now.entries)
+        Keyword.ContentMediaType result }
 {
     compile_value(alloc, ctx, parent, value, Keyword::ContentMediaType)
 }
@@ -144,8 +145,9 @@ pub fn compile_content_encoding<B: EngineBuilder>(
 ) -> Option<Result<Validator<B::Engine>, CompileError>>
     requires { value_at ctx.now.options Keyword.ContentEncoding (members_view parent.now.entries)
         ≡ Some (view value.now) }
-    ensures { IsCompiledAt B.Engine.outcome (settings_of B.takes B.outcome admits accepted encoded
-        decoding ctx.now) (members_view parent.now.entries) Keyword.ContentEncoding result }
+    ensures { IsCompiledAt B.Engine.outcome (settings_of B.takes B.outcome admits accepts
+        is_encoding decoding ctx.now) (members_view parent.now.entries)
+        Keyword.ContentEncoding result }
 {
     compile_value(alloc, ctx, parent, value, Keyword::ContentEncoding)
 }
@@ -165,8 +167,9 @@ pub fn compile_content_schema_annotation<B: EngineBuilder>(
 ) -> Option<Result<Validator<B::Engine>, CompileError>>
     requires { value_at ctx.now.options Keyword.ContentSchema (members_view parent.now.entries)
         ≡ Some (view value.now) }
-    ensures { IsCompiledAt B.Engine.outcome (settings_of B.takes B.outcome admits accepted encoded
-        decoding ctx.now) (members_view parent.now.entries) Keyword.ContentSchema result }
+    ensures { IsCompiledAt B.Engine.outcome (settings_of B.takes B.outcome admits accepts
+        is_encoding decoding ctx.now) (members_view parent.now.entries)
+        Keyword.ContentSchema result }
 {
     compile_value(alloc, ctx, parent, value, Keyword::ContentSchema)
 }

@@ -28,30 +28,30 @@ pub trait Format: Drop {
         ensures { IfOk result (λ b. b ≡ admits self.now (chars value.now)) };
 }
 
-/// A check of a media type that the caller registers. It says by `accepted` which texts are of the media type.
+/// A check of a media type that the caller registers. It says by `accepts` which texts are of the media type.
 pub trait MediaTypeCheck: Drop {
     /// Which texts are of the media type.
-    ghost accepted: { Self → List ℕ → Bool };
+    ghost accepts: { Self → List ℕ → Bool };
 
     /// Whether the text is of the media type. The only error is out of memory.
     fn accepts(&self, alloc: Global, value: &str) -> Result<bool, AllocError>
-        ensures { IfOk result (λ b. b ≡ accepted self.now (chars value.now)) };
+        ensures { IfOk result (λ b. b ≡ accepts self.now (chars value.now)) };
 }
 
-/// A codec that the caller registers. It has two meanings, one for each call: `encoded` serves an entry
+/// A codec that the caller registers. It has two meanings, one for each call: `is_encoding` serves an entry
 /// `contentEncoding` alone, and `decoding` one beside `contentMediaType`. No law ties them together.
 pub trait ContentCodec: Drop {
     ghost use Rattle.strkw_keywords.specs.Meanings.{Decoded, no_encoding, no_text, decoded};
 
     /// Whether a text is an encoding.
-    ghost encoded: { Self → List ℕ → Bool };
+    ghost is_encoding: { Self → List ℕ → Bool };
 
     /// What a text decodes to.
     ghost decoding: { Self → List ℕ → Decoded };
 
     /// Whether the text is an encoding. The only error is out of memory.
     fn is_encoded(&self, alloc: Global, value: &str) -> Result<bool, AllocError>
-        ensures { IfOk result (λ b. b ≡ encoded self.now (chars value.now)) };
+        ensures { IfOk result (λ b. b ≡ is_encoding self.now (chars value.now)) };
 
     /// The text that the text encodes, or `None` where it is no encoding.
     ///
@@ -148,21 +148,21 @@ impl NamedCodec {
 
 // A row of the caller: a name, and a test of texts.
 pub(crate) trait Row {
-    ghost called: { Self → List ℕ };
+    ghost name_of: { Self → List ℕ };
 
-    ghost admitted: { Self → List ℕ → Bool };
+    ghost admits: { Self → List ℕ → Bool };
 
     fn name(&self) -> &str
-        ensures { result.now ≡ called self.now };
+        ensures { result.now ≡ name_of self.now };
 
     fn ask(&self, alloc: Global, text: &str) -> Asked
-        ensures { IfOk result (λ b. b ≡ admitted self.now (chars text.now)) };
+        ensures { IfOk result (λ b. b ≡ admits self.now (chars text.now)) };
 }
 
 impl Row for NamedFormat {
-    ghost called = { λ r. string_bytes r.name };
+    ghost name_of = { λ r. string_bytes r.name };
 
-    ghost admitted = { λ r. (Format-box r.check).admits r.check.value };
+    ghost admits = { λ r. (Format-box r.check).admits r.check.value };
 
     fn name(&self) -> &str {
         self.name.as_str()
@@ -174,9 +174,9 @@ impl Row for NamedFormat {
 }
 
 impl Row for NamedMediaType {
-    ghost called = { λ r. string_bytes r.name };
+    ghost name_of = { λ r. string_bytes r.name };
 
-    ghost admitted = { λ r. (MediaTypeCheck-box r.check).accepted r.check.value };
+    ghost admits = { λ r. (MediaTypeCheck-box r.check).accepts r.check.value };
 
     fn name(&self) -> &str {
         self.name.as_str()
@@ -188,9 +188,9 @@ impl Row for NamedMediaType {
 }
 
 impl Row for NamedCodec {
-    ghost called = { λ r. string_bytes r.name };
+    ghost name_of = { λ r. string_bytes r.name };
 
-    ghost admitted = { λ r. (ContentCodec-box r.codec).encoded r.codec.value };
+    ghost admits = { λ r. (ContentCodec-box r.codec).is_encoding r.codec.value };
 
     fn name(&self) -> &str {
         self.name.as_str()
@@ -203,7 +203,7 @@ impl Row for NamedCodec {
 
 // Where the first row of a name stands.
 fn first_named<R: Row>(rows: &[R], name: &str) -> Option<usize>
-    ensures { result ≡ position_from (λ r. bytes_eq (R.called r) name.now) 0 rows.now }
+    ensures { result ≡ position_from (λ r. bytes_eq (R.name_of r) name.now) 0 rows.now }
 {
     for (i, row) in rows.iter().enumerate() {
         if row.name() == name {
@@ -217,7 +217,7 @@ fn first_named<R: Row>(rows: &[R], name: &str) -> Option<usize>
 pub(crate) fn ask_row<R: Row>(alloc: Global, rows: &[R], position: usize, text: &str) -> Asked
     ensures { IfOk result (λ b. IsTrue b
         ↔ MatchOption (slice_get rows.now position) ⊥
-        (λ r. IsTrue (R.admitted r (chars text.now)))) }
+        (λ r. IsTrue (R.admits r (chars text.now)))) }
 {
     match rows.get(position) {
         Some(row) => row.ask(alloc, text),
@@ -228,21 +228,21 @@ pub(crate) fn ask_row<R: Row>(alloc: Global, rows: &[R], position: usize, text: 
 impl Checks<'_> {
     pub(crate) fn format_named(&self, name: &str) -> Option<usize>
         ensures { result ≡ first_named name.now
-            (row_names (lists_of admits accepted encoded decoding self.now).formats) }
+            (row_names (lists_of admits accepts is_encoding decoding self.now).formats) }
     {
         first_named(self.formats, name)
     }
 
     pub(crate) fn media_type_named(&self, name: &str) -> Option<usize>
         ensures { result ≡ first_named name.now
-            (row_names (lists_of admits accepted encoded decoding self.now).media_types) }
+            (row_names (lists_of admits accepts is_encoding decoding self.now).media_types) }
     {
         first_named(self.media_types, name)
     }
 
     pub(crate) fn codec_named(&self, name: &str) -> Option<usize>
         ensures { result ≡ first_named name.now
-            (codec_names (lists_of admits accepted encoded decoding self.now).codecs) }
+            (codec_names (lists_of admits accepts is_encoding decoding self.now).codecs) }
     {
         first_named(self.codecs, name)
     }

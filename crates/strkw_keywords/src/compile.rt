@@ -42,8 +42,8 @@ pub fn compile_entry<B: EngineBuilder>(
     object: &Map<String, Value>,
     keyword: Keyword,
 ) -> Option<Result<Validator<B::Engine>, CompileError>>
-    ensures { IsCompiledAt B.Engine.outcome (settings_of B.takes B.outcome admits accepted encoded
-        decoding ctx.now) (members_view object.now.entries) keyword result }
+    ensures { IsCompiledAt B.Engine.outcome (settings_of B.takes B.outcome admits accepts
+        is_encoding decoding ctx.now) (members_view object.now.entries) keyword result }
 {
     let value = object.value(keyword)?;
     if ctx.options.is_overridden(keyword) {
@@ -60,8 +60,8 @@ pub fn compile_among<B: EngineBuilder>(
     keyword: Keyword,
 ) -> Option<Result<Validator<B::Engine>, CompileError>>
     ensures { (ms : Members) → AreValuesOf ms values.now
-        → IsCompiledAt B.Engine.outcome (settings_of B.takes B.outcome admits accepted encoded
-        decoding ctx.now)
+        → IsCompiledAt B.Engine.outcome (settings_of B.takes B.outcome admits accepts
+        is_encoding decoding ctx.now)
         ms keyword result }
 {
     let value = values.value(keyword)?;
@@ -80,8 +80,8 @@ pub(crate) fn compile_value<B: EngineBuilder, O: Object>(
     keyword: Keyword,
 ) -> Option<Result<Validator<B::Engine>, CompileError>>
     requires { value_at ctx.now.options keyword (O.members object.now) ≡ Some (view value.now) }
-    ensures { IsCompiledAt B.Engine.outcome (settings_of B.takes B.outcome admits accepted encoded
-        decoding ctx.now) (O.members object.now) keyword result }
+    ensures { IsCompiledAt B.Engine.outcome (settings_of B.takes B.outcome admits accepts
+        is_encoding decoding ctx.now) (O.members object.now) keyword result }
 {
     match build(alloc, ctx, object, value, keyword) {
         Ok(None) => None,
@@ -100,7 +100,7 @@ fn build<B: EngineBuilder, O: Object>(
 ) -> Result<Option<Validator<B::Engine>>, Refused>
     requires { value_at ctx.now.options keyword (O.members object.now) ≡ Some (view value.now) }
     ensures { IsBuiltAt B.Engine.outcome
-        (settings_of B.takes B.outcome admits accepted encoded decoding ctx.now)
+        (settings_of B.takes B.outcome admits accepts is_encoding decoding ctx.now)
         (O.members object.now) keyword result }
 {
     match keyword {

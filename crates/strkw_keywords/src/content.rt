@@ -41,7 +41,7 @@ fn chosen_media_type(choice: &Choice<BuiltinMediaType>) -> &str
 fn accepts(alloc: Global, choice: &Choice<BuiltinMediaType>, checks: &Checks, text: &str) -> Asked
     ensures { IfOk result (λ b. IsTrue b
         ↔ IsOfMediaType (choice_of choice.now)
-        (lists_of admits accepted encoded decoding checks.now) text.now) }
+        (lists_of admits accepts is_encoding decoding checks.now) text.now) }
 {
     match choice {
         Choice::Builtin(media_type) => media_type.accepts(alloc, text),
@@ -60,7 +60,7 @@ fn chosen_codec(choice: &Choice<Codec>) -> &str
 
 fn is_encoding(alloc: Global, choice: &Choice<Codec>, checks: &Checks, text: &str) -> Asked
     ensures { IfOk result (λ b. IsTrue b
-        ↔ IsEncoded (choice_of choice.now) (lists_of admits accepted encoded decoding checks.now)
+        ↔ IsEncoded (choice_of choice.now) (lists_of admits accepts is_encoding decoding checks.now)
         text.now) }
 {
     match choice {
@@ -77,9 +77,9 @@ fn decode(
     text: &str,
 ) -> Result<Option<String>, DecodeError>
     ensures text { IfOk result (λ o. Decodes (choice_of choice.now)
-        (lists_of admits accepted encoded decoding checks.now) text.now (decoded_of o)) }
+        (lists_of admits accepts is_encoding decoding checks.now) text.now (decoded_of o)) }
     ensures not_utf8 { IsErrOf result DecodeError.NotUtf8
-        → Decodes (choice_of choice.now) (lists_of admits accepted encoded decoding checks.now)
+        → Decodes (choice_of choice.now) (lists_of admits accepts is_encoding decoding checks.now)
         text.now no_text }
 {
     match choice {

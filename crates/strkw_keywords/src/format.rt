@@ -120,7 +120,7 @@ pub(crate) fn build_format<B: EngineBuilder>(
     value: &Value,
 ) -> Result<Option<Validator<B::Engine>>, Refused>
     ensures { IsBuilt B.Engine.outcome (place_in ctx.now) (alone Keyword.Format
-        (format_entry (settings_of B.takes B.outcome admits accepted encoded decoding ctx.now)
+        (format_entry (settings_of B.takes B.outcome admits accepts is_encoding decoding ctx.now)
         (view value.now))) result }
 {
     let Some(name) = value.as_str() else {

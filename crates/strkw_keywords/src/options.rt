@@ -66,7 +66,7 @@ pub struct Context<'a, B> {
 impl Checks<'static> {
     /// No rows: nothing is known but what is built in.
     pub fn none() -> Checks<'static>
-        ensures { lists_of admits accepted encoded decoding result ≡ no_lists }
+        ensures { lists_of admits accepts is_encoding decoding result ≡ no_lists }
     {
         Checks {
             formats: &[],
@@ -85,7 +85,7 @@ impl<'a, B> Context<'a, B> {
         ensures location { result.location ≡ [] }
         ensures absolute { result.absolute ≡ None }
         ensures options { result.options ≡ default_options }
-        ensures checks { lists_of admits accepted encoded decoding result.checks ≡ no_lists }
+        ensures checks { lists_of admits accepts is_encoding decoding result.checks ≡ no_lists }
         ensures builder { result.builder.now ≡ builder.now }
     {
         Context {

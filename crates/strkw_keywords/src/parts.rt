@@ -82,7 +82,7 @@ impl Parts<'_> {
     // Whether the rows on which the validator rests are the first of their names.
     pub(crate) fn rows_are_first(&self, checks: &Checks) -> bool
         ensures { IsTrue result ↔ RowsAreFirst self.now
-            (lists_of admits accepted encoded decoding checks.now) }
+            (lists_of admits accepts is_encoding decoding checks.now) }
     {
         let is_format_first = match self.format {
             None => true,

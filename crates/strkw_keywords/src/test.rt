@@ -35,6 +35,6 @@ pub trait Test {
     /// its parts is true.
     fn findings<N: Node>(&self, alloc: Global, text: &TextNode<'_, N>, checks: &Checks) -> Found<'_>
         ensures found { IfOk result (λ fs. Finds (demands self.now)
-            (lists_of admits accepted encoded decoding checks.now) text.now (findings_of fs)) }
+            (lists_of admits accepts is_encoding decoding checks.now) text.now (findings_of fs)) }
         ensures answers { all_quiet (demands self.now) ≡ true → IsOk result };
 }

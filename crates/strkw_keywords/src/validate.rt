@@ -104,7 +104,7 @@ pub trait Uses {
     /// lists, where it keeps no position.
     final fn uses(&self, checks: &Checks) -> bool
         ensures { IsTrue result ↔ IsInUse (demands self.now)
-            (lists_of admits accepted encoded decoding checks.now) }
+            (lists_of admits accepts is_encoding decoding checks.now) }
     {
         self.parts().rows_are_first(checks)
     }
@@ -117,19 +117,19 @@ pub trait Validate<N: Node>: Uses {
     /// `takes_no_memory` is true.
     fn findings(&self, alloc: Global, text: &TextNode<'_, N>, checks: &Checks) -> Found<'_>
         requires { IsInUse (Self.demands self.now)
-            (lists_of admits accepted encoded decoding checks.now) }
+            (lists_of admits accepts is_encoding decoding checks.now) }
         ensures found { IfOk result (λ fs. Finds (Self.demands self.now)
-            (lists_of admits accepted encoded decoding checks.now)
+            (lists_of admits accepts is_encoding decoding checks.now)
             text.now (findings_of fs)) }
         ensures answers { all_quiet (Self.demands self.now) ≡ true → IsOk result };
 
     /// Whether the node has no errors. The only error is out of memory, and none where `takes_no_memory` is true.
     final fn is_valid(&self, alloc: Global, node: &N, checks: &Checks) -> Result<bool, AllocError>
         requires { IsInUse (Self.demands self.now)
-            (lists_of admits accepted encoded decoding checks.now) }
+            (lists_of admits accepts is_encoding decoding checks.now) }
         ensures exact { IfOk result (λ b. (site : Site) → (IsTrue b
             ↔ NodeReports (placed (Self.place self.now) (Self.demands self.now))
-            (lists_of admits accepted encoded decoding checks.now) site
+            (lists_of admits accepts is_encoding decoding checks.now) site
             (N.text node.now) [])) }
         ensures answers { all_quiet (Self.demands self.now) ≡ true → IsOk result }
     {
@@ -151,10 +151,10 @@ pub trait Validate<N: Node>: Uses {
         errors: &mut Vec<ValidationError>,
     ) -> Result<(), AllocError>
         requires { IsInUse (Self.demands self.now)
-            (lists_of admits accepted encoded decoding checks.now) }
+            (lists_of admits accepts is_encoding decoding checks.now) }
         ensures appended { OnOk result (Appends
             (NodeReports (placed (Self.place self.now) (Self.demands self.now))
-            (lists_of admits accepted encoded decoding checks.now)
+            (lists_of admits accepts is_encoding decoding checks.now)
             site.now (N.text node.now))
             errors.old.items errors.new.items) }
         ensures kept { OnErr result (errors.new.items ≡ errors.old.items) }
@@ -175,10 +175,10 @@ pub trait Validate<N: Node>: Uses {
         errors: &mut Vec<ValidationError>,
     ) -> Result<(), AllocError>
         requires { IsInUse (Self.demands self.now)
-            (lists_of admits accepted encoded decoding checks.now) }
+            (lists_of admits accepts is_encoding decoding checks.now) }
         ensures appended { OnOk result (Appends
             (NodeReports (placed (Self.place self.now) (Self.demands self.now))
-            (lists_of admits accepted encoded decoding checks.now)
+            (lists_of admits accepts is_encoding decoding checks.now)
             site.now (Some text.now))
             errors.old.items errors.new.items) }
         ensures kept { OnErr result (errors.new.items ≡ errors.old.items) }
@@ -199,9 +199,9 @@ pub trait Validate<N: Node>: Uses {
         checks: &Checks,
     ) -> Result<(), Fault>
         requires { IsInUse (Self.demands self.now)
-            (lists_of admits accepted encoded decoding checks.now) }
+            (lists_of admits accepts is_encoding decoding checks.now) }
         ensures { IsVerdict (placed (Self.place self.now) (Self.demands self.now))
-            (lists_of admits accepted encoded decoding checks.now)
+            (lists_of admits accepts is_encoding decoding checks.now)
             site.now (N.text node.now) result }
     {
         match TextNode::of(node) {
@@ -221,9 +221,9 @@ pub trait Validate<N: Node>: Uses {
         checks: &Checks,
     ) -> Result<(), Fault>
         requires { IsInUse (Self.demands self.now)
-            (lists_of admits accepted encoded decoding checks.now) }
+            (lists_of admits accepts is_encoding decoding checks.now) }
         ensures { IsVerdict (placed (Self.place self.now) (Self.demands self.now))
-            (lists_of admits accepted encoded decoding checks.now)
+            (lists_of admits accepts is_encoding decoding checks.now)
             site.now (Some text.now) result }
     {
         encodes_once();
@@ -247,10 +247,10 @@ pub trait Validate<N: Node>: Uses {
         checks: &Checks,
     ) -> Result<EvaluationResult, AllocError>
         requires { IsInUse (Self.demands self.now)
-            (lists_of admits accepted encoded decoding checks.now) }
+            (lists_of admits accepts is_encoding decoding checks.now) }
         ensures errors { IfOk result (λ r. NodeReports
             (placed (Self.place self.now) (Self.demands self.now))
-            (lists_of admits accepted encoded decoding checks.now) site.now (N.text node.now)
+            (lists_of admits accepts is_encoding decoding checks.now) site.now (N.text node.now)
             r.errors.items) }
         ensures annotation { IfOk result (λ r. option_map view r.annotation
             ≡ annotation_of (Self.remark self.now) (N.text node.now)) }

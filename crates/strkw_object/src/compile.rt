@@ -41,12 +41,12 @@ pub fn compile_strings<B: EngineBuilder>(
     object: &Map<String, Value>,
 ) -> Result<StringKeywords<B::Engine>, CompileError>
     ensures compiled { IfOk result (λ k. IsCompiledFrom B.Engine.outcome
-        (settings_of B.takes B.outcome admits accepted encoded decoding ctx.now)
+        (settings_of B.takes B.outcome admits accepts is_encoding decoding ctx.now)
         (members_view object.now.entries) k) }
     ensures in_use { IfOk result (λ k. IsInUse (keywords_demands B.Engine.outcome k)
-        (lists_of admits accepted encoded decoding ctx.now.checks)) }
+        (lists_of admits accepts is_encoding decoding ctx.now.checks)) }
     ensures refused { IfErr result (λ e. (refusal_of e ≡ out_of_memory) ⊎ FirstRefusal
-        (settings_of B.takes B.outcome admits accepted encoded decoding ctx.now)
+        (settings_of B.takes B.outcome admits accepts is_encoding decoding ctx.now)
         (members_view object.now.entries) (Some (refusal_of e))) }
     // So each refusal has its text.
     ensures printable { IfErr result (λ e. prints_float (reason_of e.kind) ≡ false) }
@@ -65,12 +65,12 @@ pub fn compile_owned<B: EngineBuilder>(
     mut object: Map<String, Value>,
 ) -> Result<StringKeywords<B::Engine>, CompileError>
     ensures compiled { IfOk result (λ k. IsCompiledFrom B.Engine.outcome
-        (settings_of B.takes B.outcome admits accepted encoded decoding ctx.now)
+        (settings_of B.takes B.outcome admits accepts is_encoding decoding ctx.now)
         (members_view object.entries) k) }
     ensures in_use { IfOk result (λ k. IsInUse (keywords_demands B.Engine.outcome k)
-        (lists_of admits accepted encoded decoding ctx.now.checks)) }
+        (lists_of admits accepts is_encoding decoding ctx.now.checks)) }
     ensures refused { IfErr result (λ e. (refusal_of e ≡ out_of_memory) ⊎ FirstRefusal
-        (settings_of B.takes B.outcome admits accepted encoded decoding ctx.now)
+        (settings_of B.takes B.outcome admits accepts is_encoding decoding ctx.now)
         (members_view object.entries) (Some (refusal_of e))) }
     // So each refusal has its text.
     ensures printable { IfErr result (λ e. prints_float (reason_of e.kind) ≡ false) }
@@ -89,12 +89,12 @@ pub fn compile_values<B: EngineBuilder>(
 ) -> Result<StringKeywords<B::Engine>, CompileError>
     ensures compiled { (ms : Members) → AreOwnedOf ms values.old
         → IfOk result (λ k. IsCompiledFrom B.Engine.outcome
-        (settings_of B.takes B.outcome admits accepted encoded decoding ctx.now) ms k) }
+        (settings_of B.takes B.outcome admits accepts is_encoding decoding ctx.now) ms k) }
     ensures in_use { IfOk result (λ k. IsInUse (keywords_demands B.Engine.outcome k)
-        (lists_of admits accepted encoded decoding ctx.now.checks)) }
+        (lists_of admits accepts is_encoding decoding ctx.now.checks)) }
     ensures refused { (ms : Members) → AreOwnedOf ms values.old
         → IfErr result (λ e. (refusal_of e ≡ out_of_memory) ⊎ FirstRefusal
-        (settings_of B.takes B.outcome admits accepted encoded decoding ctx.now)
+        (settings_of B.takes B.outcome admits accepts is_encoding decoding ctx.now)
         ms (Some (refusal_of e))) }
     // So each refusal has its text.
     ensures printable { IfErr result (λ e. prints_float (reason_of e.kind) ≡ false) }
@@ -118,15 +118,15 @@ fn compile_beside<B: EngineBuilder>(
     mut schema: Option<Result<Validator<B::Engine>, CompileError>>,
 ) -> Result<StringKeywords<B::Engine>, CompileError>
     ensures compiled { (ms : Members) → AreOthersOf ms values.now
-        → IsCompiledAt B.Engine.outcome (settings_of B.takes B.outcome admits accepted encoded
+        → IsCompiledAt B.Engine.outcome (settings_of B.takes B.outcome admits accepts is_encoding
         decoding ctx.now) ms Keyword.ContentSchema schema
         → IfOk result (λ k. IsCompiledFrom B.Engine.outcome
-        (settings_of B.takes B.outcome admits accepted encoded decoding ctx.now) ms k) }
+        (settings_of B.takes B.outcome admits accepts is_encoding decoding ctx.now) ms k) }
     ensures refused { (ms : Members) → AreOthersOf ms values.now
-        → IsCompiledAt B.Engine.outcome (settings_of B.takes B.outcome admits accepted encoded
+        → IsCompiledAt B.Engine.outcome (settings_of B.takes B.outcome admits accepts is_encoding
         decoding ctx.now) ms Keyword.ContentSchema schema
         → IfErr result (λ e. (refusal_of e ≡ out_of_memory)
-        ⊎ FirstRefusal (settings_of B.takes B.outcome admits accepted encoded decoding ctx.now)
+        ⊎ FirstRefusal (settings_of B.takes B.outcome admits accepts is_encoding decoding ctx.now)
         ms (Some (refusal_of e))) }
 {
     let mut validators = Vec::new(alloc);

@@ -51,7 +51,7 @@ impl<E: RegexEngine> StringKeywords<E> {
     /// with the lists of compile; and with empty lists, where no row was chosen.
     pub fn uses(&self, checks: &Checks) -> bool
         ensures { IsTrue result ↔ IsInUse (keywords_demands E.outcome self.now)
-            (lists_of admits accepted encoded decoding checks.now) }
+            (lists_of admits accepts is_encoding decoding checks.now) }
     {
         for validator in &self.validators {
             if !validator.uses(checks) {
@@ -102,10 +102,10 @@ impl<E: RegexEngine> StringKeywords<E> {
         checks: &Checks,
     ) -> Result<bool, AllocError>
         requires { IsInUse (keywords_demands E.outcome self.now)
-            (lists_of admits accepted encoded decoding checks.now) }
+            (lists_of admits accepts is_encoding decoding checks.now) }
         ensures exact { IfOk result (λ b. (site : Site) → (IsTrue b
             ↔ NodeReports (keywords_assertions E.outcome self.now)
-            (lists_of admits accepted encoded decoding checks.now) site (N.text node.now) [])) }
+            (lists_of admits accepts is_encoding decoding checks.now) site (N.text node.now) [])) }
         ensures answers { all_quiet (keywords_demands E.outcome self.now) ≡ true → IsOk result }
     {
         encodes_once();
@@ -132,10 +132,10 @@ impl<E: RegexEngine> StringKeywords<E> {
         errors: &mut Vec<ValidationError>,
     ) -> Result<(), AllocError>
         requires { IsInUse (keywords_demands E.outcome self.now)
-            (lists_of admits accepted encoded decoding checks.now) }
+            (lists_of admits accepts is_encoding decoding checks.now) }
         ensures appended { OnOk result (Appends
             (NodeReports (keywords_assertions E.outcome self.now)
-            (lists_of admits accepted encoded decoding checks.now) site.now (N.text node.now))
+            (lists_of admits accepts is_encoding decoding checks.now) site.now (N.text node.now))
             errors.old.items errors.new.items) }
         ensures kept { OnErr result (errors.new.items ≡ errors.old.items) }
     {
@@ -162,9 +162,9 @@ impl<E: RegexEngine> StringKeywords<E> {
         checks: &Checks,
     ) -> Result<(), Fault>
         requires { IsInUse (keywords_demands E.outcome self.now)
-            (lists_of admits accepted encoded decoding checks.now) }
+            (lists_of admits accepts is_encoding decoding checks.now) }
         ensures { IsVerdict (keywords_assertions E.outcome self.now)
-            (lists_of admits accepted encoded decoding checks.now) site.now
+            (lists_of admits accepts is_encoding decoding checks.now) site.now
             (N.text node.now) result }
     {
         let Some(text) = TextNode::of(node) else {
@@ -189,9 +189,9 @@ impl<E: RegexEngine> StringKeywords<E> {
         checks: &Checks,
     ) -> Result<ObjectEvaluation, AllocError>
         requires { IsInUse (keywords_demands E.outcome self.now)
-            (lists_of admits accepted encoded decoding checks.now) }
+            (lists_of admits accepts is_encoding decoding checks.now) }
         ensures errors { IfOk result (λ r. NodeReports (keywords_assertions E.outcome self.now)
-            (lists_of admits accepted encoded decoding checks.now) site.now (N.text node.now)
+            (lists_of admits accepts is_encoding decoding checks.now) site.now (N.text node.now)
             r.errors.items) }
         ensures notes { IfOk result (λ r. map remark_of r.notes.items
             ≡ remarks_on (N.text node.now) (keywords_remarks self.now)) }
@@ -215,10 +215,10 @@ impl<E: RegexEngine> StringKeywords<E> {
         errors: &mut Vec<ValidationError>,
     ) -> Result<(), AllocError>
         requires { IsInUse (keywords_demands E.outcome self.now)
-            (lists_of admits accepted encoded decoding checks.now) }
+            (lists_of admits accepts is_encoding decoding checks.now) }
         ensures appended { OnOk result (Appends
             (NodeReports (keywords_assertions E.outcome self.now)
-            (lists_of admits accepted encoded decoding checks.now) site.now (Some text.now))
+            (lists_of admits accepts is_encoding decoding checks.now) site.now (Some text.now))
             errors.old.items errors.new.items) }
         ensures err { OnErr result ((more : List Report)
             × (errors.new.items ≡ errors.old.items ++ more)) }

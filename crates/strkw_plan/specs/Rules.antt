@@ -23,11 +23,11 @@ abbrev pub rules_settings : {B X : Type 0} {F : X → Type 0} {Y : Type 0} {M : 
     → ((x : X) × F x → List ℕ → Bool) → ((y : Y) × M y → List ℕ → Bool)
     → ((z : Z) × C z → List ℕ → Bool) → ((z : Z) × C z → List ℕ → Decoded)
     → Rules B X Y Z F M C → Draft → Settings
-rules_settings takes outcome admits accepted encoded decoding rules draft = record {
+rules_settings takes outcome admits accepts is_encoding decoding rules draft = record {
   draft = draft;
   place = record { schema = []; prefix = None };
   options = rules.options;
-  lists = lists_of admits accepted encoded decoding rules.checks;
+  lists = lists_of admits accepts is_encoding decoding rules.checks;
   takes = takes rules.builder.now;
   outcome = outcome rules.builder.now;
 }

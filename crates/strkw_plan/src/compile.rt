@@ -36,12 +36,12 @@ pub fn compile_schema<B: EngineBuilder>(
     schema: &Value,
 ) -> Result<StringKeywords<B::Engine>, PlanFault>
     ensures compiled { let s =
-        rules_settings B.takes B.outcome admits accepted encoded decoding rules.now draft in
+        rules_settings B.takes B.outcome admits accepts is_encoding decoding rules.now draft in
         IfOk result (λ k. IsCompiledFor B.Engine.outcome s (as_object (view schema.now)) (Some k)) }
-    ensures in_use { let lists = lists_of admits accepted encoded decoding rules.now.checks in
+    ensures in_use { let lists = lists_of admits accepts is_encoding decoding rules.now.checks in
         IfOk result (λ k. IsInUse (keywords_demands B.Engine.outcome k) lists) }
     ensures refused { let s =
-        rules_settings B.takes B.outcome admits accepted encoded decoding rules.now draft in
+        rules_settings B.takes B.outcome admits accepts is_encoding decoding rules.now draft in
         IfErr result (λ fault. Refuses s kind name.now (view schema.now) fault) }
 {
     let Some(schema) = schema.as_object() else {
@@ -61,12 +61,12 @@ fn compile_object<B: EngineBuilder>(
     schema: &Map<String, Value>,
 ) -> Result<StringKeywords<B::Engine>, CompileError>
     ensures compiled { let s =
-        rules_settings B.takes B.outcome admits accepted encoded decoding rules.now draft in
+        rules_settings B.takes B.outcome admits accepts is_encoding decoding rules.now draft in
         IfOk result (λ k. IsCompiledFrom B.Engine.outcome s (members_view schema.now.entries) k) }
-    ensures in_use { let lists = lists_of admits accepted encoded decoding rules.now.checks in
+    ensures in_use { let lists = lists_of admits accepts is_encoding decoding rules.now.checks in
         IfOk result (λ k. IsInUse (keywords_demands B.Engine.outcome k) lists) }
     ensures refused { let s =
-        rules_settings B.takes B.outcome admits accepted encoded decoding rules.now draft in
+        rules_settings B.takes B.outcome admits accepts is_encoding decoding rules.now draft in
         IfErr result (λ e. (refusal_of e ≡ out_of_memory)
         ⊎ FirstRefusal s (members_view schema.now.entries) (Some (refusal_of e))) }
 {

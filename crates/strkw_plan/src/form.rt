@@ -56,7 +56,7 @@ fn push_below(location: &Location, keyword: Keyword, out: &mut String) -> Result
 /// How an error is written. It is asked only where there is one.
 pub trait MessageForm {
     // what is written of an error
-    ghost said: { Self → Report → List ℕ };
+    ghost words_of: { Self → Report → List ℕ };
 
     /// Appends what is written of an error, which is not empty. The only error is out of memory; a beginning of it may
     /// then have been appended.
@@ -67,8 +67,8 @@ pub trait MessageForm {
         out: &mut String,
     ) -> Result<(), AllocError>
         ensures said { OnOk result (string_bytes out.new
-            ≡ string_bytes out.old ++ said self.now (report_found error.now)) }
-        ensures some { OnOk result (0 < length (said self.now (report_found error.now))) };
+            ≡ string_bytes out.old ++ words_of self.now (report_found error.now)) }
+        ensures some { OnOk result (0 < length (words_of self.now (report_found error.now))) };
 }
 
 /// Where an instance is, as the messages about it say it. It is asked only where there is a message.
@@ -101,7 +101,7 @@ pub struct MessageLine<'a, P> {
 }
 
 impl<P: InstancePlace> MessageForm for MessageLine<'_, P> {
-    ghost said = { λ form. message (P.name form.place.now) };
+    ghost words_of = { λ form. message (P.name form.place.now) };
 
     #[tactic(auto, using(crate::proofs::MessageLemmas::message_some))]
     fn push(

@@ -30,10 +30,10 @@ pub fn require_schema<B: EngineBuilder>(
     schema: &Value,
 ) -> Result<(), PlanFault>
     ensures good { let s =
-        rules_settings B.takes B.outcome admits accepted encoded decoding rules.now draft in
+        rules_settings B.takes B.outcome admits accepts is_encoding decoding rules.now draft in
         OnOk result ((members : Members) × IsSchema s (view schema.now) members) }
     ensures refused { let s =
-        rules_settings B.takes B.outcome admits accepted encoded decoding rules.now draft in
+        rules_settings B.takes B.outcome admits accepts is_encoding decoding rules.now draft in
         IfErr result (λ fault. Refuses s kind name.now (view schema.now) fault) }
 {
     let _keywords = compile_schema(alloc, rules, kind, draft, name, schema)?;
@@ -56,14 +56,14 @@ pub fn check_instance<B: EngineBuilder, N: Node>(
     out: &mut String,
 ) -> Result<u64, PlanFault>
     ensures messages { let s =
-        rules_settings B.takes B.outcome admits accepted encoded decoding rules.now draft in
+        rules_settings B.takes B.outcome admits accepts is_encoding decoding rules.now draft in
         IfOk result (λ count. (members : Members) × (messages : List (List ℕ))
         × IsSchema s (view schema.now) members
         × InstanceMessages s members place.now (N.text instance.now) messages
         × (count ≡ length messages)
         × (string_bytes out.new ≡ string_bytes out.old ++ concat messages)) }
     ensures refused { let s =
-        rules_settings B.takes B.outcome admits accepted encoded decoding rules.now draft in
+        rules_settings B.takes B.outcome admits accepts is_encoding decoding rules.now draft in
         IfErr result (λ fault. Refuses s kind place.now (view schema.now) fault) }
 {
     let keywords = compile_schema(alloc, rules, kind, draft, place, schema)?;

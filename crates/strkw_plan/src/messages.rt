@@ -33,8 +33,8 @@ pub fn push_messages<E: RegexEngine, P: InstancePlace, N: Node>(
     out: &mut String,
 ) -> Result<u64, AllocError>
     requires { IsInUse (keywords_demands E.outcome keywords.now)
-        (lists_of admits accepted encoded decoding checks.now) }
-    ensures { let lists = lists_of admits accepted encoded decoding checks.now in
+        (lists_of admits accepts is_encoding decoding checks.now) }
+    ensures { let lists = lists_of admits accepts is_encoding decoding checks.now in
         IfOk result (λ count. AppendsMessages
         (NodeReports (keywords_assertions E.outcome keywords.now) lists root_site (N.text node.now))
         (P.name place.now) count (string_bytes out.old) (string_bytes out.new)) }
@@ -53,11 +53,11 @@ pub fn push_messages_as<E: RegexEngine, F: MessageForm, N: Node>(
     out: &mut String,
 ) -> Result<u64, AllocError>
     requires { IsInUse (keywords_demands E.outcome keywords.now)
-        (lists_of admits accepted encoded decoding checks.now) }
-    ensures { let lists = lists_of admits accepted encoded decoding checks.now in
+        (lists_of admits accepts is_encoding decoding checks.now) }
+    ensures { let lists = lists_of admits accepts is_encoding decoding checks.now in
         IfOk result (λ count. AppendsSaid
         (NodeReports (keywords_assertions E.outcome keywords.now) lists root_site (N.text node.now))
-        (F.said form.now) count (string_bytes out.old) (string_bytes out.new)) }
+        (F.words_of form.now) count (string_bytes out.old) (string_bytes out.new)) }
 {
     let Some(text) = TextNode::of(node) else {
         return Ok(0);
@@ -81,11 +81,11 @@ fn push_messages_of<E: RegexEngine, F: MessageForm, N: Node>(
     out: &mut String,
 ) -> Result<u64, AllocError>
     requires { IsInUse (demands_of E.outcome validator.now)
-        (lists_of admits accepted encoded decoding checks.now) }
-    ensures messages { let lists = lists_of admits accepted encoded decoding checks.now in
+        (lists_of admits accepts is_encoding decoding checks.now) }
+    ensures messages { let lists = lists_of admits accepts is_encoding decoding checks.now in
         IfOk result (λ count. AppendsSaid
         (NodeReports (assertions_of E.outcome validator.now) lists root_site (Some text.now))
-        (F.said form.now) count (string_bytes out.old) (string_bytes out.new)) }
+        (F.words_of form.now) count (string_bytes out.old) (string_bytes out.new)) }
     ensures bytes { IfOk result (λ count.
         length (string_bytes out.old) + count ≤ length (string_bytes out.new)) }
 {
@@ -119,7 +119,7 @@ fn push_found<F: MessageForm>(
         (option_map finding_of failure.now) in
         IfOk result (λ count. (count ≡ length reports)
         × (string_bytes out.new
-        ≡ string_bytes out.old ++ flat_map (F.said form.now) reports)) }
+        ≡ string_bytes out.old ++ flat_map (F.words_of form.now) reports)) }
 {
     let Some(failure) = failure else {
         return Ok(0);

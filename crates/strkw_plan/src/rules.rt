@@ -26,7 +26,7 @@ impl<'a, B> Rules<'a, B> {
     /// and there are no checks but the built-in ones. What is to be otherwise is set in the fields. It takes no memory.
     pub fn new(builder: &'a B) -> Rules<'a, B>
         ensures options { result.options ≡ plan_options }
-        ensures checks { lists_of admits accepted encoded decoding result.checks ≡ no_lists }
+        ensures checks { lists_of admits accepts is_encoding decoding result.checks ≡ no_lists }
         ensures builder { result.builder.now ≡ builder.now }
     {
         let mut options = Options::default();
@@ -49,10 +49,10 @@ impl<'a, B> Rules<'a, B> {
 impl<'a, B: EngineBuilder> Rules<'a, B> {
     // What a schema object of a plan of this draft is compiled under: it stands at the root.
     pub(crate) fn context(&self, alloc: Global, draft: Draft) -> Context<'a, B>
-        ensures settings { settings_of B.takes B.outcome admits accepted encoded decoding result
-            ≡ rules_settings B.takes B.outcome admits accepted encoded decoding self.now draft }
-        ensures checks { lists_of admits accepted encoded decoding result.checks
-            ≡ lists_of admits accepted encoded decoding self.now.checks }
+        ensures settings { settings_of B.takes B.outcome admits accepts is_encoding decoding result
+            ≡ rules_settings B.takes B.outcome admits accepts is_encoding decoding self.now draft }
+        ensures checks { lists_of admits accepts is_encoding decoding result.checks
+            ≡ lists_of admits accepts is_encoding decoding self.now.checks }
     {
         Context {
             draft,

@@ -150,11 +150,11 @@ pub fn push_errors<E: RegexEngine, N: Node>(
     out: &mut Vec<u8>,
 ) -> Result<(), AllocError>
     requires { IsInUse (keywords_demands E.outcome keywords.now)
-        (lists_of admits accepted encoded decoding checks.now) }
+        (lists_of admits accepts is_encoding decoding checks.now) }
     ensures ok { OnOk result ((errors : List Report)
         × (out.new.items ≡ out.old.items ++ error_lines errors)
         × NodeReports (keywords_assertions E.outcome keywords.now)
-        (lists_of admits accepted encoded decoding checks.now) root_site
+        (lists_of admits accepts is_encoding decoding checks.now) root_site
         (Some text.now) errors) }
     ensures err { OnErr result ((more : List ℕ) × (out.new.items ≡ out.old.items ++ more)) }
 {

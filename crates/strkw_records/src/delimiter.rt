@@ -10,7 +10,7 @@ use crate::runs::is_line_byte;
 pub struct Delimiter {
     /// The character, as its byte.
     pub byte: u8,
-    ghost lawful: { IsTrue (is_delimiter byte) },
+    ghost is_lawful: { IsTrue (is_delimiter byte) },
 }
 
 impl Delimiter {

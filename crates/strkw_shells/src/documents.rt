@@ -58,15 +58,15 @@ pub fn check_json_by<R: Read + Drop, W: Write, F: PlaceForm>(
 ) -> Result<u64, FileFault>
     ensures plan { OnOk result (plan_problem Places (view plan.now) ≡ None) }
     ensures messages { let settings = rules_settings (λ _. takes_pattern) (λ _. pattern_outcome)
-        admits accepted encoded decoding rules.now in
+        admits accepts is_encoding decoding rules.now in
         (text : List ℕ) → R.remaining file ≡ Some text
         → IfOk result (IsChecked settings (F.writes form.now) (view plan.now) text
         (Appends (W.contents writer.old) (W.contents writer.new))) }
     ensures why { let settings = rules_settings (λ _. takes_pattern) (λ _. pattern_outcome)
-        admits accepted encoded decoding rules.now in
+        admits accepts is_encoding decoding rules.now in
         IfErr result (IsWhyRefused settings Places (view plan.now)) }
     ensures fault { let settings = rules_settings (λ _. takes_pattern) (λ _. pattern_outcome)
-        admits accepted encoded decoding rules.now in
+        admits accepts is_encoding decoding rules.now in
         (text : List ℕ) → R.remaining file ≡ Some text
         → IfErr result (IsWhyUnchecked settings (view plan.now) text) }
     ensures unwritten { IfErr result (λ why. (why ≡ FileFault.Write)

@@ -64,15 +64,15 @@ pub fn check_csv_by<R: Read + Drop, W: Write, P: Watch, F: FieldForm>(
 ) -> Result<Checked, FileFault>
     ensures plan { OnOk result (plan_problem Columns (view plan.now) ≡ None) }
     ensures messages { let settings = rules_settings (λ _. takes_pattern) (λ _. pattern_outcome)
-        admits accepted encoded decoding rules.now in
+        admits accepts is_encoding decoding rules.now in
         (text : List ℕ) → R.remaining file ≡ Some text
         → IfOk result (IsChecked reading (F.writes form.now) settings (view plan.now)
         (strip_bom text) (Appends (W.contents writer.old) (W.contents writer.new))) }
     ensures why { let settings = rules_settings (λ _. takes_pattern) (λ _. pattern_outcome)
-        admits accepted encoded decoding rules.now in
+        admits accepts is_encoding decoding rules.now in
         IfErr result (IsWhyRefused settings Columns (view plan.now)) }
     ensures fault { let settings = rules_settings (λ _. takes_pattern) (λ _. pattern_outcome)
-        admits accepted encoded decoding rules.now in
+        admits accepts is_encoding decoding rules.now in
         (text : List ℕ) → R.remaining file ≡ Some text
         → IfErr result (IsWhyUnchecked reading (F.writes form.now) settings (view plan.now)
         (strip_bom text) (Appends (W.contents writer.old) (W.contents writer.new))) }

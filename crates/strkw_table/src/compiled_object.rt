@@ -44,11 +44,11 @@ pub(crate) fn compile_object<B: EngineBuilder>(
     schema: &Value,
 ) -> Result<CompiledObject<B::Engine>, PlanFault>
     ensures compiled { let s =
-        rules_settings B.takes B.outcome admits accepted encoded decoding rules.now draft in
+        rules_settings B.takes B.outcome admits accepts is_encoding decoding rules.now draft in
         let object = as_object (view schema.now) in
         IfOk result (λ o. IsObjectFor B.Engine.outcome s object (Some o)) }
     ensures refused { let s =
-        rules_settings B.takes B.outcome admits accepted encoded decoding rules.now draft in
+        rules_settings B.takes B.outcome admits accepts is_encoding decoding rules.now draft in
         IfErr result (λ fault. Refuses s Columns name.now (view schema.now) fault) }
 {
     let keywords = compile_schema(alloc, rules, PlanKind::Columns, draft, name, schema)?;

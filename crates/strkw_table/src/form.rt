@@ -101,7 +101,7 @@ pub(crate) struct AtField<'a, F> {
 }
 
 impl<F: FieldForm> MessageForm for AtField<'_, F> {
-    ghost said = { λ at. (F.writes at.form.now).said at.line at.column.now };
+    ghost words_of = { λ at. (F.writes at.form.now).said at.line at.column.now };
 
     fn push(
         &self,

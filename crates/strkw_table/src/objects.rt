@@ -35,13 +35,13 @@ pub(crate) fn compile_objects<B: EngineBuilder>(
     plan: &Plan<'_>,
 ) -> Result<Objects<B::Engine>, PlanFault>
     ensures compiled { let s =
-        rules_settings B.takes B.outcome admits accepted encoded decoding rules.now
+        rules_settings B.takes B.outcome admits accepts is_encoding decoding rules.now
         plan.now.draft in
         let schemas = members_view plan.now.schemas.now.entries in
         IfOk result (λ objects. (name : List ℕ)
         → IsObjectFor B.Engine.outcome s (schema_named schemas name) (get_by_text objects name)) }
     ensures refused { let s =
-        rules_settings B.takes B.outcome admits accepted encoded decoding rules.now
+        rules_settings B.takes B.outcome admits accepts is_encoding decoding rules.now
         plan.now.draft in
         IfErr result (RefusesAmong s Columns (members_view plan.now.schemas.now.entries)) }
 {
@@ -62,13 +62,13 @@ fn insert_object<B: EngineBuilder>(
     objects: &mut Objects<B::Engine>,
 ) -> Result<(), PlanFault>
     ensures compiled { let s =
-        rules_settings B.takes B.outcome admits accepted encoded decoding rules.now draft in
+        rules_settings B.takes B.outcome admits accepts is_encoding decoding rules.now draft in
         OnOk result ((object : CompiledObject _)
         × IsObjectFor B.Engine.outcome s (as_object (view schema.now)) (Some object)
         × ((other : List ℕ) → get_by_text objects.new other
         ≡ update bytes_eq (get_by_text objects.old) (string_bytes name.now) (Some object) other)) }
     ensures refused { let s =
-        rules_settings B.takes B.outcome admits accepted encoded decoding rules.now draft in
+        rules_settings B.takes B.outcome admits accepts is_encoding decoding rules.now draft in
         IfErr result (λ fault. Refuses s Columns (string_bytes name.now) (view schema.now) fault) }
 {
     let key = name.clone()?;

@@ -71,11 +71,11 @@ fn check_field<E: RegexEngine, F: FieldForm>(
     at: usize,
     out: &mut String,
 ) -> Result<u64, AllocError>
-    requires usable { let lists = lists_of admits accepted encoded decoding checks.now in
+    requires usable { let lists = lists_of admits accepts is_encoding decoding checks.now in
         AreUsable E.outcome lists columns.now }
     requires whole { row.now.is_whole ≡ true
         → AreWhole EndsCheck (checked_of columns.now) (fields_of row.now.fields.now) }
-    ensures { let lists = lists_of admits accepted encoded decoding checks.now in
+    ensures { let lists = lists_of admits accepts is_encoding decoding checks.now in
         IfOk result (λ count. Appended
         (OfField (ColumnMessages (F.writes form.now) E.outcome lists) row.now.line
         (field_at (fields_of row.now.fields.now) at) (slice_get columns.now at))
@@ -99,12 +99,12 @@ fn check_record<E: RegexEngine, F: FieldForm>(
     row: &Row<'_>,
     out: &mut String,
 ) -> Result<u64, TableFault>
-    requires usable { let lists = lists_of admits accepted encoded decoding checks.now in
+    requires usable { let lists = lists_of admits accepts is_encoding decoding checks.now in
         AreUsable E.outcome lists columns.now }
     requires whole { row.now.is_whole ≡ true
         → AreWhole EndsCheck (checked_of columns.now) (fields_of row.now.fields.now) }
     ensures why { IfErr result IsUnexplained }
-    ensures messages { let lists = lists_of admits accepted encoded decoding checks.now in
+    ensures messages { let lists = lists_of admits accepts is_encoding decoding checks.now in
         IfOk result (λ count. Appended
         (OfRecord (ColumnMessages (F.writes form.now) E.outcome lists) columns.now row.now.line
         (fields_of row.now.fields.now))
@@ -185,7 +185,7 @@ fn check_next<E: RegexEngine, R: Read, F: FieldForm>(
     records: &mut Records<R>,
     out: &mut String,
 ) -> Result<Option<u64>, TableFault>
-    requires usable { let lists = lists_of admits accepted encoded decoding checks.now in
+    requires usable { let lists = lists_of admits accepts is_encoding decoding checks.now in
         AreUsable E.outcome lists columns.now }
     ensures why { IfErr result IsNoPlanFault }
     ensures fault { (place : Place) (text : List ℕ) → IsLeft R.remaining records.old place text
@@ -201,7 +201,7 @@ fn check_next<E: RegexEngine, R: Read, F: FieldForm>(
     ensures kept { IfOk result (λ o. o ≡ None → string_bytes out.new ≡ string_bytes out.old) }
     ensures unsaid { IfErr result (λ why. (IsUnexplained why → ⊥)
         → string_bytes out.new ≡ string_bytes out.old) }
-    ensures record { let lists = lists_of admits accepted encoded decoding checks.now in
+    ensures record { let lists = lists_of admits accepts is_encoding decoding checks.now in
         (place : Place) (text : List ℕ) → IsLeft R.remaining records.old place text
         → IfOk result (λ o. IfSome o (λ count. (line : ℕ) × (behind : Place) × (rest : List ℕ)
         × TakesRecord (delimiter_of records.old.reader) place text line (fields_of records.new.row)
@@ -274,16 +274,16 @@ pub(crate) fn check_rows<E: RegexEngine, R: Read, W: Write, P: Watch, F: FieldFo
     writer: &mut W,
     watch: &mut P,
 ) -> Result<Checked, TableFault>
-    requires usable { let lists = lists_of admits accepted encoded decoding checks.now in
+    requires usable { let lists = lists_of admits accepts is_encoding decoding checks.now in
         AreUsable E.outcome lists columns.now }
     ensures why { IfErr result IsNoPlanFault }
-    ensures fault { let lists = lists_of admits accepted encoded decoding checks.now in
+    ensures fault { let lists = lists_of admits accepts is_encoding decoding checks.now in
         (place : Place) (text : List ℕ) → IsLeft R.remaining records.old place text
         → IfErr result (IsWhyOfRows (ColumnMessages (F.writes form.now) E.outcome lists) broken
         (delimiter_of records.old.reader) (limits_of records.old.reader) columns.now
         (checked_of columns.now) place text
         (Appends (W.contents writer.old) (W.contents writer.new))) }
-    ensures messages { let lists = lists_of admits accepted encoded decoding checks.now in
+    ensures messages { let lists = lists_of admits accepts is_encoding decoding checks.now in
         (place : Place) (text : List ℕ) → IsLeft R.remaining records.old place text
         → IfOk result (λ c. (rows : List LinedRecord) × (messages : List (List ℕ))
         × AreLinedRecords (delimiter_of records.old.reader) place text rows
@@ -323,11 +323,11 @@ fn gather_rows<E: RegexEngine, R: Read, W: Write, P: Watch, F: FieldForm>(
     writer: &mut W,
     watch: &mut P,
 ) -> Result<Checked, TableFault>
-    requires usable { let lists = lists_of admits accepted encoded decoding checks.now in
+    requires usable { let lists = lists_of admits accepts is_encoding decoding checks.now in
         AreUsable E.outcome lists columns.now }
     requires empty { string_bytes out.old ≡ [] }
     ensures why { IfErr result IsNoPlanFault }
-    ensures fault { let lists = lists_of admits accepted encoded decoding checks.now in
+    ensures fault { let lists = lists_of admits accepts is_encoding decoding checks.now in
         (place : Place) (text : List ℕ) → IsLeft R.remaining records.old place text
         → IfErr result (IsWhyOfRows (ColumnMessages (F.writes form.now) E.outcome lists) broken
         (delimiter_of records.old.reader) (limits_of records.old.reader) columns.now
@@ -335,7 +335,7 @@ fn gather_rows<E: RegexEngine, R: Read, W: Write, P: Watch, F: FieldForm>(
         (λ lines. (written : List ℕ)
         × Appends (W.contents writer.old) (W.contents writer.new) written
         × (lines ≡ written ++ string_bytes out.new))) }
-    ensures messages { let lists = lists_of admits accepted encoded decoding checks.now in
+    ensures messages { let lists = lists_of admits accepts is_encoding decoding checks.now in
         (place : Place) (text : List ℕ) → IsLeft R.remaining records.old place text
         → IfOk result (λ c. (rows : List LinedRecord) × (messages : List (List ℕ))
         × (written : List ℕ)

@@ -45,10 +45,10 @@ impl<E: RegexEngine> SchemaColumn<'_, E> {
         is_whole: bool,
         out: &mut String,
     ) -> Result<u64, AllocError>
-        requires usable { let lists = lists_of admits accepted encoded decoding checks.now in
+        requires usable { let lists = lists_of admits accepts is_encoding decoding checks.now in
             IsUsable E.outcome lists self.now }
         requires whole { is_whole ≡ true → IsBroken (is_some (object_of self.now)) field.now → ⊥ }
-        ensures { let lists = lists_of admits accepted encoded decoding checks.now in
+        ensures { let lists = lists_of admits accepts is_encoding decoding checks.now in
             IfOk result (λ count. Appended
             (ColumnMessages (F.writes form.now) E.outcome lists self.now line field.now)
             count (string_bytes out.old) (string_bytes out.new)) }

@@ -62,7 +62,7 @@ pub fn check_table<B: EngineBuilder, R: Read + Drop, W: Write, P: Watch>(
     watch: &mut P,
 ) -> Result<Checked, TableFault>
     ensures { let settings =
-        rules_settings B.takes B.outcome admits accepted encoded decoding rules.now in
+        rules_settings B.takes B.outcome admits accepts is_encoding decoding rules.now in
         ComesTo read_plainly text_form settings (view plan.now) (R.remaining file)
         (Appends (W.contents writer.old) (W.contents writer.new)) result }
 {
@@ -82,7 +82,7 @@ pub fn check_table_as<B: EngineBuilder, R: Read + Drop, W: Write, P: Watch, F: F
     form: &F,
 ) -> Result<Checked, TableFault>
     ensures { let settings =
-        rules_settings B.takes B.outcome admits accepted encoded decoding rules.now in
+        rules_settings B.takes B.outcome admits accepts is_encoding decoding rules.now in
         ComesTo read_plainly (F.writes form.now) settings (view plan.now) (R.remaining file)
         (Appends (W.contents writer.old) (W.contents writer.new)) result }
 {
@@ -111,7 +111,7 @@ pub fn check_table_with<B: EngineBuilder, R: Read + Drop, W: Write, P: Watch, F:
     form: &F,
 ) -> Result<Checked, TableFault>
     ensures { let settings =
-        rules_settings B.takes B.outcome admits accepted encoded decoding rules.now in
+        rules_settings B.takes B.outcome admits accepts is_encoding decoding rules.now in
         ComesTo reading (F.writes form.now) settings (view plan.now) (R.remaining file)
         (Appends (W.contents writer.old) (W.contents writer.new)) result }
 {
@@ -148,7 +148,7 @@ fn check_records<B: EngineBuilder, R: Read, W: Write, P: Watch, F: FieldForm>(
     watch: &mut P,
 ) -> Result<Checked, TableFault>
     requires compiled { let s =
-        rules_settings B.takes B.outcome admits accepted encoded decoding rules.now
+        rules_settings B.takes B.outcome admits accepts is_encoding decoding rules.now
         plan.now.draft in
         let schemas = members_view plan.now.schemas.now.entries in
         (name : List ℕ)
@@ -159,7 +159,7 @@ fn check_records<B: EngineBuilder, R: Read, W: Write, P: Watch, F: FieldForm>(
     requires limits { limits_of records.old.reader ≡ record_limits plan.now.limits }
     requires parted { delimiter_of records.old.reader ≡ delimiter_by reading (plan_view plan.now) }
     ensures messages { let settings =
-        rules_settings B.takes B.outcome admits accepted encoded decoding rules.now in
+        rules_settings B.takes B.outcome admits accepts is_encoding decoding rules.now in
         (written : Data) (text : List ℕ)
         → plan_of Columns written ≡ Some (plan_view plan.now)
         → unread_of R.remaining records.old.reader ≡ Some text
@@ -167,7 +167,7 @@ fn check_records<B: EngineBuilder, R: Read, W: Write, P: Watch, F: FieldForm>(
         (Appends (W.contents writer.old) (W.contents writer.new))) }
     ensures why { IfErr result IsNoPlanFault }
     ensures fault { let settings =
-        rules_settings B.takes B.outcome admits accepted encoded decoding rules.now in
+        rules_settings B.takes B.outcome admits accepts is_encoding decoding rules.now in
         (written : Data) (text : List ℕ)
         → plan_of Columns written ≡ Some (plan_view plan.now)
         → unread_of R.remaining records.old.reader ≡ Some text

@@ -44,7 +44,7 @@ impl Format for ScriptedCheck {
 }
 
 impl MediaTypeCheck for ScriptedCheck {
-    ghost accepted = { λ check text. if check.by_length then length text % 2 == 0
+    ghost accepts = { λ check text. if check.by_length then length text % 2 == 0
         else check.admits };
 
     fn accepts(&self, _alloc: Global, value: &str) -> Result<bool, AllocError> {
@@ -73,7 +73,7 @@ pub struct ScriptedCodec {
 impl ContentCodec for ScriptedCodec {
     ghost use Rattle.strkw_keywords.specs.Meanings.{no_encoding, no_text, decoded};
 
-    ghost encoded = { λ codec _. codec.encodes };
+    ghost is_encoding = { λ codec _. codec.encodes };
 
     ghost decoding = { λ codec text. if codec.is_plain then decoded (encode_utf8_all text)
         else (if codec.is_bytes then no_text else no_encoding) };

@@ -26,7 +26,7 @@ impl Format for ArticleNumber {
 pub struct AsciiText;
 
 impl MediaTypeCheck for AsciiText {
-    ghost accepted = { λ _ text. list_all (λ c. nat_lt c 128) text };
+    ghost accepts = { λ _ text. list_all (λ c. nat_lt c 128) text };
 
     fn accepts(&self, _alloc: Global, value: &str) -> Result<bool, AllocError> {
         Ok(value.chars().all(is_ascii))
@@ -46,7 +46,7 @@ pub struct EightBit;
 impl ContentCodec for EightBit {
     ghost use Rattle.strkw_keywords.specs.Meanings.{decoded};
 
-    ghost encoded = { λ _ _. true };
+    ghost is_encoding = { λ _ _. true };
 
     ghost decoding = { λ _ text. decoded (encode_utf8_all text) };
 

@@ -154,7 +154,7 @@ impl LineCheck<'_> {
         out: &mut String,
     ) -> Result<u64, AllocError>
         requires { IsInUse (keywords_demands E.outcome keywords.now)
-            (lists_of admits accepted encoded decoding checks.now) }
+            (lists_of admits accepts is_encoding decoding checks.now) }
     {
         let (file, line) = (at.file, at.number);
         match self.form {
@@ -180,7 +180,7 @@ impl LineCheck<'_> {
         out: &mut String,
     ) -> Result<u64, Fault>
         requires { IsInUse (keywords_demands E.outcome keywords.now)
-            (lists_of admits accepted encoded decoding checks.now) }
+            (lists_of admits accepts is_encoding decoding checks.now) }
     {
         if !self.reads_json {
             return Ok(self.push(alloc, keywords, checks, at, &at.text, out)?);
@@ -202,7 +202,7 @@ impl LineCheck<'_> {
         messages: &mut Gathered<'_, '_>,
     ) -> Result<u64, Fault>
         requires { IsInUse (keywords_demands E.outcome keywords.now)
-            (lists_of admits accepted encoded decoding checks.now) }
+            (lists_of admits accepts is_encoding decoding checks.now) }
     {
         let mut count = 0u64;
         for _ in 0..u64::MAX {

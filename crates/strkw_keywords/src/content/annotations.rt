@@ -165,7 +165,7 @@ pub fn compile_moved_schema<B: EngineBuilder>(
         ≡ get_member (keyword_name Keyword.ContentMediaType) ms
         → option_map view schema ≡ get_member (keyword_name Keyword.ContentSchema) ms
         → IsCompiledAt B.Engine.outcome
-        (settings_of B.takes B.outcome admits accepted encoded decoding ctx.now)
+        (settings_of B.takes B.outcome admits accepts is_encoding decoding ctx.now)
         ms Keyword.ContentSchema result }
 {
     let schema = schema?;
@@ -187,7 +187,7 @@ pub fn take_content_schema<B: EngineBuilder>(
     object: &mut Map<String, Value>,
 ) -> Option<Result<Validator<B::Engine>, CompileError>>
     ensures compiled { IsCompiledAt B.Engine.outcome
-        (settings_of B.takes B.outcome admits accepted encoded decoding ctx.now)
+        (settings_of B.takes B.outcome admits accepts is_encoding decoding ctx.now)
         (members_view object.old.entries) Keyword.ContentSchema result }
     ensures others { IsWithoutSchema (members_view object.old.entries)
         (members_view object.new.entries) }

@@ -71,7 +71,7 @@ pub struct Encoded {
 impl Encoded {
     fn finding(&self, alloc: Global, text: &str, checks: &Checks) -> FoundOne<'_>
         ensures { IfOk result (λ o. HasFinding (is_encoded (choice_of self.now.codec))
-            (lists_of admits accepted encoded decoding checks.now)
+            (lists_of admits accepts is_encoding decoding checks.now)
             text.now (option_map finding_of o)) }
     {
         if is_encoding(alloc, &self.codec, checks, text)? {
@@ -118,7 +118,7 @@ impl EncodedMediaType {
     fn finding(&self, alloc: Global, text: &str, checks: &Checks) -> FoundOne<'_>
         ensures { IfOk result (λ o. HasFinding
             (encodes_media_type (choice_of self.now.codec) (choice_of self.now.media_type))
-            (lists_of admits accepted encoded decoding checks.now) text.now
+            (lists_of admits accepts is_encoding decoding checks.now) text.now
             (option_map finding_of o)) }
     {
         match decode(alloc, &self.codec, checks, text) {
@@ -162,7 +162,7 @@ type Known<A> = Result<Option<Choice<A>>, AllocError>;
 // The media type of a name, if it is known.
 fn media_type_known<B>(alloc: Global, ctx: &Context<'_, B>, name: &str) -> Known<BuiltinMediaType>
     ensures { IfOk result (λ o. option_map choice_of o ≡ known_media_type
-        (lists_of admits accepted encoded decoding ctx.now.checks) ctx.now.options name.now) }
+        (lists_of admits accepts is_encoding decoding ctx.now.checks) ctx.now.options name.now) }
 {
     if let Some(position) = ctx.checks.media_type_named(name) {
         return Ok(Some(Choice::of_row(alloc, position, name)?));
@@ -184,7 +184,7 @@ fn codec_named(name: &str) -> Option<Codec>
 // The codec of a name, if it is known.
 fn codec_known<B>(alloc: Global, ctx: &Context<'_, B>, name: &str) -> Known<Codec>
     ensures { IfOk result (λ o. option_map choice_of o
-        ≡ known_codec (lists_of admits accepted encoded decoding ctx.now.checks) ctx.now.options
+        ≡ known_codec (lists_of admits accepts is_encoding decoding ctx.now.checks) ctx.now.options
         name.now) }
 {
     if let Some(position) = ctx.checks.codec_named(name) {
@@ -204,7 +204,7 @@ pub(crate) fn build_media_type<B: EngineBuilder, O: Object>(
 ) -> Result<Option<Validator<B::Engine>>, Refused>
     ensures { IsBuilt B.Engine.outcome (place_in ctx.now) (alone Keyword.ContentMediaType
         (media_type_entry ContentRule.Checked
-        (settings_of B.takes B.outcome admits accepted encoded decoding ctx.now)
+        (settings_of B.takes B.outcome admits accepts is_encoding decoding ctx.now)
         (O.members parent.now) (view value.now))) result }
 {
     let Some(name) = value.as_str() else {
@@ -237,7 +237,7 @@ pub(crate) fn build_encoding<B: EngineBuilder, O: Object>(
 ) -> Result<Option<Validator<B::Engine>>, Refused>
     ensures { IsBuilt B.Engine.outcome (place_in ctx.now) (alone Keyword.ContentEncoding
         (encoding_entry ContentRule.Checked
-        (settings_of B.takes B.outcome admits accepted encoded decoding ctx.now)
+        (settings_of B.takes B.outcome admits accepts is_encoding decoding ctx.now)
         (O.members parent.now) (view value.now))) result }
 {
     if parent.value(Keyword::ContentMediaType).is_some() {

@@ -30,7 +30,7 @@ pub(crate) fn build_pattern<B: EngineBuilder>(
     value: &Value,
 ) -> Result<Option<Validator<B::Engine>>, Refused>
     ensures { IsPatternBuilt B.Engine.outcome
-        (settings_of B.takes B.outcome admits accepted encoded decoding ctx.now)
+        (settings_of B.takes B.outcome admits accepts is_encoding decoding ctx.now)
         (view value.now) result }
 {
     matcher_answers_search();

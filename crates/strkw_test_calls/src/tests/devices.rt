@@ -46,11 +46,11 @@ struct LineByLine {
     reads: usize,
     least: usize,
     failed: bool,
-    ghost within: { passed ≤ vec_len bytes },
+    ghost passed_bound: { passed ≤ vec_len bytes },
 }
 
 impl Source for LineByLine {
-    ghost left = { λ source. Some (drop source.passed source.bytes.items) };
+    ghost bytes_left = { λ source. Some (drop source.passed source.bytes.items) };
 
     ghost has_failed = { λ source. source.failed };
 
@@ -224,7 +224,7 @@ struct ShortSink {
 }
 
 impl Sink for ShortSink {
-    ghost taken = { λ sink. Some sink.bytes.items };
+    ghost bytes_taken = { λ sink. Some sink.bytes.items };
 
     ghost has_failed = { λ sink. sink.failed };
 

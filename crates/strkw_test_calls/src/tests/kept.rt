@@ -11,8 +11,8 @@ use strkw_report::char_count;
 #[derive(Drop)]
 struct KeptTest {
     test: Box<dyn Fn(&str) -> bool>,
-    ghost callable: { IsAlwaysCallable test },
-    ghost even: { (s : _) (b : Bool) → post test s b → b ≡ (length (chars s.now) % 2 == 0) },
+    ghost is_callable: { IsAlwaysCallable test },
+    ghost tells_even: { (s : _) (b : Bool) → post test s b → b ≡ (length (chars s.now) % 2 == 0) },
 }
 
 impl Format for KeptTest {

@@ -12,8 +12,8 @@ pub returns : goal.returns
 returns g c =
     let e = c.in-Err.refusal in
     let lists =
-    lists_of (λ b. (goal.Format-dyn g b).admits b.1) (λ b. (goal.MediaTypeCheck-dyn g b).accepted b.1)
-    (λ b. (goal.ContentCodec-dyn g b).encoded b.1) (λ b. (goal.ContentCodec-dyn g b).decoding b.1) c.args.checks.now in
+    lists_of (λ b. (goal.Format-dyn g b).admits b.1) (λ b. (goal.MediaTypeCheck-dyn g b).accepts b.1)
+    (λ b. (goal.ContentCodec-dyn g b).is_encoding b.1) (λ b. (goal.ContentCodec-dyn g b).decoding b.1) c.args.checks.now in
     let s = settings_by c.args.draft c.args.options lists in
     let object = members_view c.args.object.now.entries in
     let had : reason_of e.kind ≢ memory = search rules in

@@ -8,8 +8,8 @@ use Rattle.strkw_c.proofs.verdicts.verdict_on.Goals as goal
 pub returns-then-branch : goal.returns-then-branch
 returns-then-branch g c =
     let lists =
-    lists_of (λ b. (goal.Format-dyn g b).admits b.1) (λ b. (goal.MediaTypeCheck-dyn g b).accepted b.1)
-    (λ b. (goal.ContentCodec-dyn g b).encoded b.1) (λ b. (goal.ContentCodec-dyn g b).decoding b.1) c.args.checks.now in
+    lists_of (λ b. (goal.Format-dyn g b).admits b.1) (λ b. (goal.MediaTypeCheck-dyn g b).accepts b.1)
+    (λ b. (goal.ContentCodec-dyn g b).is_encoding b.1) (λ b. (goal.ContentCodec-dyn g b).decoding b.1) c.args.checks.now in
     let utf8 : IsUtf8 c.args.text.now = search rules in
     let exact = c.in_ok-is_valid.ensures.exact root_site in
     let passes : Passes g.E.RegexEngine.outcome c.args.keywords.now lists c.args.text.now = search (rules, exact) in

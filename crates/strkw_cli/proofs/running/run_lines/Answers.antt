@@ -24,7 +24,7 @@ loop-turn-init g c = record {
 }
 
 pub returns-in_default-clause-written : goal.returns-in_default-clause-written
-returns-in_default-clause-written g c = written_at_read_fault _ _ _ _ _ _ (g.K.Sink.taken c.args.sink.now) _ _ c.loop-turn.invariant.runs
+returns-in_default-clause-written g c = written_at_read_fault _ _ _ _ _ _ (g.K.Sink.bytes_taken c.args.sink.now) _ _ c.loop-turn.invariant.runs
     c.in_default.ensures.moved
 
 pub serve_last-requires-clause-begun : goal.serve_last-requires-clause-begun
@@ -55,22 +55,22 @@ returns-in_err-piece-clause-written g c =
 pub returns-in_err-serve_last-clause-written : goal.returns-in_err-serve_last-clause-written
 returns-in_err-serve_last-clause-written g c =
     let p = err_from_is_err_and c.from_residual-in_err-serve_last.result c.from_residual-in_err-serve_last.ensures.1 in
-    let none : Consumes (g.S.Source.left c.loop-turn.source) (g.S.Source.left c.read.new.self) [] =
-    subst (λ n. Consumes (g.S.Source.left c.loop-turn.source) (g.S.Source.left c.read.new.self) (take n c.read.new.buffer)) c.if-count-eq0.true
+    let none : Consumes (g.S.Source.bytes_left c.loop-turn.source) (g.S.Source.bytes_left c.read.new.self) [] =
+    subst (λ n. Consumes (g.S.Source.bytes_left c.loop-turn.source) (g.S.Source.bytes_left c.read.new.self) (take n c.read.new.buffer)) c.if-count-eq0.true
     c.in-Ok.ensures.moved.0 in
-    let runs = subst (λ l. Runs c.args.bound (g.S.Source.left c.args.source.now) (g.S.Source.left c.loop-turn.source) (g.K.Sink.taken c.args.sink.now)
-    (g.K.Sink.taken c.loop-turn.sink) l c.loop-turn.turn)
+    let runs = subst (λ l. Runs c.args.bound (g.S.Source.bytes_left c.args.source.now) (g.S.Source.bytes_left c.loop-turn.source)
+    (g.K.Sink.bytes_taken c.args.sink.now) (g.K.Sink.bytes_taken c.loop-turn.sink) l c.loop-turn.turn)
     (sym c.deref.ensures.value) c.loop-turn.invariant.runs in
     rw (p.1, p.2) (written_at_last_fault _ _ _ _ _ _ _ c.deref.result.now c.loop-turn.turn runs c.serve_last.result c.in_err-serve_last.field-0.0
     c.in_err-serve_last.was none c.serve_last.ensures.written)
 
 pub returns-then-count-eq0-clause-written : goal.returns-then-count-eq0-clause-written
 returns-then-count-eq0-clause-written g c =
-    let none : Consumes (g.S.Source.left c.loop-turn.source) (g.S.Source.left c.read.new.self) [] =
-    subst (λ n. Consumes (g.S.Source.left c.loop-turn.source) (g.S.Source.left c.read.new.self) (take n c.read.new.buffer)) c.if-count-eq0.true
+    let none : Consumes (g.S.Source.bytes_left c.loop-turn.source) (g.S.Source.bytes_left c.read.new.self) [] =
+    subst (λ n. Consumes (g.S.Source.bytes_left c.loop-turn.source) (g.S.Source.bytes_left c.read.new.self) (take n c.read.new.buffer)) c.if-count-eq0.true
     c.in-Ok.ensures.moved.0 in
-    let runs = subst (λ l. Runs c.args.bound (g.S.Source.left c.args.source.now) (g.S.Source.left c.loop-turn.source) (g.K.Sink.taken c.args.sink.now)
-    (g.K.Sink.taken c.loop-turn.sink) l c.loop-turn.turn)
+    let runs = subst (λ l. Runs c.args.bound (g.S.Source.bytes_left c.args.source.now) (g.S.Source.bytes_left c.loop-turn.source)
+    (g.K.Sink.bytes_taken c.args.sink.now) (g.K.Sink.bytes_taken c.loop-turn.sink) l c.loop-turn.turn)
     (sym c.deref.ensures.value) c.loop-turn.invariant.runs in
     written_at_end _ _ _ _ _ _ _ c.deref.result.now c.loop-turn.turn runs c.serve_last.result _ c.in_ok-serve_last.was none c.serve_last.ensures.written
 
@@ -92,8 +92,8 @@ returns-in_err-serve_piece-clause-written g c =
     let same : bytes ≡ take c.in-Ok.count c.read.new.buffer =
     lent_front c.loop-turn.piece.len c.in-Ok.count c.deref-in-loop-turn-2.result.now c.read.new.buffer _ c.deref-in-loop-turn-2.ensures.value
     (omega (arith, c.deref_mut.ensures.len, c.read.auto.buffer)) in
-    let consumed : Consumes (g.S.Source.left c.loop-turn.source) (g.S.Source.left c.read.new.self) bytes =
-    subst (Consumes (g.S.Source.left c.loop-turn.source) (g.S.Source.left c.read.new.self)) (sym same) c.in-Ok.ensures.moved.0 in
+    let consumed : Consumes (g.S.Source.bytes_left c.loop-turn.source) (g.S.Source.bytes_left c.read.new.self) bytes =
+    subst (Consumes (g.S.Source.bytes_left c.loop-turn.source) (g.S.Source.bytes_left c.read.new.self)) (sym same) c.in-Ok.ensures.moved.0 in
     let front : take fitting c.deref-in-loop-turn-3.result.now ≡ take fitting bytes =
     lent_again c.in-Ok.count fitting c.deref-in-loop-turn-2.result.now c.deref-in-loop-turn-3.result.now
     (c.deref-in-loop-turn-3.ensures.value ∙ sym c.deref-in-loop-turn-2.ensures.value)
@@ -101,7 +101,7 @@ returns-in_err-serve_piece-clause-written g c =
     let runs = c.loop-turn.invariant.runs in
     let begun : c.deref-in-loop-turn.result.now ≡ last_part runs.read = c.deref-in-loop-turn.ensures.value ∙ runs.begun in
     let taken = c.fitting_front-fitting.ensures.taken runs.read begun runs.short in
-    let served = subst (λ f. (written : List ℕ) × Appends (g.K.Sink.taken c.loop-turn.sink) (g.K.Sink.taken c.serve_piece.new.sink) written
+    let served = subst (λ f. (written : List ℕ) × Appends (g.K.Sink.bytes_taken c.loop-turn.sink) (g.K.Sink.bytes_taken c.serve_piece.new.sink) written
     × Serves {T = Unit {0}} (Err c.in_err-serve_piece.field-0.0) (ended_lines (c.loop-turn.line.items ++ f)) (c.loop-turn.line.items ++ f) written) front
     c.in_err-serve_piece.ensures.written in
     rw (p.1, p.2) (written_at_fault _ _ _ _ _ _ _ _ _ runs (Unit {0}) c.in_err-serve_piece.field-0.0 bytes (take fitting bytes) consumed taken served)
@@ -113,8 +113,8 @@ returns-then-fitting-count-clause-written g c =
     let same : bytes ≡ take c.in-Ok.count c.read.new.buffer =
     lent_front c.loop-turn.piece.len c.in-Ok.count c.deref-in-loop-turn-2.result.now c.read.new.buffer _ c.deref-in-loop-turn-2.ensures.value
     (omega (arith, c.deref_mut.ensures.len, c.read.auto.buffer)) in
-    let consumed : Consumes (g.S.Source.left c.loop-turn.source) (g.S.Source.left c.read.new.self) bytes =
-    subst (Consumes (g.S.Source.left c.loop-turn.source) (g.S.Source.left c.read.new.self)) (sym same) c.in-Ok.ensures.moved.0 in
+    let consumed : Consumes (g.S.Source.bytes_left c.loop-turn.source) (g.S.Source.bytes_left c.read.new.self) bytes =
+    subst (Consumes (g.S.Source.bytes_left c.loop-turn.source) (g.S.Source.bytes_left c.read.new.self)) (sym same) c.in-Ok.ensures.moved.0 in
     let front : take fitting c.deref-in-loop-turn-3.result.now ≡ take fitting bytes =
     lent_again c.in-Ok.count fitting c.deref-in-loop-turn-2.result.now c.deref-in-loop-turn-3.result.now
     (c.deref-in-loop-turn-3.ensures.value ∙ sym c.deref-in-loop-turn-2.ensures.value)
@@ -123,7 +123,7 @@ returns-then-fitting-count-clause-written g c =
     let begun : c.deref-in-loop-turn.result.now ≡ last_part runs.read = c.deref-in-loop-turn.ensures.value ∙ runs.begun in
     let taken = c.fitting_front-fitting.ensures.taken runs.read begun runs.short in
     let few : fitting < length bytes = rw same (omega (arith, length-take c.in-Ok.count c.read.new.buffer, c.in-Ok.ensures.count, c.if-fitting-count.true)) in
-    let served = subst (λ f. (written : List ℕ) × Appends (g.K.Sink.taken c.loop-turn.sink) (g.K.Sink.taken c.serve_piece.new.sink) written
+    let served = subst (λ f. (written : List ℕ) × Appends (g.K.Sink.bytes_taken c.loop-turn.sink) (g.K.Sink.bytes_taken c.serve_piece.new.sink) written
     × AreAnswers (ended_lines (c.loop-turn.line.items ++ f)) written) front c.in_ok-serve_piece.ensures.written in
     (written_at_long_line _ _ _ _ _ _ _ _ _ runs bytes fitting consumed few taken served)
 
@@ -134,8 +134,8 @@ loop-turn-preserved g c =
     let same : bytes ≡ take c.in-Ok.count c.read.new.buffer =
     lent_front c.loop-turn.piece.len c.in-Ok.count c.deref-in-loop-turn-2.result.now c.read.new.buffer _ c.deref-in-loop-turn-2.ensures.value
     (omega (arith, c.deref_mut.ensures.len, c.read.auto.buffer)) in
-    let consumed : Consumes (g.S.Source.left c.loop-turn.source) (g.S.Source.left c.read.new.self) bytes =
-    subst (Consumes (g.S.Source.left c.loop-turn.source) (g.S.Source.left c.read.new.self)) (sym same) c.in-Ok.ensures.moved.0 in
+    let consumed : Consumes (g.S.Source.bytes_left c.loop-turn.source) (g.S.Source.bytes_left c.read.new.self) bytes =
+    subst (Consumes (g.S.Source.bytes_left c.loop-turn.source) (g.S.Source.bytes_left c.read.new.self)) (sym same) c.in-Ok.ensures.moved.0 in
     let front : take fitting c.deref-in-loop-turn-3.result.now ≡ take fitting bytes =
     lent_again c.in-Ok.count fitting c.deref-in-loop-turn-2.result.now c.deref-in-loop-turn-3.result.now
     (c.deref-in-loop-turn-3.ensures.value ∙ sym c.deref-in-loop-turn-2.ensures.value)
@@ -147,7 +147,7 @@ loop-turn-preserved g c =
     let some : 0 < length bytes = omega (arith, size, c.if-count-eq0.false) in
     let all : take fitting bytes ≡ bytes = take_all fitting bytes (omega (arith, size, c.if-fitting-count.false)) in
     let whole = front ∙ all in
-    let served = subst (λ f. (written : List ℕ) × Appends (g.K.Sink.taken c.loop-turn.sink) (g.K.Sink.taken c.serve_piece.new.sink) written
+    let served = subst (λ f. (written : List ℕ) × Appends (g.K.Sink.bytes_taken c.loop-turn.sink) (g.K.Sink.bytes_taken c.serve_piece.new.sink) written
     × AreAnswers (ended_lines (c.loop-turn.line.items ++ f)) written) whole c.in_ok-serve_piece.ensures.written in
     record {
       room = c.loop-turn.invariant.room;
@@ -161,5 +161,5 @@ loop-turn-preserved g c =
     }
 
 pub returns-clause-written : goal.returns-clause-written
-returns-clause-written g c = written_at_too_long _ _ _ (g.S.Source.left c.loop-turn.source) _ _ (g.K.Sink.taken c.loop-turn.sink) _ c.loop-turn.turn
+returns-clause-written g c = written_at_too_long _ _ _ (g.S.Source.bytes_left c.loop-turn.source) _ _ (g.K.Sink.bytes_taken c.loop-turn.sink) _ c.loop-turn.turn
     c.loop-turn.invariant.runs (omega (arith, c.loop-turn-test.false, c.loop-turn.auto.turn-end))

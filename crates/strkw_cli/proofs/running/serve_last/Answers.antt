@@ -11,7 +11,7 @@ use Rattle.strkw_cli.proofs.running.serve_last.Goals as goal
 pub returns-then-is_empty-clause-written : goal.returns-then-is_empty-clause-written
 returns-then-is_empty-clause-written g c =
     let none = lines-last_empty c.args.line.now c.requires.begun (eqb-true (length c.args.line.now) 0 (sym c.is_empty.ensures ∙ c.if-is_empty.true)) in
-    ([], Appends-nil (g.K.Sink.taken c.args.sink.now), rw none refl)
+    ([], Appends-nil (g.K.Sink.bytes_taken c.args.sink.now), rw none refl)
 
 -- the answer to the one line
 one : (line lent out old : List ℕ) → lent ≡ out → old ≡ [] → lines line ≡ line ∷ [] → (made : List ℕ) × (out ≡ old ++ made) × IsAnswer line made
@@ -25,8 +25,8 @@ returns-then-is_err-clause-written g c =
     let is = lines-last_one c.args.line.now c.requires.begun (eqb-false (length c.args.line.now) 0 (sym c.is_empty.ensures ∙ c.if-is_empty.false)) in
     let answered = one c.args.line.now c.deref.result.now c.answer_with.new.out.items c.clear.new.self.items c.deref.ensures.value c.clear.ensures.items is
     c.in_ok-answer_with.ensures.ok in
-    written_short c.write_all.result (g.K.Sink.taken c.args.sink.now) (g.K.Sink.taken c.write_all.new.self) (lines c.args.line.now) c.deref.result.now
-    (sym c.is_err.ensures.value ∙ c.if-is_err.true) c.write_all.ensures.short
+    written_short c.write_all.result (g.K.Sink.bytes_taken c.args.sink.now) (g.K.Sink.bytes_taken c.write_all.new.self) (lines c.args.line.now)
+    c.deref.result.now (sym c.is_err.ensures.value ∙ c.if-is_err.true) c.write_all.ensures.short
     (some_all (lines c.args.line.now) c.deref.result.now answered)
 
 pub returns-clause-written : goal.returns-clause-written
@@ -34,5 +34,5 @@ returns-clause-written g c =
     let is = lines-last_one c.args.line.now c.requires.begun (eqb-false (length c.args.line.now) 0 (sym c.is_empty.ensures ∙ c.if-is_empty.false)) in
     let answered = one c.args.line.now c.deref.result.now c.answer_with.new.out.items c.clear.new.self.items c.deref.ensures.value c.clear.ensures.items is
     c.in_ok-answer_with.ensures.ok in
-    written_whole c.write_all.result (g.K.Sink.taken c.args.sink.now) (g.K.Sink.taken c.write_all.new.self) c.deref.result.now (lines c.args.line.now)
-    (sym c.is_err.ensures.value ∙ c.if-is_err.false) c.write_all.ensures.ok answered
+    written_whole c.write_all.result (g.K.Sink.bytes_taken c.args.sink.now) (g.K.Sink.bytes_taken c.write_all.new.self) c.deref.result.now
+    (lines c.args.line.now) (sym c.is_err.ensures.value ∙ c.if-is_err.false) c.write_all.ensures.ok answered

@@ -12,7 +12,7 @@ pub returns-in_err-plan-clause-why : goal.returns-in_err-plan-clause-why
 returns-in_err-plan-clause-why g c =
     let settings =
     rules_settings g.B.EngineBuilder.takes g.B.EngineBuilder.outcome (λ b. (goal.Format-dyn g b).admits b.1)
-    (λ b. (goal.MediaTypeCheck-dyn g b).accepted b.1) (λ b. (goal.ContentCodec-dyn g b).encoded b.1)
+    (λ b. (goal.MediaTypeCheck-dyn g b).accepts b.1) (λ b. (goal.ContentCodec-dyn g b).is_encoding b.1)
     (λ b. (goal.ContentCodec-dyn g b).decoding b.1) c.args.rules.now in
     let e = c.in_err-plan.field-0.0 in
     let gives : IfErr c.from_residual.result (gives_fault e) = search rules in
@@ -22,7 +22,7 @@ pub returns-in_err-count-clause-why : goal.returns-in_err-count-clause-why
 returns-in_err-count-clause-why g c =
     let settings =
     rules_settings g.B.EngineBuilder.takes g.B.EngineBuilder.outcome (λ b. (goal.Format-dyn g b).admits b.1)
-    (λ b. (goal.MediaTypeCheck-dyn g b).accepted b.1) (λ b. (goal.ContentCodec-dyn g b).encoded b.1)
+    (λ b. (goal.MediaTypeCheck-dyn g b).accepts b.1) (λ b. (goal.ContentCodec-dyn g b).is_encoding b.1)
     (λ b. (goal.ContentCodec-dyn g b).decoding b.1) c.args.rules.now in
     let why = c.in_err-count.field-0.0 in
     let good = c.in_ok-plan.ensures in

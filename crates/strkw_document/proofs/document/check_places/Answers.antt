@@ -13,7 +13,7 @@ loop-place-init g c =
     let all = c.args.plan.now.schemas.now.entries in
     let s =
     rules_settings g.B.EngineBuilder.takes g.B.EngineBuilder.outcome (λ b. (goal.Format-dyn g b).admits b.1)
-    (λ b. (goal.MediaTypeCheck-dyn g b).accepted b.1) (λ b. (goal.ContentCodec-dyn g b).encoded b.1)
+    (λ b. (goal.MediaTypeCheck-dyn g b).accepts b.1) (λ b. (goal.ContentCodec-dyn g b).is_encoding b.1)
     (λ b. (goal.ContentCodec-dyn g b).decoding b.1) c.args.rules.now c.args.plan.now.draft in
     let same : c.into_iter-place-iterator.result ≡ all = search rules in (
       [],
@@ -40,7 +40,7 @@ loop-place-preserved g c =
     let form = g.F.PlaceForm.writes c.args.form.now in
     let s =
     rules_settings g.B.EngineBuilder.takes g.B.EngineBuilder.outcome (λ b. (goal.Format-dyn g b).admits b.1)
-    (λ b. (goal.MediaTypeCheck-dyn g b).accepted b.1) (λ b. (goal.ContentCodec-dyn g b).encoded b.1)
+    (λ b. (goal.MediaTypeCheck-dyn g b).accepts b.1) (λ b. (goal.ContentCodec-dyn g b).is_encoding b.1)
     (λ b. (goal.ContentCodec-dyn g b).decoding b.1) c.args.rules.now c.args.plan.now.draft in
     let document = view c.args.document.now in
     let (messages, goes_on, counted, grown, among) = c.loop-place.invariant in
@@ -64,7 +64,7 @@ returns g c =
     let form = g.F.PlaceForm.writes c.args.form.now in
     let s =
     rules_settings g.B.EngineBuilder.takes g.B.EngineBuilder.outcome (λ b. (goal.Format-dyn g b).admits b.1)
-    (λ b. (goal.MediaTypeCheck-dyn g b).accepted b.1) (λ b. (goal.ContentCodec-dyn g b).encoded b.1)
+    (λ b. (goal.MediaTypeCheck-dyn g b).accepts b.1) (λ b. (goal.ContentCodec-dyn g b).is_encoding b.1)
     (λ b. (goal.ContentCodec-dyn g b).decoding b.1) c.args.rules.now c.args.plan.now.draft in
     let document = view c.args.document.now in
     let (messages, goes_on, counted, grown, among) = c.loop-place.invariant in

@@ -14,7 +14,7 @@ invariant-loop-place g l =
     let form = g.F.PlaceForm.writes l.fn.form in
     let s =
     rules_settings g.B.EngineBuilder.takes g.B.EngineBuilder.outcome (λ b. (goal.Format-dyn g b).admits b.1)
-    (λ b. (goal.MediaTypeCheck-dyn g b).accepted b.1) (λ b. (goal.ContentCodec-dyn g b).encoded b.1)
+    (λ b. (goal.MediaTypeCheck-dyn g b).accepts b.1) (λ b. (goal.ContentCodec-dyn g b).is_encoding b.1)
     (λ b. (goal.ContentCodec-dyn g b).decoding b.1) l.fn.rules l.fn.plan.draft in
     let all = members_view l.fn.plan.schemas.now.entries in
     let left = members_view l.place-iterator in

@@ -11,8 +11,8 @@ use Rattle.strkw_document.proofs.place.check_found.Goals as goal
 pub returns-in-Some : goal.returns-in-Some
 returns-in-Some g c s members by =
     let form = g.F.PlaceForm.writes c.args.form.now in
-    let lists = lists_of (λ b. (goal.Format-dyn g b).admits b.1) (λ b. (goal.MediaTypeCheck-dyn g b).accepted b.1)
-    (λ b. (goal.ContentCodec-dyn g b).encoded b.1) (λ b. (goal.ContentCodec-dyn g b).decoding b.1) c.args.checks.now in
+    let lists = lists_of (λ b. (goal.Format-dyn g b).admits b.1) (λ b. (goal.MediaTypeCheck-dyn g b).accepts b.1)
+    (λ b. (goal.ContentCodec-dyn g b).is_encoding b.1) (λ b. (goal.ContentCodec-dyn g b).decoding b.1) c.args.checks.now in
     let value = view c.in-Some.value.now in
     let some : is_some (as_str value) ≡ true = search rules in
     let found : option_map (λ v. view v.now) c.args.found ≡ Some value = ap (option_map (λ v. view v.now)) c.in-Some.is in

@@ -21,7 +21,7 @@ returns-then-not-contains-clause-messages g c =
     let form = g.F.PlaceForm.writes c.args.form.now in
     let s =
     rules_settings g.B.EngineBuilder.takes g.B.EngineBuilder.outcome (λ b. (goal.Format-dyn g b).admits b.1)
-    (λ b. (goal.MediaTypeCheck-dyn g b).accepted b.1) (λ b. (goal.ContentCodec-dyn g b).encoded b.1)
+    (λ b. (goal.MediaTypeCheck-dyn g b).accepts b.1) (λ b. (goal.ContentCodec-dyn g b).is_encoding b.1)
     (λ b. (goal.ContentCodec-dyn g b).decoding b.1) c.args.rules.now c.args.draft in
     let outcome = g.B.Engine.RegexEngine.outcome in
     let keywords = c.in_ok-keywords.keywords in
@@ -49,7 +49,7 @@ returns-clause-messages g c =
     let form = g.F.PlaceForm.writes c.args.form.now in
     let s =
     rules_settings g.B.EngineBuilder.takes g.B.EngineBuilder.outcome (λ b. (goal.Format-dyn g b).admits b.1)
-    (λ b. (goal.MediaTypeCheck-dyn g b).accepted b.1) (λ b. (goal.ContentCodec-dyn g b).encoded b.1)
+    (λ b. (goal.MediaTypeCheck-dyn g b).accepts b.1) (λ b. (goal.ContentCodec-dyn g b).is_encoding b.1)
     (λ b. (goal.ContentCodec-dyn g b).decoding b.1) c.args.rules.now c.args.draft in
     let outcome = g.B.Engine.RegexEngine.outcome in
     let keywords = c.in_ok-keywords.keywords in

@@ -13,8 +13,8 @@ use Rattle.strkw_document.proofs.place.check_spots.Given as goal
 abbrev pub invariant-loop-spot : goal.invariant-loop-spot
 invariant-loop-spot g l =
     let form = g.F.PlaceForm.writes l.form in
-    let lists = lists_of (λ b. (goal.Format-dyn g b).admits b.1) (λ b. (goal.MediaTypeCheck-dyn g b).accepted b.1)
-    (λ b. (goal.ContentCodec-dyn g b).encoded b.1) (λ b. (goal.ContentCodec-dyn g b).decoding b.1) l.checks in
+    let lists = lists_of (λ b. (goal.Format-dyn g b).admits b.1) (λ b. (goal.MediaTypeCheck-dyn g b).accepts b.1)
+    (λ b. (goal.ContentCodec-dyn g b).is_encoding b.1) (λ b. (goal.ContentCodec-dyn g b).decoding b.1) l.checks in
     (s : Settings) (members : Members) → IsCheckedBy g.E.RegexEngine.outcome s lists (view l.schema) members l.keywords
     → (messages : List (List ℕ))
     × ((rest : List (List ℕ)) → SpotsMessages form s members (map spot_view (drop l.spot-index l.spots)) rest

@@ -10,7 +10,7 @@ use Rattle.strkw_object.proofs.compile.compile_beside.Goals.{in-ContentSchema, i
 pub loop-keyword-init : goal.loop-keyword-init
 loop-keyword-init g c =
     let s = (settings_of g.B.EngineBuilder.takes g.B.EngineBuilder.outcome (λ b. (goal.Format-dyn g b).admits b.1)
-    (λ b. (goal.MediaTypeCheck-dyn g b).accepted b.1) (λ b. (goal.ContentCodec-dyn g b).encoded b.1) (λ b. (goal.ContentCodec-dyn g b).decoding b.1)
+    (λ b. (goal.MediaTypeCheck-dyn g b).accepts b.1) (λ b. (goal.ContentCodec-dyn g b).is_encoding b.1) (λ b. (goal.ContentCodec-dyn g b).decoding b.1)
     c.args.ctx.now) in
     let values = c.args.values.now in
     none_beside g.B.Engine.RegexEngine.outcome s values c.args.schema c.new-validators.result.items c.new-validators.ensures.items
@@ -18,7 +18,7 @@ loop-keyword-init g c =
 pub loop-keyword-preserved-in_default-compiled : goal.loop-keyword-preserved-in_default-compiled
 loop-keyword-preserved-in_default-compiled g c =
     let s = (settings_of g.B.EngineBuilder.takes g.B.EngineBuilder.outcome (λ b. (goal.Format-dyn g b).admits b.1)
-    (λ b. (goal.MediaTypeCheck-dyn g b).accepted b.1) (λ b. (goal.ContentCodec-dyn g b).encoded b.1) (λ b. (goal.ContentCodec-dyn g b).decoding b.1)
+    (λ b. (goal.MediaTypeCheck-dyn g b).accepts b.1) (λ b. (goal.ContentCodec-dyn g b).is_encoding b.1) (λ b. (goal.ContentCodec-dyn g b).decoding b.1)
     c.args.ctx.now) in
     let values = c.args.values.now in
     beside_still g.B.Engine.RegexEngine.outcome s values c.args.schema c.loop-keyword.keyword-index _ c.loop-keyword.schema c.match-keyword.schema
@@ -34,7 +34,7 @@ loop-keyword-preserved-in_default-compiled g c =
 pub returns-in_err-validator-clause-refused : goal.returns-in_err-validator-clause-refused
 returns-in_err-validator-clause-refused g c =
     let s = (settings_of g.B.EngineBuilder.takes g.B.EngineBuilder.outcome (λ b. (goal.Format-dyn g b).admits b.1)
-    (λ b. (goal.MediaTypeCheck-dyn g b).accepted b.1) (λ b. (goal.ContentCodec-dyn g b).encoded b.1) (λ b. (goal.ContentCodec-dyn g b).decoding b.1)
+    (λ b. (goal.MediaTypeCheck-dyn g b).accepts b.1) (λ b. (goal.ContentCodec-dyn g b).is_encoding b.1) (λ b. (goal.ContentCodec-dyn g b).decoding b.1)
     c.args.ctx.now) in
     let values = c.args.values.now in
     let (e, is, same) = err_from_is_err_and c.from_residual.result c.from_residual.ensures.1 in
@@ -52,7 +52,7 @@ returns-in_err-validator-clause-refused g c =
 pub loop-keyword-preserved : goal.loop-keyword-preserved
 loop-keyword-preserved g c =
     let s = (settings_of g.B.EngineBuilder.takes g.B.EngineBuilder.outcome (λ b. (goal.Format-dyn g b).admits b.1)
-    (λ b. (goal.MediaTypeCheck-dyn g b).accepted b.1) (λ b. (goal.ContentCodec-dyn g b).encoded b.1) (λ b. (goal.ContentCodec-dyn g b).decoding b.1)
+    (λ b. (goal.MediaTypeCheck-dyn g b).accepts b.1) (λ b. (goal.ContentCodec-dyn g b).is_encoding b.1) (λ b. (goal.ContentCodec-dyn g b).decoding b.1)
     c.args.ctx.now) in
     let values = c.args.values.now in
     rw (c.push_reserved.ensures.items, c.reserve.ensures.items)
@@ -70,7 +70,7 @@ loop-keyword-preserved g c =
 pub returns-clause-compiled : goal.returns-clause-compiled
 returns-clause-compiled g c =
     let s = (settings_of g.B.EngineBuilder.takes g.B.EngineBuilder.outcome (λ b. (goal.Format-dyn g b).admits b.1)
-    (λ b. (goal.MediaTypeCheck-dyn g b).accepted b.1) (λ b. (goal.ContentCodec-dyn g b).encoded b.1) (λ b. (goal.ContentCodec-dyn g b).decoding b.1)
+    (λ b. (goal.MediaTypeCheck-dyn g b).accepts b.1) (λ b. (goal.ContentCodec-dyn g b).is_encoding b.1) (λ b. (goal.ContentCodec-dyn g b).decoding b.1)
     c.args.ctx.now) in
     let values = c.args.values.now in
     let whole = take_all c.loop-keyword.keyword-index keywords c.loop-keyword-test.false in

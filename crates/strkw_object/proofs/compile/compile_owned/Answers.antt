@@ -14,7 +14,7 @@ returns-clause-compiled g c =
 pub returns-clause-in_use : goal.returns-clause-in_use
 returns-clause-in_use g c =
     let s = (settings_of g.B.EngineBuilder.takes g.B.EngineBuilder.outcome (λ b. (goal.Format-dyn g b).admits b.1)
-    (λ b. (goal.MediaTypeCheck-dyn g b).accepted b.1) (λ b. (goal.ContentCodec-dyn g b).encoded b.1) (λ b. (goal.ContentCodec-dyn g b).decoding b.1)
+    (λ b. (goal.MediaTypeCheck-dyn g b).accepts b.1) (λ b. (goal.ContentCodec-dyn g b).is_encoding b.1) (λ b. (goal.ContentCodec-dyn g b).decoding b.1)
     c.args.ctx.now) in
     let ms = members_view c.args.object.entries in
     let compiled = c.compile_beside.ensures.compiled ms
@@ -29,7 +29,7 @@ returns-clause-refused g c =
 pub returns-clause-printable : goal.returns-clause-printable
 returns-clause-printable g c =
     let s = (settings_of g.B.EngineBuilder.takes g.B.EngineBuilder.outcome (λ b. (goal.Format-dyn g b).admits b.1)
-    (λ b. (goal.MediaTypeCheck-dyn g b).accepted b.1) (λ b. (goal.ContentCodec-dyn g b).encoded b.1) (λ b. (goal.ContentCodec-dyn g b).decoding b.1)
+    (λ b. (goal.MediaTypeCheck-dyn g b).accepts b.1) (λ b. (goal.ContentCodec-dyn g b).is_encoding b.1) (λ b. (goal.ContentCodec-dyn g b).decoding b.1)
     c.args.ctx.now) in
     let ms = members_view c.args.object.entries in
     let refused = c.compile_beside.ensures.refused ms

@@ -24,7 +24,7 @@ returns-clause-refused g c = λ ms are.
 pub returns-clause-in_use : goal.returns-clause-in_use
 returns-clause-in_use g c =
     let s = (settings_of g.B.EngineBuilder.takes g.B.EngineBuilder.outcome (λ b. (goal.Format-dyn g b).admits b.1)
-    (λ b. (goal.MediaTypeCheck-dyn g b).accepted b.1) (λ b. (goal.ContentCodec-dyn g b).encoded b.1) (λ b. (goal.ContentCodec-dyn g b).decoding b.1)
+    (λ b. (goal.MediaTypeCheck-dyn g b).accepts b.1) (λ b. (goal.ContentCodec-dyn g b).is_encoding b.1) (λ b. (goal.ContentCodec-dyn g b).decoding b.1)
     c.args.ctx.now) in
     let (ms, are) = object_of c.args.values.now in
     IfOk-weaker c.compile_beside.result _ _ (λ k. compiled_in_use g.B.Engine.RegexEngine.outcome s ms k c.compiled_is_in_use.ensures)
@@ -33,7 +33,7 @@ returns-clause-in_use g c =
 pub returns-clause-printable : goal.returns-clause-printable
 returns-clause-printable g c =
     let s = (settings_of g.B.EngineBuilder.takes g.B.EngineBuilder.outcome (λ b. (goal.Format-dyn g b).admits b.1)
-    (λ b. (goal.MediaTypeCheck-dyn g b).accepted b.1) (λ b. (goal.ContentCodec-dyn g b).encoded b.1) (λ b. (goal.ContentCodec-dyn g b).decoding b.1)
+    (λ b. (goal.MediaTypeCheck-dyn g b).accepts b.1) (λ b. (goal.ContentCodec-dyn g b).is_encoding b.1) (λ b. (goal.ContentCodec-dyn g b).decoding b.1)
     c.args.ctx.now) in
     let (ms, are) = object_of c.args.values.now in
     MatchResult-weaker c.compile_beside.result (returns-clause-refused g c ms are) (λ k h. h) (refused_prints s ms)

@@ -9,7 +9,7 @@ pub returns-in-Err-clause-refused : goal.returns-in-Err-clause-refused
 returns-in-Err-clause-refused g c =
     let s =
     rules_settings g.B.EngineBuilder.takes g.B.EngineBuilder.outcome (λ b. (goal.Format-dyn g b).admits b.1)
-    (λ b. (goal.MediaTypeCheck-dyn g b).accepted b.1) (λ b. (goal.ContentCodec-dyn g b).encoded b.1)
+    (λ b. (goal.MediaTypeCheck-dyn g b).accepts b.1) (λ b. (goal.ContentCodec-dyn g b).is_encoding b.1)
     (λ b. (goal.ContentCodec-dyn g b).decoding b.1) c.args.rules.now c.args.draft in
     let object = members_view c.in-Some.schema.now.entries in
     let is : as_object (view c.args.schema.now) ≡ Some object = search rules in

@@ -11,14 +11,14 @@ use Rattle.strkw_print.proofs.lines.push_errors.Goals as goal
 
 pub loop-validator-init : goal.loop-validator-init
 loop-validator-init g c =
-    let checks = (lists_of (λ b. (goal.Format-dyn g b).admits b.1) (λ b. (goal.MediaTypeCheck-dyn g b).accepted b.1)
-    (λ b. (goal.ContentCodec-dyn g b).encoded b.1) (λ b. (goal.ContentCodec-dyn g b).decoding b.1) c.args.checks.now) in
+    let checks = (lists_of (λ b. (goal.Format-dyn g b).admits b.1) (λ b. (goal.MediaTypeCheck-dyn g b).accepts b.1)
+    (λ b. (goal.ContentCodec-dyn g b).is_encoding b.1) (λ b. (goal.ContentCodec-dyn g b).decoding b.1) c.args.checks.now) in
     nothing_written checks (Some c.args.text.now) c.args.out.now.items
 
 pub findings-requires : goal.findings-requires
 findings-requires g c =
-    let checks = (lists_of (λ b. (goal.Format-dyn g b).admits b.1) (λ b. (goal.MediaTypeCheck-dyn g b).accepted b.1)
-    (λ b. (goal.ContentCodec-dyn g b).encoded b.1) (λ b. (goal.ContentCodec-dyn g b).decoding b.1) c.args.checks.now) in
+    let checks = (lists_of (λ b. (goal.Format-dyn g b).admits b.1) (λ b. (goal.MediaTypeCheck-dyn g b).accepts b.1)
+    (λ b. (goal.ContentCodec-dyn g b).is_encoding b.1) (λ b. (goal.ContentCodec-dyn g b).decoding b.1) c.args.checks.now) in
     let validators = c.validators-validator-items.result.now in
     let in_use : IsInUse (demands_in g.E.RegexEngine.outcome validators) checks = rw c.validators-validator-items.ensures.demands c.requires in
     in_use_at g.E.RegexEngine.outcome checks validators c.loop-validator.validator-index c.validator-item.result c.loop-validator-test.true
@@ -26,8 +26,8 @@ findings-requires g c =
 
 pub loop-validator-preserved : goal.loop-validator-preserved
 loop-validator-preserved g c =
-    let checks = (lists_of (λ b. (goal.Format-dyn g b).admits b.1) (λ b. (goal.MediaTypeCheck-dyn g b).accepted b.1)
-    (λ b. (goal.ContentCodec-dyn g b).encoded b.1) (λ b. (goal.ContentCodec-dyn g b).decoding b.1) c.args.checks.now) in
+    let checks = (lists_of (λ b. (goal.Format-dyn g b).admits b.1) (λ b. (goal.MediaTypeCheck-dyn g b).accepts b.1)
+    (λ b. (goal.ContentCodec-dyn g b).is_encoding b.1) (λ b. (goal.ContentCodec-dyn g b).decoding b.1) c.args.checks.now) in
     written_more g.E.RegexEngine.outcome checks (Some c.args.text.now) c.validators-validator-items.result.now c.loop-validator.validator-index
     c.validator-item.result _ _ _ c.loop-validator-test.true c.validator-item.is c.loop-validator.invariant
     (of_text _ _ _ _ _ _ _ _ _ c.in_ok-found.ensures.found

@@ -9,5 +9,5 @@ use Rattle.strkw_print.proofs.lines.push_errors.Given as goal
 abbrev pub invariant-loop-validator : goal.invariant-loop-validator
 invariant-loop-validator g l =
     AppendsLines (NodeReports (assertions_in g.E.RegexEngine.outcome (take l.validator-index l.validator-items))
-    (lists_of (λ b. (goal.Format-dyn g b).admits b.1) (λ b. (goal.MediaTypeCheck-dyn g b).accepted b.1) (λ b. (goal.ContentCodec-dyn g b).encoded b.1)
+    (lists_of (λ b. (goal.Format-dyn g b).admits b.1) (λ b. (goal.MediaTypeCheck-dyn g b).accepts b.1) (λ b. (goal.ContentCodec-dyn g b).is_encoding b.1)
     (λ b. (goal.ContentCodec-dyn g b).decoding b.1) l.checks) root_site (Some l.text)) l.initial.out.items l.out.items

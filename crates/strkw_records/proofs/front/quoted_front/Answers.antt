@@ -5,7 +5,7 @@ use Rattle.strkw_records.proofs.front.quoted_front.Goals as goal
 
 pub returns : goal.returns
 returns c =
-    is_front-quoted_slices c.args.delimiter.byte c.args.delimiter.lawful c.args.bytes.now _ _ c.quoted_line_run-count.result
+    is_front-quoted_slices c.args.delimiter.byte c.args.delimiter.is_lawful c.args.bytes.now _ _ c.quoted_line_run-count.result
     (slice-end c.args.bytes.now 1) (slice-end _ c.quoted_line_run-count.result)
     c.requires
     c.quoted_line_run-count.ensures.within (c.quoted_line_run-count.ensures.run c.args.delimiter.byte) c.quoted_line_run-count.ensures.plain (omega

@@ -22,8 +22,8 @@ loop-name-init g c =
 pub loop-name-preserved : goal.loop-name-preserved
 loop-name-preserved g c =
     let s = rules_settings g.B.EngineBuilder.takes g.B.EngineBuilder.outcome (λ b. (goal.Format-dyn g b).admits b.1)
-    (λ b. (goal.MediaTypeCheck-dyn g b).accepted b.1)
-    (λ b. (goal.ContentCodec-dyn g b).encoded b.1) (λ b. (goal.ContentCodec-dyn g b).decoding b.1) c.args.rules.now c.args.plan.now.draft in
+    (λ b. (goal.MediaTypeCheck-dyn g b).accepts b.1)
+    (λ b. (goal.ContentCodec-dyn g b).is_encoding b.1) (λ b. (goal.ContentCodec-dyn g b).decoding b.1) c.args.rules.now c.args.plan.now.draft in
     let all = members_view c.args.plan.now.schemas.now.entries in
     let rest = members_view c.next.new.self in
     let key = string_bytes c.in-Some.name.now in

@@ -13,8 +13,8 @@ use Rattle.strkw_table.proofs.objects.compile_objects.Given as goal
 abbrev pub invariant-loop-name : goal.invariant-loop-name
 invariant-loop-name g l =
     let s = rules_settings g.B.EngineBuilder.takes g.B.EngineBuilder.outcome (λ b. (goal.Format-dyn g b).admits b.1)
-    (λ b. (goal.MediaTypeCheck-dyn g b).accepted b.1)
-    (λ b. (goal.ContentCodec-dyn g b).encoded b.1) (λ b. (goal.ContentCodec-dyn g b).decoding b.1) l.fn.rules l.fn.plan.draft in
+    (λ b. (goal.MediaTypeCheck-dyn g b).accepts b.1)
+    (λ b. (goal.ContentCodec-dyn g b).is_encoding b.1) (λ b. (goal.ContentCodec-dyn g b).decoding b.1) l.fn.rules l.fn.plan.draft in
     let all = members_view l.fn.plan.schemas.now.entries in
     let rest = members_view l.name-iterator in record {
       among : (name : List ℕ) (schema : Data) → IsAmong name schema rest → IsAmong name schema all;

@@ -8,15 +8,15 @@ use Rattle.strkw_table.proofs.rows.check_record.Goals as goal
 
 pub loop-at-init : goal.loop-at-init
 loop-at-init g c =
-    let lists = lists_of (λ b. (goal.Format-dyn g b).admits b.1) (λ b. (goal.MediaTypeCheck-dyn g b).accepted b.1)
-    (λ b. (goal.ContentCodec-dyn g b).encoded b.1) (λ b. (goal.ContentCodec-dyn g b).decoding b.1) c.args.checks.now in
+    let lists = lists_of (λ b. (goal.Format-dyn g b).admits b.1) (λ b. (goal.MediaTypeCheck-dyn g b).accepts b.1)
+    (λ b. (goal.ContentCodec-dyn g b).is_encoding b.1) (λ b. (goal.ContentCodec-dyn g b).decoding b.1) c.args.checks.now in
     let says = ColumnMessages (g.F.FieldForm.writes c.args.form.now) g.E.RegexEngine.outcome lists in
     ([], of_first-none says c.args.columns.now c.args.row.now.line (fields_of c.args.row.now.fields.now), refl, sym (append-nil _))
 
 pub loop-at-preserved : goal.loop-at-preserved
 loop-at-preserved g c =
-    let lists = lists_of (λ b. (goal.Format-dyn g b).admits b.1) (λ b. (goal.MediaTypeCheck-dyn g b).accepted b.1)
-    (λ b. (goal.ContentCodec-dyn g b).encoded b.1) (λ b. (goal.ContentCodec-dyn g b).decoding b.1) c.args.checks.now in
+    let lists = lists_of (λ b. (goal.Format-dyn g b).admits b.1) (λ b. (goal.MediaTypeCheck-dyn g b).accepts b.1)
+    (λ b. (goal.ContentCodec-dyn g b).is_encoding b.1) (λ b. (goal.ContentCodec-dyn g b).decoding b.1) c.args.checks.now in
     let says = ColumnMessages (g.F.FieldForm.writes c.args.form.now) g.E.RegexEngine.outcome lists in
     let (messages, first, count, out) = c.loop-at.invariant in
     let (more, last, more_count, more_out) = c.in_ok-more.ensures in

@@ -14,8 +14,8 @@ returns-clause-why g c =
 
 pub returns-clause-fault : goal.returns-clause-fault
 returns-clause-fault g c place text left =
-    let lists = lists_of (λ b. (goal.Format-dyn g b).admits b.1) (λ b. (goal.MediaTypeCheck-dyn g b).accepted b.1)
-    (λ b. (goal.ContentCodec-dyn g b).encoded b.1) (λ b. (goal.ContentCodec-dyn g b).decoding b.1) c.args.checks.now in
+    let lists = lists_of (λ b. (goal.Format-dyn g b).admits b.1) (λ b. (goal.MediaTypeCheck-dyn g b).accepts b.1)
+    (λ b. (goal.ContentCodec-dyn g b).is_encoding b.1) (λ b. (goal.ContentCodec-dyn g b).decoding b.1) c.args.checks.now in
     let says = ColumnMessages (g.F.FieldForm.writes c.args.form.now) g.E.RegexEngine.outcome lists in
     let reader = c.args.records.now.reader in
     let gathered : List ℕ → Type 0 = λ lines. (written : List ℕ)

@@ -13,8 +13,8 @@ use Rattle.strkw_table.proofs.rows.gather_rows.Given as goal
 -- the records so far are the first of the text, and the messages about them are written or gathered
 abbrev pub invariant-loop-turn : goal.invariant-loop-turn
 invariant-loop-turn g l =
-    let lists = lists_of (λ b. (goal.Format-dyn g b).admits b.1) (λ b. (goal.MediaTypeCheck-dyn g b).accepted b.1)
-    (λ b. (goal.ContentCodec-dyn g b).encoded b.1) (λ b. (goal.ContentCodec-dyn g b).decoding b.1) l.fn.checks in
+    let lists = lists_of (λ b. (goal.Format-dyn g b).admits b.1) (λ b. (goal.MediaTypeCheck-dyn g b).accepts b.1)
+    (λ b. (goal.ContentCodec-dyn g b).is_encoding b.1) (λ b. (goal.ContentCodec-dyn g b).decoding b.1) l.fn.checks in
     (l.checked.records ≡ l.turn)
     × (limits_of l.records.reader ≡ limits_of l.fn.records.reader)
     × (delimiter_of l.records.reader ≡ delimiter_of l.fn.records.reader)

@@ -23,8 +23,8 @@ pub check_rows-requires : goal.check_rows-requires
 check_rows-requires g c =
     let outcome = g.B.Engine.RegexEngine.outcome in
     let s = rules_settings g.B.EngineBuilder.takes g.B.EngineBuilder.outcome (λ b. (goal.Format-dyn g b).admits b.1)
-    (λ b. (goal.MediaTypeCheck-dyn g b).accepted b.1)
-    (λ b. (goal.ContentCodec-dyn g b).encoded b.1) (λ b. (goal.ContentCodec-dyn g b).decoding b.1) c.args.rules.now c.args.plan.now.draft in
+    (λ b. (goal.MediaTypeCheck-dyn g b).accepts b.1)
+    (λ b. (goal.ContentCodec-dyn g b).is_encoding b.1) (λ b. (goal.ContentCodec-dyn g b).decoding b.1) c.args.rules.now c.args.plan.now.draft in
     let schemas = members_view c.args.plan.now.schemas.now.entries in
     record {
       usable = λ place column e. columns_usable outcome s schemas (get_by_text c.args.objects.now) c.requires.compiled
@@ -36,8 +36,8 @@ pub returns-in_err-read_names-clause-fault : goal.returns-in_err-read_names-clau
 returns-in_err-read_names-clause-fault g c written text is source =
     let form = g.F.FieldForm.writes c.args.form.now in
     let settings = rules_settings g.B.EngineBuilder.takes g.B.EngineBuilder.outcome (λ b. (goal.Format-dyn g b).admits b.1)
-    (λ b. (goal.MediaTypeCheck-dyn g b).accepted b.1)
-    (λ b. (goal.ContentCodec-dyn g b).encoded b.1) (λ b. (goal.ContentCodec-dyn g b).decoding b.1) c.args.rules.now in
+    (λ b. (goal.MediaTypeCheck-dyn g b).accepts b.1)
+    (λ b. (goal.ContentCodec-dyn g b).is_encoding b.1) (λ b. (goal.ContentCodec-dyn g b).decoding b.1) c.args.rules.now in
     let plan = plan_view c.args.plan.now in
     let why = c.in_err-read_names.field-0.0 in
     let wrote = Appends (g.W.Write.contents c.args.writer.now) (g.W.Write.contents c.args.writer.now) in
@@ -49,8 +49,8 @@ pub returns-clause-messages : goal.returns-clause-messages
 returns-clause-messages g c written text is source =
     let form = g.F.FieldForm.writes c.args.form.now in
     let settings = rules_settings g.B.EngineBuilder.takes g.B.EngineBuilder.outcome (λ b. (goal.Format-dyn g b).admits b.1)
-    (λ b. (goal.MediaTypeCheck-dyn g b).accepted b.1)
-    (λ b. (goal.ContentCodec-dyn g b).encoded b.1) (λ b. (goal.ContentCodec-dyn g b).decoding b.1) c.args.rules.now in
+    (λ b. (goal.MediaTypeCheck-dyn g b).accepts b.1)
+    (λ b. (goal.ContentCodec-dyn g b).is_encoding b.1) (λ b. (goal.ContentCodec-dyn g b).decoding b.1) c.args.rules.now in
     let outcome = g.B.Engine.RegexEngine.outcome in
     let plan = plan_view c.args.plan.now in
     let s = settings plan.draft in
@@ -91,8 +91,8 @@ pub returns-clause-fault : goal.returns-clause-fault
 returns-clause-fault g c written text is source =
     let form = g.F.FieldForm.writes c.args.form.now in
     let settings = rules_settings g.B.EngineBuilder.takes g.B.EngineBuilder.outcome (λ b. (goal.Format-dyn g b).admits b.1)
-    (λ b. (goal.MediaTypeCheck-dyn g b).accepted b.1)
-    (λ b. (goal.ContentCodec-dyn g b).encoded b.1) (λ b. (goal.ContentCodec-dyn g b).decoding b.1) c.args.rules.now in
+    (λ b. (goal.MediaTypeCheck-dyn g b).accepts b.1)
+    (λ b. (goal.ContentCodec-dyn g b).is_encoding b.1) (λ b. (goal.ContentCodec-dyn g b).decoding b.1) c.args.rules.now in
     let outcome = g.B.Engine.RegexEngine.outcome in
     let plan = plan_view c.args.plan.now in
     let s = settings plan.draft in

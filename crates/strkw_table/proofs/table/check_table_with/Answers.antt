@@ -23,8 +23,8 @@ pub returns-in_err-plan : goal.returns-in_err-plan
 returns-in_err-plan g c =
     let form = g.F.FieldForm.writes c.args.form.now in
     let settings = rules_settings g.B.EngineBuilder.takes g.B.EngineBuilder.outcome (λ b. (goal.Format-dyn g b).admits b.1)
-    (λ b. (goal.MediaTypeCheck-dyn g b).accepted b.1)
-    (λ b. (goal.ContentCodec-dyn g b).encoded b.1) (λ b. (goal.ContentCodec-dyn g b).decoding b.1) c.args.rules.now in
+    (λ b. (goal.MediaTypeCheck-dyn g b).accepts b.1)
+    (λ b. (goal.ContentCodec-dyn g b).is_encoding b.1) (λ b. (goal.ContentCodec-dyn g b).decoding b.1) c.args.rules.now in
     let plan = view c.args.plan.now in
     let wrote = Appends (g.W.Write.contents c.args.writer.now) (g.W.Write.contents c.args.writer.now) in
     let e = c.in_err-plan.field-0.0 in
@@ -37,8 +37,8 @@ pub returns-in_err-objects : goal.returns-in_err-objects
 returns-in_err-objects g c =
     let form = g.F.FieldForm.writes c.args.form.now in
     let settings = rules_settings g.B.EngineBuilder.takes g.B.EngineBuilder.outcome (λ b. (goal.Format-dyn g b).admits b.1)
-    (λ b. (goal.MediaTypeCheck-dyn g b).accepted b.1)
-    (λ b. (goal.ContentCodec-dyn g b).encoded b.1) (λ b. (goal.ContentCodec-dyn g b).decoding b.1) c.args.rules.now in
+    (λ b. (goal.MediaTypeCheck-dyn g b).accepts b.1)
+    (λ b. (goal.ContentCodec-dyn g b).is_encoding b.1) (λ b. (goal.ContentCodec-dyn g b).decoding b.1) c.args.rules.now in
     let plan = view c.args.plan.now in
     let wrote = Appends (g.W.Write.contents c.args.writer.now) (g.W.Write.contents c.args.writer.now) in
     let e = c.in_err-objects.field-0.0 in
@@ -51,8 +51,8 @@ returns-in_err-objects g c =
 pub returns : goal.returns
 returns g c =
     let settings = rules_settings g.B.EngineBuilder.takes g.B.EngineBuilder.outcome (λ b. (goal.Format-dyn g b).admits b.1)
-    (λ b. (goal.MediaTypeCheck-dyn g b).accepted b.1)
-    (λ b. (goal.ContentCodec-dyn g b).encoded b.1) (λ b. (goal.ContentCodec-dyn g b).decoding b.1) c.args.rules.now in
+    (λ b. (goal.MediaTypeCheck-dyn g b).accepts b.1)
+    (λ b. (goal.ContentCodec-dyn g b).is_encoding b.1) (λ b. (goal.ContentCodec-dyn g b).decoding b.1) c.args.rules.now in
     let plan = plan_view c.in_ok-plan.plan in
     let same = c.new-records.ensures.reader in
     let unread : (text : List ℕ) → g.R.Read.remaining c.args.file ≡ Some text

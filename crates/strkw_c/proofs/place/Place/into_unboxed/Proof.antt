@@ -56,8 +56,9 @@ into_unboxed_spec 𝓤 𝓛 𝓜 𝓡 wired =
     f.Key.name code.function (code.unfolded 𝓤 𝓛.H 𝓜 𝓡 wired) (λ z are.
     let v = z.0.3.0 in let a = z.0.3.1.0 in let Post : Val → SProp 𝓤 = (walk_of 𝓛 f.ended stayed c).post z in
     let Run : List Val → SProp 𝓤 = λ us. WpFn 𝓤 𝓛.H 𝓣.C 𝓣.Λ code.function us Post in
-    qed 𝓛 ((‵ ftrue ⊛ ‵ (fsep (Place.own_val v z.0.4.0) (fsep (Heap.own_val a z.0.4.1.0) ftrue))) ∷ raw (fact 𝓤 (IsSome v.kept)) ∷ []) ∵
-    move ! (1 ∷ []) $ heard ! (IsSome v.kept) (λ some. let x = (the_one v.kept some).0 in let full : v.kept ≡ Some x = (the_one v.kept some).1 in split ! $
+    qed 𝓛 ((‵ ftrue ⊛ ‵ (fsep (Place.own_val v z.0.4.0) (fsep (Heap.own_val a z.0.4.1.0) ftrue))) ∷ raw (fact 𝓤 (IsSome v.kept_object)) ∷ []) ∵
+    move ! (1 ∷ []) $ heard ! (IsSome v.kept_object) (λ some. let x = (the_one v.kept_object some).0 in
+    let full : v.kept_object ≡ Some x = (the_one v.kept_object some).1 in split ! $
     move ! (1 ∷ []) $ fsplit ! $ place_out ! v z.0.4.0 (λ ws.
     rewrite ! 0 (λ (k : Option Kept.Denot). ‵ (kept_at Kept v.at k)) full refl $ fpick ! (λ heap.
     in_a_block ! v.at (λ p. box_owns (ghosts.dealloc_token heap) Kept p x) (fst∗ 𝓤 (never 𝓤) (sem 𝓛 (ghosts.dealloc_token heap (bare (τ E)) null_ptr)))

@@ -53,6 +53,6 @@ of_spec 𝓤 𝓛 𝓜 𝓡 wired =
     enter ! _ _ _ _ _ $ alloc_all ! (λ l. pass_all ! refl (box_typed E h b o fits, tt) $
     sets ! (of_opd ! (get_in ! (fld ! refl (stop !)) (sub ! 0 refl (whole !)))) refl (tt, tt) $ sets ! (of_opd ! (get ! refl)) refl (tt, tt) $
     sets ! (agg ! (and_then ! (get ! refl) (no_more !))) refl (good p) $ returns ! (look_at ! 0 refl) $ free_all ! refl $
-    let made : Place.Denot = record { at = p; kept = Some x } in place_in ! made $
+    let made : Place.Denot = record { at = p; kept_object = Some x } in place_in ! made $
     suffices ! _ (ends_at 𝓛 f.ended stayed c z (word p) made (tt, tt) (tt, tt)) $ says ! refl $
     nothing ! $ nothing ! $ join ! $ join ! $ nothing ! $ join ! $ done !)))

@@ -7,7 +7,7 @@ abbrev pub invariant-loop-at : goal.invariant-loop-at
 invariant-loop-at g l = record {
   within : l.at ≤ length l.bytes;
   works : g.Self.Sink.has_failed l.self ≡ g.Self.Sink.has_failed l.initial.self;
-  took : Appends (g.Self.Sink.taken l.initial.self) (g.Self.Sink.taken l.self) (take l.at l.bytes);
+  took : Appends (g.Self.Sink.bytes_taken l.initial.self) (g.Self.Sink.bytes_taken l.self) (take l.at l.bytes);
 }
 
 abbrev pub decreases-loop-at : goal.decreases-loop-at

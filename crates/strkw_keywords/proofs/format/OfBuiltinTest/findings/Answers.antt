@@ -7,8 +7,8 @@ use Rattle.strkw_keywords.proofs.format.OfBuiltinTest.findings.Goals as goal
 pub returns-then-is_valid-clause-found : goal.returns-then-is_valid-clause-found
 returns-then-is_valid-clause-found g c =
     let checks = lists_of (λ f. (goal.Format-dyn g (f.vtable, f.value)).admits f.value)
-    (λ m. (goal.MediaTypeCheck-dyn g (m.vtable, m.value)).accepted m.value)
-    (λ k. (goal.ContentCodec-dyn g (k.vtable, k.value)).encoded k.value)
+    (λ m. (goal.MediaTypeCheck-dyn g (m.vtable, m.value)).accepts m.value)
+    (λ k. (goal.ContentCodec-dyn g (k.vtable, k.value)).is_encoding k.value)
     (λ k. (goal.ContentCodec-dyn g (k.vtable, k.value)).decoding k.value) c.args._checks.now in
     let format = builtin c.args.self.now.format in
     finds_one (is_format format) checks c.args.text.now _
@@ -17,8 +17,8 @@ returns-then-is_valid-clause-found g c =
 pub returns-else-is_valid-clause-found : goal.returns-else-is_valid-clause-found
 returns-else-is_valid-clause-found g c =
     let checks = lists_of (λ f. (goal.Format-dyn g (f.vtable, f.value)).admits f.value)
-    (λ m. (goal.MediaTypeCheck-dyn g (m.vtable, m.value)).accepted m.value)
-    (λ k. (goal.ContentCodec-dyn g (k.vtable, k.value)).encoded k.value)
+    (λ m. (goal.MediaTypeCheck-dyn g (m.vtable, m.value)).accepts m.value)
+    (λ k. (goal.ContentCodec-dyn g (k.vtable, k.value)).is_encoding k.value)
     (λ k. (goal.ContentCodec-dyn g (k.vtable, k.value)).decoding k.value) c.args._checks.now in
     let format = builtin c.args.self.now.format in
     finds_one (is_format format) checks c.args.text.now _

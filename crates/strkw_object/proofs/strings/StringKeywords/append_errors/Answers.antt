@@ -6,14 +6,14 @@ use Rattle.strkw_object.proofs.strings.StringKeywords.append_errors.Goals as goa
 
 pub loop-validator-init : goal.loop-validator-init
 loop-validator-init g c =
-    let checks = (lists_of (λ b. (goal.Format-dyn g b).admits b.1) (λ b. (goal.MediaTypeCheck-dyn g b).accepted b.1)
-    (λ b. (goal.ContentCodec-dyn g b).encoded b.1) (λ b. (goal.ContentCodec-dyn g b).decoding b.1) c.args.checks.now) in
+    let checks = (lists_of (λ b. (goal.Format-dyn g b).admits b.1) (λ b. (goal.MediaTypeCheck-dyn g b).accepts b.1)
+    (λ b. (goal.ContentCodec-dyn g b).is_encoding b.1) (λ b. (goal.ContentCodec-dyn g b).decoding b.1) c.args.checks.now) in
     nothing_yet checks c.args.site.now (Some c.args.text.now) c.args.errors.now.items
 
 pub push_errors-requires : goal.push_errors-requires
 push_errors-requires g c =
-    let checks = (lists_of (λ b. (goal.Format-dyn g b).admits b.1) (λ b. (goal.MediaTypeCheck-dyn g b).accepted b.1)
-    (λ b. (goal.ContentCodec-dyn g b).encoded b.1) (λ b. (goal.ContentCodec-dyn g b).decoding b.1) c.args.checks.now) in
+    let checks = (lists_of (λ b. (goal.Format-dyn g b).admits b.1) (λ b. (goal.MediaTypeCheck-dyn g b).accepts b.1)
+    (λ b. (goal.ContentCodec-dyn g b).is_encoding b.1) (λ b. (goal.ContentCodec-dyn g b).decoding b.1) c.args.checks.now) in
     in_use_at g.E.RegexEngine.outcome checks c.args.self.now.validators.items c.loop-validator.validator-index c.validator-item.result
     (rw c.deref-validator-items.ensures.value at c.loop-validator-test.true)
     (rw c.deref-validator-items.ensures.value at c.validator-item.is)
@@ -21,8 +21,8 @@ push_errors-requires g c =
 
 pub loop-validator-preserved : goal.loop-validator-preserved
 loop-validator-preserved g c =
-    let checks = (lists_of (λ b. (goal.Format-dyn g b).admits b.1) (λ b. (goal.MediaTypeCheck-dyn g b).accepted b.1)
-    (λ b. (goal.ContentCodec-dyn g b).encoded b.1) (λ b. (goal.ContentCodec-dyn g b).decoding b.1) c.args.checks.now) in
+    let checks = (lists_of (λ b. (goal.Format-dyn g b).admits b.1) (λ b. (goal.MediaTypeCheck-dyn g b).accepts b.1)
+    (λ b. (goal.ContentCodec-dyn g b).is_encoding b.1) (λ b. (goal.ContentCodec-dyn g b).decoding b.1) c.args.checks.now) in
     collected_more g.E.RegexEngine.outcome checks c.args.site.now (Some c.args.text.now) c.args.self.now.validators.items c.loop-validator.validator-index
     c.validator-item.result
     _ _ _

@@ -7,8 +7,8 @@ use Rattle.strkw_object.proofs.strings.StringKeywords.is_valid.Goals as goal
 
 pub findings-requires : goal.findings-requires
 findings-requires g c =
-    let checks = (lists_of (λ b. (goal.Format-dyn g b).admits b.1) (λ b. (goal.MediaTypeCheck-dyn g b).accepted b.1)
-    (λ b. (goal.ContentCodec-dyn g b).encoded b.1) (λ b. (goal.ContentCodec-dyn g b).decoding b.1) c.args.checks.now) in
+    let checks = (lists_of (λ b. (goal.Format-dyn g b).admits b.1) (λ b. (goal.MediaTypeCheck-dyn g b).accepts b.1)
+    (λ b. (goal.ContentCodec-dyn g b).is_encoding b.1) (λ b. (goal.ContentCodec-dyn g b).decoding b.1) c.args.checks.now) in
     in_use_at g.E.RegexEngine.outcome checks c.args.self.now.validators.items c.loop-validator.validator-index c.validator-item.result
     (rw c.deref-validator-items.ensures.value at c.loop-validator-test.true)
     (rw c.deref-validator-items.ensures.value at c.validator-item.is)
@@ -16,8 +16,8 @@ findings-requires g c =
 
 pub returns-then-not-is_empty-clause-exact : goal.returns-then-not-is_empty-clause-exact
 returns-then-not-is_empty-clause-exact g c = λ site.
-    let checks = (lists_of (λ b. (goal.Format-dyn g b).admits b.1) (λ b. (goal.MediaTypeCheck-dyn g b).accepted b.1)
-    (λ b. (goal.ContentCodec-dyn g b).encoded b.1) (λ b. (goal.ContentCodec-dyn g b).decoding b.1) c.args.checks.now) in (
+    let checks = (lists_of (λ b. (goal.Format-dyn g b).admits b.1) (λ b. (goal.MediaTypeCheck-dyn g b).accepts b.1)
+    (λ b. (goal.ContentCodec-dyn g b).is_encoding b.1) (λ b. (goal.ContentCodec-dyn g b).decoding b.1) c.args.checks.now) in (
       (λ no. absurd (cc)),
       (λ r.
           let part = nothing_at g.E.RegexEngine.outcome checks site (g.N.Node.text c.args.node.now) c.args.self.now.validators.items
@@ -31,8 +31,8 @@ returns-then-not-is_empty-clause-exact g c = λ site.
 
 pub loop-validator-preserved : goal.loop-validator-preserved
 loop-validator-preserved g c =
-    let checks = (lists_of (λ b. (goal.Format-dyn g b).admits b.1) (λ b. (goal.MediaTypeCheck-dyn g b).accepted b.1)
-    (λ b. (goal.ContentCodec-dyn g b).encoded b.1) (λ b. (goal.ContentCodec-dyn g b).decoding b.1) c.args.checks.now) in
+    let checks = (lists_of (λ b. (goal.Format-dyn g b).admits b.1) (λ b. (goal.MediaTypeCheck-dyn g b).accepts b.1)
+    (λ b. (goal.ContentCodec-dyn g b).is_encoding b.1) (λ b. (goal.ContentCodec-dyn g b).decoding b.1) c.args.checks.now) in
     let yes : IsTrue c.is_empty.result = search rules in
     nothing_more g.E.RegexEngine.outcome checks (g.N.Node.text c.args.node.now) c.args.self.now.validators.items c.loop-validator.validator-index
     c.validator-item.result

@@ -33,7 +33,7 @@ returns-else-end-delimiter-clause-ok g c text e =
     c.take_plain.ensures.piece c.requires.within refl in
     let next = rw head at (c.in_ok-take_byte.ensures.passes _ past.left) in
     let run = rw c.unread-unread.ensures at c.in_ok-end_field.ensures.fields in
-    ends-line_end c.args.delimiter.byte c.args.delimiter.lawful g.R.Read.remaining c.args.input.now c.take_plain.new.self c.take_byte.new.self text _ _ _ _
+    ends-line_end c.args.delimiter.byte c.args.delimiter.is_lawful g.R.Read.remaining c.args.input.now c.take_plain.new.self c.take_byte.new.self text _ _ _ _
     c.args.self.now c.end_field.new.self
     past next c.requires.run (line_end-of c.args.delimiter.byte _ other c.requires.stops) run
 

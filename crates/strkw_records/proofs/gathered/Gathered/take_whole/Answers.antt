@@ -24,7 +24,7 @@ returns-then-rest-front-clause-plain c =
 
 pub returns-then-rest-front-clause-takes : goal.returns-then-rest-front-clause-takes
 returns-then-rest-front-clause-takes c =
-    takes_last-front c.args.delimiter.byte c.args.delimiter.lawful c.args.self.now c.fields.self _ c.args.bytes.now _ c.fields.at c.in-Some.front
+    takes_last-front c.args.delimiter.byte c.args.delimiter.is_lawful c.args.self.now c.fields.self _ c.args.bytes.now _ c.fields.at c.in-Some.front
     (slice-end c.args.bytes.now c.fields.at)
     c.fields.invariant.within
     c.fields.invariant.takes c.in-Some.ensures c.if-rest-front.true c.fields.invariant.front c.in_ok-push_field.ensures.fields
@@ -62,7 +62,7 @@ fields-preserved c =
             front;
       });
       front = front;
-      plain = no_line-comma c.args.delimiter.byte c.args.delimiter.lawful c.args.bytes.now _ c.fields.at c.in-Some.front e v.within v.plain k comma;
+      plain = no_line-comma c.args.delimiter.byte c.args.delimiter.is_lawful c.args.bytes.now _ c.fields.at c.in-Some.front e v.within v.plain k comma;
       takes = takes_fields-front c.args.delimiter.byte c.args.self.now c.fields.self _ c.args.bytes.now _ c.fields.at c.in-Some.front e v.within v.takes k
           comma v.front
           c.in_ok-push_field.ensures.fields;

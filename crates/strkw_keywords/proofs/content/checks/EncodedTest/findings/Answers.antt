@@ -7,7 +7,7 @@ use Rattle.strkw_keywords.proofs.content.checks.EncodedTest.findings.Goals as go
 pub returns-clause-found : goal.returns-clause-found
 returns-clause-found g c =
     let checks = lists_of (λ f. (goal.Format-dyn g (f.vtable, f.value)).admits f.value)
-    (λ m. (goal.MediaTypeCheck-dyn g (m.vtable, m.value)).accepted m.value)
-    (λ k. (goal.ContentCodec-dyn g (k.vtable, k.value)).encoded k.value)
+    (λ m. (goal.MediaTypeCheck-dyn g (m.vtable, m.value)).accepts m.value)
+    (λ k. (goal.ContentCodec-dyn g (k.vtable, k.value)).is_encoding k.value)
     (λ k. (goal.ContentCodec-dyn g (k.vtable, k.value)).decoding k.value) c.args.checks.now in
     finds_one (is_encoded (choice_of c.args.self.now.codec)) checks c.args.text.now _ (rw c.as_str.ensures at c.in_ok-finding.ensures)
