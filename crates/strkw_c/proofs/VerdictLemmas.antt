@@ -1,11 +1,11 @@
 -- Verdicts by a compiled object are those by its schema object.
 use Rattle.std.proofs.Common.{◌≡◌, ◌≢◌, ◌⊎◌, ◌↔◌, ap, ℕ, List, [], ◌∷◌, inl, inr, Some, None, refl, subst}
 use Rattle.serde_json.specs.Data.{Members}
-use Rattle.strkw_report.specs.Refusals.{reason_of, refusal_of, memory}
+use Rattle.strkw_report.specs.Refusals.{reason_of, refusal_of, out_of_memory}
 use Rattle.strkw_report.specs.declared.draft.Draft.{Draft}
 use Rattle.strkw_report.specs.declared.refusal.CompileError.{CompileError}
 use Rattle.strkw_pattern.specs.declared.engine.Outcome.{Outcome}
-use Rattle.strkw_keywords.specs.Compiled.{out_of_memory}
+use Rattle.strkw_keywords.specs.Compiled.{out_of_memory_refusal}
 use Rattle.strkw_keywords.specs.Object.{Settings, FirstRefusal}
 use Rattle.strkw_object.specs.declared.strings.StringKeywords.{StringKeywords}
 use Rattle.strkw_report.specs.Drafts.{draft_numbered}
@@ -33,8 +33,8 @@ verdicts_alike P Q same (t ∷ ts) [] are = absurd are
 verdicts_alike P Q same (t ∷ ts) (v ∷ vs) are = (verdict_alike P Q same t v are.0, verdicts_alike P Q same ts vs are.1)
 
 -- an object that is refused, and not as out of memory, has this first refusal
-pub first_refusal : (s : Settings) (object : Members) (e : CompileError) → (refusal_of e ≡ out_of_memory) ⊎ FirstRefusal s object (Some (refusal_of e))
-    → reason_of e.kind ≢ memory → FirstRefusal s object (Some (refusal_of e))
+pub first_refusal : (s : Settings) (object : Members) (e : CompileError) → (refusal_of e ≡ out_of_memory_refusal) ⊎ FirstRefusal s object (Some (refusal_of e))
+    → reason_of e.kind ≢ out_of_memory → FirstRefusal s object (Some (refusal_of e))
 first_refusal s object e (inl none) had = absurd (had (ap (λ r. r.reason) none))
 first_refusal s object e (inr first) had = first
 

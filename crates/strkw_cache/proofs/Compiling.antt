@@ -6,7 +6,7 @@ use Rattle.strkw_report.specs.Refusals.{prints_float, reason_of, refusal_of}
 use Rattle.strkw_report.specs.declared.refusal.CompileError.{CompileError}
 use Rattle.strkw_pattern.specs.Matcher.{literal_outcome}
 use Rattle.strkw_pattern.specs.declared.matcher.LiteralMatcher.{LiteralMatcher}
-use Rattle.strkw_keywords.specs.Compiled.{out_of_memory}
+use Rattle.strkw_keywords.specs.Compiled.{out_of_memory_refusal}
 use Rattle.strkw_keywords.specs.Demands.{IsInUse}
 use Rattle.strkw_keywords.specs.Object.{Settings, FirstRefusal, remarks_on}
 use Rattle.strkw_keywords.specs.Remarks.{Remark}
@@ -27,9 +27,9 @@ compiled_printable outcome s ms k of node rs is = notes_printable s ms node rs (
 module _ (s : Settings) (terms : Terms) (ms : Members) (same : s ≡ settings_under terms) where
   -- it is compiled to keywords, or to a refusal
   pub compiled_to : (r : Result (StringKeywords LiteralMatcher) CompileError) → IfOk r (λ k. IsCompiledFrom literal_outcome s ms k)
-      → IfErr r (λ e. (refusal_of e ≡ out_of_memory) ⊎ FirstRefusal s ms (Some (refusal_of e))) → IsCompiledTo (settings_under terms) ms r
+      → IfErr r (λ e. (refusal_of e ≡ out_of_memory_refusal) ⊎ FirstRefusal s ms (Some (refusal_of e))) → IsCompiledTo (settings_under terms) ms r
   compiled_to (Ok k) of refused = subst (λ t. IsCompiledFrom literal_outcome t ms k) same of
-  compiled_to (Err e) of refused = subst (λ t. (refusal_of e ≡ out_of_memory) ⊎ FirstRefusal t ms (Some (refusal_of e))) same refused
+  compiled_to (Err e) of refused = subst (λ t. (refusal_of e ≡ out_of_memory_refusal) ⊎ FirstRefusal t ms (Some (refusal_of e))) same refused
 
   -- the keywords, which no check is asked of, or the refusal can answer
   pub can_answer : (r : Result (StringKeywords LiteralMatcher) CompileError) → IfOk r (λ k. IsCompiledFrom literal_outcome s ms k)

@@ -1,6 +1,6 @@
 -- What is told behind the errors of a text, as it is appended.
 use Rattle.std.proofs.Common.{◌≡◌, ◌≢◌, ◌∙◌, ℕ, List, ◌++◌, Result, Ok, Err, OnOk, codes, refl, ap, append_assoc}
-use Rattle.strkw_report.specs.Refusals.{memory, reason_of, refusal_of}
+use Rattle.strkw_report.specs.Refusals.{out_of_memory, reason_of, refusal_of}
 use Rattle.strkw_report.specs.declared.refusal.CompileError.{CompileError}
 use Rattle.strkw_pattern.specs.declared.matcher.LiteralMatcher.{LiteralMatcher}
 use Rattle.strkw_object.specs.declared.strings.StringKeywords.{StringKeywords}
@@ -28,7 +28,7 @@ told_notes (Err e) k old mid new first second = tt
 
 -- and of a refusal its line, and the end
 pub told_refusal : {T F : Type 0} (result : Result T F) (e : CompileError) (old mid new : List ℕ)
-    → mid ≡ old ++ refused_line (refusal_of e) → reason_of e.kind ≢ memory → OnOk result (new ≡ mid ++ codes "end\n")
+    → mid ≡ old ++ refused_line (refusal_of e) → reason_of e.kind ≢ out_of_memory → OnOk result (new ≡ mid ++ codes "end\n")
     → OnOk result ((told : List ℕ) × (new ≡ old ++ told) × IsTold (Err e) told)
 told_refusal (Ok x) e old mid new first had second =
     (refused_line (refusal_of e) ++ codes "end\n", ended old mid new (refused_line (refusal_of e)) first second, (had, refl))

@@ -7,7 +7,7 @@ use Rattle.strkw_report.specs.declared.refusal.CompileError.{CompileError}
 use Rattle.strkw_pattern.specs.Matcher.{literal_outcome}
 use Rattle.strkw_pattern.specs.declared.engine.Outcome.TheVariants.{NoMatch}
 use Rattle.strkw_pattern.specs.declared.matcher.LiteralMatcher.{LiteralMatcher}
-use Rattle.strkw_keywords.specs.Compiled.{out_of_memory}
+use Rattle.strkw_keywords.specs.Compiled.{out_of_memory_refusal}
 use Rattle.strkw_keywords.specs.Meanings.{no_lists}
 use Rattle.strkw_keywords.specs.Object.{Settings, default_options, FirstRefusal}
 use Rattle.strkw_object.specs.declared.strings.StringKeywords.{StringKeywords}
@@ -41,7 +41,8 @@ settings_under t = record {
 abbrev pub IsCompiledTo : Settings → Members → Result (StringKeywords LiteralMatcher) CompileError
     → Type 0
 IsCompiledTo s ms (Ok k) = IsCompiledFrom literal_outcome s ms k
-IsCompiledTo s ms (Err e) = (refusal_of e ≡ out_of_memory) ⊎ FirstRefusal s ms (Some (refusal_of e))
+IsCompiledTo s ms (Err e) = (refusal_of e ≡ out_of_memory_refusal)
+    ⊎ FirstRefusal s ms (Some (refusal_of e))
 
 -- The tokens of the object are those of these members, and nothing more, these are compiled to what
 -- it has, and what it keeps of answers is what that tells.

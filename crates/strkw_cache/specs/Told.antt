@@ -1,6 +1,6 @@
 -- What an answer by a compiled schema object tells, whatever the text is.
 use Rattle.std.specs.Prelude.{◌≡◌, ◌≢◌, ◌++◌, ℕ, List, Result, Ok, Err, codes, false}
-use Rattle.strkw_report.specs.Refusals.{memory, prints_float, reason_of, refusal_of}
+use Rattle.strkw_report.specs.Refusals.{out_of_memory, prints_float, reason_of, refusal_of}
 use Rattle.strkw_report.specs.declared.refusal.CompileError.{CompileError}
 use Rattle.strkw_pattern.specs.Matcher.{literal_outcome}
 use Rattle.strkw_pattern.specs.declared.matcher.LiteralMatcher.{LiteralMatcher}
@@ -21,5 +21,5 @@ CanAnswer (Err e) = prints_float (reason_of e.kind) ≡ false
 -- which then is not out of memory, is the whole answer.
 abbrev pub IsTold : Result (StringKeywords LiteralMatcher) CompileError → List ℕ → Type 0
 IsTold (Ok k) told = told ≡ note_lines (keywords_remarks k) ++ codes "end\n"
-IsTold (Err e) told = (reason_of e.kind ≢ memory)
+IsTold (Err e) told = (reason_of e.kind ≢ out_of_memory)
     × (told ≡ refused_line (refusal_of e) ++ codes "end\n")

@@ -6,7 +6,7 @@ use Rattle.std.proofs.Common.{length, take, arith}
 use Rattle.std.proofs.lemmas.List.{take-append-le, take_all}
 use Rattle.serde_json.specs.Data.{Data}
 use Rattle.strkw_report.specs.Kinds.{Report}
-use Rattle.strkw_report.specs.Refusals.{reason_of, refusal_of, memory}
+use Rattle.strkw_report.specs.Refusals.{reason_of, refusal_of, out_of_memory}
 use Rattle.strkw_report.specs.declared.refusal.CompileError.{CompileError}
 use Rattle.strkw_pattern.specs.declared.engine.Outcome.{Outcome}
 use Rattle.strkw_pattern.specs.declared.matcher.LiteralMatcher.{LiteralMatcher}
@@ -18,7 +18,7 @@ use Rattle.strkw_keywords.specs.Lengths.{IsEmpty}
 use Rattle.strkw_keywords.proofs.Folding.{interval_is_left}
 use Rattle.strkw_object.specs.declared.strings.StringKeywords.{StringKeywords}
 use Rattle.strkw_object.specs.Compiled.{IsCompiledFrom, keywords_assertions, keywords_interval, keywords_remarks}
-use Rattle.strkw_keywords.specs.Compiled.{out_of_memory}
+use Rattle.strkw_keywords.specs.Compiled.{out_of_memory_refusal}
 use Rattle.strkw_json.specs.Json.{IsReading}
 use Rattle.strkw_cli.specs.Request.{Request, request_in}
 use Rattle.strkw_print.specs.Printed.{note_lines, refused_line}
@@ -58,8 +58,8 @@ answer_of_compiled outcome r k told errors notes of tells reports noted =
     )
 
 -- the answer by a refusal that is not out of memory
-pub answer_of_refusal : (r : Request) (e : CompileError) → (refusal_of e ≡ out_of_memory) ⊎ FirstRefusal (settings_for r) r.schema (Some (refusal_of e))
-    → reason_of e.kind ≢ memory
+pub answer_of_refusal : (r : Request) (e : CompileError) → (refusal_of e ≡ out_of_memory_refusal) ⊎ FirstRefusal (settings_for r) r.schema (Some (refusal_of e))
+    → reason_of e.kind ≢ out_of_memory
     → Answers (Some r) (refused_line (refusal_of e) ++ codes "end\n")
 answer_of_refusal r e (inl none) had = absurd (had (ap (λ r. r.reason) none))
 answer_of_refusal r e (inr first) had = (Some (refusal_of e), first, refl)
@@ -132,7 +132,7 @@ appended_found (Err e) outcome r s k told old mid new same of tells first found 
 
 -- the same where what was told is a refusal
 pub appended_refusal : {T E : Type 0} (result : Result T E) (r : Request) (e : CompileError) (old new : List ℕ)
-    → (refusal_of e ≡ out_of_memory) ⊎ FirstRefusal (settings_for r) r.schema (Some (refusal_of e))
+    → (refusal_of e ≡ out_of_memory_refusal) ⊎ FirstRefusal (settings_for r) r.schema (Some (refusal_of e))
     → OnOk result ((told : List ℕ) × (new ≡ old ++ told) × IsTold (Err e) told)
     → OnOk result ((x : List ℕ) × (new ≡ old ++ x) × Answers (Some r) x)
 appended_refusal (Ok x) r e old new refused (told, grown, (had, is)) =

@@ -16,7 +16,7 @@ none_exactly : (c : Codec) (text : List ℕ) (answer : DecoderAnswer) → IsDeco
 none_exactly c text (Ok None) is = (λ _. is.text_clause, λ _. refl)
 none_exactly c text (Ok (Some s)) is = (λ e. cc e, λ none. absurd (none (string_bytes s, is.text_clause)))
 none_exactly c text (Err NotUtf8) is = (λ e. cc e, λ none. absurd (let other = is.not_utf8_clause refl in none (other.0, other.1)))
-none_exactly c text (Err Memory) is = absurd (is.had_memory refl)
+none_exactly c text (Err Memory) is = absurd (is.not_out_of_memory refl)
 
 -- bytes that are no UTF-8 are not those of a text
 two_ways : (c : Codec) (text b : List ℕ) → Encodes c text b → IsUtf8 b → EncodesNoText c text → ⊥
@@ -27,7 +27,7 @@ other_exactly : (c : Codec) (text : List ℕ) (answer : DecoderAnswer) → IsDec
 other_exactly c text (Ok None) is = (λ e. cc e, λ other. absurd (is.text_clause (other.0, other.1)))
 other_exactly c text (Ok (Some s)) is = (λ e. cc e, λ other. absurd (two_ways c text (string_bytes s) is.text_clause (is.is_utf8 s refl) other))
 other_exactly c text (Err NotUtf8) is = (λ _. is.not_utf8_clause refl, λ _. refl)
-other_exactly c text (Err Memory) is = absurd (is.had_memory refl)
+other_exactly c text (Err Memory) is = absurd (is.not_out_of_memory refl)
 
 -- and it is a text of these UTF-8 bytes exactly where they are what is encoded
 text_exactly : (c : Codec) (text : List ℕ) (answer : DecoderAnswer) → IsDecoded c text answer
@@ -40,7 +40,7 @@ text_exactly c text (Ok (Some s)) is b utf8 = (
   λ encodes. (s, refl, once c text (string_bytes s) b is.text_clause encodes),
 )
 text_exactly c text (Err NotUtf8) is b utf8 = (λ (s, e, _). cc e, λ encodes. absurd (two_ways c text b encodes utf8 (is.not_utf8_clause refl)))
-text_exactly c text (Err Memory) is b utf8 = absurd (is.had_memory refl)
+text_exactly c text (Err Memory) is b utf8 = absurd (is.not_out_of_memory refl)
 
 -- so the answer is exactly what the text asks for
 pub exactly : DecodesExactly

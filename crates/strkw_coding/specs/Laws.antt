@@ -23,7 +23,7 @@ pub record IsDecoded (c : Codec) (text : List ℕ) (answer : DecoderAnswer) : Ty
   pub not_utf8_clause : IsErrOf answer NotUtf8 → EncodesNoText c text
   -- as of every text
   pub is_utf8 : (s : String Global) → answer ≡ Ok (Some s) → IsUtf8 (string_bytes s)
-  pub had_memory : answer ≡ Err Memory → ⊥
+  pub not_out_of_memory : answer ≡ Err Memory → ⊥
 
 -- such an answer is exactly what the text asks for
 abbrev pub DecodesExactly : Type 0

@@ -186,7 +186,7 @@ by_refusal settings d refused.Memory why p gives = rw gives tt
 -- the same of a value that is no plan
 pub by_problem : (settings : Draft → Settings) (d : Data) (e : PlanFault) (why : DocumentFault)
     → (e ≡ refused.Memory) ⊎ ((problem : Problem) × (plan_problem Places d ≡ Some problem) × Tells Places e problem) → gives_fault e why → IsWhy settings d why
-by_problem settings d e why (inl memory) gives = by_refusal settings d e why (inl memory) gives
+by_problem settings d e why (inl out_of_memory) gives = by_refusal settings d e why (inl out_of_memory) gives
 by_problem settings d e why (inr told) gives = by_refusal settings d e why (inr (inl told)) gives
 
 -- why the places of a good plan are not checked is why the document is not

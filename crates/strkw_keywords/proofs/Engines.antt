@@ -50,8 +50,9 @@ literal_stands outcome s d p o v is h asserts quiet stands =
     }
 
 -- out of memory, whatever the entry is
-pub memory_refused : {E : Type 0} (outcome : E → List ℕ → Outcome) (s : Settings) (d : Data) (r : Refused) → r ≡ Memory → IsPatternBuilt outcome s d (Err r)
-memory_refused outcome s d r e = let p = pattern_exists s (Some d) in record { entry = p.0; is_entry = p.1; answer = record { answer = inl e } }
+pub out_of_memory_refused : {E : Type 0} (outcome : E → List ℕ → Outcome) (s : Settings) (d : Data) (r : Refused) → r ≡ Memory
+    → IsPatternBuilt outcome s d (Err r)
+out_of_memory_refused outcome s d r e = let p = pattern_exists s (Some d) in record { entry = p.0; is_entry = p.1; answer = record { answer = inl e } }
 
 -- a value that is no string
 pub string_refused : {E : Type 0} (outcome : E → List ℕ → Outcome) (s : Settings) (d : Data) (r : Refused) → None ≡ as_str d

@@ -18,7 +18,7 @@ use Rattle.strkw_keywords.specs.declared.content_rule.ContentRule.{ContentRule}
 use Rattle.strkw_keywords.specs.Object.{Settings, Entry, nothing, Keyed, content_rule, media_type_entry, encoding_entry, schema_entry, min_entry, max_entry}
 use Rattle.strkw_keywords.specs.Object.{entry_of, value_at, is_given, is_fused, least_entry, greatest_entry, keywords, IsEntryOf, IsEntryAt, AreEntriesOf}
 use Rattle.strkw_keywords.specs.Object.{share, shares, refusal}
-use Rattle.strkw_keywords.specs.Compiled.{AddsNothing, IsBuilt, IsBuiltAt, IsPatternBuilt, IsCompiledAt, alone, min_share, max_share, out_of_memory, refused_at}
+use Rattle.strkw_keywords.specs.Compiled.{AddsNothing, IsBuilt, IsBuiltAt, IsPatternBuilt, IsCompiledAt, alone, min_share, max_share, out_of_memory_refusal, refused_at}
 
 -- ---- an entry that a value determines
 
@@ -87,10 +87,10 @@ max_nothing place o (Some d) e = absurd (none-some d e)
 
 -- what is refused before its place is written is refused with it, or memory was
 refused_so : (place : Place) (es : List Keyed) (r : Refused) (e : CompileError) → (r ≡ Memory) ⊎ (refusal place es ≡ Some (refused_at place r))
-    → (refusal_of e ≡ out_of_memory) ⊎ ((r ≡ Memory → ⊥) × (refusal_of e ≡ refused_at place r))
-    → (refusal_of e ≡ out_of_memory) ⊎ (refusal place es ≡ Some (refusal_of e))
+    → (refusal_of e ≡ out_of_memory_refusal) ⊎ ((r ≡ Memory → ⊥) × (refusal_of e ≡ refused_at place r))
+    → (refusal_of e ≡ out_of_memory_refusal) ⊎ (refusal place es ≡ Some (refusal_of e))
 refused_so place es r e h (inl out) = inl out
-refused_so place es r e (inl memory) (inr (other, is)) = absurd (other memory)
+refused_so place es r e (inl out_of_memory) (inr (other, is)) = absurd (other out_of_memory)
 refused_so place es r e (inr first) (inr (other, is)) = inr (first ∙ ap Some (sym is))
 
 -- nothing is built of an entry that adds nothing
@@ -203,7 +203,7 @@ module _ {E : Type 0} (outcome : E → List ℕ → Outcome) (s : Settings) (ms 
 
   -- so is a refusal with its place, or out of memory
   pub refused_located : (k : Keyword) (r : Refused) (e : CompileError) → IsBuiltAt outcome s ms k (Err r)
-      → (refusal_of e ≡ out_of_memory) ⊎ ((r ≡ Memory → ⊥) × (refusal_of e ≡ refused_at s.place r)) → IsCompiledAt outcome s ms k (Some (Err e))
+      → (refusal_of e ≡ out_of_memory_refusal) ⊎ ((r ≡ Memory → ⊥) × (refusal_of e ≡ refused_at s.place r)) → IsCompiledAt outcome s ms k (Some (Err e))
   refused_located k r e b told = record {
     entries = b.entries;
     are_entries = b.are_entries;

@@ -72,10 +72,10 @@ valid_without_first place ds lists site text fs h e =
 -- ---- out of memory
 
 -- where a text may have errors, or its demands take memory, out of memory is a verdict
-pub memory_verdict : (place : Place) (ds : List Demand) (lists : Lists) (site : Site) (text : List ℕ) (fault : Fault)
+pub out_of_memory_verdict : (place : Place) (ds : List Demand) (lists : Lists) (site : Site) (text : List ℕ) (fault : Fault)
     → fault ≡ Memory → (all_quiet ds ≡ true → NodeReports (placed place ds) lists site (Some text) [] → ⊥)
     → IsVerdict (placed place ds) lists site (Some text) (Err fault)
-memory_verdict place ds lists site text fault is h =
+out_of_memory_verdict place ds lists site text fault is h =
     subst (λ f. IsVerdict (placed place ds) lists site (Some text) (Err f)) (sym is)
     (λ calm. h (subst (λ l. all_quiet l ≡ true) (demands_of_placed place ds) calm))
 

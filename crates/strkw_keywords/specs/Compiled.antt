@@ -3,7 +3,7 @@ use Rattle.std.specs.Prelude.{◌≡◌, ◌⊎◌, ℕ, List, [], ◌∷◌, Op
 use Rattle.std.specs.Prelude.{if◌then◌else◌}
 use Rattle.serde_json.specs.Data.{Data, Members}
 use Rattle.strkw_report.specs.Paths.{below}
-use Rattle.strkw_report.specs.Refusals.{memory, Refusal, reason_of, refusal_of}
+use Rattle.strkw_report.specs.Refusals.{out_of_memory, Refusal, reason_of, refusal_of}
 use Rattle.strkw_report.specs.declared.refusal.CompileError.{CompileError}
 use Rattle.strkw_pattern.specs.declared.engine.Outcome.{Outcome}
 use Rattle.strkw_keywords.specs.declared.compile.Refused.{Refused}
@@ -20,8 +20,8 @@ use Rattle.strkw_keywords.specs.Places.{Place}
 use Rattle.strkw_keywords.specs.Validators.{place_of, assertions_of, remark_made, listed_remark}
 
 -- out of memory: it stands at the root
-abbrev pub out_of_memory : Refusal
-out_of_memory = record { reason = memory; location = [] }
+abbrev pub out_of_memory_refusal : Refusal
+out_of_memory_refusal = record { reason = out_of_memory; location = [] }
 
 -- the validator stands for these entries: none of them is refused, it asserts and notes what they
 -- do, and it stands where their object does
@@ -56,7 +56,7 @@ pub record AddsNothing (place : Place) (es : List Keyed) : Type 0 where
 abbrev pub refused_at : Place → Refused → Refusal
 refused_at place (Malformed keyword kind) =
     record { reason = reason_of kind; location = below place.schema (keyword_name keyword) }
-refused_at place Memory = out_of_memory
+refused_at place Memory = out_of_memory_refusal
 
 abbrev pub IsBuiltCase : {E : Type 0} → (E → List ℕ → Outcome) → Place → List Keyed
     → Result (Option (Validator E)) Refused → Type 0
@@ -88,7 +88,7 @@ abbrev pub IsCompiledCase : {E : Type 0} → (E → List ℕ → Outcome) → Pl
     → Option (Result (Validator E) CompileError) → Type 0
 IsCompiledCase outcome place es None = AddsNothing place es
 IsCompiledCase outcome place es (Some (Ok v)) = StandsFor outcome place es v
-IsCompiledCase outcome place es (Some (Err e)) = (refusal_of e ≡ out_of_memory)
+IsCompiledCase outcome place es (Some (Err e)) = (refusal_of e ≡ out_of_memory_refusal)
     ⊎ (refusal place es ≡ Some (refusal_of e))
 
 -- the answer for some entries: that they add nothing, what stands for them, or the first refusal,

@@ -6,7 +6,7 @@ ghost use Rattle.serde_json.specs.Find.{get_member};
 ghost use Rattle.serde_json.specs.View.{members_view, view};
 ghost use Rattle.strkw_report.specs.Paths.{below};
 ghost use Rattle.strkw_report.specs.Refusals.{refusal_of};
-ghost use Rattle.strkw_keywords.specs.Compiled.{IsBuiltAt, IsCompiledAt, out_of_memory, refused_at};
+ghost use Rattle.strkw_keywords.specs.Compiled.{IsBuiltAt, IsCompiledAt, out_of_memory_refusal, refused_at};
 ghost use Rattle.strkw_keywords.specs.Keywords.{keyword_name};
 ghost use Rattle.strkw_keywords.specs.Object.{no_string, value_at};
 ghost use Rattle.strkw_keywords.specs.Places.{Place};
@@ -185,7 +185,7 @@ pub(crate) fn origin_of<B>(ctx: &Context<'_, B>) -> Result<Origin, AllocError>
 // The refusal with its place; out of memory stands at the root.
 pub(crate) fn refusal(alloc: Global, location: &Location, refused: Refused) -> CompileError
     ensures { (place : Place) → place.schema ≡ location.now
-        → (refusal_of result ≡ out_of_memory)
+        → (refusal_of result ≡ out_of_memory_refusal)
         ⊎ ((refused ≡ Refused.Memory → ⊥) × (refusal_of result ≡ refused_at place refused)) }
 {
     if let Refused::Malformed(keyword, kind) = refused {

@@ -7,7 +7,7 @@ use Rattle.serde_json.specs.Data.{Members}
 use Rattle.serde_json.specs.Written.{has_float}
 use Rattle.strkw_report.specs.Refusals.{Refusal, prints_float, reason_of, refusal_of}
 use Rattle.strkw_report.specs.declared.refusal.CompileError.{CompileError}
-use Rattle.strkw_keywords.specs.Compiled.{out_of_memory}
+use Rattle.strkw_keywords.specs.Compiled.{out_of_memory_refusal}
 use Rattle.strkw_keywords.specs.Object.{FirstRefusal, remarks_on, Notes, Settings, Entry, nothing, malformed, gives, Keyed, keywords, AreEntries, remark_by}
 use Rattle.strkw_keywords.specs.Object.{remarked, refusal_or, refusal}
 use Rattle.strkw_keywords.specs.declared.keyword.Keyword.{Keyword}
@@ -99,7 +99,7 @@ pub refusal_printable : (s : Settings) (ms : Members) (why : Refusal) → FirstR
 refusal_printable s ms why (es, are, first) = subst PrintsNoFloat first (first_printable s.place es (entries_printable s ms es are))
 
 -- out of memory included
-pub refused_prints : (s : Settings) (ms : Members) (e : CompileError) → (refusal_of e ≡ out_of_memory) ⊎ FirstRefusal s ms (Some (refusal_of e))
+pub refused_prints : (s : Settings) (ms : Members) (e : CompileError) → (refusal_of e ≡ out_of_memory_refusal) ⊎ FirstRefusal s ms (Some (refusal_of e))
     → prints_float (reason_of e.kind) ≡ false
 refused_prints s ms e (inl none) = ap (λ r. prints_float r.reason) none
 refused_prints s ms e (inr first) = refusal_printable s ms (refusal_of e) first

@@ -9,7 +9,7 @@ use Rattle.strkw_keywords.specs.declared.keyword.Keyword.{Keyword}
 use Rattle.strkw_keywords.specs.declared.keyword.Keyword.TheVariants.{ContentSchema}
 use Rattle.strkw_keywords.specs.declared.validator.Validator.{Validator}
 use Rattle.strkw_keywords.specs.Object.{Settings, Keyed, AreEntries, AreEntriesOf, is_fused, refusal, keywords, share, shares, FirstRefusal}
-use Rattle.strkw_keywords.specs.Compiled.{out_of_memory, IsCompiledAt}
+use Rattle.strkw_keywords.specs.Compiled.{out_of_memory_refusal, IsCompiledAt}
 use Rattle.strkw_keywords.specs.declared.values.Values.{Values}
 use Rattle.strkw_keywords.specs.Values.{AreValuesOf, held, members_of}
 use Rattle.strkw_keywords.proofs.Entries.{entries_of_exist}
@@ -61,18 +61,18 @@ module _ {E : Type 0} (outcome : E → List ℕ → Outcome) (s : Settings) (ms 
 
   -- the first refusal of the entries, or out of memory
   abbrev pub IsRefusal : CompileError → Type 0
-  IsRefusal e = (refusal_of e ≡ out_of_memory) ⊎ FirstRefusal s ms (Some (refusal_of e))
+  IsRefusal e = (refusal_of e ≡ out_of_memory_refusal) ⊎ FirstRefusal s ms (Some (refusal_of e))
 
   -- a first refusal behind entries that are not refused is the first of all, or out of memory
-  refused_there : (before at later : List Keyed) (e : CompileError) → refusal s.place before ≡ None → (refusal_of e ≡ out_of_memory)
+  refused_there : (before at later : List Keyed) (e : CompileError) → refusal s.place before ≡ None → (refusal_of e ≡ out_of_memory_refusal)
       ⊎ (refusal s.place at ≡ Some (refusal_of e))
-      → (refusal_of e ≡ out_of_memory) ⊎ (refusal s.place (before ++ (at ++ later)) ≡ Some (refusal_of e))
+      → (refusal_of e ≡ out_of_memory_refusal) ⊎ (refusal s.place (before ++ (at ++ later)) ≡ Some (refusal_of e))
   refused_there before at later e good (inl none) = inl none
   refused_there before at later e good (inr first) = inr (refusal-passed s.place before (at ++ later) good
       ∙ refusal-found s.place at later (refusal_of e) first)
 
   -- the first refusal of an object's entries, or out of memory, is the refusal of the object
-  first_of : (es : List Keyed) (e : CompileError) → AreEntries s ms es → (refusal_of e ≡ out_of_memory) ⊎ (refusal s.place es ≡ Some (refusal_of e))
+  first_of : (es : List Keyed) (e : CompileError) → AreEntries s ms es → (refusal_of e ≡ out_of_memory_refusal) ⊎ (refusal s.place es ≡ Some (refusal_of e))
       → IsRefusal e
   first_of es e are (inl none) = inl none
   first_of es e are (inr first) = inr (es, are, first)

@@ -4,7 +4,7 @@ ghost use Rattle.std.specs.Prelude.{◌≡◌, ◌⊎◌, IfErr, IfOk, None, Som
 ghost use Rattle.serde_json.specs.Data.{Members};
 ghost use Rattle.serde_json.specs.View.{members_view};
 ghost use Rattle.strkw_report.specs.Refusals.{prints_float, reason_of, refusal_of};
-ghost use Rattle.strkw_keywords.specs.Compiled.{IsCompiledAt, out_of_memory};
+ghost use Rattle.strkw_keywords.specs.Compiled.{IsCompiledAt, out_of_memory_refusal};
 ghost use Rattle.strkw_keywords.specs.Demands.{IsInUse};
 ghost use Rattle.strkw_keywords.specs.Handed.{lists_of, settings_of};
 ghost use Rattle.strkw_keywords.specs.Object.{FirstRefusal};
@@ -45,7 +45,7 @@ pub fn compile_strings<B: EngineBuilder>(
         (members_view object.now.entries) k) }
     ensures in_use { IfOk result (λ k. IsInUse (keywords_demands B.Engine.outcome k)
         (lists_of admits accepts is_encoding decoding ctx.now.checks)) }
-    ensures refused { IfErr result (λ e. (refusal_of e ≡ out_of_memory) ⊎ FirstRefusal
+    ensures refused { IfErr result (λ e. (refusal_of e ≡ out_of_memory_refusal) ⊎ FirstRefusal
         (settings_of B.takes B.outcome admits accepts is_encoding decoding ctx.now)
         (members_view object.now.entries) (Some (refusal_of e))) }
     // So each refusal has its text.
@@ -69,7 +69,7 @@ pub fn compile_owned<B: EngineBuilder>(
         (members_view object.entries) k) }
     ensures in_use { IfOk result (λ k. IsInUse (keywords_demands B.Engine.outcome k)
         (lists_of admits accepts is_encoding decoding ctx.now.checks)) }
-    ensures refused { IfErr result (λ e. (refusal_of e ≡ out_of_memory) ⊎ FirstRefusal
+    ensures refused { IfErr result (λ e. (refusal_of e ≡ out_of_memory_refusal) ⊎ FirstRefusal
         (settings_of B.takes B.outcome admits accepts is_encoding decoding ctx.now)
         (members_view object.entries) (Some (refusal_of e))) }
     // So each refusal has its text.
@@ -93,7 +93,7 @@ pub fn compile_values<B: EngineBuilder>(
     ensures in_use { IfOk result (λ k. IsInUse (keywords_demands B.Engine.outcome k)
         (lists_of admits accepts is_encoding decoding ctx.now.checks)) }
     ensures refused { (ms : Members) → AreOwnedOf ms values.old
-        → IfErr result (λ e. (refusal_of e ≡ out_of_memory) ⊎ FirstRefusal
+        → IfErr result (λ e. (refusal_of e ≡ out_of_memory_refusal) ⊎ FirstRefusal
         (settings_of B.takes B.outcome admits accepts is_encoding decoding ctx.now)
         ms (Some (refusal_of e))) }
     // So each refusal has its text.
@@ -125,7 +125,7 @@ fn compile_beside<B: EngineBuilder>(
     ensures refused { (ms : Members) → AreOthersOf ms values.now
         → IsCompiledAt B.Engine.outcome (settings_of B.takes B.outcome admits accepts is_encoding
         decoding ctx.now) ms Keyword.ContentSchema schema
-        → IfErr result (λ e. (refusal_of e ≡ out_of_memory)
+        → IfErr result (λ e. (refusal_of e ≡ out_of_memory_refusal)
         ⊎ FirstRefusal (settings_of B.takes B.outcome admits accepts is_encoding decoding ctx.now)
         ms (Some (refusal_of e))) }
 {

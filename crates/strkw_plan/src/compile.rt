@@ -4,7 +4,7 @@ ghost use Rattle.std.specs.Prelude.{◌≡◌, ◌≢◌, ◌⊎◌, Some, IfOk,
 ghost use Rattle.serde_json.specs.Data.{Data};
 ghost use Rattle.serde_json.specs.Find.{as_object};
 ghost use Rattle.serde_json.specs.View.{members_view, view};
-ghost use Rattle.strkw_keywords.specs.Compiled.{out_of_memory};
+ghost use Rattle.strkw_keywords.specs.Compiled.{out_of_memory_refusal};
 ghost use Rattle.strkw_keywords.specs.Demands.{IsInUse};
 ghost use Rattle.strkw_keywords.specs.Handed.{lists_of};
 ghost use Rattle.strkw_keywords.specs.Object.{FirstRefusal, Settings};
@@ -12,7 +12,7 @@ ghost use Rattle.strkw_object.specs.Compiled.{IsCompiledFrom, keywords_demands};
 ghost use Rattle.strkw_plan.specs.Compiled.{IsCompiledFor, Refuses};
 ghost use Rattle.strkw_plan.specs.Messages.{IsRefused};
 ghost use Rattle.strkw_plan.specs.Rules.{rules_settings};
-ghost use Rattle.strkw_report.specs.Refusals.{memory, reason_of, refusal_of};
+ghost use Rattle.strkw_report.specs.Refusals.{out_of_memory, reason_of, refusal_of};
 
 use crate::faults::{PlanFault, schema_place};
 use crate::kind::PlanKind;
@@ -67,7 +67,7 @@ fn compile_object<B: EngineBuilder>(
         IfOk result (λ k. IsInUse (keywords_demands B.Engine.outcome k) lists) }
     ensures refused { let s =
         rules_settings B.takes B.outcome admits accepts is_encoding decoding rules.now draft in
-        IfErr result (λ e. (refusal_of e ≡ out_of_memory)
+        IfErr result (λ e. (refusal_of e ≡ out_of_memory_refusal)
         ⊎ FirstRefusal s (members_view schema.now.entries) (Some (refusal_of e))) }
 {
     let ctx = rules.context(alloc, draft);
@@ -77,7 +77,7 @@ fn compile_object<B: EngineBuilder>(
 // The fault of a plan of which the schema object of this name is refused so.
 fn fault_of(alloc: Global, kind: PlanKind, name: &str, refusal: CompileError) -> PlanFault
     ensures { (s : Settings) (schema : Data)
-        → (reason_of refusal.kind ≢ memory → IsRefused s schema (refusal_of refusal))
+        → (reason_of refusal.kind ≢ out_of_memory → IsRefused s schema (refusal_of refusal))
         → Refuses s kind name.now schema result }
 {
     if let CompileErrorKind::Memory = refusal.kind {

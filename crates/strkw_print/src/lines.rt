@@ -6,7 +6,7 @@ ghost use Rattle.serde_json.specs.Written.{compact_text, has_float};
 ghost use Rattle.strkw_report.specs.Failures.{kind_failed};
 ghost use Rattle.strkw_report.specs.Kinds.{Report, message};
 ghost use Rattle.strkw_report.specs.Paths.{below};
-ghost use Rattle.strkw_report.specs.Refusals.{memory, prints_float, reason_of, refusal_of};
+ghost use Rattle.strkw_report.specs.Refusals.{out_of_memory, prints_float, reason_of, refusal_of};
 ghost use Rattle.strkw_keywords.specs.Demands.{IsInUse};
 ghost use Rattle.strkw_keywords.specs.Errors.{NodeReports, reported};
 ghost use Rattle.strkw_keywords.specs.Findings.{finding_of};
@@ -123,7 +123,7 @@ pub fn push_refusal(
     requires { prints_float (reason_of refusal.now.kind) ≡ false }
     ensures ok { OnOk result (out.new.items
         ≡ out.old.items ++ refused_line (refusal_of refusal.now)) }
-    ensures out_of_memory { OnOk result (reason_of refusal.now.kind ≢ memory) }
+    ensures out_of_memory { OnOk result (reason_of refusal.now.kind ≢ out_of_memory) }
     ensures err { OnErr result ((more : List ℕ) × (out.new.items ≡ out.old.items ++ more)) }
 {
     if matches!(refusal.kind, CompileErrorKind::Memory) {

@@ -75,14 +75,14 @@ by_refusal settings plan refused.Memory why p gives = rw gives tt
 -- what is wrong with a plan is why the file is not checked
 pub why_of_problem : (settings : Draft → Settings) (plan : Data) (e : PlanFault) (why : TableFault)
     → (e ≡ refused.Memory) ⊎ ((p : Problem) × (plan_problem Columns plan ≡ Some p) × Tells Columns e p) → GivesOfPlan e why → IsWhy settings plan why
-why_of_problem settings plan e why (inl memory) gives = by_refusal settings plan e why (inl memory) gives
+why_of_problem settings plan e why (inl out_of_memory) gives = by_refusal settings plan e why (inl out_of_memory) gives
 why_of_problem settings plan e why (inr told) gives = by_refusal settings plan e why (inr (inl told)) gives
 
 -- why a schema of a good plan is not compiled is why the file is not checked
 pub why_of_schemas : (settings : Draft → Settings) (plan : Data) (p : Plan) (e : PlanFault) (why : TableFault) → plan_problem Columns plan ≡ None
     → plan_of Columns plan ≡ Some p
     → RefusesAmong (settings p.draft) Columns p.schemas e → GivesOfPlan e why → IsWhy settings plan why
-why_of_schemas settings plan p e why good is (inl memory) gives = by_refusal settings plan e why (inl memory) gives
+why_of_schemas settings plan p e why good is (inl out_of_memory) gives = by_refusal settings plan e why (inl out_of_memory) gives
 why_of_schemas settings plan p e why good is (inr (name, schema, among, refuses)) gives =
     by_refusal settings plan e why (inr (inr (p, good, is, name, schema, among, refuses))) gives
 

@@ -13,6 +13,6 @@ pub returns-in_default : goal.returns-in_default
 returns-in_default c = λ (b, is).
     let ok = decode_of-encoding c.args.text.now b is.are_bytes (is.is_code ∙ sym (code-base16 b is.are_bytes)) in
     elim c.in-Err.ensures.err [
-      | inl memory ↦ absurd (c.in_default.not-OutOfMemory memory)
+      | inl out_of_memory ↦ absurd (c.in_default.not-OutOfMemory out_of_memory)
       | inr err ↦ refused _ b _ ok err
     ]

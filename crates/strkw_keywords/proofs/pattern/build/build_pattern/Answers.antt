@@ -3,7 +3,7 @@ use Rattle.std.specs.Str.{chars}
 use Rattle.std.proofs.lemmas.Result.{err_from_is_err_and}
 use Rattle.serde_json.specs.View.{view}
 use Rattle.strkw_pattern.specs.Matcher.{literal_outcome, matcher_of}
-use Rattle.strkw_keywords.proofs.Engines.{engine_stands, literal_stands, string_refused, regex_refused, memory_refused}
+use Rattle.strkw_keywords.proofs.Engines.{engine_stands, literal_stands, string_refused, regex_refused, out_of_memory_refused}
 use Rattle.strkw_keywords.proofs.pattern.build.build_pattern.Goals as goal
 
 pub returns-in-Some-2 : goal.returns-in-Some-2
@@ -25,22 +25,22 @@ returns-in_default g c = string_refused _ _ (view c.args.value.now) _ c.in_defau
 pub returns-in_err-pattern : goal.returns-in_err-pattern
 returns-in_err-pattern g c =
     let (e, is, same) = err_from_is_err_and c.from_residual.result c.from_residual.ensures.1 in
-    rw is (memory_refused _ _ (view c.args.value.now) e same)
+    rw is (out_of_memory_refused _ _ (view c.args.value.now) e same)
 
 pub returns-in_err-literal : goal.returns-in_err-literal
 returns-in_err-literal g c =
     let (e, is, same) = err_from_is_err_and c.from_residual-in_err-literal.result c.from_residual-in_err-literal.ensures.1 in
-    rw is (memory_refused _ _ (view c.args.value.now) e same)
+    rw is (out_of_memory_refused _ _ (view c.args.value.now) e same)
 
 pub returns-in_err-origin_of : goal.returns-in_err-origin_of
 returns-in_err-origin_of g c =
     let (e, is, same) = err_from_is_err_and c.from_residual-in_err-origin_of.result c.from_residual-in_err-origin_of.ensures.1 in
-    rw is (memory_refused _ _ (view c.args.value.now) e same)
+    rw is (out_of_memory_refused _ _ (view c.args.value.now) e same)
 
 pub returns-in_err-origin-in-Ok : goal.returns-in_err-origin-in-Ok
 returns-in_err-origin-in-Ok g c =
     let (e, is, same) = err_from_is_err_and c.from_residual-in_err-origin-in-Ok.result c.from_residual-in_err-origin-in-Ok.ensures.1 in
-    rw is (memory_refused _ _ (view c.args.value.now) e same)
+    rw is (out_of_memory_refused _ _ (view c.args.value.now) e same)
 
 pub returns-in-Err-Pattern : goal.returns-in-Err-Pattern
 returns-in-Err-Pattern g c =
@@ -48,4 +48,4 @@ returns-in-Err-Pattern g c =
     (λ place. search rules)
 
 pub returns-in-Err-Memory : goal.returns-in-Err-Memory
-returns-in-Err-Memory g c = memory_refused _ _ (view c.args.value.now) _ refl
+returns-in-Err-Memory g c = out_of_memory_refused _ _ (view c.args.value.now) _ refl
