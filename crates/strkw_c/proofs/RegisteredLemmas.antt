@@ -6,7 +6,7 @@ use Rattle.strkw_keywords.specs.Meanings.{Row, no_lists}
 use Rattle.strkw_companions.specs.declared.companion.Companion.{Companion}
 use Rattle.strkw_companions.specs.declared.companion.Companion.TheVariants.{Email, IdnEmail, IdnHostname, Regex}
 use Rattle.strkw_companions.specs.Companions.{name_of, admits}
-use Rattle.strkw_c.specs.Settings.{companion_row, lists_for, registered}
+use Rattle.strkw_c.specs.Settings.{companion_row, lists_for, registered_companions}
 
 -- two rows that are others, one by one: so is the list of them
 both : {a b x y : Row} → a ≡ x → b ≡ y → a ∷ b ∷ [] ≡ x ∷ y ∷ []
@@ -18,9 +18,9 @@ all_four p q s t = ap₂ (λ x rest. x ∷ rest) p (ap₂ (λ y rest. y ∷ rest
 
 -- four rows that read as the companions do: so many of them as are registered read as those
 pub rows_registered : {N : Type 0} (read : N → Row) (r s t u : N) (draft : Draft) (companions : Bool) (count : ℕ)
-    → count ≡ length (registered draft companions)
+    → count ≡ length (registered_companions draft companions)
     → read r ≡ companion_row Email → read s ≡ companion_row Regex → read t ≡ companion_row IdnEmail → read u ≡ companion_row IdnHostname
-    → map read (take count (r ∷ s ∷ t ∷ u ∷ [])) ≡ map companion_row (registered draft companions)
+    → map read (take count (r ∷ s ∷ t ∷ u ∷ [])) ≡ map companion_row (registered_companions draft companions)
 rows_registered read r s t u draft false count e p q v w = ap (λ n. map read (take n (r ∷ s ∷ t ∷ u ∷ []))) e
 rows_registered read r s t u Draft4 true count e p q v w = ap (λ n. map read (take n (r ∷ s ∷ t ∷ u ∷ []))) e ∙ both p q
 rows_registered read r s t u Draft6 true count e p q v w = ap (λ n. map read (take n (r ∷ s ∷ t ∷ u ∷ []))) e ∙ both p q
@@ -30,7 +30,7 @@ rows_registered read r s t u Draft202012 true count e p q v w = ap (λ n. map re
 
 -- so the lists with these rows are those of the settings
 pub lists_registered : {N : Type 0} (read : N → Row) (r s t u : N) (draft : Draft) (companions : Bool) (count : ℕ) (items : List N)
-    → items ≡ r ∷ s ∷ t ∷ u ∷ [] → count ≡ length (registered draft companions)
+    → items ≡ r ∷ s ∷ t ∷ u ∷ [] → count ≡ length (registered_companions draft companions)
     → read r ≡ companion_row Email → read s ≡ companion_row Regex → read t ≡ companion_row IdnEmail → read u ≡ companion_row IdnHostname
     → record no_lists { formats = map read (take count items) } ≡ lists_for draft companions
 lists_registered read r s t u draft companions count items are e p q v w =

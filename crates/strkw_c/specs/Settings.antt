@@ -37,12 +37,12 @@ abbrev pub companion_row : Companion → Row
 companion_row c = record { name = name_of c; admits = admits c }
 
 -- those that are registered: the companions of the draft, or none
-abbrev pub registered : Draft → Bool → List Companion
-registered draft companions = if companions then companions_of draft else []
+abbrev pub registered_companions : Draft → Bool → List Companion
+registered_companions draft companions = if companions then companions_of draft else []
 
 abbrev pub lists_for : Draft → Bool → Lists
 lists_for draft companions =
-    record no_lists { formats = map companion_row (registered draft companions) }
+    record no_lists { formats = map companion_row (registered_companions draft companions) }
 
 -- the object stands at the root, and the patterns are those of ECMA-262 that `strkw_ecma` takes:
 -- `IsExact` of its laws says which, and what they match

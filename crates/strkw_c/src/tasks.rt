@@ -4,7 +4,7 @@ ghost use Rattle.std.specs.Prelude.{◌≡◌, ◌≤◌, ℕ, List, Option, IfE
 ghost use Rattle.strkw_companions.specs.Companions as companions;
 ghost use Rattle.strkw_companions.specs.declared.companion.Companion.TheVariants.{Email, IdnEmail, IdnHostname, Regex};
 ghost use Rattle.strkw_keywords.specs.Handed.{lists_of};
-ghost use Rattle.strkw_c.specs.Settings.{lists_for, registered, settings_by, settings_for};
+ghost use Rattle.strkw_c.specs.Settings.{lists_for, registered_companions, settings_by, settings_for};
 ghost use Rattle.strkw_c.specs.Verdicts.{FailsOn};
 
 use crate::schemas::Failure;
@@ -133,7 +133,7 @@ fn run_by<T: Task>(
 
 // How many companions are formats that are checked.
 fn registered_count(draft: Draft, choices: Choices) -> usize
-    ensures count { result ≡ length (registered draft choices.companions) }
+    ensures count { result ≡ length (registered_companions draft choices.companions) }
     ensures few { result ≤ 4 }
 {
     if choices.companions {

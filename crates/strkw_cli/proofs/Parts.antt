@@ -16,7 +16,7 @@ use Rattle.strkw_cli.specs.Request.{flag_in, is_request_key, has_only_request_ke
 use Rattle.strkw_object.specs.declared.values.OwnedValues.{OwnedValues}
 use Rattle.strkw_cli.specs.Both.{AreBoth}
 use Rattle.strkw_cli.specs.Borrowed.{IsObject}
-use Rattle.strkw_cli.specs.Parts.{AreParts, Takes, after, instance_of}
+use Rattle.strkw_cli.specs.Parts.{AreParts, Takes, part_after, instance_of}
 use Rattle.strkw_cli.specs.declared.request.Parts.{Parts}
 use Rattle.strkw_cli.specs.declared.request.Schema.{Schema}
 
@@ -32,10 +32,10 @@ by_name f name k false is d ms =
 
 -- the part of a name, after a member was taken, is that of the members with this one
 part_taken : {A : Type 0} (f : Option Data → A) (name k : List ℕ) (d : Data) (ms : Members) (was is : A) → was ≡ f (get_member name ms)
-    → is ≡ after name k (f (Some d)) was
+    → is ≡ part_after name k (f (Some d)) was
     → is ≡ f (get_member name (put k d ms))
 part_taken f name k d ms was is before takes =
-    takes ∙ ap (after name k (f (Some d))) before ∙ sym (by_name f name k (bytes_eq name k) refl d ms)
+    takes ∙ ap (part_after name k (f (Some d))) before ∙ sym (by_name f name k (bytes_eq name k) refl d ms)
 
 -- the schema object, after a member was taken, is that of the members with this one
 schema_taken : (name : List ℕ) (d : Data) (v w : OwnedValues) (was is : Option Schema) (ms : Members)
@@ -128,7 +128,7 @@ module _ (name : List ℕ) (d : Data) (p : Parts) (draft : name ≡ codes "draft
   ) refl
 
   -- a part of another name is as it was
-  as_it_was : {A : Type 0} (own was : A) (part : List ℕ) → (name ≡ part → ⊥) → was ≡ after part name own was
+  as_it_was : {A : Type 0} (own was : A) (part : List ℕ) → (name ≡ part → ⊥) → was ≡ part_after part name own was
   as_it_was own was part apart = sym (ap (λ same. if same then own else was) (differ part name apart))
 
   -- a member of such a name changes no part, but then not all names are a request's

@@ -32,22 +32,23 @@ pub record AreParts (cached : Bool) (values : OwnedValues) (p : Parts) (ms : Mem
   pub right : IfSome p.schema (IsRight cached)
 
 -- what a member of the name `taken` makes of the part of this name: its own, or what it was
-abbrev pub after : {A : Type 0} → List ℕ → List ℕ → A → A → A
-after name taken own was = if bytes_eq name taken then own else was
+abbrev pub part_after : {A : Type 0} → List ℕ → List ℕ → A → A → A
+part_after name taken own was = if bytes_eq name taken then own else was
 
 -- A member of this name and value was taken: its part is replaced, and the others are as they were.
 -- The values are read anew with the schema object, and with no other part.
 pub record Takes (cached : Bool) (name : List ℕ) (d : Data) (v w : OwnedValues) (p q : Parts) : Type 0
   where
-    pub draft : q.draft ≡ after (codes "draft") name (draft_in d) p.draft
+    pub draft : q.draft ≡ part_after (codes "draft") name (draft_in d) p.draft
     pub schema : MatchBool (bytes_eq (codes "schema") name)
         (AreBoth (IsObject w) q.schema (as_object d)) ((q.schema ≡ p.schema) × (w ≡ v))
-    pub instance : instance_of q ≡ after (codes "instance") name (Some (as_str d)) (instance_of p)
+    pub instance : instance_of q ≡ part_after (codes "instance") name (Some (as_str d))
+        (instance_of p)
     pub validate_formats : q.validate_formats
-        ≡ after (codes "validate_formats") name (flag_in (Some d)) p.validate_formats
+        ≡ part_after (codes "validate_formats") name (flag_in (Some d)) p.validate_formats
     pub ignore_unknown_formats : q.ignore_unknown_formats
-        ≡ after (codes "ignore_unknown_formats") name (flag_in (Some d))
+        ≡ part_after (codes "ignore_unknown_formats") name (flag_in (Some d))
         p.ignore_unknown_formats
-    pub fold : q.fold ≡ after (codes "fold") name (flag_in (Some d)) p.fold
+    pub fold : q.fold ≡ part_after (codes "fold") name (flag_in (Some d)) p.fold
     pub known : q.has_only_request_keys ≡ (is_request_key name && p.has_only_request_keys)
     pub right : IfSome p.schema (IsRight cached) → IfSome q.schema (IsRight cached)

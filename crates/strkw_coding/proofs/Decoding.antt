@@ -2,7 +2,7 @@
 use Rattle.std.proofs.Common.{◌≡◌, List, ℕ, Option, Some, None, Result, Ok, Err, refl, sym, ◌∙◌}
 use Rattle.std.specs.Prelude.{◌↔◌, IfOk, MatchOption}
 use Rattle.std.specs.declared.alloc.AllocError.{AllocError}
-use Rattle.strkw_coding.specs.Rfc4648.{IsEncoding, Reads, AreBytes, alphabet, code, folded}
+use Rattle.strkw_coding.specs.Rfc4648.{IsEncoding, Reads, AreBytes, alphabet, code, folded_text}
 use Rattle.strkw_coding.specs.Blocks.{IsCodeOf, code32}
 use Rattle.strkw_coding.specs.declared.codec.Codec.TheVariants.{Base32, Base32Hex}
 use Rattle.strkw_coding.specs.declared.codec.Codec.{Codec}
@@ -17,7 +17,7 @@ WritesCode c encoded = (b : List ℕ) → AreBytes b → encoded b ≡ code c b
 
 -- what it wrote is an encoding
 -- a text is an encoding exactly where it is what such an encoder writes of some bytes
-pub encoding_by : (c : Codec) (encoded : List ℕ → List ℕ) (text : List ℕ) → folded c text ≡ text → WritesCode c encoded
+pub encoding_by : (c : Codec) (encoded : List ℕ → List ℕ) (text : List ℕ) → folded_text c text ≡ text → WritesCode c encoded
     → IsEncoding c text ↔ IsCodeOf encoded text
 encoding_by c encoded text same is = (
   λ (b, e). (b, e.are_bytes, sym same ∙ e.is_code ∙ sym (is b e.are_bytes)),
@@ -25,7 +25,7 @@ encoding_by c encoded text same is = (
 )
 
 -- and what its decoder reads, the text encodes
-pub reads_by : {V : Type 0} (items : V → List ℕ) (c : Codec) (encoded : List ℕ → List ℕ) (text : List ℕ) → folded c text ≡ text → WritesCode c encoded
+pub reads_by : {V : Type 0} (items : V → List ℕ) (c : Codec) (encoded : List ℕ → List ℕ) (text : List ℕ) → folded_text c text ≡ text → WritesCode c encoded
     → (r : Result (Option V) AllocError)
     → IfOk r (λ o. MatchOption o (IsCodeOf encoded text → ⊥) (λ v. AreBytes (items v) × (text ≡ encoded (items v))))
     → IfOk r (Reads items c text)

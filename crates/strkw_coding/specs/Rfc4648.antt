@@ -83,17 +83,17 @@ AreBytes bytes = (i : ℕ) → slice_index bytes i < 256
 -- a text as its encoding sees it: base16 takes letters of either case (section 8). For the others a
 -- letter in the other case is a character outside the alphabet, which makes a text no encoding
 -- (section 3.3)
-abbrev pub folded : Codec → List ℕ → List ℕ
-folded Base64 text = text
-folded Base64Url text = text
-folded Base32 text = text
-folded Base32Hex text = text
-folded Base16 text = str_to_ascii_uppercase text
+abbrev pub folded_text : Codec → List ℕ → List ℕ
+folded_text Base64 text = text
+folded_text Base64Url text = text
+folded_text Base32 text = text
+folded_text Base32Hex text = text
+folded_text Base16 text = str_to_ascii_uppercase text
 
 -- the text encodes these bytes
 pub record Encodes (c : Codec) (text bytes : List ℕ) : Type 0 where
   pub are_bytes : AreBytes bytes
-  pub is_code : folded c text ≡ code c bytes
+  pub is_code : folded_text c text ≡ code c bytes
 
 -- the text encodes some bytes
 abbrev pub IsEncoding : Codec → List ℕ → Type 0

@@ -48,12 +48,12 @@ IsOfCompanion IdnEmail text = IsIdnMailbox text
 IsOfCompanion IdnHostname text = IsIdnHostName text
 
 -- it does, or it does not
-pub decided : (c : Companion) (text : List ℕ) → Decision (IsOfCompanion c text)
-decided Email text = mailbox text
-decided Regex text = regex text
-decided IdnEmail text = idn_mailbox text
-decided IdnHostname text = idn_host_name text
+pub decision : (c : Companion) (text : List ℕ) → Decision (IsOfCompanion c text)
+decision Email text = mailbox text
+decision Regex text = regex text
+decision IdnEmail text = idn_mailbox text
+decision IdnHostname text = idn_host_name text
 
 -- so this test is true exactly where it does
 abbrev pub admits : Companion → List ℕ → Bool
-admits c text = holds (decided c text)
+admits c text = holds (decision c text)

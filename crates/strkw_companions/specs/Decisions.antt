@@ -33,24 +33,24 @@ pub by_other : {P Q : Type 0} → P ↔ Q → Decision P → Decision Q
 by_other same (inl p) = inl (same.0 p)
 by_other same (inr not_p) = inr (λ q. not_p (same.1 q))
 
-pub both : {P Q : Type 0} → Decision P → Decision Q → Decision (P × Q)
-both (inl p) (inl q) = inl (p, q)
-both (inl p) (inr not_p) = inr (λ h. not_p h.1)
-both (inr not_p) d = inr (λ h. not_p h.0)
+pub decide_both : {P Q : Type 0} → Decision P → Decision Q → Decision (P × Q)
+decide_both (inl p) (inl q) = inl (p, q)
+decide_both (inl p) (inr not_p) = inr (λ h. not_p h.1)
+decide_both (inr not_p) d = inr (λ h. not_p h.0)
 
-pub either : {P Q : Type 0} → Decision P → Decision Q → Decision (P ⊎ Q)
-either (inl p) d = inl (inl p)
-either (inr not_p) (inl q) = inl (inr q)
-either (inr not_p) (inr not_q) = inr (elim [ inl p ↦ not_p p | inr q ↦ not_q q ])
+pub decide_either : {P Q : Type 0} → Decision P → Decision Q → Decision (P ⊎ Q)
+decide_either (inl p) d = inl (inl p)
+decide_either (inr not_p) (inl q) = inl (inr q)
+decide_either (inr not_p) (inr not_q) = inr (elim [ inl p ↦ not_p p | inr q ↦ not_q q ])
 
-pub neither : {P : Type 0} → Decision P → Decision (P → ⊥)
-neither (inl p) = inr (λ not_p. not_p p)
-neither (inr not_p) = inl not_p
+pub decide_negation : {P : Type 0} → Decision P → Decision (P → ⊥)
+decide_negation (inl p) = inr (λ not_p. not_p p)
+decide_negation (inr not_p) = inl not_p
 
-pub implied : {P Q : Type 0} → Decision P → Decision Q → Decision (P → Q)
-implied (inl p) (inl q) = inl (λ _. q)
-implied (inl p) (inr not_p) = inr (λ f. not_p (f p))
-implied (inr not_p) d = inl (λ p. absurd (not_p p))
+pub decide_implication : {P Q : Type 0} → Decision P → Decision Q → Decision (P → Q)
+decide_implication (inl p) (inl q) = inl (λ _. q)
+decide_implication (inl p) (inr not_p) = inr (λ f. not_p (f p))
+decide_implication (inr not_p) d = inl (λ p. absurd (not_p p))
 
 -- ---- of equations and orders
 
@@ -94,7 +94,7 @@ some_below P each (suc n) = elim (some_below P each n) [
 -- each number below has it
 pub each_below : (P : ℕ → Type 0) → ((k : ℕ) → Decision (P k)) → (n : ℕ)
     → Decision ((k : ℕ) → k < n → P k)
-each_below P each n = elim (some_below (λ k. P k → ⊥) (λ k. neither (each k)) n) [
+each_below P each n = elim (some_below (λ k. P k → ⊥) (λ k. decide_negation (each k)) n) [
   | inl h ↦ inr (λ all. h.2 (all h.0 h.1))
   | inr none ↦ inl (λ k low. elim (each k) [
     | inl p ↦ p

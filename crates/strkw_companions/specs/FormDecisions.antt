@@ -7,7 +7,7 @@ use Rattle.std.specs.List.{concat, AllByRecursion}
 use Rattle.strkw_text.specs.Abnf.{Form, ◌⨾◌, ◌∣◌, Literal, Empty, Optional, Repeat, Repeat1, Times}
 use Rattle.strkw_text.specs.Abnf.{Exactly, OneOf, SeparatedBy}
 use Rattle.strkw_text.proofs.Laws.{Repeat-cases}
-use Rattle.strkw_companions.specs.Decisions.{Decision, by_other, both, either, is_so, same_text}
+use Rattle.strkw_companions.specs.Decisions.{Decision, by_other, decide_both, decide_either, is_so, same_text}
 use Rattle.strkw_companions.specs.Decisions.{some_below, at_most}
 
 -- each text is derived, or it is not
@@ -20,11 +20,11 @@ literal cs text = same_text text cs
 
 -- one or the other
 pub alternative : (A B : Form) → Decided A → Decided B → Decided (A ∣ B)
-alternative A B a b text = either (a text) (b text)
+alternative A B a b text = decide_either (a text) (b text)
 
 -- nothing, or the form
-pub optional : (A : Form) → Decided A → Decided (Optional A)
-optional A a text = either (same_text text []) (a text)
+pub optional_form : (A : Form) → Decided A → Decided (Optional A)
+optional_form A a text = decide_either (same_text text []) (a text)
 
 -- a character of a class is tested, and a text of another length is none
 pub one_of : (class : ℕ → Bool) → Decided (OneOf class)
@@ -77,19 +77,19 @@ behind_cases A B front c back h = by h.more h.first h.second h.joined
         })
 
 -- so it is decided where the Bs that are no longer than the back are
-behind : (A B : Form) → Decided A → (front back : List ℕ)
+decide_behind : (A B : Form) → Decided A → (front back : List ℕ)
     → ((rest : List ℕ) → length rest ≤ length back → Decision (B rest))
     → Decision (Behind A B front back)
-behind A B a front [] b = by_other (
+decide_behind A B a front [] b = by_other (
   (λ h. nothing_more A B front [] h.0 h.1),
   (λ h. ended h.more h.first h.second h.joined),
-) (both (a front) (b [] (omega arith)))
+) (decide_both (a front) (b [] (omega arith)))
   where
     ended : (more : List ℕ) {rest : List ℕ} → A (front ++ more) → B rest → more ++ rest ≡ []
         → A front × B []
     ended [] a b e = (subst A (append-nil front) a, subst B e b)
     ended (c ∷ more) a b e = absurd (let f : ⊥ = cc in f)
-behind A B a front (c ∷ back) b = by_other (
+decide_behind A B a front (c ∷ back) b = by_other (
   elim [
     | inl h ↦ nothing_more A B front (c ∷ back) h.0 h.1
     | inr h ↦ record {
@@ -102,12 +102,12 @@ behind A B a front (c ∷ back) b = by_other (
   ],
   behind_cases A B front c back,
 ) (
-    either (both (a front) (b (c ∷ back) (omega arith)))
-    (behind A B a (front ++ c ∷ []) back (λ rest short. b rest (omega (arith, short)))))
+    decide_either (decide_both (a front) (b (c ∷ back) (omega arith)))
+    (decide_behind A B a (front ++ c ∷ []) back (λ rest short. b rest (omega (arith, short)))))
 
 -- with nothing in front, so is the whole text
-pub then : (A B : Form) → Decided A → Decided B → Decided (A ⨾ B)
-then A B a b text = by_other (
+pub sequence : (A B : Form) → Decided A → Decided B → Decided (A ⨾ B)
+sequence A B a b text = by_other (
   (λ h. record {
     front = h.more;
     back = h.rest;
@@ -122,7 +122,7 @@ then A B a b text = by_other (
     second = h.second;
     joined = h.joined;
   }),
-) (behind A B a [] text (λ rest _. b rest))
+) (decide_behind A B a [] text (λ rest _. b rest))
 
 -- ---- As in a row
 
@@ -162,18 +162,18 @@ repeat_within A a n [] short = inl (record { parts = []; each = tt; joined = ref
 repeat_within A a zero (c ∷ text) short = absurd (omega (arith, short))
 repeat_within A a (suc n) (c ∷ text) short =
     by_other (repeat_cons A c text) (
-    behind A (Repeat A) a (c ∷ []) text (
+    decide_behind A (Repeat A) a (c ∷ []) text (
     λ rest less. repeat_within A a n rest (omega (arith, short, less))))
 
 pub repeat : (A : Form) → Decided A → Decided (Repeat A)
 repeat A a text = repeat_within A a (length text) text (omega arith)
 
 pub repeat1 : (A : Form) → Decided A → Decided (Repeat1 A)
-repeat1 A a = then A (Repeat A) a (repeat A a)
+repeat1 A a = sequence A (Repeat A) a (repeat A a)
 
-pub separated : (c : ℕ) (A : Form) → Decided A → Decided (SeparatedBy c A)
-separated c A a = then A (Repeat (Literal (c ∷ []) ⨾ A)) a
-    (repeat (Literal (c ∷ []) ⨾ A) (then (Literal (c ∷ [])) A (literal (c ∷ [])) a))
+pub separated_list : (c : ℕ) (A : Form) → Decided A → Decided (SeparatedBy c A)
+separated_list c A a = sequence A (Repeat (Literal (c ∷ []) ⨾ A)) a
+    (repeat (Literal (c ∷ []) ⨾ A) (sequence (Literal (c ∷ [])) A (literal (c ∷ [])) a))
 
 -- ---- so many As
 
@@ -226,10 +226,10 @@ exactly_more n A text = (
     }
 
 -- so n As are decided, n being any number
-pub exactly : (n : ℕ) (A : Form) → Decided A → Decided (Exactly n A)
-exactly zero A a text = by_other (exactly_none A text) (same_text text [])
-exactly (suc n) A a text =
-    by_other (exactly_more n A text) (then A (Exactly n A) a (exactly n A a) text)
+pub exact_repeat : (n : ℕ) (A : Form) → Decided A → Decided (Exactly n A)
+exact_repeat zero A a text = by_other (exactly_none A text) (same_text text [])
+exact_repeat (suc n) A a text =
+    by_other (exactly_more n A text) (sequence A (Exactly n A) a (exact_repeat n A a) text)
 
 -- and As between two numbers, by each number
 pub times : (low high : ℕ) (A : Form) → Decided A → Decided (Times low high A)
@@ -257,4 +257,4 @@ times low high A a text = by_other (
   )),
 ) (
     some_below (λ k. (low ≤ k) × Exactly k A text)
-    (λ k. both (at_most low k) (exactly k A a text)) (suc high))
+    (λ k. decide_both (at_most low k) (exact_repeat k A a text)) (suc high))

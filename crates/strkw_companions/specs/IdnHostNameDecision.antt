@@ -14,7 +14,7 @@ use Rattle.strkw_label.specs.IdnHostName.{IsUnicodeLabel, a_label, IsPlainLabel,
 use Rattle.strkw_label.specs.IdnHostName.{encoded_form, is_label_separator, IsIdnHostName}
 use Rattle.strkw_label.proofs.EncodedLengths.{decoded_from_encoded}
 use Rattle.strkw_label.proofs.IdnLabels.{one_form}
-use Rattle.strkw_companions.specs.Decisions.{Decision, by_other, both, implied, is_so, same_text}
+use Rattle.strkw_companions.specs.Decisions.{Decision, by_other, decide_both, decide_implication, is_so, same_text}
 use Rattle.strkw_companions.specs.Decisions.{at_most}
 use Rattle.strkw_companions.specs.LabelDecision.{unicode_label, plain_label, bidi_rule, all_of}
 
@@ -31,8 +31,8 @@ is_form form = by_other (
   (λ h. record { scalars = h.0; label = h.1.0; short = h.1.1 }),
   (λ f. (f.scalars, (f.label, f.short))),
 ) (
-    both (all_of IsScalar (λ c. is_so (scalar c)) form)
-    (both (unicode_label form) (at_most (length (a_label form)) 63)))
+    decide_both (all_of IsScalar (λ c. is_so (scalar c)) form)
+    (decide_both (unicode_label form) (at_most (length (a_label form)) 63)))
 
 -- the label, in small letters, is the A-label of a form
 abbrev IsALabel : List ℕ → Type 0
@@ -50,7 +50,7 @@ a_form label (Some form) e = by_other (
       let read = ap (λ l. decode (drop 4 l)) h.2 ∙ decoded_from_encoded h.0 h.1.scalars in
       let same : h.0 ≡ form = same_Some h.0 form (sym read ∙ e) in
       subst (λ f. IsForm f × (map to_ascii_lowercase label ≡ a_label f)) same (h.1, h.2)),
-) (both (is_form form) (same_text (map to_ascii_lowercase label) (a_label form)))
+) (decide_both (is_form form) (same_text (map to_ascii_lowercase label) (a_label form)))
 
 -- a label stands for a form, or for none
 form_of : (label : List ℕ) → Decision ((form : List ℕ) × StandsFor label form)
@@ -117,7 +117,7 @@ each_bidi forms = by_other (
   where
     each : (forms : List (List ℕ)) → Decision (AllByRecursion KeepsBidiRule forms)
     each [] = inl tt
-    each (form ∷ forms) = both (bidi_rule form) (each forms)
+    each (form ∷ forms) = decide_both (bidi_rule form) (each forms)
 
 -- what the forms have to be, beside those of the labels
 abbrev FormsFit : List (List ℕ) → Type 0
@@ -126,7 +126,8 @@ FormsFit forms = (IsTrue (list_any is_right_to_left_label forms) → All KeepsBi
 
 forms_fit : (forms : List (List ℕ)) → Decision (FormsFit forms)
 forms_fit forms =
-    both (implied (is_so (list_any is_right_to_left_label forms)) (each_bidi forms))
+    decide_both (decide_implication (is_so (list_any is_right_to_left_label forms))
+    (each_bidi forms))
     (at_most (length (join_with_byte (byte ".") (map encoded_form forms))) 253)
 
 pub idn_host_name : (text : List ℕ) → Decision (IsIdnHostName text)

@@ -9,25 +9,25 @@ use Rattle.strkw_mail.specs.IdnMailbox.{is_utf8_atext, is_utf8_qtext_smtp, octet
 use Rattle.strkw_mail.specs.IdnMailbox.{IsIdnLocalPart, IsIdnSubDomain, IdnDomain, IsIdnDomain}
 use Rattle.strkw_mail.specs.IdnMailbox.{IsIdnMailbox}
 use Rattle.strkw_mail.specs.Mailbox.{IsSubDomain}
-use Rattle.strkw_companions.specs.Decisions.{by_other, both, implied, is_so, at_most}
+use Rattle.strkw_companions.specs.Decisions.{by_other, decide_both, decide_implication, is_so, at_most}
 use Rattle.strkw_companions.specs.FormDecisions as form
 use Rattle.strkw_companions.specs.FormDecisions.{Decided, alternative}
 use Rattle.strkw_companions.specs.LabelDecision.{unicode_label, bidi_rule}
-use Rattle.strkw_companions.specs.MailboxDecision.{address, between, local_part_of, sub_domain}
+use Rattle.strkw_companions.specs.MailboxDecision.{address, literal_between, local_part_of, sub_domain}
 
 local_part : Decided IsIdnLocalPart
 local_part text = by_other (
   (λ h. record { rule = h.0; size = h.1 }),
   (λ p. (p.rule, p.size)),
-) (both (local_part_of is_utf8_atext is_utf8_qtext_smtp text) (at_most (octets text) 64))
+) (decide_both (local_part_of is_utf8_atext is_utf8_qtext_smtp text) (at_most (octets text) 64))
 
 u_label : Decided IsULabel
 u_label label = by_other (
   (λ h. record { rules = h.0; bidi = h.1.0; size = h.1.1 }),
   (λ u. (u.rules, (u.bidi, u.size))),
 ) (
-    both (unicode_label label)
-    (both (implied (is_so (is_right_to_left_label label)) (bidi_rule label))
+    decide_both (unicode_label label)
+    (decide_both (decide_implication (is_so (is_right_to_left_label label)) (bidi_rule label))
     (at_most (length (a_label label)) 63)))
 
 idn_sub_domain : Decided IsIdnSubDomain
@@ -38,10 +38,11 @@ domain text = by_other (
   (λ h. record { rule = h.0; size = h.1 }),
   (λ d. (d.rule, d.size)),
 ) (
-    both (
-    alternative IdnDomain AddressLiteral (form.separated (byte ".") IsIdnSubDomain idn_sub_domain)
+    decide_both (
+    alternative IdnDomain AddressLiteral
+    (form.separated_list (byte ".") IsIdnSubDomain idn_sub_domain)
     address text) (at_most (octets text) 255))
 
 -- each text is an internationalised mail address, or it is not
 pub idn_mailbox : Decided IsIdnMailbox
-idn_mailbox = between IsIdnLocalPart IsIdnDomain (codes "@") local_part domain
+idn_mailbox = literal_between IsIdnLocalPart IsIdnDomain (codes "@") local_part domain

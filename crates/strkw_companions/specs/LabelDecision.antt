@@ -32,21 +32,21 @@ use Rattle.strkw_label.specs.DerivedProperty.{derived_property, is_permitted}
 use Rattle.strkw_label.specs.LabelRules.{MiddleDotStands, is_mark}
 use Rattle.strkw_label.specs.IdnHostName.{HasReservedHyphens, IsUnicodeLabel, IsPlainLabel}
 use Rattle.strkw_label.specs.IdnHostName.{is_all_ascii}
-use Rattle.strkw_companions.specs.Decisions.{Decision, by_other, both, either, neither, implied}
+use Rattle.strkw_companions.specs.Decisions.{Decision, by_other, decide_both, decide_either, decide_negation, decide_implication}
 use Rattle.strkw_companions.specs.Decisions.{is_so, is_not_so, same_number, same_text, at_most}
 use Rattle.strkw_companions.specs.Decisions.{some_below, each_below}
 
 -- ---- of lists and numbers
 
-each : (P : ℕ → Type 0) → ((c : ℕ) → Decision (P c)) → (text : List ℕ)
+decide_each : (P : ℕ → Type 0) → ((c : ℕ) → Decision (P c)) → (text : List ℕ)
     → Decision (AllByRecursion P text)
-each P one [] = inl tt
-each P one (c ∷ text) = both (one c) (each P one text)
+decide_each P one [] = inl tt
+decide_each P one (c ∷ text) = decide_both (one c) (decide_each P one text)
 
 pub all_of : (P : ℕ → Type 0) → ((c : ℕ) → Decision (P c)) → (text : List ℕ)
     → Decision (All P text)
 all_of P one text =
-    by_other (All-from_recursion P text, recursion_from_All P text) (each P one text)
+    by_other (All-from_recursion P text, recursion_from_All P text) (decide_each P one text)
 
 all_pass : (p : ℕ → Bool) → (text : List ℕ) → Decision (AllPass p text)
 all_pass p text = all_of (λ c. IsTrue (p c)) (λ c. is_so (p c)) text
@@ -57,7 +57,7 @@ each_between : (P : ℕ → Type 0) → ((k : ℕ) → Decision (P k)) → (low 
 each_between P one low high = by_other (
   (λ f m above below. f m below above),
   (λ f m below above. f m above below),
-) (each_below (λ m. low < m → P m) (λ m. implied (at_most (suc low) m) (one m)) high)
+) (each_below (λ m. low < m → P m) (λ m. decide_implication (at_most (suc low) m) (one m)) high)
 
 -- ---- of classes of characters
 
@@ -65,37 +65,37 @@ is_nonspacing : BidiClass → Bool
 is_nonspacing NonspacingMark = true
 is_nonspacing _ = false
 
-nonspacing : (class : BidiClass) → Decision (class ≡ NonspacingMark)
+decide_nonspacing : (class : BidiClass) → Decision (class ≡ NonspacingMark)
 unfolding is_nonspacing
-nonspacing NonspacingMark = inl refl
-nonspacing _ = inr (λ e. false≢true (subst (λ c. is_nonspacing c ≡ true) (sym e) refl))
+decide_nonspacing NonspacingMark = inl refl
+decide_nonspacing _ = inr (λ e. false≢true (subst (λ c. is_nonspacing c ≡ true) (sym e) refl))
 
 is_transparent : JoiningType → Bool
 is_transparent Transparent = true
 is_transparent _ = false
 
-transparent : (type : JoiningType) → Decision (type ≡ Transparent)
+decide_transparent : (type : JoiningType) → Decision (type ≡ Transparent)
 unfolding is_transparent
-transparent Transparent = inl refl
-transparent _ = inr (λ e. false≢true (subst (λ t. is_transparent t ≡ true) (sym e) refl))
+decide_transparent Transparent = inl refl
+decide_transparent _ = inr (λ e. false≢true (subst (λ t. is_transparent t ≡ true) (sym e) refl))
 
 is_greek : Script → Bool
 is_greek Greek = true
 is_greek _ = false
 
-greek : (s : Script) → Decision (s ≡ Greek)
+decide_greek : (s : Script) → Decision (s ≡ Greek)
 unfolding is_greek
-greek Greek = inl refl
-greek _ = inr (λ e. false≢true (subst (λ s. is_greek s ≡ true) (sym e) refl))
+decide_greek Greek = inl refl
+decide_greek _ = inr (λ e. false≢true (subst (λ s. is_greek s ≡ true) (sym e) refl))
 
 is_hebrew : Script → Bool
 is_hebrew Hebrew = true
 is_hebrew _ = false
 
-hebrew : (s : Script) → Decision (s ≡ Hebrew)
+decide_hebrew : (s : Script) → Decision (s ≡ Hebrew)
 unfolding is_hebrew
-hebrew Hebrew = inl refl
-hebrew _ = inr (λ e. false≢true (subst (λ s. is_hebrew s ≡ true) (sym e) refl))
+decide_hebrew Hebrew = inl refl
+decide_hebrew _ = inr (λ e. false≢true (subst (λ s. is_hebrew s ≡ true) (sym e) refl))
 
 -- ---- the contextual rules
 
@@ -103,7 +103,7 @@ after_start : (k : ℕ) → Decision (0 < k)
 after_start k = at_most 1 k
 
 follows_virama : (label : List ℕ) (k : ℕ) → Decision (FollowsVirama label k)
-follows_virama label k = both (after_start k)
+follows_virama label k = decide_both (after_start k)
     (is_so (is_virama_class (canonical_combining_class (slice_index label (k - 1)))))
 
 joins_before : (label : List ℕ) (k : ℕ) → Decision (JoinsBefore label k)
@@ -113,9 +113,9 @@ joins_before label k = by_other (
 ) (
     some_below (λ at. IsTrue (joins_to_the_left (joining_type (slice_index label at)))
     × ((m : ℕ) → at < m → m < k → joining_type (slice_index label m) ≡ Transparent)) (λ at.
-    both (is_so (joins_to_the_left (joining_type (slice_index label at))))
+    decide_both (is_so (joins_to_the_left (joining_type (slice_index label at))))
     (each_between (λ m. joining_type (slice_index label m) ≡ Transparent)
-    (λ m. transparent (joining_type (slice_index label m))) at k)) k)
+    (λ m. decide_transparent (joining_type (slice_index label m))) at k)) k)
 
 joins_from : (label : List ℕ) (k : ℕ) → Decision (JoinsFrom label k)
 joins_from label k = by_other (
@@ -131,35 +131,39 @@ joins_from label k = by_other (
     some_below (λ at. (k < at + 1)
     × (IsTrue (joins_to_the_right (joining_type (slice_index label at)))
     × ((m : ℕ) → m < at → k < m + 1 → joining_type (slice_index label m) ≡ Transparent))) (λ at.
-    both (at_most (suc k) (at + 1)) (
-    both (is_so (joins_to_the_right (joining_type (slice_index label at)))) (
+    decide_both (at_most (suc k) (at + 1)) (
+    decide_both (is_so (joins_to_the_right (joining_type (slice_index label at)))) (
     each_below (λ m. k < m + 1 → joining_type (slice_index label m) ≡ Transparent) (λ m.
-    implied (at_most (suc k) (m + 1)) (transparent (joining_type (slice_index label m)))) at)))
+    decide_implication (at_most (suc k) (m + 1))
+    (decide_transparent (joining_type (slice_index label m)))) at)))
     (length label))
 
 non_joiner : (label : List ℕ) (k : ℕ) → Decision (NonJoinerFits label k)
-non_joiner label k = implied (same_number (slice_index label k) 0x200C)
-    (either (follows_virama label k) (both (joins_before label k) (joins_from label (k + 1))))
+non_joiner label k = decide_implication (same_number (slice_index label k) 0x200C)
+    (decide_either (follows_virama label k) (decide_both (joins_before label k)
+    (joins_from label (k + 1))))
 
 joiner : (label : List ℕ) (k : ℕ) → Decision (JoinerFits label k)
-joiner label k = implied (same_number (slice_index label k) 0x200D) (follows_virama label k)
+joiner label k = decide_implication (same_number (slice_index label k) 0x200D)
+    (follows_virama label k)
 
 middle_dot : (label : List ℕ) (k : ℕ) → Decision (MiddleDotStands label k)
-middle_dot label k = implied (same_number (slice_index label k) 0xB7) (by_other (
+middle_dot label k = decide_implication (same_number (slice_index label k) 0xB7) (by_other (
   (λ h. (h.0, h.1.0, h.1.1.0, h.1.1.1)),
   (λ h. (h.0, (h.1, (h.2, h.3)))),
 ) (
-    both (after_start k) (both (same_number (slice_index label (k - 1)) (byte "l"))
-    (both (at_most (suc (k + 1)) (length label))
+    decide_both (after_start k) (decide_both (same_number (slice_index label (k - 1)) (byte "l"))
+    (decide_both (at_most (suc (k + 1)) (length label))
     (same_number (slice_index label (k + 1)) (byte "l"))))))
 
 keraia : (label : List ℕ) (k : ℕ) → Decision (KeraiaFits label k)
-keraia label k = implied (same_number (slice_index label k) 0x375)
-    (both (at_most (suc (k + 1)) (length label)) (greek (script (slice_index label (k + 1)))))
+keraia label k = decide_implication (same_number (slice_index label k) 0x375)
+    (decide_both (at_most (suc (k + 1)) (length label))
+    (decide_greek (script (slice_index label (k + 1)))))
 
 geresh : (label : List ℕ) (k : ℕ) → Decision (GereshFits label k)
-geresh label k = implied (is_so (is_in_range 0x5F3 0x5F4 (slice_index label k)))
-    (both (after_start k) (hebrew (script (slice_index label (k - 1)))))
+geresh label k = decide_implication (is_so (is_in_range 0x5F3 0x5F4 (slice_index label k)))
+    (decide_both (after_start k) (decide_hebrew (script (slice_index label (k - 1)))))
 
 neighbours : (label : List ℕ) (k : ℕ) → Decision (FitsNeighbours label k)
 neighbours label k = by_other (
@@ -172,8 +176,8 @@ neighbours label k = by_other (
   }),
   (λ f. (f.non_joiner, (f.joiner, (f.middle_dot, (f.keraia, f.geresh))))),
 ) (
-    both (non_joiner label k) (both (joiner label k) (both (middle_dot label k)
-    (both (keraia label k) (geresh label k)))))
+    decide_both (non_joiner label k) (decide_both (joiner label k) (decide_both (middle_dot label k)
+    (decide_both (keraia label k) (geresh label k)))))
 
 some_pass : (p : ℕ → Bool) (text : List ℕ) → Decision (IsTrue (list_any p text))
 some_pass p text = is_so (list_any p text)
@@ -183,16 +187,16 @@ context label = by_other (
   (λ h. record { neighbours = h.0; katakana_dot = h.1.0; one_digit_set = h.1.1 }),
   (λ f. (f.neighbours, (f.katakana_dot, f.one_digit_set))),
 ) (
-    both (each_below (FitsNeighbours label) (neighbours label) (length label)) (
-    both (implied (some_pass (λ c. c == 0x30FB) label)
+    decide_both (each_below (FitsNeighbours label) (neighbours label) (length label)) (
+    decide_both (decide_implication (some_pass (λ c. c == 0x30FB) label)
     (some_pass (λ c. is_japanese (script c)) label))
-    (implied (some_pass (λ c. is_in_range 0x660 0x669 c) label)
-    (neither (some_pass (λ c. is_in_range 0x6F0 0x6F9 c) label)))))
+    (decide_implication (some_pass (λ c. is_in_range 0x660 0x669 c) label)
+    (decide_negation (some_pass (λ c. is_in_range 0x6F0 0x6F9 c) label)))))
 
 -- ---- labels
 
-reserved : (label : List ℕ) → Decision (HasReservedHyphens label)
-reserved label = both (same_number (slice_index label 2) (byte "-"))
+reserved_hyphens : (label : List ℕ) → Decision (HasReservedHyphens label)
+reserved_hyphens label = decide_both (same_number (slice_index label 2) (byte "-"))
     (same_number (slice_index label 3) (byte "-"))
 
 pub unicode_label : (label : List ℕ) → Decision (IsUnicodeLabel label)
@@ -227,13 +231,14 @@ unicode_label label = by_other (
     ),
   )),
 ) (
-    both (is_not_so (is_all_ascii label)) (both (same_text (nfc label) label)
-    (both (all_of (λ c. IsTrue (is_permitted (derived_property c)))
+    decide_both (is_not_so (is_all_ascii label)) (decide_both (same_text (nfc label) label)
+    (decide_both (all_of (λ c. IsTrue (is_permitted (derived_property c)))
     (λ c. is_so (is_permitted (derived_property c))) label)
-    (both (neither (same_number (slice_index label 0) (byte "-")))
-    (both (neither (same_number (slice_index label (length label - 1)) (byte "-")))
-    (both (neither (reserved label))
-    (both (is_not_so (is_mark (general_category (slice_index label 0)))) (context label))))))))
+    (decide_both (decide_negation (same_number (slice_index label 0) (byte "-")))
+    (decide_both (decide_negation (same_number (slice_index label (length label - 1)) (byte "-")))
+    (decide_both (decide_negation (reserved_hyphens label))
+    (decide_both (is_not_so (is_mark (general_category (slice_index label 0))))
+    (context label))))))))
 
 pub plain_label : (label : List ℕ) → Decision (IsPlainLabel label)
 plain_label label = by_other (
@@ -243,11 +248,11 @@ plain_label label = by_other (
   }),
   (λ p. ((p.ascii.size, (p.ascii.letters, (p.ascii.first, p.ascii.last))), p.reserved)),
 ) (
-    both (both (both (at_most 1 (length label)) (at_most (length label) 63))
-    (both (all_pass is_letter_digit_hyphen label)
-    (both (neither (same_number (slice_index label 0) (byte "-")))
-    (neither (same_number (slice_index label (length label - 1)) (byte "-"))))))
-    (neither (reserved label)))
+    decide_both (decide_both (decide_both (at_most 1 (length label)) (at_most (length label) 63))
+    (decide_both (all_pass is_letter_digit_hyphen label)
+    (decide_both (decide_negation (same_number (slice_index label 0) (byte "-")))
+    (decide_negation (same_number (slice_index label (length label - 1)) (byte "-"))))))
+    (decide_negation (reserved_hyphens label)))
 
 -- ---- the Bidi rule
 
@@ -259,32 +264,34 @@ ends_in ends label = by_other (
     some_below (λ at. IsTrue (ends (bidi_class (slice_index label at)))
     × ((m : ℕ) → at < m → m < length label
     → bidi_class (slice_index label m) ≡ NonspacingMark)) (λ at.
-    both (is_so (ends (bidi_class (slice_index label at))))
+    decide_both (is_so (ends (bidi_class (slice_index label at))))
     (each_between (λ m. bidi_class (slice_index label m) ≡ NonspacingMark)
-    (λ m. nonspacing (bidi_class (slice_index label m))) at (length label))) (length label))
+    (λ m. decide_nonspacing (bidi_class (slice_index label m))) at (length label))) (length label))
 
 right_to_left : (label : List ℕ) → Decision (KeepsRightToLeft label)
 right_to_left label = by_other (
   (λ h. record { classes = h.0; end = h.1.0; one_kind_of_number = h.1.1 }),
   (λ k. (k.classes, (k.end, k.one_kind_of_number))),
 ) (
-    both (all_pass
+    decide_both (all_pass
     (λ c. is_right_to_left (bidi_class c) || is_of_both_directions (bidi_class c)) label) (
-    both (ends_in (λ class. is_right_to_left class || is_european_number class) label)
-    (implied (some_pass (λ c. is_european_number (bidi_class c)) label)
-    (neither (some_pass (λ c. is_arabic_number (bidi_class c)) label)))))
+    decide_both (ends_in (λ class. is_right_to_left class || is_european_number class) label)
+    (decide_implication (some_pass (λ c. is_european_number (bidi_class c)) label)
+    (decide_negation (some_pass (λ c. is_arabic_number (bidi_class c)) label)))))
 
 left_to_right : (label : List ℕ) → Decision (KeepsLeftToRight label)
 left_to_right label = by_other (
   (λ h. record { classes = h.0; end = h.1 }),
   (λ k. (k.classes, k.end)),
 ) (
-    both (all_pass
+    decide_both (all_pass
     (λ c. is_left_to_right (bidi_class c) || is_of_both_directions (bidi_class c)) label)
     (ends_in (λ class. is_left_to_right class || is_european_number class) label))
 
 pub bidi_rule : (label : List ℕ) → Decision (KeepsBidiRule label)
 bidi_rule label =
-    either
-    (both (is_so (is_left_to_right (bidi_class (slice_index label 0)))) (left_to_right label))
-    (both (is_so (begins_right_to_left (bidi_class (slice_index label 0)))) (right_to_left label))
+    decide_either
+    (decide_both (is_so (is_left_to_right (bidi_class (slice_index label 0))))
+    (left_to_right label))
+    (decide_both (is_so (begins_right_to_left (bidi_class (slice_index label 0))))
+    (right_to_left label))

@@ -19,19 +19,21 @@ use Rattle.strkw_mail.specs.AddressLiteral.{AddressLiteral}
 use Rattle.strkw_mail.specs.Mailbox.{AtomOf, DotStringOf, QuotedPairSmtp, QcontentOf}
 use Rattle.strkw_mail.specs.Mailbox.{QuotedStringOf, LocalPartOf, IsLocalPart, SubDomain}
 use Rattle.strkw_mail.specs.Mailbox.{IsSubDomain, Domain, IsDomain, IsMailbox}
-use Rattle.strkw_companions.specs.Decisions.{Decision, by_other, both, neither, same_text, at_most}
+use Rattle.strkw_companions.specs.Decisions.{Decision, by_other, decide_both, decide_negation, same_text, at_most}
 use Rattle.strkw_companions.specs.Decisions.{some_below}
 use Rattle.strkw_companions.specs.FormDecisions as form
-use Rattle.strkw_companions.specs.FormDecisions.{Decided, then, alternative, repeat, exactly}
+use Rattle.strkw_companions.specs.FormDecisions.{Decided, sequence, alternative, repeat, exact_repeat}
 
 -- A, and then a literal, and then B
-pub between : (A B : Form) (cs : List ℕ) → Decided A → Decided B → Decided (A ⨾ Literal cs ⨾ B)
-between A B cs a b = then A (Literal cs ⨾ B) a (then (Literal cs) B (form.literal cs) b)
+pub literal_between : (A B : Form) (cs : List ℕ) → Decided A → Decided B
+    → Decided (A ⨾ Literal cs ⨾ B)
+literal_between A B cs a b = sequence A (Literal cs ⨾ B) a
+    (sequence (Literal cs) B (form.literal cs) b)
 
 -- ---- address literals
 
 ldh_str : Decided LdhStr
-ldh_str = then (Repeat (OneOf is_letter_digit_hyphen)) LetDig
+ldh_str = sequence (Repeat (OneOf is_letter_digit_hyphen)) LetDig
     (repeat (OneOf is_letter_digit_hyphen) (form.one_of is_letter_digit_hyphen))
     (form.one_of is_ascii_alphanumeric)
 
@@ -40,40 +42,43 @@ snum text = by_other (
   (λ h. record { digits = h.0; fits = h.1 }),
   (λ s. (s.digits, s.fits)),
 ) (
-    both (form.times 1 3 Digit (form.one_of is_ascii_digit) text)
+    decide_both (form.times 1 3 Digit (form.one_of is_ascii_digit) text)
     (at_most (digits_value 10 text) 255))
 
 ipv4 : Decided Ipv4AddressLiteral
-ipv4 = then Snum (Exactly 3 (Literal (codes ".") ⨾ Snum)) snum
-    (exactly 3 (Literal (codes ".") ⨾ Snum)
-    (then (Literal (codes ".")) Snum (form.literal (codes ".")) snum))
+ipv4 = sequence Snum (Exactly 3 (Literal (codes ".") ⨾ Snum)) snum
+    (exact_repeat 3 (Literal (codes ".") ⨾ Snum)
+    (sequence (Literal (codes ".")) Snum (form.literal (codes ".")) snum))
 
 hex : Decided Ipv6Hex
 hex = form.times 1 4 HexDigit (form.one_of is_ascii_hexdigit)
 
 colon_hex : (n : ℕ) → Decided (Exactly n ColonHex)
-colon_hex n = exactly n ColonHex (then (Literal (codes ":")) Ipv6Hex (form.literal (codes ":")) hex)
+colon_hex n = exact_repeat n ColonHex (sequence (Literal (codes ":")) Ipv6Hex
+    (form.literal (codes ":")) hex)
 
 groups : (n : ℕ) → Decided (Groups n)
 groups zero text = same_text text []
-groups (suc n) text = then Ipv6Hex (Exactly n ColonHex) hex (colon_hex n) text
+groups (suc n) text = sequence Ipv6Hex (Exactly n ColonHex) hex (colon_hex n) text
 
 groups_colon : (n : ℕ) → Decided (GroupsColon n)
 groups_colon zero text = same_text text []
 groups_colon (suc n) text =
-    then Ipv6Hex (Exactly n ColonHex ⨾ Literal (codes ":")) hex
-    (then (Exactly n ColonHex) (Literal (codes ":")) (colon_hex n) (form.literal (codes ":"))) text
+    sequence Ipv6Hex (Exactly n ColonHex ⨾ Literal (codes ":")) hex
+    (sequence (Exactly n ColonHex) (Literal (codes ":")) (colon_hex n) (form.literal (codes ":")))
+    text
 
 -- two numbers, together at most so many
 abbrev Few : ℕ → (ℕ → ℕ → Type 0) → Type 0
 Few most P = (k : ℕ) × (k < suc most)
     × ((m : ℕ) × (m < suc most) × ((k + m ≤ most) × P k m))
 
-few : (most : ℕ) (P : ℕ → ℕ → Type 0) → ((k m : ℕ) → Decision (P k m)) → Decision (Few most P)
-few most P each =
+decide_few : (most : ℕ) (P : ℕ → ℕ → Type 0) → ((k m : ℕ) → Decision (P k m))
+    → Decision (Few most P)
+decide_few most P each =
     some_below (λ k. (m : ℕ) × (m < suc most) × ((k + m ≤ most) × P k m))
     (λ k. some_below (λ m. (k + m ≤ most) × P k m)
-    (λ m. both (at_most (k + m) most) (each k m)) (suc most)) (suc most)
+    (λ m. decide_both (at_most (k + m) most) (each k m)) (suc most)) (suc most)
 
 abbrev Comp : List ℕ → ℕ → ℕ → Type 0
 Comp text k m = (Groups k ⨾ Literal (codes "::") ⨾ Groups m) text
@@ -84,7 +89,8 @@ comp text = by_other (
       record { before = h.0; after = rest.0; at_most_six = q.0; spelled = q.1 }),
   (λ c. let six = c.at_most_six in
       (c.before, omega (arith, six), (c.after, omega (arith, six), (six, c.spelled)))),
-) (few 6 (Comp text) (λ k m. between (Groups k) (Groups m) (codes "::") (groups k) (groups m) text))
+) (decide_few 6 (Comp text) (λ k m. literal_between (Groups k) (Groups m) (codes "::") (groups k)
+    (groups m) text))
 
 abbrev Comp4 : List ℕ → ℕ → ℕ → Type 0
 Comp4 text k m =
@@ -97,21 +103,21 @@ comp4 text = by_other (
   (λ c. let four = c.at_most_four in
       (c.before, omega (arith, four), (c.after, omega (arith, four), (four, c.spelled)))),
 ) (
-    few 4 (Comp4 text) (λ k m.
-    between (Groups k) (GroupsColon m ⨾ Ipv4AddressLiteral) (codes "::") (groups k)
-    (then (GroupsColon m) Ipv4AddressLiteral (groups_colon m) ipv4) text))
+    decide_few 4 (Comp4 text) (λ k m.
+    literal_between (Groups k) (GroupsColon m ⨾ Ipv4AddressLiteral) (codes "::") (groups k)
+    (sequence (GroupsColon m) Ipv4AddressLiteral (groups_colon m) ipv4) text))
 
-full : Decided Ipv6Full
-full = then Ipv6Hex (Exactly 7 ColonHex) hex (colon_hex 7)
+ipv6_full : Decided Ipv6Full
+ipv6_full = sequence Ipv6Hex (Exactly 7 ColonHex) hex (colon_hex 7)
 
-full4 : Decided Ipv6v4Full
-full4 = then Ipv6Hex (Exactly 5 ColonHex ⨾ Literal (codes ":") ⨾ Ipv4AddressLiteral) hex
-    (between (Exactly 5 ColonHex) Ipv4AddressLiteral (codes ":") (colon_hex 5) ipv4)
+ipv6v4_full : Decided Ipv6v4Full
+ipv6v4_full = sequence Ipv6Hex (Exactly 5 ColonHex ⨾ Literal (codes ":") ⨾ Ipv4AddressLiteral) hex
+    (literal_between (Exactly 5 ColonHex) Ipv4AddressLiteral (codes ":") (colon_hex 5) ipv4)
 
 ipv6 : Decided Ipv6Addr
-ipv6 = alternative Ipv6Full (Ipv6Comp ∣ Ipv6v4Full ∣ Ipv6v4Comp) full
+ipv6 = alternative Ipv6Full (Ipv6Comp ∣ Ipv6v4Full ∣ Ipv6v4Comp) ipv6_full
     (alternative Ipv6Comp (Ipv6v4Full ∣ Ipv6v4Comp) comp
-    (alternative Ipv6v4Full Ipv6v4Comp full4 comp4))
+    (alternative Ipv6v4Full Ipv6v4Comp ipv6v4_full comp4))
 
 ipv6_tag : Decided Ipv6Tag
 ipv6_tag tag = same_text (map to_ascii_lowercase tag) (codes "ipv6")
@@ -120,18 +126,19 @@ tag : Decided StandardizedTag
 tag text = by_other (
   (λ h. record { rule = h.0; other = h.1 }),
   (λ t. (t.rule, t.other)),
-) (both (ldh_str text) (neither (ipv6_tag text)))
+) (decide_both (ldh_str text) (decide_negation (ipv6_tag text)))
 
-bracketed : Decided Bracketed
-bracketed = alternative Ipv4AddressLiteral (Ipv6AddressLiteral ∣ GeneralAddressLiteral) ipv4
+bracketed_literal : Decided Bracketed
+bracketed_literal = alternative Ipv4AddressLiteral (Ipv6AddressLiteral ∣ GeneralAddressLiteral) ipv4
     (alternative Ipv6AddressLiteral GeneralAddressLiteral
-    (between Ipv6Tag Ipv6Addr (codes ":") ipv6_tag ipv6)
-    (between StandardizedTag (Repeat1 (OneOf is_dcontent)) (codes ":") tag
+    (literal_between Ipv6Tag Ipv6Addr (codes ":") ipv6_tag ipv6)
+    (literal_between StandardizedTag (Repeat1 (OneOf is_dcontent)) (codes ":") tag
     (form.repeat1 (OneOf is_dcontent) (form.one_of is_dcontent))))
 
 pub address : Decided AddressLiteral
-address = then (Literal (codes "[")) (Bracketed ⨾ Literal (codes "]")) (form.literal (codes "["))
-    (then Bracketed (Literal (codes "]")) bracketed (form.literal (codes "]")))
+address = sequence (Literal (codes "[")) (Bracketed ⨾ Literal (codes "]"))
+    (form.literal (codes "["))
+    (sequence Bracketed (Literal (codes "]")) bracketed_literal (form.literal (codes "]")))
 
 -- ---- the two parts
 
@@ -140,34 +147,35 @@ atom atext = form.repeat1 (OneOf atext) (form.one_of atext)
 
 content : (qtext : ℕ → Bool) → Decided (QcontentOf qtext)
 content qtext = alternative (OneOf qtext) QuotedPairSmtp (form.one_of qtext)
-    (then (Literal (codes "\\")) (OneOf is_escaped) (form.literal (codes "\\"))
+    (sequence (Literal (codes "\\")) (OneOf is_escaped) (form.literal (codes "\\"))
     (form.one_of is_escaped))
 
-quoted : (qtext : ℕ → Bool) → Decided (QuotedStringOf qtext)
-quoted qtext = then (Literal (codes "\"")) (Repeat (QcontentOf qtext) ⨾ Literal (codes "\""))
+quoted_string : (qtext : ℕ → Bool) → Decided (QuotedStringOf qtext)
+quoted_string qtext = sequence (Literal (codes "\""))
+    (Repeat (QcontentOf qtext) ⨾ Literal (codes "\""))
     (form.literal (codes "\""))
-    (then (Repeat (QcontentOf qtext)) (Literal (codes "\""))
+    (sequence (Repeat (QcontentOf qtext)) (Literal (codes "\""))
     (repeat (QcontentOf qtext) (content qtext)) (form.literal (codes "\"")))
 
 -- with these characters for atext and for qtextSMTP
 pub local_part_of : (atext qtext : ℕ → Bool) → Decided (LocalPartOf atext qtext)
 local_part_of atext qtext = alternative (DotStringOf atext) (QuotedStringOf qtext)
-    (form.separated (byte ".") (AtomOf atext) (atom atext)) (quoted qtext)
+    (form.separated_list (byte ".") (AtomOf atext) (atom atext)) (quoted_string qtext)
 
 local_part : Decided IsLocalPart
 local_part text = by_other (
   (λ h. record { rule = h.0; size = h.1 }),
   (λ p. (p.rule, p.size)),
 ) (
-    both (local_part_of is_atext is_qtext_smtp text) (at_most (length text) 64))
+    decide_both (local_part_of is_atext is_qtext_smtp text) (at_most (length text) 64))
 
 pub sub_domain : Decided IsSubDomain
 sub_domain text = by_other (
   (λ h. record { rule = h.0; size = h.1 }),
   (λ p. (p.rule, p.size)),
 ) (
-    both (then LetDig (λ t. (t ≡ []) ⊎ LdhStr t) (form.one_of is_ascii_alphanumeric)
-    (form.optional LdhStr ldh_str) text)
+    decide_both (sequence LetDig (λ t. (t ≡ []) ⊎ LdhStr t) (form.one_of is_ascii_alphanumeric)
+    (form.optional_form LdhStr ldh_str) text)
     (at_most (length text) 63))
 
 domain : Decided IsDomain
@@ -175,10 +183,11 @@ domain text = by_other (
   (λ h. record { rule = h.0; size = h.1 }),
   (λ p. (p.rule, p.size)),
 ) (
-    both (
-    alternative Domain AddressLiteral (form.separated (byte ".") IsSubDomain sub_domain) address
+    decide_both (
+    alternative Domain AddressLiteral (form.separated_list (byte ".") IsSubDomain sub_domain)
+    address
     text) (at_most (length text) 255))
 
 -- each text is a mail address, or it is not
 pub mailbox : Decided IsMailbox
-mailbox = between IsLocalPart IsDomain (codes "@") local_part domain
+mailbox = literal_between IsLocalPart IsDomain (codes "@") local_part domain

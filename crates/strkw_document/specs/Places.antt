@@ -7,17 +7,17 @@ use Rattle.serde_json.specs.Find.{as_str}
 use Rattle.strkw_uri.specs.Pointer.{IsJsonPointer}
 use Rattle.strkw_report.specs.Kinds.{Report}
 use Rattle.strkw_keywords.specs.Object.{Settings}
-use Rattle.strkw_plan.specs.Shown.{shown}
+use Rattle.strkw_plan.specs.Shown.{shown_text}
 use Rattle.strkw_plan.specs.Messages.{InstanceSaid, IsSchema, message}
 use Rattle.strkw_plan.specs.Own.{asks_for_string, is_optional}
 use Rattle.strkw_document.specs.Spots.{Spot, spots}
 
 -- the message about a place that the document has not, and about a value that is no string
-abbrev pub missing : List ℕ → List ℕ
-missing place = shown place ++ codes ": missing\n"
+abbrev pub missing_message : List ℕ → List ℕ
+missing_message place = shown_text place ++ codes ": missing\n"
 
 abbrev pub not_a_string : List ℕ → List ℕ
-not_a_string place = shown place ++ codes ": not a string\n"
+not_a_string place = shown_text place ++ codes ": not a string\n"
 
 -- what is written of an error of the value at a place, of a place that the document has not, and of
 -- a value that is no string where one is asked for
@@ -28,7 +28,7 @@ pub record Form : Type 0 where
 
 -- the form of text
 abbrev pub text_form : Form
-text_form = record { said = message; lacking = missing; no_string = not_a_string }
+text_form = record { said = message; lacking = missing_message; no_string = not_a_string }
 
 -- the messages in a form about a place that the document has not, by its schema object: the one
 -- that it is missing, unless it is optional

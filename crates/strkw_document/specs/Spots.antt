@@ -8,7 +8,7 @@ use Rattle.std.specs.Str.{byte, bytes_eq}
 use Rattle.serde_json.specs.Data.{Data, null, boolean, number, string, array, object}
 use Rattle.serde_json.specs.Data.{Items, no_items, item, Members, no_members, member}
 use Rattle.serde_json.specs.Find.{pointer}
-use Rattle.strkw_report.specs.Paths.{below}
+use Rattle.strkw_report.specs.Paths.{path_below}
 
 -- a pointer to one value, and the value that stands there or none
 abbrev pub Spot : Type 0
@@ -21,12 +21,13 @@ steps place = map (λ token. codes "/" ++ token) (drop 1 (slice_split (λ c. c =
 -- the elements of an array at a pointer, from this number on
 abbrev pub element_spots : List ℕ → ℕ → Items → List Spot
 element_spots at n no_items = []
-element_spots at n (item d more) = (below at (decimal n), Some d) ∷ element_spots at (suc n) more
+element_spots at n (item d more) = (path_below at (decimal n), Some d)
+    ∷ element_spots at (suc n) more
 
 -- the members of an object at a pointer
 abbrev pub member_spots : List ℕ → Members → List Spot
 member_spots at no_members = []
-member_spots at (member name d more) = (below at name, Some d) ∷ member_spots at more
+member_spots at (member name d more) = (path_below at name, Some d) ∷ member_spots at more
 
 -- what stands behind a step that leads nowhere
 abbrev pub no_spot : List ℕ → List ℕ → List Spot

@@ -2,7 +2,7 @@
 
 ghost use Rattle.std.specs.Prelude.{◌≡◌, ◌<◌, ◌++◌, OnOk, length, string_bytes};
 ghost use Rattle.strkw_plan.specs.Found.{report_found};
-ghost use Rattle.strkw_plan.specs.Shown.{shown};
+ghost use Rattle.strkw_plan.specs.Shown.{shown_text};
 ghost use Rattle.strkw_document.specs.Places.{Form, text_form};
 
 use std::alloc::{AllocError, Global};
@@ -82,7 +82,7 @@ impl PlaceForm for PlaceLines {
 // Appends a place as it is shown, and the rest of the line about it.
 fn push_about(place: &str, rest: &str, out: &mut String) -> Result<(), AllocError>
     ensures { OnOk result (string_bytes out.new
-        ≡ string_bytes out.old ++ shown place.now ++ rest.now) }
+        ≡ string_bytes out.old ++ shown_text place.now ++ rest.now) }
 {
     push_shown(place, out)?;
     out.push_str(rest)

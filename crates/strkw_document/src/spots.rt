@@ -5,7 +5,7 @@ ghost use Rattle.std.specs.List.{flat_map};
 ghost use Rattle.serde_json.specs.View.{items_view, members_view, view};
 ghost use Rattle.strkw_document.specs.Found.{spot_view};
 ghost use Rattle.strkw_document.specs.Spots.{element_spots, every_spot, member_spots, next_spots, spots, spots_behind};
-ghost use Rattle.strkw_report.specs.Paths.{below};
+ghost use Rattle.strkw_report.specs.Paths.{path_below};
 
 use itoa::Buffer;
 use serde_json::{Map, Value};
@@ -143,7 +143,7 @@ fn push_members<'a>(
 
 // The pointer from a value to its member or element of this name.
 fn step_to(alloc: Global, name: &str) -> Result<Location, AllocError>
-    ensures { IfOk result (λ step. step ≡ below [] name.now) }
+    ensures { IfOk result (λ step. step ≡ path_below [] name.now) }
 {
     Location::root(alloc).join(name)
 }

@@ -75,8 +75,8 @@ pub record Window : Type 0 where
   pub least : ℕ
   pub greatest : Option ℕ
 
-abbrev pub closed : ℕ → ℕ → Option Window
-closed least greatest = Some (record { least = least; greatest = Some greatest })
+abbrev pub closed_window : ℕ → ℕ → Option Window
+closed_window least greatest = Some (record { least = least; greatest = Some greatest })
 
 abbrev pub open_above : ℕ → Option Window
 open_above least = Some (record { least = least; greatest = None })
@@ -111,7 +111,7 @@ format_row Date = record {
   first = Draft4;
   last = Draft202012;
   example = codes "2020-01-01";
-  window = closed 10 10;
+  window = closed_window 10 10;
   window_texts = Some (codes "2020-01-01", Some (codes "2020-01-01"));
 }
 format_row DateTime = record {
@@ -135,7 +135,7 @@ format_row Hostname = record {
   first = Draft7;
   last = Draft202012;
   example = codes "example.com";
-  window = closed 1 253;
+  window = closed_window 1 253;
   window_texts = Some (codes "a", Some longest_host_name);
 }
 format_row HostnameDraft4 = record {
@@ -143,7 +143,7 @@ format_row HostnameDraft4 = record {
   first = Draft4;
   last = Draft6;
   example = codes "example.com";
-  window = closed 1 253;
+  window = closed_window 1 253;
   window_texts = Some (codes "a", Some longest_host_name);
 }
 format_row Ipv4 = record {
@@ -151,7 +151,7 @@ format_row Ipv4 = record {
   first = Draft4;
   last = Draft202012;
   example = codes "127.0.0.1";
-  window = closed 7 15;
+  window = closed_window 7 15;
   window_texts = Some (codes "0.0.0.0", Some (codes "255.255.255.255"));
 }
 format_row Ipv6 = record {
@@ -159,7 +159,7 @@ format_row Ipv6 = record {
   first = Draft4;
   last = Draft202012;
   example = codes "::1";
-  window = closed 2 45;
+  window = closed_window 2 45;
   window_texts = Some (codes "::", Some (codes "0000:0000:0000:0000:0000:0000:255.255.255.255"));
 }
 format_row Iri = record {
@@ -231,7 +231,7 @@ format_row Uuid = record {
   first = Draft201909;
   last = Draft202012;
   example = codes "00000000-0000-4000-8000-000000000000";
-  window = closed 36 36;
+  window = closed_window 36 36;
   window_texts = Some (
     codes "00000000-0000-4000-8000-000000000000",
     Some

@@ -20,17 +20,17 @@ members_read depth ts = converted (λ ms. of_members ms no_members)
     (members (value depth) (length ts) ts)
 
 -- what is left, whatever was read
-abbrev pub behind : {A : Type 0} → Option (A × List Token) → Option (List Token)
-behind read = option_map (λ p. p.1) read
+abbrev pub tokens_left : {A : Type 0} → Option (A × List Token) → Option (List Token)
+tokens_left read = option_map (λ p. p.1) read
 
 abbrev pub after_value : ℕ → List Token → Option (List Token)
-after_value depth ts = behind (value_read depth ts)
+after_value depth ts = tokens_left (value_read depth ts)
 
 abbrev pub after_items : ℕ → List Token → Option (List Token)
-after_items depth ts = behind (items_read depth ts)
+after_items depth ts = tokens_left (items_read depth ts)
 
 abbrev pub after_members : ℕ → List Token → Option (List Token)
-after_members depth ts = behind (members_read depth ts)
+after_members depth ts = tokens_left (members_read depth ts)
 
 -- a value, where it is no text, no array and no object
 abbrev pub scalar_in : Data → Option Data

@@ -3,10 +3,10 @@ use Rattle.std.proofs.Common.{◌≡◌, List, [], ◌∷◌, ◌++◌, refl, ap
 use Rattle.std.proofs.lemmas.List.{map-append}
 use Rattle.strkw_keywords.specs.Places.{Place}
 use Rattle.strkw_keywords.specs.Demands.{Demand}
-use Rattle.strkw_keywords.specs.Errors.{Assertion, placed, demands_asserted}
+use Rattle.strkw_keywords.specs.Errors.{Assertion, assertions_at, demands_asserted}
 
 -- demands at a place are those demands
-pub demands_of_placed : (place : Place) (ds : List Demand) → demands_asserted (placed place ds) ≡ ds
+pub demands_of_placed : (place : Place) (ds : List Demand) → demands_asserted (assertions_at place ds) ≡ ds
 demands_of_placed place [] = refl
 demands_of_placed place (d ∷ ds) = ap (λ l. d ∷ l) (demands_of_placed place ds)
 
@@ -16,5 +16,5 @@ pub demands_of_joined : (front back : List Assertion)
 demands_of_joined front back = map-append (λ a. a.demand) front back
 
 -- demands at a place, and others behind them
-pub placed-append : (place : Place) (ds es : List Demand) → placed place (ds ++ es) ≡ placed place ds ++ placed place es
-placed-append place ds es = map-append (λ d. record { place = place; demand = d }) ds es
+pub assertions_at-append : (place : Place) (ds es : List Demand) → assertions_at place (ds ++ es) ≡ assertions_at place ds ++ assertions_at place es
+assertions_at-append place ds es = map-append (λ d. record { place = place; demand = d }) ds es

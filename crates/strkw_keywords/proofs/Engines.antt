@@ -10,11 +10,11 @@ use Rattle.strkw_pattern.specs.Matcher.{IsSearch}
 use Rattle.strkw_keywords.specs.declared.keyword.Keyword.TheVariants.{Pattern}
 use Rattle.strkw_keywords.specs.Keywords.{keyword_name}
 use Rattle.strkw_keywords.specs.Demands.{compares, matches}
-use Rattle.strkw_keywords.specs.Errors.{placed}
+use Rattle.strkw_keywords.specs.Errors.{assertions_at}
 use Rattle.strkw_keywords.specs.Object.{Settings, Entry, malformed, gives, no_string, engine_entry, IsPatternEntry, IsPatternValue}
 use Rattle.strkw_keywords.specs.Validators.{place_of, assertions_of, remark_made}
 use Rattle.strkw_keywords.specs.declared.validator.Validator.{Validator}
-use Rattle.strkw_report.specs.Paths.{below}
+use Rattle.strkw_report.specs.Paths.{path_below}
 use Rattle.strkw_report.specs.Refusals.{regex}
 use Rattle.strkw_keywords.specs.Places.{Place}
 use Rattle.strkw_keywords.specs.declared.compile.Refused.{Refused}
@@ -29,7 +29,7 @@ text_entry s d p e is h = subst (λ o. MatchOption o (e ≡ malformed Pattern (n
 
 -- what an engine matches stands for a pattern that is no literal and that the builder takes
 pub engine_stands : {E : Type 0} (outcome : E → List ℕ → Outcome) (s : Settings) (d : Data) (p : List ℕ) (v : Validator E) → Some p ≡ as_str d
-    → (IsLiteral (chars p) → ⊥) → s.takes (chars p) ≡ true → assertions_of outcome v ≡ placed s.place (matches p (s.outcome (chars p)) ∷ [])
+    → (IsLiteral (chars p) → ⊥) → s.takes (chars p) ≡ true → assertions_of outcome v ≡ assertions_at s.place (matches p (s.outcome (chars p)) ∷ [])
     → remark_made v ≡ None → place_of v ≡ s.place → IsPatternBuilt outcome s d (Ok (Some v))
 engine_stands outcome s d p v is unspelled taken asserts quiet stands =
     record {
@@ -41,7 +41,8 @@ engine_stands outcome s d p v is unspelled taken asserts quiet stands =
 -- what compares stands for a literal whose search it answers
 pub literal_stands : {E : Type 0} (outcome : E → List ℕ → Outcome) (s : Settings) (d : Data) (p : List ℕ) (o : List ℕ → Outcome) (v : Validator E)
     → Some p ≡ as_str d → ((l : Literal) × IsWellFormed l × (chars p ≡ spelling l) × IsSearch l o)
-    → assertions_of outcome v ≡ placed s.place (compares p o ∷ []) → remark_made v ≡ None → place_of v ≡ s.place → IsPatternBuilt outcome s d (Ok (Some v))
+    → assertions_of outcome v ≡ assertions_at s.place (compares p o ∷ []) → remark_made v ≡ None → place_of v ≡ s.place → IsPatternBuilt outcome s d
+    (Ok (Some v))
 literal_stands outcome s d p o v is h asserts quiet stands =
     record {
       entry = gives (compares p o ∷ []) None;
@@ -56,7 +57,7 @@ out_of_memory_refused outcome s d r e = let p = pattern_exists s (Some d) in rec
 
 -- a value that is no string
 pub string_refused : {E : Type 0} (outcome : E → List ℕ → Outcome) (s : Settings) (d : Data) (r : Refused) → None ≡ as_str d
-    → (r ≡ Memory) ⊎ ((place : Place) → refused_at place r ≡ record { reason = no_string d; location = below place.schema (keyword_name Pattern) })
+    → (r ≡ Memory) ⊎ ((place : Place) → refused_at place r ≡ record { reason = no_string d; location = path_below place.schema (keyword_name Pattern) })
     → IsPatternBuilt outcome s d (Err r)
 string_refused outcome s d r is h =
     record {
@@ -69,7 +70,7 @@ string_refused outcome s d r is h =
 -- a pattern that the builder does not take
 pub regex_refused : {E : Type 0} (outcome : E → List ℕ → Outcome) (s : Settings) (d : Data) (p : List ℕ) (r : Refused) → Some p ≡ as_str d
     → (IsLiteral (chars p) → ⊥) → s.takes (chars p) ≡ false
-    → ((place : Place) → refused_at place r ≡ record { reason = regex p; location = below place.schema (keyword_name Pattern) })
+    → ((place : Place) → refused_at place r ≡ record { reason = regex p; location = path_below place.schema (keyword_name Pattern) })
     → IsPatternBuilt outcome s d (Err r)
 regex_refused outcome s d p r is unspelled refused h =
     record {

@@ -20,7 +20,7 @@ use Rattle.strkw_keywords.specs.Remarks.{Remark}
 use Rattle.strkw_keywords.specs.Demands.{compares}
 use Rattle.strkw_keywords.specs.Object.{Settings, Entry, nothing, malformed, gives, no_string, value_at, engine_entry, content_rule, media_type_entry}
 use Rattle.strkw_keywords.specs.Object.{encoding_entry, schema_entry, format_entry, min_entry, max_entry, IsPatternEntry, IsPatternValue, IsEntryAt, Keyed}
-use Rattle.strkw_keywords.specs.Object.{keywords, AreEntriesOf, AreEntries, FirstRefusal, refusal, Notes, remarked, remarks_on}
+use Rattle.strkw_keywords.specs.Object.{keywords, AreEntriesOf, AreEntries, FirstRefusal, refusal, Notes, all_remarks, remarks_on}
 
 -- ---- there are some
 
@@ -77,7 +77,7 @@ first_refusal_exists s ms = let (es, are) = entries_exist s ms in (refusal s.pla
 
 -- each node has a list of notes by a schema object
 pub notes_exist : (s : Settings) (ms : Members) (node : Option (List ℕ)) → (remarks : List Remark) × Notes s ms node remarks
-notes_exist s ms node = let (es, are) = entries_exist s ms in (remarks_on node (remarked s.place es), (es, are, refl))
+notes_exist s ms node = let (es, are) = entries_exist s ms in (remarks_on node (all_remarks s.place es), (es, are, refl))
 
 -- ---- and no others
 
@@ -149,7 +149,7 @@ FirstRefusal-unique s ms a b (es, are, x) (fs, too, y) = sym x ∙ ap (refusal s
 
 -- a node has one list of notes at most by a schema object
 pub Notes-unique : (s : Settings) (ms : Members) (node : Option (List ℕ)) (a b : List Remark) → Notes s ms node a → Notes s ms node b → a ≡ b
-Notes-unique s ms node a b (es, are, x) (fs, too, y) = x ∙ ap (λ l. remarks_on node (remarked s.place l)) (AreEntries-unique s ms es fs are too) ∙ sym y
+Notes-unique s ms node a b (es, are, x) (fs, too, y) = x ∙ ap (λ l. remarks_on node (all_remarks s.place l)) (AreEntries-unique s ms es fs are too) ∙ sym y
 
 -- ---- what holds of each entry
 

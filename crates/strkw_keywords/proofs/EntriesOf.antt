@@ -18,7 +18,7 @@ use Rattle.strkw_keywords.specs.declared.content_rule.ContentRule.{ContentRule}
 use Rattle.strkw_keywords.specs.Object.{Settings, Entry, nothing, Keyed, content_rule, media_type_entry, encoding_entry, schema_entry, min_entry, max_entry}
 use Rattle.strkw_keywords.specs.Object.{entry_of, value_at, is_given, is_fused, least_entry, greatest_entry, keywords, IsEntryOf, IsEntryAt, AreEntriesOf}
 use Rattle.strkw_keywords.specs.Object.{share, shares, refusal}
-use Rattle.strkw_keywords.specs.Compiled.{AddsNothing, IsBuilt, IsBuiltAt, IsPatternBuilt, IsCompiledAt, alone, min_share, max_share, out_of_memory_refusal, refused_at}
+use Rattle.strkw_keywords.specs.Compiled.{AddsNothing, IsBuilt, IsBuiltAt, IsPatternBuilt, IsCompiledAt, single_entry, min_share, max_share, out_of_memory_refusal, refused_at}
 
 -- ---- an entry that a value determines
 
@@ -94,7 +94,7 @@ refused_so place es r e (inl out_of_memory) (inr (other, is)) = absurd (other ou
 refused_so place es r e (inr first) (inr (other, is)) = inr (first ∙ ap Some (sym is))
 
 -- nothing is built of an entry that adds nothing
-pub none_built : {E : Type 0} (outcome : E → List ℕ → Outcome) (place : Place) (k : Keyword) → IsBuilt outcome place (alone k nothing) (Ok None)
+pub none_built : {E : Type 0} (outcome : E → List ℕ → Outcome) (place : Place) (k : Keyword) → IsBuilt outcome place (single_entry k nothing) (Ok None)
 none_built outcome place k = record { answer = record { good = refl; asserts = refl; notes = refl } }
 
 module _ {E : Type 0} (outcome : E → List ℕ → Outcome) (s : Settings) (ms : Members) where
@@ -112,12 +112,12 @@ module _ {E : Type 0} (outcome : E → List ℕ → Outcome) (s : Settings) (ms 
 
   -- the entries of the share of `minLength`: its own and, where they are fused, that at `maxLength`
   min_entries : (fused : Bool) → AreEntriesOf s ms (share fused MinLength)
-      (record { keyword = MinLength; entry = least_entry s.options ms } ∷ (if fused then alone MaxLength (greatest_entry s.options ms) else []))
-  min_entries true = (least_entry s.options ms, alone MaxLength (greatest_entry s.options ms), min_is, refl, one_entry MaxLength _ max_is)
+      (record { keyword = MinLength; entry = least_entry s.options ms } ∷ (if fused then single_entry MaxLength (greatest_entry s.options ms) else []))
+  min_entries true = (least_entry s.options ms, single_entry MaxLength (greatest_entry s.options ms), min_is, refl, one_entry MaxLength _ max_is)
   min_entries false = one_entry MinLength _ min_is
 
   -- the entries of the share of `maxLength`: its own or, where they are fused, none
-  max_entries : (fused : Bool) → AreEntriesOf s ms (share fused MaxLength) (if fused then [] else alone MaxLength (greatest_entry s.options ms))
+  max_entries : (fused : Bool) → AreEntriesOf s ms (share fused MaxLength) (if fused then [] else single_entry MaxLength (greatest_entry s.options ms))
   max_entries true = refl
   max_entries false = one_entry MaxLength _ max_is
 
@@ -131,34 +131,34 @@ module _ {E : Type 0} (outcome : E → List ℕ → Outcome) (s : Settings) (ms 
 
   -- what is built of one entry
   one_built : (k : Keyword) (e : Entry) (r : Result (Option (Validator E)) Refused) → share (is_fused s.options ms) k ≡ k ∷ [] → IsEntryAt s ms k e
-      → IsBuilt outcome s.place (alone k e) r → IsBuiltAt outcome s ms k r
+      → IsBuilt outcome s.place (single_entry k e) r → IsBuiltAt outcome s ms k r
   one_built k e r single at h = record {
-    entries = alone k e;
-    are_entries = subst (λ ks. AreEntriesOf s ms ks (alone k e)) (sym single) (one_entry k e at);
+    entries = single_entry k e;
+    are_entries = subst (λ ks. AreEntriesOf s ms ks (single_entry k e)) (sym single) (one_entry k e at);
     answer = h;
   }
 
   -- and of a value
   pub value_built : (k : Keyword) (d : Data) (e : Entry) (r : Result (Option (Validator E)) Refused) → share (is_fused s.options ms) k ≡ k ∷ []
-      → value_at s.options k ms ≡ Some d → IsEntryOf s ms k d e → IsBuilt outcome s.place (alone k e) r → IsBuiltAt outcome s ms k r
+      → value_at s.options k ms ≡ Some d → IsEntryOf s ms k d e → IsBuilt outcome s.place (single_entry k e) r → IsBuiltAt outcome s ms k r
   value_built k d e r single at is = one_built k e r single (subst (λ o. MatchOption o (e ≡ nothing) (λ v. IsEntryOf s ms k v e)) (sym at) is)
 
   -- content, by the rule of the draft
   -- what is built of the media type's entry is built at `contentMediaType`
   pub media_type_built : (rule : ContentRule) (d : Data) (r : Result (Option (Validator E)) Refused) → content_rule s.draft ≡ rule
-      → value_at s.options ContentMediaType ms ≡ Some d → IsBuilt outcome s.place (alone ContentMediaType (media_type_entry rule s ms d)) r
+      → value_at s.options ContentMediaType ms ≡ Some d → IsBuilt outcome s.place (single_entry ContentMediaType (media_type_entry rule s ms d)) r
       → IsBuiltAt outcome s ms ContentMediaType r
   media_type_built rule d r is at = value_built ContentMediaType d _ r refl at (ap (λ x. media_type_entry x s ms d) (sym is))
 
   -- what is built of the encoding's entry is built at `contentEncoding`
   pub encoding_built : (rule : ContentRule) (d : Data) (r : Result (Option (Validator E)) Refused) → content_rule s.draft ≡ rule
-      → value_at s.options ContentEncoding ms ≡ Some d → IsBuilt outcome s.place (alone ContentEncoding (encoding_entry rule s ms d)) r
+      → value_at s.options ContentEncoding ms ≡ Some d → IsBuilt outcome s.place (single_entry ContentEncoding (encoding_entry rule s ms d)) r
       → IsBuiltAt outcome s ms ContentEncoding r
   encoding_built rule d r is at = value_built ContentEncoding d _ r refl at (ap (λ x. encoding_entry x s ms d) (sym is))
 
   -- what is built of the content schema's entry is built at `contentSchema`
   pub schema_built : (rule : ContentRule) (d : Data) (r : Result (Option (Validator E)) Refused) → content_rule s.draft ≡ rule
-      → value_at s.options ContentSchema ms ≡ Some d → IsBuilt outcome s.place (alone ContentSchema (schema_entry rule ms d)) r
+      → value_at s.options ContentSchema ms ≡ Some d → IsBuilt outcome s.place (single_entry ContentSchema (schema_entry rule ms d)) r
       → IsBuiltAt outcome s ms ContentSchema r
   schema_built rule d r is at = value_built ContentSchema d _ r refl at (ap (λ x. schema_entry x ms d) (sym is))
 

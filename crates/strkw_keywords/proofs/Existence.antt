@@ -10,8 +10,8 @@ use Rattle.strkw_keywords.specs.Meanings.{Decoded, no_encoding, no_text, decoded
 use Rattle.strkw_keywords.specs.Demands.{Demand, is_media_type, is_encoded, encodes_media_type, is_format, at_least, at_most, compares, matches, Finding}
 use Rattle.strkw_keywords.specs.Demands.{HasFinding, FoundUnless, IsContentFinding, Decodes, CodecDecodes}
 use Rattle.strkw_keywords.specs.Places.{standing}
-use Rattle.strkw_keywords.specs.Errors.{Assertion, reported, AllReport}
-use Rattle.strkw_keywords.specs.Object.{asserted}
+use Rattle.strkw_keywords.specs.Errors.{Assertion, reports_of, AllReport}
+use Rattle.strkw_keywords.specs.Object.{all_assertions}
 use Rattle.strkw_keywords.specs.Laws.{ReportsAreThere, ErrorsAreThere}
 use Rattle.strkw_keywords.proofs.Entries.{entries_exist}
 
@@ -57,7 +57,7 @@ text-there : (assertions : List Assertion) (lists : Lists) (site : Site) (text :
 text-there [] lists site text none = none [] refl
 text-there (a ∷ others) lists site text none =
     finding-there a.demand lists text (λ found has. text-there others lists site text
-    (λ rest is. none (reported (standing a.place site) text found ++ rest) (found, rest, has, refl, is)))
+    (λ rest is. none (reports_of (standing a.place site) text found ++ rest) (found, rest, has, refl, is)))
 
 -- it cannot be that a node has no list of errors by some assertions
 pub reports_there : ReportsAreThere
@@ -68,4 +68,4 @@ reports_there assertions lists site (Some text) none = text-there assertions lis
 pub errors_there : ErrorsAreThere
 errors_there s ms lists site node none =
     let (es, are) = entries_exist s ms in
-    reports_there (asserted s.place es) lists site node (λ rs h. none rs (es, are, h))
+    reports_there (all_assertions s.place es) lists site node (λ rs h. none rs (es, are, h))

@@ -5,8 +5,8 @@ use Rattle.strkw_report.specs.Kinds.{Report}
 use Rattle.strkw_report.specs.declared.error.Site.{Site}
 use Rattle.strkw_keywords.specs.Meanings.{Lists}
 use Rattle.strkw_keywords.specs.Places.{Place, standing}
-use Rattle.strkw_keywords.specs.Demands.{Demand, Finding, HasFinding, Finds, listed, all_quiet}
-use Rattle.strkw_keywords.specs.Errors.{Assertion, placed, reported, AllReport, NodeReports}
+use Rattle.strkw_keywords.specs.Demands.{Demand, Finding, HasFinding, Finds, finding_list, all_quiet}
+use Rattle.strkw_keywords.specs.Errors.{Assertion, assertions_at, reports_of, AllReport, NodeReports}
 use Rattle.strkw_keywords.specs.Findings.{first_of}
 use Rattle.strkw_keywords.specs.Verdicts.{FailsFirst, IsVerdict}
 use Rattle.strkw_keywords.specs.declared.validate.Fault.{Fault}
@@ -34,25 +34,26 @@ behind_silent a others lists site text r silent f = record {
 -- by the findings of the demands, by what the first of them finds
 by_found : (place : Place) (d : Demand) (ds : List Demand) (lists : Lists) (site : Site) (text : List ℕ) (found : Option Finding) (rest : List Finding)
     (f : Finding) (r : Report)
-    → HasFinding d lists text found → first_of (listed found ++ rest) ≡ Some f → reported (standing place site) text (Some f) ≡ r ∷ []
-    → (first_of rest ≡ Some f → FailsFirst (placed place ds) lists site text r)
-    → FailsFirst (placed place (d ∷ ds)) lists site text r
+    → HasFinding d lists text found → first_of (finding_list found ++ rest) ≡ Some f → reports_of (standing place site) text (Some f) ≡ r ∷ []
+    → (first_of rest ≡ Some f → FailsFirst (assertions_at place ds) lists site text r)
+    → FailsFirst (assertions_at place (d ∷ ds)) lists site text r
 by_found place d ds lists site text None rest f r has e tells later =
-    behind_silent (record { place = place; demand = d }) (placed place ds) lists site text r has (later e)
+    behind_silent (record { place = place; demand = d }) (assertions_at place ds) lists site text r has (later e)
 by_found place d ds lists site text (Some g) rest f r has e tells later = record {
   before = [];
   failed = record { place = place; demand = d };
-  later = placed place ds;
+  later = assertions_at place ds;
   in_order = refl;
   silent = refl;
   found = g;
   fails = has;
-  tells = ap (reported (standing place site) text) e ∙ tells;
+  tells = ap (reports_of (standing place site) text) e ∙ tells;
 }
 
 -- a text fails by the first of its findings
 pub fails_by_first : (place : Place) (ds : List Demand) (lists : Lists) (site : Site) (text : List ℕ) (fs : List Finding) (f : Finding) (r : Report)
-    → Finds ds lists text fs → first_of fs ≡ Some f → reported (standing place site) text (Some f) ≡ r ∷ [] → FailsFirst (placed place ds) lists site text r
+    → Finds ds lists text fs → first_of fs ≡ Some f → reports_of (standing place site) text (Some f) ≡ r ∷ []
+    → FailsFirst (assertions_at place ds) lists site text r
 fails_by_first place [] lists site text fs f r h e tells = absurd (none-some f (ap first_of (sym h) ∙ e))
 fails_by_first place (d ∷ ds) lists site text fs f r (found, rest, has, joined, others) e tells =
     by_found place d ds lists site text found rest f r has (ap first_of (sym joined) ∙ e) tells
@@ -65,7 +66,7 @@ none_first (f ∷ fs) e = absurd (cc)
 
 -- and the text has no errors
 pub valid_without_first : (place : Place) (ds : List Demand) (lists : Lists) (site : Site) (text : List ℕ) (fs : List Finding) → Finds ds lists text fs
-    → first_of fs ≡ None → AllReport (placed place ds) lists site text []
+    → first_of fs ≡ None → AllReport (assertions_at place ds) lists site text []
 valid_without_first place ds lists site text fs h e =
     found_reports place ds lists site text [] (subst (Finds ds lists text) (none_first fs e) h)
 
@@ -73,15 +74,15 @@ valid_without_first place ds lists site text fs h e =
 
 -- where a text may have errors, or its demands take memory, out of memory is a verdict
 pub out_of_memory_verdict : (place : Place) (ds : List Demand) (lists : Lists) (site : Site) (text : List ℕ) (fault : Fault)
-    → fault ≡ Memory → (all_quiet ds ≡ true → NodeReports (placed place ds) lists site (Some text) [] → ⊥)
-    → IsVerdict (placed place ds) lists site (Some text) (Err fault)
+    → fault ≡ Memory → (all_quiet ds ≡ true → NodeReports (assertions_at place ds) lists site (Some text) [] → ⊥)
+    → IsVerdict (assertions_at place ds) lists site (Some text) (Err fault)
 out_of_memory_verdict place ds lists site text fault is h =
-    subst (λ f. IsVerdict (placed place ds) lists site (Some text) (Err f)) (sym is)
+    subst (λ f. IsVerdict (assertions_at place ds) lists site (Some text) (Err f)) (sym is)
     (λ calm. h (subst (λ l. all_quiet l ≡ true) (demands_of_placed place ds) calm))
 
 -- a text of which something is found has an error
 pub found_is_error : EncodesOnce → (place : Place) (ds : List Demand) (lists : Lists) (site : Site) (text : List ℕ) (fs : List Finding) (f : Finding)
-    → Finds ds lists text fs → first_of fs ≡ Some f → NodeReports (placed place ds) lists site (Some text) [] → ⊥
+    → Finds ds lists text fs → first_of fs ≡ Some f → NodeReports (assertions_at place ds) lists site (Some text) [] → ⊥
 found_is_error once place ds lists site text fs f h e none = none-some f (sym (ap first_of (none_found once place ds lists site text fs h none)) ∙ e)
 
 -- ---- several lists of assertions
@@ -115,7 +116,7 @@ fault_within front mid back lists site there Memory quiet v = λ calm none.
 -- by `EncodesOnce`, the error of an assertion behind silent ones is the first of all
 head_of : EncodesOnce → (before : List Assertion) (failed : Assertion) (later : List Assertion) (lists : Lists) (site : Site) (text : List ℕ) (found : Finding)
     (error : Report) (rs : List Report) → AllReport before lists site text [] → HasFinding failed.demand lists text (Some found)
-    → reported (standing failed.place site) text (Some found) ≡ error ∷ [] → AllReport (before ++ failed ∷ later) lists site text rs → (others : List Report)
+    → reports_of (standing failed.place site) text (Some found) ≡ error ∷ [] → AllReport (before ++ failed ∷ later) lists site text rs → (others : List Report)
     × (rs ≡ error ∷ others)
 head_of once before failed later lists site text found error rs silent fails tells h =
     let turn = (in_turn before (failed ∷ later) lists site (Some text) rs).0 h in
@@ -123,7 +124,7 @@ head_of once before failed later lists site text found error rs silent fails tel
     let same = HasFinding-unique once failed.demand lists text turn.of_others.0 (Some found) turn.of_others.2 fails in (
       turn.of_others.1,
       turn.joined ∙ ap (λ l. l ++ turn.late) none ∙ turn.of_others.3
-          ∙ ap (λ o. reported (standing failed.place site) text o ++ turn.of_others.1) same
+          ∙ ap (λ o. reports_of (standing failed.place site) text o ++ turn.of_others.1) same
           ∙ ap (λ l. l ++ turn.of_others.1) tells,
     )
 

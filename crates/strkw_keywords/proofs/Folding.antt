@@ -13,7 +13,7 @@ use Rattle.strkw_formats.specs.FormatLaws.{IsInside}
 use Rattle.strkw_keywords.specs.Demands.{at_least, at_most}
 use Rattle.strkw_keywords.specs.Object.{Settings, Entry, nothing, malformed, gives, of_string, of_text, known_format, checks_formats, checked_format}
 use Rattle.strkw_keywords.specs.Object.{limit_entry, as_limit, min_entry, max_entry, no_string, format_entry, IsEntryAt, entry_of, value_at, Keyed, keywords}
-use Rattle.strkw_keywords.specs.Object.{AreEntriesOf, demands_by, demanded, asserted}
+use Rattle.strkw_keywords.specs.Object.{AreEntriesOf, demands_by, all_demands, all_assertions}
 use Rattle.strkw_keywords.specs.Lengths.{any_length, common, window_at, interval, OutsideIsAnError}
 use Rattle.strkw_keywords.specs.Folding.{IsInInterval, IntervalIsLeft, FoldedRefuseTexts, OthersAcceptSomeText}
 use Rattle.strkw_keywords.proofs.Shapes.{HoldsOfBoundless, media_type_at_holds, encoding_at_holds, schema_at_holds, pattern_at_holds, unknown_format_holds}
@@ -112,9 +112,9 @@ all_left [] = any_length
 all_left (e ∷ others) = common (left_by e.entry) (all_left others)
 
 -- the interval of what entries demand is what they leave, one after the other
-interval_by_entry : (es : List Keyed) → interval (demanded es) ≡ all_left es
+interval_by_entry : (es : List Keyed) → interval (all_demands es) ≡ all_left es
 interval_by_entry [] = refl
-interval_by_entry (e ∷ others) = interval_append (demands_by e.entry) (demanded others) ∙ ap (common (left_by e.entry)) (interval_by_entry others)
+interval_by_entry (e ∷ others) = interval_append (demands_by e.entry) (all_demands others) ∙ ap (common (left_by e.entry)) (interval_by_entry others)
 
 -- every length in front of a window bounds nothing
 without_first : (a w : Window) → a ≡ any_length → common a w ≡ w
@@ -147,7 +147,7 @@ module _ (s : Settings) (ms : Members) where
   -- the interval of all entries is what those at `format`, `minLength` and `maxLength` leave in common
   three_of_seven : (a b c f low high p : Entry) → IsEntryAt s ms ContentMediaType a → IsEntryAt s ms ContentEncoding b → IsEntryAt s ms ContentSchema c
       → IsEntryAt s ms Pattern p
-      → interval (demanded (seven a b c f low high p)) ≡ common (left_by f) (common (left_by low) (left_by high))
+      → interval (all_demands (seven a b c f low high p)) ≡ common (left_by f) (common (left_by low) (left_by high))
   three_of_seven a b c f low high p at-a at-b at-c at-p =
       interval_by_entry (seven a b c f low high p)
       ∙ three_left _ _ _ (left_by f) (left_by low) (left_by high) _
@@ -194,7 +194,7 @@ module _ (s : Settings) (ms : Members) where
       rw (format-is, low-is, high-is) (inside_values n)
 
   -- a length is inside the interval of all entries exactly where it is in that of the object
-  inside_all : (es : List Keyed) (n : ℕ) → AreEntriesOf s ms keywords es → IsInside (interval (demanded es)) n ↔ IsInInterval s ms n
+  inside_all : (es : List Keyed) (n : ℕ) → AreEntriesOf s ms keywords es → IsInside (interval (all_demands es)) n ↔ IsInInterval s ms n
   inside_all es n (
     a,
     r1,
@@ -215,7 +215,7 @@ module _ (s : Settings) (ms : Members) where
     ),
   ) =
       let whole : es ≡ seven a b c f low high p = rw (is-a, is-b, is-c, is-f, is-low, is-high, is-p, none) refl in
-      let left = ap (λ l. interval (demanded l)) whole ∙ three_of_seven a b c f low high p at-a at-b at-c at-p in
+      let left = ap (λ l. interval (all_demands l)) whole ∙ three_of_seven a b c f low high p at-a at-b at-c at-p in
       subst (λ w. IsInside w n ↔ IsInInterval s ms n) (sym left) (inside_three f low high n at-f at-low at-high)
 
 -- the interval of a schema object is what its entries, by their demands, leave
@@ -227,14 +227,14 @@ interval_is_left s ms es n are = inside_all s ms es n are.in_order
 -- by `OutsideIsAnError`, a schema object that folds to false refuses every text
 pub folded_refuse_texts : OutsideIsAnError → FoldedRefuseTexts
 folded_refuse_texts outside s ms folds lists site text (es, are, reports) =
-    let left = demands_of_placed s.place (demanded es) in
-    outside (asserted s.place es) lists site text
+    let left = demands_of_placed s.place (all_demands es) in
+    outside (all_assertions s.place es) lists site text
     (λ i. folds (length (chars text)) ((interval_is_left s ms es (length (chars text)) are).0 (rw left at i))) reports
 
 -- an object that does not fold to false accepts some text, where only lengths can make errors
 pub others_accept_some_text : OthersAcceptSomeText
 others_accept_some_text s ms lists site (es, are, limits) unfolded =
-    let w = interval (demanded es) in
+    let w = interval (all_demands es) in
     elim (empty_or_least w) [
       | inl below ↦ absurd (unfolded (λ n h. below_is_empty w below n ((interval_is_left s ms es n are).1 h)))
       | inr inside ↦
@@ -245,7 +245,7 @@ others_accept_some_text s ms lists site (es, are, limits) unfolded =
             record {
               size = made.1;
               inside = (interval_is_left s ms es w.least are).0 inside;
-              accepted = (es, are, inside_is_no_error s.place (demanded es) lists site made.0 limits there);
+              accepted = (es, are, inside_is_no_error s.place (all_demands es) lists site made.0 limits there);
             },
           )
     ]

@@ -10,7 +10,7 @@ use Rattle.strkw_keywords.specs.declared.keyword.Keyword.TheVariants.{ContentMed
 use Rattle.strkw_keywords.specs.declared.values.Values.{Values}
 use Rattle.strkw_keywords.specs.Keywords.{keyword_name}
 use Rattle.strkw_keywords.specs.Object.{keywords}
-use Rattle.strkw_keywords.specs.Values.{AreValuesOf, held, with_value, members_at, members_of}
+use Rattle.strkw_keywords.specs.Values.{AreValuesOf, held_value, with_value, members_at, members_of}
 
 -- the name of a keyword beside that of another one
 abbrev names : Keyword → Keyword → Ordering
@@ -51,23 +51,23 @@ held_at at k (w ∷ ws) after same (differ, more) later =
     held_at at k ws after same more later ∙ sym (past k w (at w) (members_at at (ws ++ k ∷ after)) differ)
 
 -- what is there at a keyword is the value of the object that has these values, and nothing else
-pub held_is_member : (at : Keyword → Option Data) (k : Keyword) → at k ≡ get_member (keyword_name k) (members_at at keywords)
-held_is_member at ContentMediaType = held_at at ContentMediaType [] (ContentEncoding ∷ ContentSchema ∷ Format ∷ MinLength ∷ MaxLength ∷ Pattern ∷ [])
+pub held_value_is_member : (at : Keyword → Option Data) (k : Keyword) → at k ≡ get_member (keyword_name k) (members_at at keywords)
+held_value_is_member at ContentMediaType = held_at at ContentMediaType [] (ContentEncoding ∷ ContentSchema ∷ Format ∷ MinLength ∷ MaxLength ∷ Pattern ∷ [])
     refl (search rules) (search rules)
-held_is_member at ContentEncoding = held_at at ContentEncoding (ContentMediaType ∷ []) (ContentSchema ∷ Format ∷ MinLength ∷ MaxLength ∷ Pattern ∷ [])
+held_value_is_member at ContentEncoding = held_at at ContentEncoding (ContentMediaType ∷ []) (ContentSchema ∷ Format ∷ MinLength ∷ MaxLength ∷ Pattern ∷ [])
     refl (search rules) (search rules)
-held_is_member at ContentSchema = held_at at ContentSchema (ContentMediaType ∷ ContentEncoding ∷ []) (Format ∷ MinLength ∷ MaxLength ∷ Pattern ∷ [])
+held_value_is_member at ContentSchema = held_at at ContentSchema (ContentMediaType ∷ ContentEncoding ∷ []) (Format ∷ MinLength ∷ MaxLength ∷ Pattern ∷ [])
     refl (search rules) (search rules)
-held_is_member at Format = held_at at Format (ContentMediaType ∷ ContentEncoding ∷ ContentSchema ∷ []) (MinLength ∷ MaxLength ∷ Pattern ∷ []) refl
+held_value_is_member at Format = held_at at Format (ContentMediaType ∷ ContentEncoding ∷ ContentSchema ∷ []) (MinLength ∷ MaxLength ∷ Pattern ∷ []) refl
     (search rules) (search rules)
-held_is_member at MinLength = held_at at MinLength (ContentMediaType ∷ ContentEncoding ∷ ContentSchema ∷ Format ∷ []) (MaxLength ∷ Pattern ∷ []) refl
+held_value_is_member at MinLength = held_at at MinLength (ContentMediaType ∷ ContentEncoding ∷ ContentSchema ∷ Format ∷ []) (MaxLength ∷ Pattern ∷ []) refl
     (search rules) (search rules)
-held_is_member at MaxLength = held_at at MaxLength (ContentMediaType ∷ ContentEncoding ∷ ContentSchema ∷ Format ∷ MinLength ∷ []) (Pattern ∷ []) refl
+held_value_is_member at MaxLength = held_at at MaxLength (ContentMediaType ∷ ContentEncoding ∷ ContentSchema ∷ Format ∷ MinLength ∷ []) (Pattern ∷ []) refl
     (search rules) (search rules)
-held_is_member at Pattern = held_at at Pattern (ContentMediaType ∷ ContentEncoding ∷ ContentSchema ∷ Format ∷ MinLength ∷ MaxLength ∷ []) [] refl
+held_value_is_member at Pattern = held_at at Pattern (ContentMediaType ∷ ContentEncoding ∷ ContentSchema ∷ Format ∷ MinLength ∷ MaxLength ∷ []) [] refl
     (search rules) (search rules)
 
 -- and so that of each object that has the values
 pub same_members : (values : Values) (ms : Members) → AreValuesOf ms values → (k : Keyword)
     → get_member (keyword_name k) (members_of values) ≡ get_member (keyword_name k) ms
-same_members values ms are k = sym (held_is_member (held values) k) ∙ are.same k
+same_members values ms are k = sym (held_value_is_member (held_value values) k) ∙ are.same k

@@ -11,7 +11,7 @@ use Rattle.strkw_keywords.specs.Keywords.{keyword_name}
 use Rattle.strkw_keywords.specs.Meanings.{Lists}
 use Rattle.strkw_keywords.specs.Places.{Place, standing}
 use Rattle.strkw_keywords.specs.Demands.{at_least, at_most, matches, Finding, found_by_outcome, is_quiet, all_quiet, Demand}
-use Rattle.strkw_keywords.specs.Errors.{Assertion, placed, reported, AllReport, NodeReports, demands_asserted}
+use Rattle.strkw_keywords.specs.Errors.{Assertion, assertions_at, reports_of, AllReport, NodeReports, demands_asserted}
 use Rattle.strkw_keywords.specs.Laws.{ReportInTurn, AssertionsReportInTurn, FusedLengthsReportBoth, EngineFailuresAreErrors, ReportsAreDetermined}
 use Rattle.strkw_keywords.proofs.Asserted.{demands_of_joined}
 use Rattle.strkw_keywords.proofs.Reports.{HasFinding-unique}
@@ -24,7 +24,7 @@ text_in_turn : (first others : List Assertion) (lists : Lists) (site : Site) (te
 text_in_turn [] others lists site text rs h = record { early = []; late = rs; of_first = refl; of_others = h; joined = refl }
 text_in_turn (a ∷ first) others lists site text rs h =
     let later = text_in_turn first others lists site text h.1 h.4 in
-    let mine = reported (standing a.place site) text h.0 in
+    let mine = reports_of (standing a.place site) text h.0 in
     record {
       early = mine ++ later.early;
       late = later.late;
@@ -41,7 +41,7 @@ text_of_both (a ∷ first) others lists site text early late h k = (
   h.0,
   h.1 ++ late,
   h.2,
-  ap (λ l. l ++ late) h.3 ∙ append_assoc (reported (standing a.place site) text h.0) h.1 late,
+  ap (λ l. l ++ late) h.3 ∙ append_assoc (reports_of (standing a.place site) text h.0) h.1 late,
   text_of_both first others lists site text h.1 late h.4 k,
 )
 
@@ -58,7 +58,7 @@ in_turn first others lists site (Some text) rs = (
 
 -- both limits at once report what each reports alone, the least length first
 pub fused : FusedLengthsReportBoth
-fused place low high lists site node rs = in_turn (placed place (at_least low ∷ [])) (placed place (at_most high ∷ [])) lists site node rs
+fused place low high lists site node rs = in_turn (assertions_at place (at_least low ∷ [])) (assertions_at place (at_most high ∷ [])) lists site node rs
 
 -- where nothing is reported, no part reports anything
 no_part : (P Q : List Report → Type 0) (early late : List Report) → [] ≡ early ++ late → P early → Q late → P [] × Q []
@@ -77,10 +77,10 @@ nothing_split front back lists site at a =
 -- where the outcome of an engine is a finding, its error alone is reported of the text
 one_error : (place : Place) (pattern : List ℕ) (outcome_on : List ℕ → Outcome) (lists : Lists) (site : Site) (text : List ℕ) (rs : List Report) (f : Finding)
     → found_by_outcome pattern (outcome_on (chars text)) ≡ Some f
-    → NodeReports (placed place (matches pattern outcome_on ∷ [])) lists site (Some text) rs
+    → NodeReports (assertions_at place (matches pattern outcome_on ∷ [])) lists site (Some text) rs
     ↔ (rs ≡ report_at (standing place site) (keyword_name f.keyword) f.kind text ∷ [])
 one_error place pattern outcome_on lists site text rs f e = (
-  (λ h. h.3 ∙ ap (λ o. reported (standing place site) text o ++ h.1) (h.2 ∙ e) ∙ ap (λ l. reported (standing place site) text (Some f) ++ l) h.4),
+  (λ h. h.3 ∙ ap (λ o. reports_of (standing place site) text o ++ h.1) (h.2 ∙ e) ∙ ap (λ l. reports_of (standing place site) text (Some f) ++ l) h.4),
   (λ r. (Some f, [], sym e, r, refl)),
 )
 
@@ -103,7 +103,7 @@ same_reports once [] xs ys lists site text same rs others h k = same rs others h
 same_reports once (a ∷ first) xs ys lists site text same rs others h k =
     let found = HasFinding-unique once a.demand lists text h.0 k.0 h.2 k.2 in
     let rest = same_reports once first xs ys lists site text same h.1 k.1 h.4 k.4 in
-    h.3 ∙ ap (λ o. reported (standing a.place site) text o ++ h.1) found ∙ ap (λ l. reported (standing a.place site) text k.0 ++ l) rest ∙ sym k.3
+    h.3 ∙ ap (λ o. reports_of (standing a.place site) text o ++ h.1) found ∙ ap (λ l. reports_of (standing a.place site) text k.0 ++ l) rest ∙ sym k.3
 
 -- by `EncodesOnce`, a text has one list of errors at most by some assertions
 pub text_determined : EncodesOnce → (assertions : List Assertion) (lists : Lists) (site : Site) (text : List ℕ) (rs others : List Report)

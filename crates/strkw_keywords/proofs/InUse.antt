@@ -2,7 +2,7 @@
 use Rattle.std.proofs.Common.{List, [], ◌∷◌, ◌++◌}
 use Rattle.std.specs.List.{AllByRecursion}
 use Rattle.strkw_keywords.specs.Demands.{Demand, IsInUse}
-use Rattle.strkw_keywords.specs.Object.{Settings, Entry, Keyed, keywords, demands_by, demanded}
+use Rattle.strkw_keywords.specs.Object.{Settings, Entry, Keyed, keywords, demands_by, all_demands}
 use Rattle.strkw_keywords.specs.Laws.{CompiledIsInUse}
 use Rattle.strkw_keywords.proofs.Entries.{each_entry}
 use Rattle.strkw_keywords.proofs.Shapes.{HoldsOfBoundless, HoldsOfShapes, entry_holds}
@@ -37,10 +37,10 @@ join_keeps s [] ys h k = k
 join_keeps s (x ∷ xs) ys h k = (h.0, join_keeps s xs ys h.1 k)
 
 -- where the rows of each entry come first by their names, what the entries demand is in use
-all_keep : (s : Settings) (es : List Keyed) → AllByRecursion (λ e. EntryKeeps s e.entry) es → IsInUse (demanded es) s.lists
+all_keep : (s : Settings) (es : List Keyed) → AllByRecursion (λ e. EntryKeeps s e.entry) es → IsInUse (all_demands es) s.lists
 all_keep s [] h = tt
 all_keep s (e ∷ others) h =
-    join_keeps s (demands_by e.entry) (demanded others) h.0 (all_keep s others h.1)
+    join_keeps s (demands_by e.entry) (all_demands others) h.0 (all_keep s others h.1)
 
 -- what is compiled under some lists is in use with them
 pub in_use : CompiledIsInUse

@@ -15,7 +15,7 @@ use Rattle.strkw_keywords.specs.Places.{Place, standing}
 use Rattle.strkw_formats.specs.Formats.{IsOfBuiltin, Window, window_of, bounds}
 use Rattle.strkw_formats.specs.FormatLaws.{IsInside}
 use Rattle.strkw_keywords.specs.Demands.{Demand, is_media_type, is_encoded, encodes_media_type, is_format, at_least, at_most, compares, matches, HasFinding}
-use Rattle.strkw_keywords.specs.Errors.{Assertion, placed, demands_asserted, AllReport}
+use Rattle.strkw_keywords.specs.Errors.{Assertion, assertions_at, demands_asserted, AllReport}
 use Rattle.strkw_keywords.specs.Lengths.{any_length, IsEmpty, lesser_end, common, window_left, interval, IsLimit, AreLimits, IsTextOfLength, CommonIsInBoth}
 use Rattle.strkw_keywords.specs.Lengths.{EmptyByItsEnds, OutsideIsAnError}
 use Rattle.strkw_keywords.proofs.Reports.{none_reported}
@@ -237,7 +237,7 @@ meets_limit (matches p outcome) lists text l i = absurd l
 
 -- a text of a length inside the interval has no errors, where all demands are limits
 pub inside_is_no_error : (place : Place) (ds : List Demand) (lists : Lists) (site : Site) (text : List ℕ) → AreLimits ds
-    → IsInside (interval ds) (length (chars text)) → AllReport (placed place ds) lists site text []
+    → IsInside (interval ds) (length (chars text)) → AllReport (assertions_at place ds) lists site text []
 inside_is_no_error place [] lists site text l i = refl
 inside_is_no_error place (d ∷ others) lists site text l i =
     let both = (inside_common (window_left d) (interval others) (length (chars text))).0 i in

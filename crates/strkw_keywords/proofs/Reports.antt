@@ -13,11 +13,11 @@ use Rattle.strkw_keywords.specs.declared.keyword.Keyword.{Keyword}
 use Rattle.strkw_keywords.specs.declared.keyword.Keyword.TheVariants.{ContentMediaType, ContentEncoding, Format}
 use Rattle.strkw_keywords.specs.Keywords.{keyword_name}
 use Rattle.strkw_keywords.specs.Demands.{Demand, is_media_type, is_encoded, encodes_media_type, is_format, at_least, at_most, compares, matches, Finding}
-use Rattle.strkw_keywords.specs.Demands.{HasFinding, FoundUnless, IsContentFinding, Decodes, CodecDecodes, listed, Finds, IsEncoded, IsOfFormat, IsOfMediaType}
+use Rattle.strkw_keywords.specs.Demands.{HasFinding, FoundUnless, IsContentFinding, Decodes, CodecDecodes, finding_list, Finds, IsEncoded, IsOfFormat, IsOfMediaType}
 use Rattle.strkw_keywords.specs.Choices.{chosen_codec_name, chosen_media_type_name, chosen_format_name}
 use Rattle.strkw_formats.specs.declared.builtin.BuiltinFormat.{BuiltinFormat}
 use Rattle.strkw_keywords.specs.Places.{Place, standing}
-use Rattle.strkw_keywords.specs.Errors.{placed, reported, AllReport, NodeReports, Appends}
+use Rattle.strkw_keywords.specs.Errors.{assertions_at, reports_of, AllReport, NodeReports, Appends}
 
 -- ---- a text has one finding by a demand, or none
 
@@ -80,13 +80,13 @@ errors_of s text fs = map (λ f. report_at s (keyword_name f.keyword) f.kind tex
 
 -- the errors of a finding, if there is one, and of others are its own, and then theirs
 errors_listed : (s : Standing) (text : List ℕ) (found : Option Finding) (rest : List Finding)
-    → errors_of s text (listed found ++ rest) ≡ reported s text found ++ errors_of s text rest
+    → errors_of s text (finding_list found ++ rest) ≡ reports_of s text found ++ errors_of s text rest
 errors_listed s text None rest = refl
 errors_listed s text (Some f) rest = refl
 
 -- the errors of what demands find of a text are what they report of it
 pub found_reports : (place : Place) (ds : List Demand) (lists : Lists) (site : Site) (text : List ℕ) (fs : List Finding) → Finds ds lists text fs
-    → AllReport (placed place ds) lists site text (errors_of (standing place site) text fs)
+    → AllReport (assertions_at place ds) lists site text (errors_of (standing place site) text fs)
 found_reports place [] lists site text fs h = rw h refl
 found_reports place (d ∷ others) lists site text fs h = (
   h.0,
@@ -98,51 +98,52 @@ found_reports place (d ∷ others) lists site text fs h = (
 )
 
 -- where nothing is reported, there is no finding, and nothing behind it
-pub none_reported : (s : Standing) (text : List ℕ) (found : Option Finding) (rest : List Report) → [] ≡ reported s text found ++ rest → (found ≡ None)
+pub none_reported : (s : Standing) (text : List ℕ) (found : Option Finding) (rest : List Report) → [] ≡ reports_of s text found ++ rest → (found ≡ None)
     × (rest ≡ [])
 none_reported s text None rest e = (refl, sym e)
 none_reported s text (Some f) rest e = absurd (cc)
 
 -- by `EncodesOnce`, where demands report nothing of a text, they find nothing
 pub none_found : EncodesOnce → (place : Place) (ds : List Demand) (lists : Lists) (site : Site) (text : List ℕ) (fs : List Finding) → Finds ds lists text fs
-    → AllReport (placed place ds) lists site text [] → fs ≡ []
+    → AllReport (assertions_at place ds) lists site text [] → fs ≡ []
 none_found once place [] lists site text fs h r = h
 none_found once place (d ∷ others) lists site text fs h r =
     let parts = none_reported (standing place site) text r.0 r.1 r.3 in
     let same = HasFinding-unique once d lists text h.0 r.0 h.2 r.2 ∙ parts.0 in
-    let rest = none_found once place others lists site text h.1 h.4 (subst (λ l. AllReport (placed place others) lists site text l) parts.1 r.4) in
-    h.3 ∙ ap (λ o. listed o ++ h.1) same ∙ rest
+    let rest = none_found once place others lists site text h.1 h.4 (subst (λ l. AllReport (assertions_at place others) lists site text l) parts.1 r.4) in
+    h.3 ∙ ap (λ o. finding_list o ++ h.1) same ∙ rest
 
 -- a node that is a text is valid where nothing is found
 pub valid_by_findings : EncodesOnce → (place : Place) (ds : List Demand) (lists : Lists) (there : Option (List ℕ)) (text : List ℕ) (fs : List Finding)
     (b : Bool) → Some text ≡ there → Finds ds lists text fs → (IsTrue b ↔ (fs ≡ [])) → (site : Site)
-    → IsTrue b ↔ NodeReports (placed place ds) lists site there []
-valid_by_findings once place ds lists there text fs b e h t site = subst (λ n. IsTrue b ↔ NodeReports (placed place ds) lists site n []) e (
-  (λ yes. subst (λ l. AllReport (placed place ds) lists site text (errors_of (standing place site) text l)) (t.0 yes)
+    → IsTrue b ↔ NodeReports (assertions_at place ds) lists site there []
+valid_by_findings once place ds lists there text fs b e h t site = subst (λ n. IsTrue b ↔ NodeReports (assertions_at place ds) lists site n []) e (
+  (λ yes. subst (λ l. AllReport (assertions_at place ds) lists site text (errors_of (standing place site) text l)) (t.0 yes)
       (found_reports place ds lists site text fs h)),
   (λ r. t.1 (none_found once place ds lists site text fs h r)),
 )
 
 -- the errors of two findings, which may be missing, are those of each in turn
-two_reported : (s : Standing) (text : List ℕ) (a b : Option Finding) → errors_of s text (listed a ++ listed b) ≡ reported s text a ++ reported s text b
+two_reported : (s : Standing) (text : List ℕ) (a b : Option Finding) → errors_of s text (finding_list a ++ finding_list b) ≡ reports_of s text a
+    ++ reports_of s text b
 two_reported s text a None = errors_listed s text a []
 two_reported s text a (Some f) = errors_listed s text a (f ∷ [])
 
 -- what is collected of two findings
 pub collected_by_findings : (place : Place) (ds : List Demand) (lists : Lists) (site : Site) (text : List ℕ) (a b : Option Finding) (old new : List Report)
-    → Finds ds lists text (listed a ++ listed b) → new ≡ old ++ reported (standing place site) text a ++ reported (standing place site) text b
-    → Appends (NodeReports (placed place ds) lists site (Some text)) old new
+    → Finds ds lists text (finding_list a ++ finding_list b) → new ≡ old ++ reports_of (standing place site) text a ++ reports_of (standing place site) text b
+    → Appends (NodeReports (assertions_at place ds) lists site (Some text)) old new
 collected_by_findings place ds lists site text a b old new h g = record {
-  added = reported (standing place site) text a ++ reported (standing place site) text b;
-  grown = g ∙ append_assoc old (reported (standing place site) text a) (reported (standing place site) text b);
-  reported = rw (← two_reported (standing place site) text a b) (found_reports place ds lists site text (listed a ++ listed b) h);
+  added = reports_of (standing place site) text a ++ reports_of (standing place site) text b;
+  grown = g ∙ append_assoc old (reports_of (standing place site) text a) (reports_of (standing place site) text b);
+  reported = rw (← two_reported (standing place site) text a b) (found_reports place ds lists site text (finding_list a ++ finding_list b) h);
 }
 
 -- the same of a call that may be refused
 pub collected_ok : {E : Type 0} (r : Result (Unit {0}) E) (place : Place) (ds : List Demand) (lists : Lists) (site : Site) (text : List ℕ)
-    (a b : Option Finding) (old new : List Report) → Finds ds lists text (listed a ++ listed b)
-    → OnOk r (new ≡ old ++ reported (standing place site) text a ++ reported (standing place site) text b)
-    → OnOk r (Appends (NodeReports (placed place ds) lists site (Some text)) old new)
+    (a b : Option Finding) (old new : List Report) → Finds ds lists text (finding_list a ++ finding_list b)
+    → OnOk r (new ≡ old ++ reports_of (standing place site) text a ++ reports_of (standing place site) text b)
+    → OnOk r (Appends (NodeReports (assertions_at place ds) lists site (Some text)) old new)
 collected_ok (Ok x) place ds lists site text a b old new h g = collected_by_findings place ds lists site text a b old new h g
 collected_ok (Err x) place ds lists site text a b old new h g = tt
 
@@ -150,18 +151,18 @@ collected_ok (Err x) place ds lists site text a b old new h g = tt
 
 -- what one demand finds of a text is its finding, if there is one
 pub finds_one : (d : Demand) (lists : Lists) (text : List ℕ) (found : Option Finding) → HasFinding d lists text found
-    → Finds (d ∷ []) lists text (listed found ++ [])
+    → Finds (d ∷ []) lists text (finding_list found ++ [])
 finds_one d lists text found h = (found, [], h, refl, refl)
 
 -- a finding, or none, and nothing behind it
-listed_alone : (found : Option Finding) → listed found ≡ listed found ++ []
+listed_alone : (found : Option Finding) → finding_list found ≡ finding_list found ++ []
 listed_alone None = refl
 listed_alone (Some f) = refl
 
 -- what two demands find of a text is the finding of each, if there is one
 pub finds_two : (d e : Demand) (lists : Lists) (text : List ℕ) (a b : Option Finding) → HasFinding d lists text a → HasFinding e lists text b
-    → Finds (d ∷ e ∷ []) lists text (listed a ++ listed b)
-finds_two d e lists text a b h k = (a, listed b, h, refl, (b, [], k, listed_alone b, refl))
+    → Finds (d ∷ e ∷ []) lists text (finding_list a ++ finding_list b)
+finds_two d e lists text a b h k = (a, finding_list b, h, refl, (b, [], k, listed_alone b, refl))
 
 -- ---- one text
 

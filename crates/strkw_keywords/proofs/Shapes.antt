@@ -19,7 +19,7 @@ use Rattle.strkw_keywords.specs.Keywords.{keyword_name}
 use Rattle.strkw_keywords.specs.Meanings.{Choice, builtin, row, row_names, codec_names, first_named}
 use Rattle.strkw_keywords.specs.Demands.{Demand, is_media_type, is_encoded, encodes_media_type, is_format, at_least, at_most, compares, matches, KeepsFirst}
 use Rattle.strkw_keywords.specs.Demands.{KeepsRows}
-use Rattle.strkw_keywords.specs.Object.{Settings, Entry, nothing, malformed, gives, of_string, of_text, chosen, codec_named, left_on, media_type_left_on}
+use Rattle.strkw_keywords.specs.Object.{Settings, Entry, nothing, malformed, gives, of_string, of_text, choice, codec_named, left_on, media_type_left_on}
 use Rattle.strkw_keywords.specs.Object.{known_media_type, known_codec, known_format, content_rule, encoded_check, media_type_beside, media_type_check}
 use Rattle.strkw_keywords.specs.Object.{encoding_check, encoding_beside, noted_text, schema_beside, media_type_entry, encoding_entry, schema_entry}
 use Rattle.strkw_keywords.specs.Object.{checks_formats, ignores_unknown, checked_format, format_entry, limit_entry, as_limit, min_entry, max_entry}
@@ -46,7 +46,7 @@ pub record HoldsOfShapes (s : Settings) (P : Entry → Type 0) : Type 0 where
 
 -- what is chosen by a name is a built-in, or the first row of the name
 chosen_keeps : {A : Type 0} (names : List (List ℕ)) (name : List ℕ) (o : Option ℕ) (b : Option A) (c : Choice A)
-    → o ≡ first_named name names → chosen o name b ≡ Some c → KeepsFirst names c
+    → o ≡ first_named name names → choice o name b ≡ Some c → KeepsFirst names c
 chosen_keeps names name (Some at) b c e k = subst (KeepsFirst names) (same_Some (row at name) c k) (sym e)
 chosen_keeps names name None (Some b) c e k = subst (KeepsFirst names) (same_Some (builtin b) c k) tt
 chosen_keeps names name None None c e k = absurd (none-some c k)

@@ -26,7 +26,7 @@ use Rattle.strkw_keywords.specs.declared.content_rule.ContentRule.TheVariants.{I
 use Rattle.strkw_keywords.specs.Object.{Settings, Entry, nothing, Keyed, content_rule, of_text, known_media_type, media_type_beside, media_type_check}
 use Rattle.strkw_keywords.specs.Object.{media_type_entry, encoding_beside, encoding_entry, schema_entry, schema_beside, is_overridden, value_at, is_fused}
 use Rattle.strkw_keywords.specs.Object.{share, IsEntryOf, IsEntryAt, AreEntriesOf}
-use Rattle.strkw_keywords.specs.Compiled.{alone, IsBuilt, IsBuiltAt, IsCompiledAt}
+use Rattle.strkw_keywords.specs.Compiled.{single_entry, IsBuilt, IsBuiltAt, IsCompiledAt}
 use Rattle.strkw_keywords.specs.Without.{KeepsOthers, IsWithoutSchema}
 use Rattle.strkw_keywords.proofs.EntriesOf.{absent, schema_built}
 
@@ -82,7 +82,7 @@ module _ {E : Type 0} (outcome : E → List ℕ → Outcome) (s : Settings) (ms 
   -- what is built of the entry of the value there is built of the object
   pub schema_taken : (v : Value) (r : Result (Option (Validator E)) Refused) → get_member (keyword_name ContentSchema) ms ≡ Some (view v)
       → is_overridden s.options ContentSchema ≡ false
-      → IsBuilt outcome s.place (alone ContentSchema (schema_entry (content_rule s.draft) ms (view v))) r → IsBuiltAt outcome s ms ContentSchema r
+      → IsBuilt outcome s.place (single_entry ContentSchema (schema_entry (content_rule s.draft) ms (view v))) r → IsBuiltAt outcome s ms ContentSchema r
   schema_taken v r there looked_at h = schema_built outcome s ms (content_rule s.draft) (view v) r refl (rw looked_at there) h
 
 -- two objects have the same values at the keywords that are seen, and those are seen that other entries look at

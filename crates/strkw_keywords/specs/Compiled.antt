@@ -2,7 +2,7 @@
 use Rattle.std.specs.Prelude.{◌≡◌, ◌⊎◌, ℕ, List, [], ◌∷◌, Option, Some, None, Result, Ok, Err}
 use Rattle.std.specs.Prelude.{if◌then◌else◌}
 use Rattle.serde_json.specs.Data.{Data, Members}
-use Rattle.strkw_report.specs.Paths.{below}
+use Rattle.strkw_report.specs.Paths.{path_below}
 use Rattle.strkw_report.specs.Refusals.{out_of_memory, Refusal, reason_of, refusal_of}
 use Rattle.strkw_report.specs.declared.refusal.CompileError.{CompileError}
 use Rattle.strkw_pattern.specs.declared.engine.Outcome.{Outcome}
@@ -14,7 +14,7 @@ use Rattle.strkw_keywords.specs.declared.keyword.Keyword.TheVariants.{MinLength,
 use Rattle.strkw_keywords.specs.declared.options.Options.{Options}
 use Rattle.strkw_keywords.specs.Object.{Settings, Entry, Keyed, AreEntriesOf, share, is_fused}
 use Rattle.strkw_keywords.specs.Object.{least_entry, greatest_entry, IsPatternValue, refusal}
-use Rattle.strkw_keywords.specs.Object.{asserted, remarked}
+use Rattle.strkw_keywords.specs.Object.{all_assertions, all_remarks}
 use Rattle.strkw_keywords.specs.declared.keyword.Keyword.{Keyword}
 use Rattle.strkw_keywords.specs.Places.{Place}
 use Rattle.strkw_keywords.specs.Validators.{place_of, assertions_of, remark_made, listed_remark}
@@ -28,34 +28,34 @@ out_of_memory_refusal = record { reason = out_of_memory; location = [] }
 pub record StandsFor {E : Type 0} (outcome : E → List ℕ → Outcome) (place : Place) (es : List Keyed)
     (v : Validator E) : Type 0 where
   pub good : refusal place es ≡ None
-  pub asserts : assertions_of outcome v ≡ asserted place es
-  pub notes : listed_remark (remark_made v) ≡ remarked place es
+  pub asserts : assertions_of outcome v ≡ all_assertions place es
+  pub notes : listed_remark (remark_made v) ≡ all_remarks place es
   pub stands : place_of v ≡ place
 
 -- one entry
-abbrev pub alone : Keyword → Entry → List Keyed
-alone k e = record { keyword = k; entry = e } ∷ []
+abbrev pub single_entry : Keyword → Entry → List Keyed
+single_entry k e = record { keyword = k; entry = e } ∷ []
 
 -- the entries that the validator of `minLength` stands for, and those that are left to `maxLength`
 abbrev pub min_share : Options → Members → List Keyed
 min_share options ms = record { keyword = MinLength; entry = least_entry options ms }
-    ∷ (if is_fused options ms then alone MaxLength (greatest_entry options ms) else [])
+    ∷ (if is_fused options ms then single_entry MaxLength (greatest_entry options ms) else [])
 
 abbrev pub max_share : Options → Members → List Keyed
 max_share options ms = if is_fused options ms then []
-    else alone MaxLength (greatest_entry options ms)
+    else single_entry MaxLength (greatest_entry options ms)
 
 -- these entries add nothing
 pub record AddsNothing (place : Place) (es : List Keyed) : Type 0 where
   pub good : refusal place es ≡ None
-  pub asserts : asserted place es ≡ []
-  pub notes : remarked place es ≡ []
+  pub asserts : all_assertions place es ≡ []
+  pub notes : all_remarks place es ≡ []
 
 -- ---- what is refused, before its place is written
 
 abbrev pub refused_at : Place → Refused → Refusal
 refused_at place (Malformed keyword kind) =
-    record { reason = reason_of kind; location = below place.schema (keyword_name keyword) }
+    record { reason = reason_of kind; location = path_below place.schema (keyword_name keyword) }
 refused_at place Memory = out_of_memory_refusal
 
 abbrev pub IsBuiltCase : {E : Type 0} → (E → List ℕ → Outcome) → Place → List Keyed
@@ -73,7 +73,7 @@ pub record IsPatternBuilt {E : Type 0} (outcome : E → List ℕ → Outcome) (s
     (result : Result (Option (Validator E)) Refused) : Type 0 where
   pub entry : Entry
   pub is_entry : IsPatternValue s d entry
-  pub answer : IsBuilt outcome s.place (alone Pattern entry) result
+  pub answer : IsBuilt outcome s.place (single_entry Pattern entry) result
 
 -- the same of a keyword, for the entries for which its validator is to stand
 pub record IsBuiltAt {E : Type 0} (outcome : E → List ℕ → Outcome) (s : Settings) (ms : Members)

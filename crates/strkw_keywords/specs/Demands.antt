@@ -124,15 +124,15 @@ HasFinding (at_most n) lists text found =
 HasFinding (compares p outcome) lists text found = found ≡ found_by_outcome p (outcome (chars text))
 HasFinding (matches p outcome) lists text found = found ≡ found_by_outcome p (outcome (chars text))
 
-abbrev pub listed : Option Finding → List Finding
-listed None = []
-listed (Some f) = f ∷ []
+abbrev pub finding_list : Option Finding → List Finding
+finding_list None = []
+finding_list (Some f) = f ∷ []
 
 -- these are the findings of a text by several demands, in their order
 abbrev pub Finds : List Demand → Lists → List ℕ → List Finding → Type 0
 Finds [] lists text fs = fs ≡ []
 Finds (d ∷ others) lists text fs = (found : Option Finding) × (rest : List Finding)
-    × HasFinding d lists text found × (fs ≡ listed found ++ rest)
+    × HasFinding d lists text found × (fs ≡ finding_list found ++ rest)
     × Finds others lists text rest
 
 -- ---- the rows that demands rest on

@@ -12,24 +12,24 @@ pub record Assertion : Type 0 where
   pub place : Place
   pub demand : Demand
 
-abbrev pub placed : Place → List Demand → List Assertion
-placed place ds = map (λ d. record { place = place; demand = d }) ds
+abbrev pub assertions_at : Place → List Demand → List Assertion
+assertions_at place ds = map (λ d. record { place = place; demand = d }) ds
 
 -- what is demanded, wherever
 abbrev pub demands_asserted : List Assertion → List Demand
 demands_asserted assertions = map (λ a. a.demand) assertions
 
 -- the error of a finding on a text
-abbrev pub reported : Standing → List ℕ → Option Finding → List Report
-reported s text None = []
-reported s text (Some f) = report_at s (keyword_name f.keyword) f.kind text ∷ []
+abbrev pub reports_of : Standing → List ℕ → Option Finding → List Report
+reports_of s text None = []
+reports_of s text (Some f) = report_at s (keyword_name f.keyword) f.kind text ∷ []
 
 -- these are the errors of a text by several assertions, in their order
 abbrev pub AllReport : List Assertion → Lists → Site → List ℕ → List Report → Type 0
 AllReport [] lists site text rs = rs ≡ []
 AllReport (a ∷ others) lists site text rs = (found : Option Finding) × (rest : List Report)
     × HasFinding a.demand lists text found
-    × (rs ≡ reported (standing a.place site) text found ++ rest)
+    × (rs ≡ reports_of (standing a.place site) text found ++ rest)
     × AllReport others lists site text rest
 
 -- the same of a node, which has none where it is no text

@@ -7,7 +7,7 @@ use Rattle.strkw_keywords.specs.declared.keyword.Keyword.{Keyword}
 use Rattle.strkw_keywords.specs.declared.keyword.Keyword.TheVariants.{ContentMediaType}
 use Rattle.strkw_keywords.specs.declared.keyword.Keyword.TheVariants.{ContentEncoding, Format}
 use Rattle.strkw_keywords.specs.declared.keyword.Keyword.TheVariants.{MinLength, MaxLength, Pattern}
-use Rattle.strkw_keywords.specs.Demands.{Finding, listed}
+use Rattle.strkw_keywords.specs.Demands.{Finding, finding_list}
 use Rattle.strkw_keywords.specs.declared.findings.Findings.{Findings}
 
 -- the keyword of the error of a text that failed so
@@ -26,7 +26,8 @@ abbrev pub finding_of : Failure → Finding
 finding_of f = record { keyword = keyword_failed f; kind = kind_failed f }
 
 abbrev pub findings_of : Findings → List Finding
-findings_of fs = listed (option_map finding_of fs.first) ++ listed (option_map finding_of fs.second)
+findings_of fs = finding_list (option_map finding_of fs.first)
+    ++ finding_list (option_map finding_of fs.second)
 
 -- the first of several findings
 abbrev pub first_of : List Finding → Option Finding

@@ -12,7 +12,7 @@ use Rattle.strkw_formats.specs.declared.builtin.BuiltinFormat.{BuiltinFormat}
 use Rattle.strkw_keywords.specs.declared.options.Options.{Options}
 use Rattle.strkw_keywords.specs.Meanings.{Lists, Choice}
 use Rattle.strkw_formats.specs.FormatLaws.{IsInside}
-use Rattle.strkw_keywords.specs.Object.{Settings, Keyed, AreEntries, Errors, demanded, value_at}
+use Rattle.strkw_keywords.specs.Object.{Settings, Keyed, AreEntries, Errors, all_demands, value_at}
 use Rattle.strkw_keywords.specs.Object.{as_limit, checks_formats, known_format}
 use Rattle.strkw_keywords.specs.Lengths.{window_at, interval, AreLimits, IsTextOfLength}
 
@@ -49,7 +49,7 @@ AcceptAlike s ms t others = (lists : Lists) (site : Site) (node : Option (List �
 -- only the lengths of texts can make errors: there is no checked format, no pattern and no content
 -- check
 abbrev pub OnlyLengthsErr : Settings → Members → Type 0
-OnlyLengthsErr s ms = (es : List Keyed) × AreEntries s ms es × AreLimits (demanded es)
+OnlyLengthsErr s ms = (es : List Keyed) × AreEntries s ms es × AreLimits (all_demands es)
 
 -- a text of a length in the interval that has no errors
 pub record IsAccepted (s : Settings) (ms : Members) (lists : Lists) (site : Site) (n : ℕ)
@@ -63,7 +63,7 @@ pub record IsAccepted (s : Settings) (ms : Members) (lists : Lists) (site : Site
 -- the interval of a schema object is what its entries, by their demands, leave
 abbrev pub IntervalIsLeft : Type 0
 IntervalIsLeft = (s : Settings) (ms : Members) (es : List Keyed) (n : ℕ) → AreEntries s ms es
-    → IsInside (interval (demanded es)) n ↔ IsInInterval s ms n
+    → IsInside (interval (all_demands es)) n ↔ IsInInterval s ms n
 
 -- a schema object that folds to false refuses every text
 abbrev pub FoldedRefuseTexts : Type 0

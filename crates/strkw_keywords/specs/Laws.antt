@@ -12,9 +12,9 @@ use Rattle.strkw_keywords.specs.Keywords.{keyword_name}
 use Rattle.strkw_keywords.specs.Meanings.{Lists, first_named}
 use Rattle.strkw_keywords.specs.Places.{Place, standing}
 use Rattle.strkw_keywords.specs.Demands.{at_least, at_most, matches, IsInUse}
-use Rattle.strkw_keywords.specs.Errors.{Assertion, placed, NodeReports}
+use Rattle.strkw_keywords.specs.Errors.{Assertion, assertions_at, NodeReports}
 use Rattle.strkw_keywords.specs.Remarks.{Remark, annotation_of}
-use Rattle.strkw_keywords.specs.Object.{Settings, Keyed, AreEntries, demanded, Errors}
+use Rattle.strkw_keywords.specs.Object.{Settings, Keyed, AreEntries, all_demands, Errors}
 
 -- these are the errors that the first assertions report, and then those that the others report
 pub record ReportInTurn (first others : List Assertion) (lists : Lists) (site : Site)
@@ -36,8 +36,9 @@ AssertionsReportInTurn = (first others : List Assertion) (lists : Lists) (site :
 abbrev pub FusedLengthsReportBoth : Type 0
 FusedLengthsReportBoth = (place : Place) (low high : ℕ) (lists : Lists) (site : Site)
     (node : Option (List ℕ)) (rs : List Report)
-    → NodeReports (placed place (at_least low ∷ at_most high ∷ [])) lists site node rs
-    ↔ ReportInTurn (placed place (at_least low ∷ [])) (placed place (at_most high ∷ [])) lists site
+    → NodeReports (assertions_at place (at_least low ∷ at_most high ∷ [])) lists site node rs
+    ↔ ReportInTurn (assertions_at place (at_least low ∷ []))
+    (assertions_at place (at_most high ∷ [])) lists site
     node rs
 
 -- a node that is no text has no errors and no annotation
@@ -51,7 +52,7 @@ abbrev pub IsOneError : Outcome → (List ℕ → Kind) → Type 0
 IsOneError failed kind = (place : Place) (pattern : List ℕ) (outcome_on : List ℕ → Outcome)
     (lists : Lists) (site : Site) (text : List ℕ) (rs : List Report)
     → outcome_on (chars text) ≡ failed
-    → NodeReports (placed place (matches pattern outcome_on ∷ [])) lists site (Some text) rs
+    → NodeReports (assertions_at place (matches pattern outcome_on ∷ [])) lists site (Some text) rs
     ↔ (rs ≡ report_at (standing place site) (keyword_name Pattern) (kind pattern) text ∷ [])
 
 -- an engine that fails, or gives up, makes the text invalid by one error of its own kind
@@ -87,7 +88,7 @@ ErrorsAreThere = (s : Settings) (ms : Members) (lists : Lists) (site : Site)
 -- what is compiled under some lists is in use with them
 abbrev pub CompiledIsInUse : Type 0
 CompiledIsInUse = (s : Settings) (ms : Members) (es : List Keyed) → AreEntries s ms es
-    → IsInUse (demanded es) s.lists
+    → IsInUse (all_demands es) s.lists
 
 -- the row that counts is the first of its name, and there is none exactly where no row has the name
 pub record FirstRowCounts : Type 0 where

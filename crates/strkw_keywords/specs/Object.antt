@@ -10,7 +10,7 @@ use Rattle.serde_json.specs.Written.{has_float}
 use Rattle.strkw_report.specs.declared.draft.Draft.{Draft}
 use Rattle.strkw_report.specs.declared.draft.Draft.TheVariants.{Draft4, Draft6, Draft7, Draft201909}
 use Rattle.strkw_report.specs.declared.draft.Draft.TheVariants.{Draft202012}
-use Rattle.strkw_report.specs.Paths.{below}
+use Rattle.strkw_report.specs.Paths.{path_below}
 use Rattle.strkw_report.specs.Kinds.{Report}
 use Rattle.strkw_report.specs.declared.error.Site.{Site}
 use Rattle.strkw_report.specs.Refusals.{Reason, not_string, size, unknown_format, regex}
@@ -41,7 +41,7 @@ use Rattle.strkw_keywords.specs.Meanings.{first_named}
 use Rattle.strkw_keywords.specs.Places.{Place}
 use Rattle.strkw_keywords.specs.Demands.{Demand, is_media_type, is_encoded, encodes_media_type}
 use Rattle.strkw_keywords.specs.Demands.{is_format, at_least, at_most, compares, matches}
-use Rattle.strkw_keywords.specs.Errors.{Assertion, placed, NodeReports}
+use Rattle.strkw_keywords.specs.Errors.{Assertion, assertions_at, NodeReports}
 use Rattle.strkw_keywords.specs.Remarks.{Remark, remark_at}
 
 -- what a schema object is compiled under
@@ -99,10 +99,10 @@ of_text entry keyword d = of_string entry keyword d (as_str d)
 
 -- ---- what is known by a name: the first registered row of the name, or else the built-in
 
-abbrev pub chosen : {A : Type 0} → Option ℕ → List ℕ → Option A → Option (Choice A)
-chosen (Some at) name b = Some (row at name)
-chosen None name (Some b) = Some (builtin b)
-chosen None name None = None
+abbrev pub choice : {A : Type 0} → Option ℕ → List ℕ → Option A → Option (Choice A)
+choice (Some at) name b = Some (row at name)
+choice None name (Some b) = Some (builtin b)
+choice None name None = None
 
 -- where options tell whether a codec is built in
 abbrev pub codec_place : Codec → ℕ
@@ -134,14 +134,14 @@ media_type_left_on options name = if options.json_media_type
 
 abbrev pub known_media_type : Lists → Options → List ℕ → Option (Choice BuiltinMediaType)
 known_media_type lists options name =
-    chosen (first_named name (row_names lists.media_types)) name (media_type_left_on options name)
+    choice (first_named name (row_names lists.media_types)) name (media_type_left_on options name)
 
 abbrev pub known_codec : Lists → Options → List ℕ → Option (Choice Codec)
-known_codec lists options name = chosen (first_named name (codec_names lists.codecs)) name
+known_codec lists options name = choice (first_named name (codec_names lists.codecs)) name
     (left_on options (codec_named name))
 
 abbrev pub known_format : Settings → List ℕ → Option (Choice BuiltinFormat)
-known_format s name = chosen (first_named name (row_names s.lists.formats)) name
+known_format s name = choice (first_named name (row_names s.lists.formats)) name
     (builtin_named s.draft name)
 
 -- ---- content
@@ -317,7 +317,7 @@ pub record AreEntries (s : Settings) (ms : Members) (es : List Keyed) : Type 0 w
 abbrev pub refusal_or : Place → Entry → Option Refusal → Option Refusal
 refusal_or place nothing later = later
 refusal_or place (malformed keyword why) later =
-    Some (record { reason = why; location = below place.schema (keyword_name keyword) })
+    Some (record { reason = why; location = path_below place.schema (keyword_name keyword) })
 refusal_or place (gives ds remark) later = later
 
 -- the first refusal
@@ -331,13 +331,13 @@ demands_by (malformed keyword why) = []
 demands_by (gives ds remark) = ds
 
 -- what entries demand, in their order
-abbrev pub demanded : List Keyed → List Demand
-demanded [] = []
-demanded (e ∷ others) = demands_by e.entry ++ demanded others
+abbrev pub all_demands : List Keyed → List Demand
+all_demands [] = []
+all_demands (e ∷ others) = demands_by e.entry ++ all_demands others
 
 -- what they assert: their demands, at the place of the object
-abbrev pub asserted : Place → List Keyed → List Assertion
-asserted place es = placed place (demanded es)
+abbrev pub all_assertions : Place → List Keyed → List Assertion
+all_assertions place es = assertions_at place (all_demands es)
 
 abbrev pub remark_by : Place → Keyword → Entry → List Remark
 remark_by place keyword nothing = []
@@ -346,14 +346,14 @@ remark_by place keyword (gives ds None) = []
 remark_by place keyword (gives ds (Some d)) = remark_at place.schema keyword d ∷ []
 
 -- what entries note of a text, in their order
-abbrev pub remarked : Place → List Keyed → List Remark
-remarked place [] = []
-remarked place (e ∷ others) = remark_by place e.keyword e.entry ++ remarked place others
+abbrev pub all_remarks : Place → List Keyed → List Remark
+all_remarks place [] = []
+all_remarks place (e ∷ others) = remark_by place e.keyword e.entry ++ all_remarks place others
 
 -- these are the errors of a node by a schema object: those of its entries in their order
 abbrev pub Errors : Settings → Members → Lists → Site → Option (List ℕ) → List Report → Type 0
 Errors s ms lists site node rs = (es : List Keyed) × AreEntries s ms es
-    × NodeReports (asserted s.place es) lists site node rs
+    × NodeReports (all_assertions s.place es) lists site node rs
 
 -- the first refusal of the entries of a schema object, or that none of them is refused
 abbrev pub FirstRefusal : Settings → Members → Option Refusal → Type 0
@@ -368,7 +368,7 @@ remarks_on (Some text) remarks = remarks
 -- its errors are
 abbrev pub Notes : Settings → Members → Option (List ℕ) → List Remark → Type 0
 Notes s ms node remarks = (es : List Keyed) × AreEntries s ms es
-    × (remarks ≡ remarks_on node (remarked s.place es))
+    × (remarks ≡ remarks_on node (all_remarks s.place es))
 
 -- ---- the two lengths, which one validator may stand for
 

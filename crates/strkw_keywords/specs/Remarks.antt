@@ -2,7 +2,7 @@
 use Rattle.std.specs.Prelude.{ℕ, List, Option, Some, None, option_map}
 use Rattle.serde_json.specs.Data.{Data}
 use Rattle.serde_json.specs.View.{view}
-use Rattle.strkw_report.specs.Paths.{below}
+use Rattle.strkw_report.specs.Paths.{path_below}
 use Rattle.strkw_keywords.specs.declared.keyword.Keyword.{Keyword}
 use Rattle.strkw_keywords.specs.Keywords.{keyword_name}
 use Rattle.strkw_keywords.specs.declared.parts.Note.{Note}
@@ -17,7 +17,7 @@ remark_of n = record { schema_path = n.schema_path; value = view n.value }
 -- what a keyword notes, of a schema object at this location
 abbrev pub remark_at : List ℕ → Keyword → Data → Remark
 remark_at location keyword value = record {
-  schema_path = below location (keyword_name keyword);
+  schema_path = path_below location (keyword_name keyword);
   value = value;
 }
 

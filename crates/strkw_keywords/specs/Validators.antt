@@ -11,7 +11,7 @@ use Rattle.strkw_keywords.specs.Choices.{choice_of}
 use Rattle.strkw_keywords.specs.Places.{Place}
 use Rattle.strkw_keywords.specs.Demands.{Demand, is_media_type, is_encoded, encodes_media_type}
 use Rattle.strkw_keywords.specs.Demands.{is_format, at_least, at_most, compares, matches}
-use Rattle.strkw_keywords.specs.Errors.{Assertion, placed}
+use Rattle.strkw_keywords.specs.Errors.{Assertion, assertions_at}
 use Rattle.strkw_keywords.specs.Remarks.{Remark, remark_at}
 use Rattle.strkw_keywords.specs.declared.validator.Validator.{Validator}
 use Rattle.strkw_keywords.specs.declared.validator.Validator.TheVariants as any
@@ -77,7 +77,7 @@ abbrev pub remark_made : {E : Type 0} → Validator E → Option Remark
 remark_made v = (said_by v).remark
 
 abbrev pub assertions_of : {E : Type 0} → (E → List ℕ → Outcome) → Validator E → List Assertion
-assertions_of outcome v = placed (place_of v) (demands_of outcome v)
+assertions_of outcome v = assertions_at (place_of v) (demands_of outcome v)
 
 -- what several validators demand, in their order
 abbrev pub demands_in : {E : Type 0} → (E → List ℕ → Outcome) → List (Validator E) → List Demand

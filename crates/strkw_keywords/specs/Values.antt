@@ -13,18 +13,18 @@ use Rattle.strkw_keywords.specs.Keywords.{keyword_name}
 use Rattle.strkw_keywords.specs.Object.{keywords}
 
 -- the value that is held for a keyword
-abbrev pub held : Values → Keyword → Option Data
-held values ContentMediaType = option_map (λ v. view v.now) values.content_media_type
-held values ContentEncoding = option_map (λ v. view v.now) values.content_encoding
-held values ContentSchema = option_map (λ v. view v.now) values.content_schema
-held values Format = option_map (λ v. view v.now) values.format
-held values MinLength = option_map (λ v. view v.now) values.min_length
-held values MaxLength = option_map (λ v. view v.now) values.max_length
-held values Pattern = option_map (λ v. view v.now) values.pattern
+abbrev pub held_value : Values → Keyword → Option Data
+held_value values ContentMediaType = option_map (λ v. view v.now) values.content_media_type
+held_value values ContentEncoding = option_map (λ v. view v.now) values.content_encoding
+held_value values ContentSchema = option_map (λ v. view v.now) values.content_schema
+held_value values Format = option_map (λ v. view v.now) values.format
+held_value values MinLength = option_map (λ v. view v.now) values.min_length
+held_value values MaxLength = option_map (λ v. view v.now) values.max_length
+held_value values Pattern = option_map (λ v. view v.now) values.pattern
 
 -- these are the values of an object at the seven keywords
 pub record AreValuesOf (ms : Members) (values : Values) : Type 0 where
-  pub same : (keyword : Keyword) → held values keyword ≡ get_member (keyword_name keyword) ms
+  pub same : (keyword : Keyword) → held_value values keyword ≡ get_member (keyword_name keyword) ms
 
 -- some members, and in front of them what is there at a keyword
 abbrev pub with_value : Keyword → Option Data → Members → Members
@@ -37,4 +37,4 @@ members_at at (k ∷ ks) = with_value k (at k) (members_at at ks)
 
 -- an object with these values, and nothing else
 abbrev pub members_of : Values → Members
-members_of values = members_at (held values) keywords
+members_of values = members_at (held_value values) keywords

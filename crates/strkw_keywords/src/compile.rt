@@ -4,7 +4,7 @@ ghost use Rattle.std.specs.Prelude.{◌≡◌, ◌⊎◌, IfOk, Some, option_map
 ghost use Rattle.serde_json.specs.Data.{Members};
 ghost use Rattle.serde_json.specs.Find.{get_member};
 ghost use Rattle.serde_json.specs.View.{members_view, view};
-ghost use Rattle.strkw_report.specs.Paths.{below};
+ghost use Rattle.strkw_report.specs.Paths.{path_below};
 ghost use Rattle.strkw_report.specs.Refusals.{refusal_of};
 ghost use Rattle.strkw_keywords.specs.Compiled.{IsBuiltAt, IsCompiledAt, out_of_memory_refusal, refused_at};
 ghost use Rattle.strkw_keywords.specs.Keywords.{keyword_name};
@@ -158,7 +158,7 @@ pub(crate) fn no_string(value: &Value, keyword: Keyword) -> Refused
     ensures { (result ≡ Refused.Memory) ⊎ ((place : Place) → refused_at place result
         ≡ record {
           reason = no_string (view value.now);
-          location = below place.schema (keyword_name keyword);
+          location = path_below place.schema (keyword_name keyword);
         }) }
 {
     if holds_fraction(value) {

@@ -1,7 +1,7 @@
 //! What a validator finds of a text, and the errors that are built of it.
 
 ghost use Rattle.std.specs.Prelude.{◌++◌, ◌<◌, ◌↔◌, ◌∷◌, ◌≡◌, IfOk, IsTrue, None, OnErr, OnOk, Some, [], option_map, option_to_list, vec_capacity, vec_len};
-ghost use Rattle.strkw_keywords.specs.Errors.{reported};
+ghost use Rattle.strkw_keywords.specs.Errors.{reports_of};
 ghost use Rattle.strkw_keywords.specs.Findings.{finding_of, findings_of, first_of};
 ghost use Rattle.strkw_keywords.specs.Places.{standing};
 
@@ -53,7 +53,7 @@ pub(crate) fn error_of(
     text: &str,
     site: &Site,
 ) -> Result<ValidationError, AllocError>
-    ensures { IfOk result (λ e. reported (standing origin.now site.now) text.now
+    ensures { IfOk result (λ e. reports_of (standing origin.now site.now) text.now
         (Some (finding_of failure.now)) ≡ e ∷ []) }
 {
     error_at(
@@ -75,7 +75,7 @@ fn error_found(
     site: &Site,
     failure: &Option<Failure>,
 ) -> Result<Option<ValidationError>, AllocError>
-    ensures { IfOk result (λ e. reported (standing origin.now site.now) text.now
+    ensures { IfOk result (λ e. reports_of (standing origin.now site.now) text.now
         (option_map finding_of failure.now) ≡ option_to_list e) }
 {
     match failure {
@@ -106,9 +106,9 @@ pub(crate) fn push_findings(
     errors: &mut Vec<ValidationError>,
 ) -> Result<(), AllocError>
     ensures ok { OnOk result (errors.new.items ≡ errors.old.items
-        ++ reported (standing origin.now site.now) text.now
+        ++ reports_of (standing origin.now site.now) text.now
         (option_map finding_of findings.now.first)
-        ++ reported (standing origin.now site.now) text.now
+        ++ reports_of (standing origin.now site.now) text.now
         (option_map finding_of findings.now.second)) }
     ensures err { OnErr result (errors.new.items ≡ errors.old.items) }
 {

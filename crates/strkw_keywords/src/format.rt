@@ -4,7 +4,7 @@ ghost use Rattle.std.specs.Prelude.{◌∷◌, ◌≡◌, Some, [], string_bytes
 ghost use Rattle.serde_json.specs.Data.{string};
 ghost use Rattle.serde_json.specs.View.{view};
 ghost use Rattle.strkw_formats.specs.Formats.{format_name};
-ghost use Rattle.strkw_keywords.specs.Compiled.{IsBuilt, alone};
+ghost use Rattle.strkw_keywords.specs.Compiled.{IsBuilt, single_entry};
 ghost use Rattle.strkw_keywords.specs.Demands.{is_format};
 ghost use Rattle.strkw_keywords.specs.Meanings.{builtin, row};
 ghost use Rattle.strkw_keywords.specs.Object.{checks_formats, format_entry, ignores_unknown};
@@ -119,7 +119,7 @@ pub(crate) fn build_format<B: EngineBuilder>(
     ctx: &Context<'_, B>,
     value: &Value,
 ) -> Result<Option<Validator<B::Engine>>, Refused>
-    ensures { IsBuilt B.Engine.outcome (place_in ctx.now) (alone Keyword.Format
+    ensures { IsBuilt B.Engine.outcome (place_in ctx.now) (single_entry Keyword.Format
         (format_entry (settings_of B.takes B.outcome admits accepts is_encoding decoding ctx.now)
         (view value.now))) result }
 {

@@ -4,7 +4,7 @@ ghost use Rattle.std.specs.Prelude.{◌↔◌, ◌≡◌, IfOk, IsOk, IsTrue, Li
 ghost use Rattle.serde_json.specs.View.{view};
 ghost use Rattle.strkw_report.specs.declared.error.Site.{Site};
 ghost use Rattle.strkw_keywords.specs.Demands.{Demand, Finds, IsInUse, all_quiet};
-ghost use Rattle.strkw_keywords.specs.Errors.{Appends, NodeReports, placed};
+ghost use Rattle.strkw_keywords.specs.Errors.{Appends, NodeReports, assertions_at};
 ghost use Rattle.strkw_keywords.specs.Findings.{findings_of};
 ghost use Rattle.strkw_keywords.specs.Lists.{lists_of};
 ghost use Rattle.strkw_keywords.specs.Meanings.{Lists};
@@ -128,7 +128,7 @@ pub trait Validate<N: Node>: Uses {
         requires { IsInUse (Self.demands self.now)
             (lists_of admits accepts is_encoding decoding checks.now) }
         ensures exact { IfOk result (λ b. (site : Site) → (IsTrue b
-            ↔ NodeReports (placed (Self.place self.now) (Self.demands self.now))
+            ↔ NodeReports (assertions_at (Self.place self.now) (Self.demands self.now))
             (lists_of admits accepts is_encoding decoding checks.now) site
             (N.text node.now) [])) }
         ensures answers { all_quiet (Self.demands self.now) ≡ true → IsOk result }
@@ -153,7 +153,7 @@ pub trait Validate<N: Node>: Uses {
         requires { IsInUse (Self.demands self.now)
             (lists_of admits accepts is_encoding decoding checks.now) }
         ensures appended { OnOk result (Appends
-            (NodeReports (placed (Self.place self.now) (Self.demands self.now))
+            (NodeReports (assertions_at (Self.place self.now) (Self.demands self.now))
             (lists_of admits accepts is_encoding decoding checks.now)
             site.now (N.text node.now))
             errors.old.items errors.new.items) }
@@ -177,7 +177,7 @@ pub trait Validate<N: Node>: Uses {
         requires { IsInUse (Self.demands self.now)
             (lists_of admits accepts is_encoding decoding checks.now) }
         ensures appended { OnOk result (Appends
-            (NodeReports (placed (Self.place self.now) (Self.demands self.now))
+            (NodeReports (assertions_at (Self.place self.now) (Self.demands self.now))
             (lists_of admits accepts is_encoding decoding checks.now)
             site.now (Some text.now))
             errors.old.items errors.new.items) }
@@ -200,7 +200,7 @@ pub trait Validate<N: Node>: Uses {
     ) -> Result<(), Fault>
         requires { IsInUse (Self.demands self.now)
             (lists_of admits accepts is_encoding decoding checks.now) }
-        ensures { IsVerdict (placed (Self.place self.now) (Self.demands self.now))
+        ensures { IsVerdict (assertions_at (Self.place self.now) (Self.demands self.now))
             (lists_of admits accepts is_encoding decoding checks.now)
             site.now (N.text node.now) result }
     {
@@ -222,7 +222,7 @@ pub trait Validate<N: Node>: Uses {
     ) -> Result<(), Fault>
         requires { IsInUse (Self.demands self.now)
             (lists_of admits accepts is_encoding decoding checks.now) }
-        ensures { IsVerdict (placed (Self.place self.now) (Self.demands self.now))
+        ensures { IsVerdict (assertions_at (Self.place self.now) (Self.demands self.now))
             (lists_of admits accepts is_encoding decoding checks.now)
             site.now (Some text.now) result }
     {
@@ -249,7 +249,7 @@ pub trait Validate<N: Node>: Uses {
         requires { IsInUse (Self.demands self.now)
             (lists_of admits accepts is_encoding decoding checks.now) }
         ensures errors { IfOk result (λ r. NodeReports
-            (placed (Self.place self.now) (Self.demands self.now))
+            (assertions_at (Self.place self.now) (Self.demands self.now))
             (lists_of admits accepts is_encoding decoding checks.now) site.now (N.text node.now)
             r.errors.items) }
         ensures annotation { IfOk result (λ r. option_map view r.annotation

@@ -5,7 +5,7 @@ ghost use Rattle.serde_json.specs.Data.{Members};
 ghost use Rattle.serde_json.specs.Find.{get_member};
 ghost use Rattle.serde_json.specs.View.{members_view, view};
 ghost use Rattle.strkw_keywords.specs.Keywords.{keyword_name};
-ghost use Rattle.strkw_keywords.specs.Values.{AreValuesOf, held, members_of};
+ghost use Rattle.strkw_keywords.specs.Values.{AreValuesOf, held_value, members_of};
 
 use crate::compile::member;
 use crate::keyword::Keyword;
@@ -48,7 +48,7 @@ impl<'v> Values<'v> {
 
     /// The value at a keyword, or `None` where there is none.
     pub fn at(&self, keyword: Keyword) -> Option<&'v Value>
-        ensures { option_map (λ v. view v.now) result ≡ held self.now keyword }
+        ensures { option_map (λ v. view v.now) result ≡ held_value self.now keyword }
     {
         match keyword {
             Keyword::ContentMediaType => self.content_media_type,

@@ -9,7 +9,7 @@ use Rattle.strkw_keywords.specs.Meanings.{Lists}
 use Rattle.strkw_keywords.specs.Demands.{IsInUse}
 use Rattle.strkw_keywords.specs.Errors.{NodeReports, demands_asserted}
 use Rattle.strkw_keywords.specs.Remarks.{Remark}
-use Rattle.strkw_keywords.specs.Object.{Settings, Errors, demanded, asserted, remarked, FirstRefusal, remarks_on, Notes}
+use Rattle.strkw_keywords.specs.Object.{Settings, Errors, all_demands, all_assertions, all_remarks, FirstRefusal, remarks_on, Notes}
 use Rattle.strkw_keywords.specs.Laws.{CompiledIsInUse}
 use Rattle.strkw_object.specs.declared.strings.StringKeywords.{StringKeywords}
 use Rattle.strkw_formats.specs.FormatLaws.{IsInside}
@@ -28,7 +28,8 @@ module _ {E : Type 0} (outcome : E → List ℕ → Outcome) (s : Settings) (ms 
       → NodeReports (keywords_assertions outcome k) lists site node rs ↔ Errors s ms lists site node rs
   compiled_errors lists site node rs c = (
     (λ h. (c.entries, c.are_entries, subst (λ l. NodeReports l lists site node rs) c.asserts h)),
-    (λ h. subst (λ l. NodeReports l lists site node rs) (ap (asserted s.place) (AreEntries-unique s ms h.0 c.entries h.1 c.are_entries) ∙ sym c.asserts) h.2),
+    (λ h. subst (λ l. NodeReports l lists site node rs) (ap (all_assertions s.place) (AreEntries-unique s ms h.0 c.entries h.1 c.are_entries) ∙ sym c.asserts)
+        h.2),
   )
 
   -- what a compiled object notes of a node are exactly its notes by the schema object
@@ -36,14 +37,15 @@ module _ {E : Type 0} (outcome : E → List ℕ → Outcome) (s : Settings) (ms 
       → (remarks ≡ remarks_on node (keywords_remarks k)) ↔ Notes s ms node remarks
   compiled_notes node remarks c = (
     (λ h. (c.entries, c.are_entries, h ∙ ap (remarks_on node) c.notes)),
-    (λ h. h.2 ∙ ap (λ l. remarks_on node (remarked s.place l)) (AreEntries-unique s ms h.0 c.entries h.1 c.are_entries) ∙ ap (remarks_on node) (sym c.notes)),
+    (λ h. h.2 ∙ ap (λ l. remarks_on node (all_remarks s.place l)) (AreEntries-unique s ms h.0 c.entries h.1 c.are_entries) ∙ ap (remarks_on node)
+        (sym c.notes)),
   )
 
   -- a compiled object demands what the entries that it was compiled from demand
-  compiled_demands : (c : IsCompiledFrom outcome s ms k) → keywords_demands outcome k ≡ demanded c.entries
+  compiled_demands : (c : IsCompiledFrom outcome s ms k) → keywords_demands outcome k ≡ all_demands c.entries
   compiled_demands c =
       sym (demands_are_asserted outcome k.validators.items) ∙ ap demands_asserted c.asserts
-      ∙ demands_of_placed s.place (demanded c.entries)
+      ∙ demands_of_placed s.place (all_demands c.entries)
 
   -- by `IntervalIsLeft`, the interval of a compiled object has exactly the lengths of the schema object's
   pub compiled_interval : IntervalIsLeft → (n : ℕ) → IsCompiledFrom outcome s ms k → IsInside (keywords_interval outcome k) n ↔ IsInInterval s ms n

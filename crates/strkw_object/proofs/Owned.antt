@@ -9,12 +9,12 @@ use Rattle.strkw_keywords.specs.declared.keyword.Keyword.TheVariants.{ContentMed
 use Rattle.strkw_keywords.specs.Keywords.{keyword_name}
 use Rattle.strkw_keywords.specs.Object.{keywords}
 use Rattle.strkw_keywords.specs.declared.values.Values.{Values}
-use Rattle.strkw_keywords.specs.Values.{AreValuesOf, held, members_at}
+use Rattle.strkw_keywords.specs.Values.{AreValuesOf, held_value, members_at}
 use Rattle.strkw_keywords.specs.Without.{KeepsOthers}
 use Rattle.strkw_keywords.proofs.Without.{same_others}
-use Rattle.strkw_keywords.proofs.Held.{held_is_member}
+use Rattle.strkw_keywords.proofs.Held.{held_value_is_member}
 use Rattle.strkw_object.specs.declared.values.OwnedValues.{OwnedValues}
-use Rattle.strkw_object.specs.Values.{owned, AreOthersOf, AreOwnedOf}
+use Rattle.strkw_object.specs.Values.{owned_value, AreOthersOf, AreOwnedOf}
 
 -- ---- keywords have names of their own
 
@@ -42,16 +42,17 @@ one_name j k same = sym (its_own j) ∙ ap by_its_name same ∙ its_own k
 -- ---- one member after another
 
 -- with the value at a keyword put in, the values are those of the object with this member
-pub owned_put : (ms : Members) (k : Keyword) (d : Data) (v w : OwnedValues) → owned w k ≡ Some d
-    → ((j : Keyword) → (j ≡ k → ⊥) → owned w j ≡ owned v j)
+pub owned_put : (ms : Members) (k : Keyword) (d : Data) (v w : OwnedValues) → owned_value w k ≡ Some d
+    → ((j : Keyword) → (j ≡ k → ⊥) → owned_value w j ≡ owned_value v j)
     → AreOwnedOf ms v → AreOwnedOf (put (keyword_name k) d ms) w
 owned_put ms k d v w own others are = record { same = λ j. by_test j (bytes_eq (keyword_name j) (keyword_name k)) refl }
   where
     -- whether a keyword is that one, as its name tells
-    by_test : (j : Keyword) (b : Bool) → bytes_eq (keyword_name j) (keyword_name k) ≡ b → owned w j ≡ get_member (keyword_name j) (put (keyword_name k) d ms)
+    by_test : (j : Keyword) (b : Bool) → bytes_eq (keyword_name j) (keyword_name k) ≡ b → owned_value w j ≡ get_member (keyword_name j)
+        (put (keyword_name k) d ms)
     by_test j true is =
         let same : j ≡ k = one_name j k ((bytes_eq-Decides (keyword_name j) (keyword_name k)).0 is) in
-        subst (λ i. owned w i ≡ get_member (keyword_name i) (put (keyword_name k) d ms)) (sym same) (own ∙ sym (get_member-put (keyword_name k) d ms))
+        subst (λ i. owned_value w i ≡ get_member (keyword_name i) (put (keyword_name k) d ms)) (sym same) (own ∙ sym (get_member-put (keyword_name k) d ms))
     by_test j false is =
         let apart = λ (same : keyword_name j ≡ keyword_name k). absurd (true≢false (sym ((bytes_eq-Decides (keyword_name j) (keyword_name k)).1 same) ∙ is)) in
         others j (λ same. apart (ap keyword_name same)) ∙ are.same j ∙ sym (get_member-put_other (keyword_name j) (keyword_name k) d ms apart)
@@ -67,7 +68,8 @@ owned_beside ms name d v none are = record {
 
 -- they are those of the object whose values were owned before one was taken out
 pub others_owned : (ms : Members) (values taken : OwnedValues) (others : Values) → AreOwnedOf ms values
-    → ((k : Keyword) → (k ≡ ContentSchema → ⊥) → owned taken k ≡ owned values k) → ((k : Keyword) → held others k ≡ owned taken k) → AreOthersOf ms others
+    → ((k : Keyword) → (k ≡ ContentSchema → ⊥) → owned_value taken k ≡ owned_value values k) → ((k : Keyword) → held_value others k ≡ owned_value taken k)
+    → AreOthersOf ms others
 others_owned ms values taken others are same lent = record { same = λ k other. lent k ∙ same k other ∙ are.same k }
 
 -- and those of an object without that value are those of the object
@@ -78,4 +80,4 @@ others_held ms left others keeps are = record { same = λ k other. are.same k �
 
 -- an object that has these values, and nothing else
 pub object_of : (values : OwnedValues) → (ms : Members) × AreOwnedOf ms values
-object_of values = (members_at (owned values) keywords, record { same = held_is_member (owned values) })
+object_of values = (members_at (owned_value values) keywords, record { same = held_value_is_member (owned_value values) })

@@ -9,7 +9,7 @@ use Rattle.strkw_report.specs.Refusals.{Refusal, prints_float, reason_of, refusa
 use Rattle.strkw_report.specs.declared.refusal.CompileError.{CompileError}
 use Rattle.strkw_keywords.specs.Compiled.{out_of_memory_refusal}
 use Rattle.strkw_keywords.specs.Object.{FirstRefusal, remarks_on, Notes, Settings, Entry, nothing, malformed, gives, Keyed, keywords, AreEntries, remark_by}
-use Rattle.strkw_keywords.specs.Object.{remarked, refusal_or, refusal}
+use Rattle.strkw_keywords.specs.Object.{all_remarks, refusal_or, refusal}
 use Rattle.strkw_keywords.specs.declared.keyword.Keyword.{Keyword}
 use Rattle.strkw_keywords.specs.Places.{Place}
 use Rattle.strkw_keywords.specs.Remarks.{Remark, remark_at}
@@ -60,9 +60,9 @@ entries_printable : (s : Settings) (ms : Members) (es : List Keyed) → AreEntri
 entries_printable s ms es are = each_entry IsPrintable s ms (entry_holds s IsPrintable (shapes_print s) ms) keywords es are.in_order
 
 -- each note of printable entries has a text
-listed_printable : (place : Place) (es : List Keyed) → ArePrintableEntries es → ArePrintable (remarked place es)
+listed_printable : (place : Place) (es : List Keyed) → ArePrintableEntries es → ArePrintable (all_remarks place es)
 listed_printable place [] each = All-nil HasText
-listed_printable place (e ∷ others) each = All-append HasText (remark_by place e.keyword e.entry) (remarked place others)
+listed_printable place (e ∷ others) each = All-append HasText (remark_by place e.keyword e.entry) (all_remarks place others)
     (remark_printable place e.keyword e.entry each.0) (listed_printable place others each.1)
 
 -- where each of some notes has a text, so has each that is made of a node
@@ -71,12 +71,12 @@ node_printable None rs p = All-nil HasText
 node_printable (Some text) rs p = p
 
 -- each note of the entries of a schema object has a text
-remarks_printable : (s : Settings) (ms : Members) (es : List Keyed) → AreEntries s ms es → ArePrintable (remarked s.place es)
+remarks_printable : (s : Settings) (ms : Members) (es : List Keyed) → AreEntries s ms es → ArePrintable (all_remarks s.place es)
 remarks_printable s ms es are = listed_printable s.place es (entries_printable s ms es are)
 
 -- each note of a node by a schema object has a text
 pub notes_printable : (s : Settings) (ms : Members) (node : Option (List ℕ)) (remarks : List Remark) → Notes s ms node remarks → ArePrintable remarks
-notes_printable s ms node remarks (es, are, is) = subst ArePrintable (sym is) (node_printable node (remarked s.place es) (remarks_printable s ms es are))
+notes_printable s ms node remarks (es, are, is) = subst ArePrintable (sym is) (node_printable node (all_remarks s.place es) (remarks_printable s ms es are))
 
 -- a refusal, if there is one, prints no number but whole ones of 64 bits
 abbrev pub PrintsNoFloat : Option Refusal → Type 0

@@ -11,10 +11,10 @@ use Rattle.strkw_keywords.specs.declared.validator.Validator.{Validator}
 use Rattle.strkw_keywords.specs.Object.{Settings, Keyed, AreEntries, AreEntriesOf, is_fused, refusal, keywords, share, shares, FirstRefusal}
 use Rattle.strkw_keywords.specs.Compiled.{out_of_memory_refusal, IsCompiledAt}
 use Rattle.strkw_keywords.specs.declared.values.Values.{Values}
-use Rattle.strkw_keywords.specs.Values.{AreValuesOf, held, members_of}
+use Rattle.strkw_keywords.specs.Values.{AreValuesOf, held_value, members_of}
 use Rattle.strkw_keywords.proofs.Entries.{entries_of_exist}
 use Rattle.strkw_keywords.proofs.EntriesOf.{entries_both, shares_all, shares_at, shares_more}
-use Rattle.strkw_keywords.proofs.Held.{held_is_member}
+use Rattle.strkw_keywords.proofs.Held.{held_value_is_member}
 use Rattle.strkw_keywords.proofs.Without.{other_compiled}
 use Rattle.strkw_object.specs.declared.strings.StringKeywords.{StringKeywords}
 use Rattle.strkw_object.specs.Compiled.{IsCompiledFrom}
@@ -146,8 +146,8 @@ module _ {E : Type 0} (outcome : E → List ℕ → Outcome) (s : Settings) (val
       → Beside i waiting vs → Asked i k waiting compiled
   asked_other i k waiting compiled vs other h b = record {
     asked = λ ms has schema. other_compiled outcome s ms (members_of values)
-        (λ w apart. sym (held_is_member (held values) w) ∙ has.same w apart) k compiled other
-        (h (members_of values) (record { same = held_is_member (held values) }));
+        (λ w apart. sym (held_value_is_member (held_value values) w) ∙ has.same w apart) k compiled other
+        (h (members_of values) (record { same = held_value_is_member (held_value values) }));
     waits = λ before. b.waits (omega (arith, before));
   }
 

@@ -6,7 +6,7 @@ use Rattle.strkw_keywords.specs.Demands.{Demand}
 use Rattle.strkw_keywords.specs.Errors.{Assertion}
 use Rattle.strkw_keywords.specs.Remarks.{Remark}
 use Rattle.strkw_keywords.specs.Validators.{demands_in, assertions_in, remarks_in}
-use Rattle.strkw_keywords.specs.Object.{Settings, Keyed, AreEntries, refusal, asserted, remarked}
+use Rattle.strkw_keywords.specs.Object.{Settings, Keyed, AreEntries, refusal, all_assertions, all_remarks}
 use Rattle.strkw_formats.specs.Formats.{Window}
 use Rattle.strkw_keywords.specs.Lengths.{interval}
 use Rattle.strkw_object.specs.declared.strings.StringKeywords.{StringKeywords}
@@ -35,5 +35,5 @@ pub record IsCompiledFrom {E : Type 0} (outcome : E → List ℕ → Outcome) (s
   pub entries : List Keyed
   pub are_entries : AreEntries s ms entries
   pub good : refusal s.place entries ≡ None
-  pub asserts : keywords_assertions outcome k ≡ asserted s.place entries
-  pub notes : keywords_remarks k ≡ remarked s.place entries
+  pub asserts : keywords_assertions outcome k ≡ all_assertions s.place entries
+  pub notes : keywords_remarks k ≡ all_remarks s.place entries

@@ -10,24 +10,24 @@ use Rattle.strkw_keywords.specs.declared.keyword.Keyword.TheVariants.{ContentSch
 use Rattle.strkw_keywords.specs.declared.keyword.Keyword.TheVariants.{MinLength, MaxLength, Pattern}
 use Rattle.strkw_keywords.specs.declared.values.Values.{Values}
 use Rattle.strkw_keywords.specs.Keywords.{keyword_name}
-use Rattle.strkw_keywords.specs.Values.{held}
+use Rattle.strkw_keywords.specs.Values.{held_value}
 use Rattle.strkw_object.specs.declared.values.OwnedValues.{OwnedValues}
 
 -- the value that is owned for a keyword
-abbrev pub owned : OwnedValues → Keyword → Option Data
-owned values ContentMediaType = option_map view values.content_media_type
-owned values ContentEncoding = option_map view values.content_encoding
-owned values ContentSchema = option_map view values.content_schema
-owned values Format = option_map view values.format
-owned values MinLength = option_map view values.min_length
-owned values MaxLength = option_map view values.max_length
-owned values Pattern = option_map view values.pattern
+abbrev pub owned_value : OwnedValues → Keyword → Option Data
+owned_value values ContentMediaType = option_map view values.content_media_type
+owned_value values ContentEncoding = option_map view values.content_encoding
+owned_value values ContentSchema = option_map view values.content_schema
+owned_value values Format = option_map view values.format
+owned_value values MinLength = option_map view values.min_length
+owned_value values MaxLength = option_map view values.max_length
+owned_value values Pattern = option_map view values.pattern
 
 -- these are the values of an object at the seven keywords
 pub record AreOwnedOf (ms : Members) (values : OwnedValues) : Type 0 where
-  pub same : (keyword : Keyword) → owned values keyword ≡ get_member (keyword_name keyword) ms
+  pub same : (keyword : Keyword) → owned_value values keyword ≡ get_member (keyword_name keyword) ms
 
 -- these are the values of an object at the keywords other than `contentSchema`
 pub record AreOthersOf (ms : Members) (values : Values) : Type 0 where
   pub same : (keyword : Keyword) → (keyword ≡ ContentSchema → ⊥)
-      → held values keyword ≡ get_member (keyword_name keyword) ms
+      → held_value values keyword ≡ get_member (keyword_name keyword) ms

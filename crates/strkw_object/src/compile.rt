@@ -9,7 +9,7 @@ ghost use Rattle.strkw_keywords.specs.Demands.{IsInUse};
 ghost use Rattle.strkw_keywords.specs.Handed.{lists_of, settings_of};
 ghost use Rattle.strkw_keywords.specs.Object.{FirstRefusal};
 ghost use Rattle.strkw_object.specs.Compiled.{IsCompiledFrom, keywords_demands};
-ghost use Rattle.strkw_object.specs.Values.{AreOthersOf, AreOwnedOf, owned};
+ghost use Rattle.strkw_object.specs.Values.{AreOthersOf, AreOwnedOf, owned_value};
 
 use crate::strings::StringKeywords;
 use crate::values::OwnedValues;
@@ -98,9 +98,9 @@ pub fn compile_values<B: EngineBuilder>(
         ms (Some (refusal_of e))) }
     // So each refusal has its text.
     ensures printable { IfErr result (λ e. prints_float (reason_of e.kind) ≡ false) }
-    ensures taken { owned values.new Keyword.ContentSchema ≡ None }
+    ensures taken { owned_value values.new Keyword.ContentSchema ≡ None }
     ensures others { (other : Keyword) → (other ≡ Keyword.ContentSchema → ⊥)
-        → owned values.new other ≡ owned values.old other }
+        → owned_value values.new other ≡ owned_value values.old other }
 {
     compiled_is_in_use();
     let schema = values.take_schema();

@@ -2,8 +2,8 @@
 
 ghost use Rattle.std.specs.Prelude.{◌≡◌, None, Some, option_map};
 ghost use Rattle.serde_json.specs.View.{view};
-ghost use Rattle.strkw_keywords.specs.Values.{held};
-ghost use Rattle.strkw_object.specs.Values.{owned};
+ghost use Rattle.strkw_keywords.specs.Values.{held_value};
+ghost use Rattle.strkw_object.specs.Values.{owned_value};
 
 use serde_json::Value;
 use strkw_keywords::{Keyword, Values};
@@ -24,7 +24,7 @@ pub struct OwnedValues {
 impl OwnedValues {
     /// Those of an object that has no such key.
     pub fn none() -> OwnedValues
-        ensures { (keyword : Keyword) → owned result keyword ≡ None }
+        ensures { (keyword : Keyword) → owned_value result keyword ≡ None }
     {
         OwnedValues {
             content_media_type: None,
@@ -39,7 +39,7 @@ impl OwnedValues {
 
     /// Drops them all: what is left is as of `none`.
     pub fn clear(&mut self)
-        ensures { (keyword : Keyword) → owned self.new keyword ≡ None }
+        ensures { (keyword : Keyword) → owned_value self.new keyword ≡ None }
     {
         self.content_media_type = None;
         self.content_encoding = None;
@@ -52,9 +52,9 @@ impl OwnedValues {
 
     /// Puts in the value at a keyword. One that was there before is dropped.
     pub fn set(&mut self, keyword: Keyword, value: Value)
-        ensures put { owned self.new keyword ≡ Some (view value) }
+        ensures put { owned_value self.new keyword ≡ Some (view value) }
         ensures others { (other : Keyword) → (other ≡ keyword → ⊥)
-            → owned self.new other ≡ owned self.old other }
+            → owned_value self.new other ≡ owned_value self.old other }
     {
         match keyword {
             Keyword::ContentMediaType => self.content_media_type = Some(value),
@@ -69,7 +69,7 @@ impl OwnedValues {
 
     /// The same values, borrowed.
     pub fn borrowed(&self) -> Values<'_>
-        ensures { (keyword : Keyword) → held result keyword ≡ owned self.now keyword }
+        ensures { (keyword : Keyword) → held_value result keyword ≡ owned_value self.now keyword }
     {
         Values {
             content_media_type: self.content_media_type.as_ref(),
@@ -84,10 +84,10 @@ impl OwnedValues {
 
     // Takes out the value at `contentSchema`.
     pub(crate) fn take_schema(&mut self) -> Option<Value>
-        ensures taken { option_map view result ≡ owned self.old Keyword.ContentSchema }
-        ensures gone { owned self.new Keyword.ContentSchema ≡ None }
+        ensures taken { option_map view result ≡ owned_value self.old Keyword.ContentSchema }
+        ensures gone { owned_value self.new Keyword.ContentSchema ≡ None }
         ensures others { (other : Keyword) → (other ≡ Keyword.ContentSchema → ⊥)
-            → owned self.new other ≡ owned self.old other }
+            → owned_value self.new other ≡ owned_value self.old other }
     {
         self.content_schema.take()
     }

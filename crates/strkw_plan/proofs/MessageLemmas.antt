@@ -6,24 +6,24 @@ use Rattle.std.specs.Prelude.{Option, Some, None, codes}
 use Rattle.std.specs.List.{flat_map}
 use Rattle.strkw_report.specs.Kinds.{Report, Standing, text_of}
 use Rattle.strkw_pattern.specs.declared.engine.Outcome.{Outcome}
-use Rattle.strkw_report.specs.Paths.{escaped}
+use Rattle.strkw_report.specs.Paths.{escaped_segment}
 use Rattle.strkw_keywords.specs.declared.keyword.Keyword.{Keyword}
 use Rattle.strkw_keywords.specs.declared.keyword.Keyword.TheVariants.{ContentMediaType, ContentEncoding, ContentSchema, Format, MinLength, MaxLength, Pattern}
 use Rattle.strkw_keywords.specs.Keywords.{keyword_name}
 use Rattle.strkw_keywords.specs.Meanings.{Lists}
 use Rattle.strkw_keywords.specs.Places.{Place, standing}
-use Rattle.strkw_keywords.specs.Demands.{Demand, Finding, Finds, listed}
-use Rattle.strkw_keywords.specs.Errors.{Assertion, placed, reported, NodeReports}
+use Rattle.strkw_keywords.specs.Demands.{Demand, Finding, Finds, finding_list}
+use Rattle.strkw_keywords.specs.Errors.{Assertion, assertions_at, reports_of, NodeReports}
 use Rattle.strkw_keywords.specs.Validators.{assertions_of, assertions_in}
 use Rattle.strkw_keywords.specs.declared.validator.Validator.{Validator}
 use Rattle.strkw_keywords.proofs.Reports.{errors_of, found_reports}
 use Rattle.strkw_report.specs.Standings.{root_site}
 use Rattle.strkw_object.proofs.Many.{nothing_asserted, report_append, in_more}
 use Rattle.strkw_plan.specs.Messages.{AppendsSaid, message}
-use Rattle.strkw_plan.specs.Shown.{shown}
+use Rattle.strkw_plan.specs.Shown.{shown_text}
 
 -- no name of a keyword holds what a pointer escapes
-pub plain_name : (k : Keyword) → escaped (keyword_name k) ≡ keyword_name k
+pub plain_name : (k : Keyword) → escaped_segment (keyword_name k) ≡ keyword_name k
 plain_name ContentMediaType = refl
 plain_name ContentEncoding = refl
 plain_name ContentSchema = refl
@@ -35,7 +35,7 @@ plain_name Pattern = refl
 -- a message has bytes
 pub message_some : (place : List ℕ) (r : Report) → 0 < length (message place r)
 message_some place r =
-    let front = shown place ++ codes ": " ++ r.schema_path ++ codes ": " ++ shown (text_of r) in
+    let front = shown_text place ++ codes ": " ++ r.schema_path ++ codes ": " ++ shown_text (text_of r) in
     let line : length (message place r) ≡ length front + 1 = length-append front (codes "\n") in
     omega (arith, line)
 
@@ -84,7 +84,8 @@ module _ (say : Report → List ℕ) where
   -- ---- one validator
 
   -- the errors of two findings are those of the one and then those of the other
-  two_errors : (s : Standing) (text : List ℕ) (a b : Option Finding) → errors_of s text (listed a ++ listed b) ≡ reported s text a ++ reported s text b
+  two_errors : (s : Standing) (text : List ℕ) (a b : Option Finding) → errors_of s text (finding_list a ++ finding_list b) ≡ reports_of s text a
+      ++ reports_of s text b
   two_errors s text None None = refl
   two_errors s text None (Some g) = refl
   two_errors s text (Some f) None = refl
@@ -96,35 +97,35 @@ module _ (say : Report → List ℕ) where
 
   -- what is said of two findings of a text in turn is said of its errors by demands
   of_two : (at : Place) (ds : List Demand) (lists : Lists) (text : List ℕ) (a b : Option Finding) (n m : ℕ) (old mid new : List ℕ)
-      → Finds ds lists text (listed a ++ listed b)
-      → Says n (reported (standing at root_site) text a) old mid → Says m (reported (standing at root_site) text b) mid new
-      → AppendsSaid (NodeReports (placed at ds) lists root_site (Some text)) say (n + m) old new
+      → Finds ds lists text (finding_list a ++ finding_list b)
+      → Says n (reports_of (standing at root_site) text a) old mid → Says m (reports_of (standing at root_site) text b) mid new
+      → AppendsSaid (NodeReports (assertions_at at ds) lists root_site (Some text)) say (n + m) old new
   of_two at ds lists text a b n m old mid new finds first second =
       let s = standing at root_site in
-      let P = NodeReports (placed at ds) lists root_site (Some text) in
-      appended_more (λ rs. rs ≡ reported s text a) (λ rs. rs ≡ reported s text b) P n m old mid new
+      let P = NodeReports (assertions_at at ds) lists root_site (Some text) in
+      appended_more (λ rs. rs ≡ reports_of s text a) (λ rs. rs ≡ reports_of s text b) P n m old mid new
       (λ early late e l. subst P (two_errors s text a b ∙ sym (ap₂ (λ x y. x ++ y) e l))
-      (found_reports at ds lists root_site text (listed a ++ listed b) finds))
-      (record { reports = reported s text a; reported = refl; counted = first.0; grown = first.1 })
-      (record { reports = reported s text b; reported = refl; counted = second.0; grown = second.1 })
+      (found_reports at ds lists root_site text (finding_list a ++ finding_list b) finds))
+      (record { reports = reports_of s text a; reported = refl; counted = first.0; grown = first.1 })
+      (record { reports = reports_of s text b; reported = refl; counted = second.0; grown = second.1 })
 
   -- what is said of both findings of a validator, which stands here, on this text
   pub said_of_two : (here at : Place) (ds : List Demand) (lists : Lists) (this text : List ℕ) (a b : Option Finding) (n m : ℕ) (old mid new : List ℕ)
-      → here ≡ at → this ≡ text → Finds ds lists text (listed a ++ listed b)
-      → Says n (reported (standing here root_site) this a) old mid → Says m (reported (standing here root_site) this b) mid new
-      → AppendsSaid (NodeReports (placed at ds) lists root_site (Some text)) say (n + m) old new
+      → here ≡ at → this ≡ text → Finds ds lists text (finding_list a ++ finding_list b)
+      → Says n (reports_of (standing here root_site) this a) old mid → Says m (reports_of (standing here root_site) this b) mid new
+      → AppendsSaid (NodeReports (assertions_at at ds) lists root_site (Some text)) say (n + m) old new
   said_of_two here at ds lists this text a b n m old mid new same read finds first second =
       of_two at ds lists text a b n m old mid new finds
-      (subst (λ t. Says n (reported (standing at root_site) t a) old mid) read
-      (subst (λ p. Says n (reported (standing p root_site) this a) old mid) same first))
-      (subst (λ t. Says m (reported (standing at root_site) t b) mid new) read
-      (subst (λ p. Says m (reported (standing p root_site) this b) mid new) same second))
+      (subst (λ t. Says n (reports_of (standing at root_site) t a) old mid) read
+      (subst (λ p. Says n (reports_of (standing p root_site) this a) old mid) same first))
+      (subst (λ t. Says m (reports_of (standing at root_site) t b) mid new) read
+      (subst (λ p. Says m (reports_of (standing p root_site) this b) mid new) same second))
 
   -- nothing is said of a text of which a validator finds nothing
   pub said_of_none : (at : Place) (ds : List Demand) (lists : Lists) (text : List ℕ) (found : List Finding) (old : List ℕ) → Finds ds lists text found
-      → found ≡ [] → AppendsSaid (NodeReports (placed at ds) lists root_site (Some text)) say 0 old old
+      → found ≡ [] → AppendsSaid (NodeReports (assertions_at at ds) lists root_site (Some text)) say 0 old old
   said_of_none at ds lists text found old finds none =
-      nothing (NodeReports (placed at ds) lists root_site (Some text)) old
+      nothing (NodeReports (assertions_at at ds) lists root_site (Some text)) old
       (found_reports at ds lists root_site text [] (subst (λ fs. Finds ds lists text fs) none finds))
 
   -- ---- all validators

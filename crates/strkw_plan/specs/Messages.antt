@@ -7,7 +7,7 @@ use Rattle.strkw_report.specs.Kinds.{Report, text_of}
 use Rattle.strkw_report.specs.Refusals.{Refusal}
 use Rattle.strkw_keywords.specs.Object.{Settings, Errors, FirstRefusal}
 use Rattle.strkw_report.specs.Standings.{root_site}
-use Rattle.strkw_plan.specs.Shown.{shown}
+use Rattle.strkw_plan.specs.Shown.{shown_text}
 
 -- these are the members of a schema: it is an object, and no entry of it is malformed
 abbrev pub IsSchema : Settings → Data → Members → Type 0
@@ -21,7 +21,8 @@ IsRefused s schema refusal = (members : Members) × (as_object schema ≡ Some m
 -- the message about an error: where it is, the keyword and what is wrong
 abbrev pub message : List ℕ → Report → List ℕ
 message place r =
-    shown place ++ codes ": " ++ r.schema_path ++ codes ": " ++ shown (text_of r) ++ codes "\n"
+    shown_text place ++ codes ": " ++ r.schema_path ++ codes ": " ++ shown_text (text_of r)
+    ++ codes "\n"
 
 -- what is said of an instance: a message for each of its errors by the schema object, in their
 -- order

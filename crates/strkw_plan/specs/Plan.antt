@@ -8,7 +8,7 @@ use Rattle.std.specs.Str.{bytes_eq}
 use Rattle.serde_json.specs.Data.{Data, Items, no_items, item, Members, no_members, member}
 use Rattle.serde_json.specs.Find.{get_member, as_array, as_object, as_str}
 use Rattle.strkw_report.specs.declared.draft.Draft.{Draft}
-use Rattle.strkw_report.specs.Paths.{below}
+use Rattle.strkw_report.specs.Paths.{path_below}
 use Rattle.strkw_report.specs.Drafts.{draft_in}
 use Rattle.strkw_plan.specs.declared.vocabulary.Standing.{Standing}
 use Rattle.strkw_plan.specs.declared.vocabulary.Standing.TheVariants.{Checked, Annotation}
@@ -43,7 +43,7 @@ plan_members Places = codes "draft" ∷ codes "places" ∷ codes "ignore" ∷ co
 
 -- the place of the schema of a name in a plan, a JSON pointer
 abbrev pub schema_place : PlanKind → List ℕ → List ℕ
-schema_place kind name = below (below [] (schemas_member kind)) name
+schema_place kind name = path_below (path_below [] (schemas_member kind)) name
 
 -- ---- the parts of a plan
 

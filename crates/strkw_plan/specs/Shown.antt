@@ -24,5 +24,5 @@ is_hidden c = is_hidden_category (general_category c)
 abbrev pub shown_char : ℕ → List ℕ
 shown_char c = if is_hidden c then codes "\\u{" ++ digits 16 false c ++ codes "}" else encode_utf8 c
 
-abbrev pub shown : List ℕ → List ℕ
-shown text = flat_map shown_char (chars text)
+abbrev pub shown_text : List ℕ → List ℕ
+shown_text text = flat_map shown_char (chars text)

@@ -2,11 +2,11 @@
 
 ghost use Rattle.std.specs.Prelude.{◌≡◌, ◌<◌, ◌++◌, ℕ, List, IfOk, OnOk, length, string_bytes};
 ghost use Rattle.strkw_report.specs.Kinds.{Report, text_of};
-ghost use Rattle.strkw_report.specs.Paths.{below};
+ghost use Rattle.strkw_report.specs.Paths.{path_below};
 ghost use Rattle.strkw_keywords.specs.Keywords.{keyword_name};
 ghost use Rattle.strkw_plan.specs.Found.{report_found};
 ghost use Rattle.strkw_plan.specs.Messages.{message};
-ghost use Rattle.strkw_plan.specs.Shown.{shown};
+ghost use Rattle.strkw_plan.specs.Shown.{shown_text};
 
 use crate::shown::push_shown;
 use std::alloc::{AllocError, Global};
@@ -46,7 +46,7 @@ impl FoundError<'_> {
 // Appends the place of a keyword in the schema object at a location. No name of a keyword holds what a pointer escapes.
 fn push_below(location: &Location, keyword: Keyword, out: &mut String) -> Result<(), AllocError>
     ensures { OnOk result (string_bytes out.new
-        ≡ string_bytes out.old ++ below location.now (keyword_name keyword)) }
+        ≡ string_bytes out.old ++ path_below location.now (keyword_name keyword)) }
 {
     out.push_str(location.as_str())?;
     out.push_str("/")?;
@@ -80,7 +80,7 @@ pub trait InstancePlace {
     /// appended.
     fn push_shown(&self, out: &mut String) -> Result<(), AllocError>
         ensures { OnOk result (string_bytes out.new
-            ≡ string_bytes out.old ++ shown (name self.now)) };
+            ≡ string_bytes out.old ++ shown_text (name self.now)) };
 }
 
 /// A text is a place that is named by itself.
@@ -122,7 +122,7 @@ impl<P: InstancePlace> MessageForm for MessageLine<'_, P> {
 // Appends what is said of an error, as it is shown.
 fn push_text(alloc: Global, error: &FoundError<'_>, out: &mut String) -> Result<(), AllocError>
     ensures { OnOk result (string_bytes out.new
-        ≡ string_bytes out.old ++ shown (text_of (report_found error.now))) }
+        ≡ string_bytes out.old ++ shown_text (text_of (report_found error.now))) }
 {
     let said = error.message(alloc)?;
     push_shown(&said, out)

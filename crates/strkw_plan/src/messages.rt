@@ -4,7 +4,7 @@ ghost use Rattle.std.specs.Prelude.{◌≡◌, ◌≤◌, ◌+◌, ◌++◌, ℕ
 ghost use Rattle.std.specs.Prelude.{length, option_map, string_bytes};
 ghost use Rattle.std.specs.List.{flat_map};
 ghost use Rattle.strkw_keywords.specs.Demands.{IsInUse};
-ghost use Rattle.strkw_keywords.specs.Errors.{NodeReports, reported};
+ghost use Rattle.strkw_keywords.specs.Errors.{NodeReports, reports_of};
 ghost use Rattle.strkw_keywords.specs.Findings.{finding_of};
 ghost use Rattle.strkw_keywords.specs.Handed.{lists_of};
 ghost use Rattle.strkw_keywords.specs.Places.{standing};
@@ -115,7 +115,7 @@ fn push_found<F: MessageForm>(
     ensures few { IfOk result (λ count. count ≤ 1) }
     ensures bytes { IfOk result (λ count.
         length (string_bytes out.old) + count ≤ length (string_bytes out.new)) }
-    ensures messages { let reports = reported (standing origin.now root_site) text.now
+    ensures messages { let reports = reports_of (standing origin.now root_site) text.now
         (option_map finding_of failure.now) in
         IfOk result (λ count. (count ≡ length reports)
         × (string_bytes out.new

@@ -1,7 +1,7 @@
 //! Texts as messages show them.
 
 ghost use Rattle.std.specs.Prelude.{◌≡◌, ◌++◌, OnOk, string_bytes, Some};
-ghost use Rattle.strkw_plan.specs.Shown.{is_hidden, shown, shown_char};
+ghost use Rattle.strkw_plan.specs.Shown.{is_hidden, shown_text, shown_char};
 
 use serde_json::Value;
 use std::alloc::AllocError;
@@ -83,7 +83,7 @@ impl fmt::Display for ShownValue<'_> {
 
 /// Appends a text as it is shown. The only error is out of memory; a beginning of it may then have been appended.
 pub fn push_shown(text: &str, out: &mut String) -> Result<(), AllocError>
-    ensures { OnOk result (string_bytes out.new ≡ string_bytes out.old ++ shown text.now) }
+    ensures { OnOk result (string_bytes out.new ≡ string_bytes out.old ++ shown_text text.now) }
 {
     for c in text.chars() {
         let shown = ShownChar(c);

@@ -7,8 +7,8 @@ use Rattle.strkw_report.specs.Kinds.{Report, Standing}
 use Rattle.strkw_pattern.specs.declared.engine.Outcome.{Outcome}
 use Rattle.strkw_keywords.specs.Meanings.{Lists}
 use Rattle.strkw_keywords.specs.Places.{Place, standing}
-use Rattle.strkw_keywords.specs.Demands.{Demand, Finding, Finds, listed}
-use Rattle.strkw_keywords.specs.Errors.{placed, reported, NodeReports}
+use Rattle.strkw_keywords.specs.Demands.{Demand, Finding, Finds, finding_list}
+use Rattle.strkw_keywords.specs.Errors.{assertions_at, reports_of, NodeReports}
 use Rattle.strkw_keywords.specs.Validators.{assertions_of, assertions_in}
 use Rattle.strkw_keywords.specs.declared.validator.Validator.{Validator}
 use Rattle.strkw_keywords.proofs.Reports.{errors_of, found_reports}
@@ -26,23 +26,24 @@ pub record AppendsLines (P : List Report → Type 0) (old new : List ℕ) : Type
 
 -- the lines of two findings, which may be missing, are those of each in turn
 two_lines : (s : Standing) (text : List ℕ) (a b : Option Finding)
-    → error_lines (errors_of s text (listed a ++ listed b)) ≡ error_lines (reported s text a) ++ error_lines (reported s text b)
+    → error_lines (errors_of s text (finding_list a ++ finding_list b)) ≡ error_lines (reports_of s text a) ++ error_lines (reports_of s text b)
 two_lines s text None None = refl
 two_lines s text None (Some f) = refl
-two_lines s text (Some f) None = sym (append-nil (error_lines (reported s text (Some f))))
-two_lines s text (Some f) (Some g) = flat_map-append error_line (reported s text (Some f)) (reported s text (Some g))
+two_lines s text (Some f) None = sym (append-nil (error_lines (reports_of s text (Some f))))
+two_lines s text (Some f) (Some g) = flat_map-append error_line (reports_of s text (Some f)) (reports_of s text (Some g))
 
 -- the lines of two findings of a text, in turn, are those of its errors by the demands
 pub of_text : (place : Place) (ds : List Demand) (lists : Lists) (text : List ℕ) (a b : Option Finding) (old mid new : List ℕ)
-    → Finds ds lists text (listed a ++ listed b)
-    → mid ≡ old ++ error_lines (reported (standing place root_site) text a) → new ≡ mid ++ error_lines (reported (standing place root_site) text b)
-    → AppendsLines (NodeReports (placed place ds) lists root_site (Some text)) old new
+    → Finds ds lists text (finding_list a ++ finding_list b)
+    → mid ≡ old ++ error_lines (reports_of (standing place root_site) text a) → new ≡ mid ++ error_lines (reports_of (standing place root_site) text b)
+    → AppendsLines (NodeReports (assertions_at place ds) lists root_site (Some text)) old new
 of_text place ds lists text a b old mid new finds first second =
     let s = standing place root_site in record {
-      errors = errors_of s text (listed a ++ listed b);
-      grown = second ∙ ap (λ l. l ++ error_lines (reported s text b)) first ∙ append_assoc old (error_lines (reported s text a)) (error_lines (reported s text b))
+      errors = errors_of s text (finding_list a ++ finding_list b);
+      grown = second ∙ ap (λ l. l ++ error_lines (reports_of s text b)) first ∙ append_assoc old (error_lines (reports_of s text a))
+          (error_lines (reports_of s text b))
           ∙ ap (λ l. old ++ l) (sym (two_lines s text a b));
-      reported = found_reports place ds lists root_site text (listed a ++ listed b) finds;
+      reported = found_reports place ds lists root_site text (finding_list a ++ finding_list b) finds;
     }
 
 -- ---- several

@@ -10,21 +10,21 @@ use Rattle.strkw_keywords.specs.Remarks.{Remark}
 abbrev pub printed_char : ℕ → ℕ
 printed_char c = if nat_lt c 32 then 32 else c
 
-abbrev pub printed : List ℕ → List ℕ
-printed text = map printed_char text
+abbrev pub printed_text : List ℕ → List ℕ
+printed_text text = map printed_char text
 
 -- a word, a place and a text
 abbrev pub line_of : List ℕ → List ℕ → List ℕ → List ℕ
 line_of word place text = word ++ codes " " ++ place ++ codes ": " ++ text ++ codes "\n"
 
 abbrev pub error_line : Report → List ℕ
-error_line r = line_of (codes "error") r.schema_path (printed (text_of r))
+error_line r = line_of (codes "error") r.schema_path (printed_text (text_of r))
 
 abbrev pub error_lines : List Report → List ℕ
 error_lines rs = flat_map error_line rs
 
 abbrev pub refused_line : Refusal → List ℕ
-refused_line r = line_of (codes "refused") r.location (printed (explanation r.reason))
+refused_line r = line_of (codes "refused") r.location (printed_text (explanation r.reason))
 
 -- a note, its value as compact JSON text (RFC 8259)
 abbrev pub note_line : Remark → List ℕ

@@ -5,10 +5,10 @@ ghost use Rattle.serde_json.specs.View.{view};
 ghost use Rattle.serde_json.specs.Written.{compact_text, has_float};
 ghost use Rattle.strkw_report.specs.Failures.{kind_failed};
 ghost use Rattle.strkw_report.specs.Kinds.{Report, message};
-ghost use Rattle.strkw_report.specs.Paths.{below};
+ghost use Rattle.strkw_report.specs.Paths.{path_below};
 ghost use Rattle.strkw_report.specs.Refusals.{out_of_memory, prints_float, reason_of, refusal_of};
 ghost use Rattle.strkw_keywords.specs.Demands.{IsInUse};
-ghost use Rattle.strkw_keywords.specs.Errors.{NodeReports, reported};
+ghost use Rattle.strkw_keywords.specs.Errors.{NodeReports, reports_of};
 ghost use Rattle.strkw_keywords.specs.Findings.{finding_of};
 ghost use Rattle.strkw_keywords.specs.Handed.{lists_of};
 ghost use Rattle.strkw_keywords.specs.Keywords.{keyword_name};
@@ -18,7 +18,7 @@ ghost use Rattle.strkw_keywords.specs.Validators.{listed_remark, place_of, remar
 ghost use Rattle.strkw_report.specs.Standings.{root_site};
 ghost use Rattle.strkw_object.specs.Compiled.{keywords_assertions, keywords_demands, keywords_remarks};
 ghost use Rattle.strkw_object.specs.Printable.{ArePrintable};
-ghost use Rattle.strkw_print.specs.Printed.{error_lines, note_lines, printed, refused_line};
+ghost use Rattle.strkw_print.specs.Printed.{error_lines, note_lines, printed_text, refused_line};
 
 use super::text::print_behind;
 use serde_json::Value;
@@ -40,7 +40,7 @@ fn push_start(
     out: &mut Vec<u8>,
 ) -> Result<(), AllocError>
     ensures ok { OnOk result (out.new.items
-        ≡ out.old.items ++ (word.now ++ codes " " ++ below location.now (keyword_name keyword)
+        ≡ out.old.items ++ (word.now ++ codes " " ++ path_below location.now (keyword_name keyword)
         ++ codes ": ")) }
     ensures err { OnErr result ((more : List ℕ) × (out.new.items ≡ out.old.items ++ more)) }
 {
@@ -59,7 +59,7 @@ fn push_found_line<E: RegexEngine>(
     out: &mut Vec<u8>,
 ) -> Result<(), AllocError>
     ensures ok { OnOk result (out.new.items ≡ out.old.items
-        ++ error_lines (reported (standing (place_of validator.now) root_site) text.now
+        ++ error_lines (reports_of (standing (place_of validator.now) root_site) text.now
         (option_map finding_of failure.now))) }
     ensures err { OnErr result ((more : List ℕ) × (out.new.items ≡ out.old.items ++ more)) }
 {

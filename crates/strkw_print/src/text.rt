@@ -1,7 +1,7 @@
 //! The text of a line, in which no character is a control character of ASCII below the space.
 
 ghost use Rattle.std.specs.Prelude.{◌++◌, ◌≡◌, ◌≤◌, ℕ, List, OnErr, OnOk, drop, length, take};
-ghost use Rattle.strkw_print.specs.Printed.{printed};
+ghost use Rattle.strkw_print.specs.Printed.{printed_text};
 
 use std::alloc::{AllocError, Global};
 
@@ -14,7 +14,7 @@ pub(super) fn print_behind(
 ) -> Result<(), AllocError>
     requires { before ≤ length out.old.items }
     ensures ok { OnOk result (out.new.items
-        ≡ take before out.old.items ++ printed (drop before out.old.items)) }
+        ≡ take before out.old.items ++ printed_text (drop before out.old.items)) }
     ensures err { OnErr result ((more : List ℕ)
         × (out.new.items ≡ take before out.old.items ++ more)) }
 {
@@ -32,7 +32,7 @@ pub(super) fn print_behind(
 
 // Appends a text, with a space for each of its bytes below 32.
 fn push_printed(text: &[u8], out: &mut Vec<u8>) -> Result<(), AllocError>
-    ensures ok { OnOk result (out.new.items ≡ out.old.items ++ printed text.now) }
+    ensures ok { OnOk result (out.new.items ≡ out.old.items ++ printed_text text.now) }
     ensures err { OnErr result ((more : List ℕ) × (out.new.items ≡ out.old.items ++ more)) }
 {
     for byte in text {

@@ -6,10 +6,10 @@ use Rattle.std.specs.Prelude.{ℕ, List, ◌∷◌, [], ◌++◌, if◌then◌el
 abbrev pub escaped_char : ℕ → List ℕ
 escaped_char c = if c == 126 then codes "~0" else (if c == 47 then codes "~1" else c ∷ [])
 
-abbrev pub escaped : List ℕ → List ℕ
-escaped segment = flat_map escaped_char segment
+abbrev pub escaped_segment : List ℕ → List ℕ
+escaped_segment segment = flat_map escaped_char segment
 
 -- the pointer to the member or the item `segment` of the value at `path`: `/` (47), and then the
 -- segment
-abbrev pub below : List ℕ → List ℕ → List ℕ
-below path segment = path ++ 47 ∷ escaped segment
+abbrev pub path_below : List ℕ → List ℕ → List ℕ
+path_below path segment = path ++ 47 ∷ escaped_segment segment

@@ -3,5 +3,5 @@ use Rattle.std.specs.Prelude.{ℕ, List}
 use Rattle.serde_json.specs.Data.{string}
 use Rattle.serde_json.specs.Written.{compact_text}
 
-abbrev pub quoted : List ℕ → List ℕ
-quoted text = compact_text (string text)
+abbrev pub quoted_text : List ℕ → List ℕ
+quoted_text text = compact_text (string text)

@@ -1,5 +1,5 @@
 ghost use Rattle.std.specs.Prelude.{◌≡◌, IfOk, ◌++◌, codes, option_map, string_bytes};
-ghost use Rattle.strkw_report.specs.Paths.{below};
+ghost use Rattle.strkw_report.specs.Paths.{path_below};
 ghost use Rattle.strkw_report.specs.Kinds.{report_at};
 ghost use Rattle.strkw_report.specs.KindOf.{kind_of};
 ghost use Rattle.strkw_report.specs.Standings.{standing_of};
@@ -156,12 +156,12 @@ fn places_at(
     prefix: &Option<String>,
     site: &Site,
 ) -> Result<Places, AllocError>
-    ensures schema { IfOk result (λ p. p.schema ≡ below location.now keyword.now) }
+    ensures schema { IfOk result (λ p. p.schema ≡ path_below location.now keyword.now) }
     ensures evaluation { IfOk result (λ p.
-        p.evaluation ≡ below site.now.evaluation keyword.now) }
+        p.evaluation ≡ path_below site.now.evaluation keyword.now) }
     ensures instance { IfOk result (λ p. p.instance ≡ site.now.instance) }
     ensures absolute { IfOk result (λ p. option_map string_bytes p.absolute ≡ option_map
-        (λ before. before ++ codes "#" ++ below location.now keyword.now)
+        (λ before. before ++ codes "#" ++ path_below location.now keyword.now)
         (option_map string_bytes prefix.now)) }
 {
     let schema = location.join(keyword)?;

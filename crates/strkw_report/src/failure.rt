@@ -6,7 +6,7 @@ ghost use Rattle.serde_json.specs.Written.{compact_text};
 ghost use Rattle.strkw_report.specs.Kinds.{message};
 ghost use Rattle.strkw_report.specs.Failures.{kind_failed};
 ghost use Rattle.strkw_report.specs.KindOf.{kind_of};
-ghost use Rattle.strkw_report.specs.Wordings.{spelled};
+ghost use Rattle.strkw_report.specs.Wordings.{wording_text};
 
 use crate::error::ErrorKind;
 use crate::wording::{Rest, Wording};
@@ -85,7 +85,8 @@ impl<'a> Failure<'a> {
 
     /// What is said of a text that failed so. These are all words of errors.
     pub(crate) fn wording<'t>(&self, text: &'t str) -> Wording<'t, 'a>
-        ensures { spelled result ≡ message (kind_failed self.now) (compact_text (string text.now)) }
+        ensures { wording_text result ≡ message (kind_failed self.now)
+            (compact_text (string text.now)) }
     {
         match *self {
             Failure::MinLength(limit) => {

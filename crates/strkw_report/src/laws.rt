@@ -3,7 +3,7 @@ ghost use Rattle.std.specs.Prelude.{◌≡◌, ◌↔◌, ℕ, List, Some, IsTru
 ghost use Rattle.std.specs.Ordering.{nat_cmp};
 ghost use Rattle.std.specs.Hash as fed;
 ghost use Rattle.strkw_report.specs.Drafts.{number_of};
-ghost use Rattle.strkw_report.specs.Paths.{escaped};
+ghost use Rattle.strkw_report.specs.Paths.{escaped_segment};
 ghost use Rattle.strkw_report.specs.declared.draft.Draft.{Draft};
 
 use crate::draft::Draft;
@@ -32,6 +32,6 @@ pub fn drafts_hashed_by_place()
 
 /// A segment's bytes, escaped one by one, are the bytes of its escaped characters.
 pub fn segments_escaped_by_characters()
-    ensures { (segment : List ℕ) → encode_utf8_all (escaped segment)
-        ≡ escaped (encode_utf8_all segment) }
+    ensures { (segment : List ℕ) → encode_utf8_all (escaped_segment segment)
+        ≡ escaped_segment (encode_utf8_all segment) }
 {}

@@ -1,5 +1,5 @@
 ghost use Rattle.std.specs.Prelude.{◌≡◌, ℕ, List, [], ◌∷◌, ◌++◌, IfOk, OnOk, OnErr, string_bytes, encode_utf8};
-ghost use Rattle.strkw_report.specs.Paths.{escaped, below};
+ghost use Rattle.strkw_report.specs.Paths.{escaped_segment, path_below};
 
 use std::alloc::{AllocError, Global};
 use std::marker::Model;
@@ -32,7 +32,7 @@ impl Location {
     /// The place of the member or the item `segment` of this place: `/` and the segment follow, with `~` written
     /// `~0` and `/` written `~1` (RFC 6901, section 3). It is refused only where it is out of memory.
     pub fn join(&self, segment: &str) -> Result<Location, AllocError>
-        ensures { IfOk result (λ l. l ≡ below self.now segment.now) }
+        ensures { IfOk result (λ l. l ≡ path_below self.now segment.now) }
     {
         let escapes = escape_count(segment.as_bytes());
         let added = segment.len().saturating_add(escapes).saturating_add(1);
@@ -51,7 +51,8 @@ impl Location {
     /// Appends the place of the member or the item `segment` of this place, as `join` gives it. Out of memory, a
     /// beginning of it may have been appended.
     pub fn push_below(&self, segment: &str, out: &mut Vec<u8>) -> Result<(), AllocError>
-        ensures ok { OnOk result (out.new.items ≡ out.old.items ++ below self.now segment.now) }
+        ensures ok { OnOk result (out.new.items ≡ out.old.items
+            ++ path_below self.now segment.now) }
         ensures err { OnErr result ((more : List ℕ) × (out.new.items ≡ out.old.items ++ more)) }
     {
         if escape_count(segment.as_bytes()) > 0 {
@@ -83,7 +84,7 @@ impl Clone for Location {
 
 // How many bytes of the segment are escaped, each by one more byte.
 fn escape_count(segment: &[u8]) -> usize
-    ensures { result ≡ 0 → escaped segment.now ≡ segment.now }
+    ensures { result ≡ 0 → escaped_segment segment.now ≡ segment.now }
 {
     let mut count = 0;
     for byte in segment {
@@ -95,7 +96,8 @@ fn escape_count(segment: &[u8]) -> usize
 }
 
 fn push_escaped(text: &mut String, segment: &str) -> Result<(), AllocError>
-    ensures { OnOk result (string_bytes text.new ≡ string_bytes text.old ++ escaped segment.now) }
+    ensures { OnOk result (string_bytes text.new ≡ string_bytes text.old
+        ++ escaped_segment segment.now) }
 {
     for c in segment.chars() {
         push_escaped_char(text, c)?;
@@ -105,7 +107,7 @@ fn push_escaped(text: &mut String, segment: &str) -> Result<(), AllocError>
 
 fn push_escaped_char(text: &mut String, c: char) -> Result<(), AllocError>
     ensures { OnOk result
-        (string_bytes text.new ≡ string_bytes text.old ++ escaped (encode_utf8 c)) }
+        (string_bytes text.new ≡ string_bytes text.old ++ escaped_segment (encode_utf8 c)) }
 {
     if c == '~' {
         text.push_str("~0")

@@ -3,7 +3,7 @@
 ghost use Rattle.std.specs.Prelude.{Some};
 ghost use Rattle.std.specs.Char.{encode_utf8};
 ghost use Rattle.json.specs.Print.{escape};
-ghost use Rattle.strkw_report.specs.Quoting.{quoted};
+ghost use Rattle.strkw_report.specs.Quoting.{quoted_text};
 
 use crate::json_text::is_plain;
 use std::fmt;
@@ -13,7 +13,7 @@ use std::fmt;
 pub(crate) struct Quoted<'a>(pub(crate) &'a str);
 
 impl fmt::Display for Quoted<'_> {
-    ghost output = { λ it. Some (quoted it.0.now) };
+    ghost output = { λ it. Some (quoted_text it.0.now) };
 
     fn fmt<W: fmt::Write>(&self, f: &mut fmt::Formatter<W>) -> fmt::Result {
         let escaped = EscapedText(self.0);

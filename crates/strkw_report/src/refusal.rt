@@ -1,6 +1,6 @@
 ghost use Rattle.std.specs.Prelude.{◌≡◌, ◌++◌, ℕ, List, false, IfOk, OnErr, OnOk, string_bytes};
 ghost use Rattle.strkw_report.specs.Refusals.{reason_of, prints_float, explanation, value_text, advice};
-ghost use Rattle.strkw_report.specs.Wordings.{spelled};
+ghost use Rattle.strkw_report.specs.Wordings.{wording_text};
 
 use crate::location::Location;
 use crate::wording::{Rest, Wording};
@@ -79,7 +79,7 @@ impl CompileErrorKind {
 
     /// What the text says behind the refused value, where there is one. These are all words of refusals.
     pub(crate) fn wording(&self) -> Wording<'_, '_>
-        ensures { value_text (reason_of self.now) ++ spelled result
+        ensures { value_text (reason_of self.now) ++ wording_text result
             ≡ explanation (reason_of self.now) }
     {
         match self {

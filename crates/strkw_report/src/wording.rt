@@ -2,8 +2,8 @@
 
 ghost use Rattle.std.specs.Prelude.{◌≡◌, ℕ, List, ◌++◌, OnOk, OnErr, IfOk, Some, codes, string_bytes};
 ghost use Rattle.strkw_report.specs.Nouns.{characters};
-ghost use Rattle.strkw_report.specs.Quoting.{quoted};
-ghost use Rattle.strkw_report.specs.Wordings.{told, spelled};
+ghost use Rattle.strkw_report.specs.Quoting.{quoted_text};
+ghost use Rattle.strkw_report.specs.Wordings.{rest_text, wording_text};
 
 use crate::json_text::push_json_string;
 use crate::quoted::Quoted;
@@ -35,7 +35,7 @@ impl<'t, 'n> Wording<'t, 'n> {
         name: &'n str,
         after: &'static str,
     ) -> Wording<'t, 'n>
-        ensures { spelled result ≡ before.now ++ name.now ++ after.now }
+        ensures { wording_text result ≡ before.now ++ name.now ++ after.now }
     {
         Wording {
             text: None,
@@ -50,7 +50,7 @@ impl<'t, 'n> Wording<'t, 'n> {
         before: &'static str,
         rest: Rest<'n>,
     ) -> Wording<'t, 'n>
-        ensures { spelled result ≡ quoted text.now ++ before.now ++ told rest.entry }
+        ensures { wording_text result ≡ quoted_text text.now ++ before.now ++ rest_text rest.entry }
     {
         Wording {
             text: Some(text),
@@ -61,7 +61,7 @@ impl<'t, 'n> Wording<'t, 'n> {
 
     /// Appends what is said. Out of memory, a beginning of it may have been appended.
     pub(crate) fn push(&self, out: &mut Vec<u8>) -> Result<(), AllocError>
-        ensures ok { OnOk result (out.new.items ≡ out.old.items ++ spelled self.now) }
+        ensures ok { OnOk result (out.new.items ≡ out.old.items ++ wording_text self.now) }
         ensures err { OnErr result ((more : List ℕ) × (out.new.items ≡ out.old.items ++ more)) }
     {
         if let Some(text) = self.text {
@@ -83,7 +83,7 @@ impl<'t, 'n> Wording<'t, 'n> {
 
     /// What is said, as a text of its own.
     pub(crate) fn text(&self, alloc: Global) -> Result<String, AllocError>
-        ensures { IfOk result (λ s. string_bytes s ≡ spelled self.now) }
+        ensures { IfOk result (λ s. string_bytes s ≡ wording_text self.now) }
     {
         let wording = *self;
         format!(in alloc; "{wording}")
@@ -98,7 +98,7 @@ fn characters(n: u64) -> &'static str
 }
 
 impl fmt::Display for Rest<'_> {
-    ghost output = { λ rest. Some (told rest) };
+    ghost output = { λ rest. Some (rest_text rest) };
 
     fn fmt<W: fmt::Write>(&self, f: &mut fmt::Formatter<W>) -> fmt::Result {
         match self {
@@ -112,7 +112,7 @@ impl fmt::Display for Rest<'_> {
 }
 
 impl fmt::Display for Wording<'_, '_> {
-    ghost output = { λ wording. Some (spelled wording) };
+    ghost output = { λ wording. Some (wording_text wording) };
 
     fn fmt<W: fmt::Write>(&self, f: &mut fmt::Formatter<W>) -> fmt::Result {
         let Wording { before, rest, .. } = *self;

@@ -17,22 +17,22 @@ use Rattle.strkw_table.specs.Broken.{IsBroken}
 use Rattle.strkw_table.specs.Rows.{Appended}
 use Rattle.strkw_table.specs.Fields.{Form, field_place, is_passed_over}
 use Rattle.strkw_plan.specs.Messages.{AppendsSaid}
-use Rattle.strkw_plan.specs.Shown.{shown, shown_char}
+use Rattle.strkw_plan.specs.Shown.{shown_text, shown_char}
 use Rattle.strkw_table.specs.Columns.{ColumnMessages, CompiledErrors, object_of}
 use Rattle.strkw_plan.proofs.Gathering.{concat-map}
 
 -- ---- the place of a field
 
 -- two texts are shown as the one and then the other
-shown-append : (xs ys : List ℕ) → IsUtf8 xs → shown (xs ++ ys) ≡ shown xs ++ shown ys
-shown-append xs ys u = ap (λ cs. flat_map shown_char cs) (chars-append xs ys u) ∙ flat_map-append shown_char (chars xs) (chars ys)
+shown_text-append : (xs ys : List ℕ) → IsUtf8 xs → shown_text (xs ++ ys) ≡ shown_text xs ++ shown_text ys
+shown_text-append xs ys u = ap (λ cs. flat_map shown_char cs) (chars-append xs ys u) ∙ flat_map-append shown_char (chars xs) (chars ys)
 
 -- the line and the column, one after the other
 pub shown_place : (line : ℕ) (name : List ℕ) → IsUtf8 (decimal line) → IsUtf8 (codes ": ")
-    → shown (field_place line name) ≡ shown (decimal line) ++ (shown (codes ": ") ++ shown name)
+    → shown_text (field_place line name) ≡ shown_text (decimal line) ++ (shown_text (codes ": ") ++ shown_text name)
 shown_place line name digits colon =
-    ap shown (append_assoc (decimal line) (codes ": ") name) ∙ shown-append (decimal line) (codes ": " ++ name) digits
-    ∙ ap (λ l. shown (decimal line) ++ l) (shown-append (codes ": ") name colon)
+    ap shown_text (append_assoc (decimal line) (codes ": ") name) ∙ shown_text-append (decimal line) (codes ": " ++ name) digits
+    ∙ ap (λ l. shown_text (decimal line) ++ l) (shown_text-append (codes ": ") name colon)
 
 -- ---- the messages about it
 

@@ -9,7 +9,7 @@ use Rattle.strkw_keywords.specs.Object.{Settings, Errors}
 use Rattle.strkw_report.specs.Standings.{root_site}
 use Rattle.strkw_plan.specs.Messages.{message}
 use Rattle.strkw_plan.specs.Own.{skips_empty}
-use Rattle.strkw_plan.specs.Shown.{shown}
+use Rattle.strkw_plan.specs.Shown.{shown_text}
 use Rattle.strkw_table.specs.Broken.{IsBroken}
 use Rattle.strkw_table.specs.Rows.{Says}
 
@@ -58,7 +58,7 @@ abbrev pub field_message : ℕ → List ℕ → Report → List ℕ
 field_message line name = message (field_place line name)
 
 abbrev pub broken_message : ℕ → List ℕ → List ℕ
-broken_message line name = shown (field_place line name) ++ codes ": not UTF-8\n"
+broken_message line name = shown_text (field_place line name) ++ codes ": not UTF-8\n"
 
 abbrev pub text_form : Form
 text_form = record { said = field_message; broken = broken_message }

@@ -2,7 +2,7 @@
 
 ghost use Rattle.std.specs.Prelude.{◌≡◌, ◌<◌, ◌++◌, OnOk, length, string_bytes};
 ghost use Rattle.strkw_plan.specs.Found.{report_found};
-ghost use Rattle.strkw_plan.specs.Shown.{shown};
+ghost use Rattle.strkw_plan.specs.Shown.{shown_text};
 ghost use Rattle.strkw_table.specs.Fields.{Form, field_place, text_form};
 
 use itoa::Buffer;

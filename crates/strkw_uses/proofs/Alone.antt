@@ -14,8 +14,8 @@ use Rattle.strkw_keywords.specs.Keywords.{keyword_name}
 use Rattle.strkw_keywords.specs.Meanings.{Lists}
 use Rattle.strkw_keywords.specs.Places.{Place, standing}
 use Rattle.strkw_keywords.specs.Demands.{found_by_outcome}
-use Rattle.strkw_keywords.specs.Errors.{reported, NodeReports}
-use Rattle.strkw_keywords.specs.Object.{Settings, Entry, nothing, engine_entry, Keyed, keywords, AreEntriesOf, AreEntries, asserted, refusal, Errors}
+use Rattle.strkw_keywords.specs.Errors.{reports_of, NodeReports}
+use Rattle.strkw_keywords.specs.Object.{Settings, Entry, nothing, engine_entry, Keyed, keywords, AreEntriesOf, AreEntries, all_assertions, refusal, Errors}
 use Rattle.strkw_keywords.specs.Object.{FirstRefusal}
 use Rattle.strkw_ecma.specs.Syntax.{Disjunction}
 use Rattle.strkw_ecma.specs.Patterns.{pattern}
@@ -119,14 +119,14 @@ module _ (exact : (source : List ℕ) → IsExact source)
     no_both h k = absurd (cc)
 
     -- what the entries report is an error exactly where the pattern is not found
-    by_outcome : (outcome ≡ Match) ⊎ (outcome ≡ NoMatch) → NodeReports (asserted place (entries true)) lists site (Some text) errors
+    by_outcome : (outcome ≡ Match) ⊎ (outcome ≡ NoMatch) → NodeReports (all_assertions place (entries true)) lists site (Some text) errors
         → AreErrors place site p d text errors
     by_outcome (inl m) (found, rest, h, joined, none) =
-        inl (meant.0 m, joined ∙ ap (λ f. reported (standing place site) text f ++ rest) (h ∙ ap (found_by_outcome p) m) ∙ none)
+        inl (meant.0 m, joined ∙ ap (λ f. reports_of (standing place site) text f ++ rest) (h ∙ ap (found_by_outcome p) m) ∙ none)
     by_outcome (inr m) (found, rest, h, joined, none) =
         inr (
           (λ f. no_both (meant.1 f) m),
-          joined ∙ ap (λ f. reported (standing place site) text f ++ rest) (h ∙ ap (found_by_outcome p) m)
+          joined ∙ ap (λ f. reports_of (standing place site) text f ++ rest) (h ∙ ap (found_by_outcome p) m)
               ∙ ap (λ l. report_at (standing place site) (keyword_name Pattern) (kind.pattern p) text ∷ l) none,
         )
 
@@ -140,7 +140,7 @@ module _ (exact : (source : List ℕ) → IsExact source)
     errors_are : Errors settings (pattern_alone p) lists site (Some text) errors ↔ AreErrors place site p d text errors
     errors_are = (
       (λ (es, of, reports). by_outcome ((exact (chars p)).decided (chars text))
-          (subst (λ l. NodeReports (asserted place l) lists site (Some text) errors) (once settings (pattern_alone p) es (entries true) of are) reports)),
+          (subst (λ l. NodeReports (all_assertions place l) lists site (Some text) errors) (once settings (pattern_alone p) es (entries true) of are) reports)),
       said ((exact (chars p)).decided (chars text)),
     )
 

@@ -7,7 +7,7 @@ ghost use Rattle.serde_json.specs.Data.{Members};
 ghost use Rattle.serde_json.specs.Find.{as_str, get_member};
 ghost use Rattle.serde_json.specs.View.{members_view, view};
 ghost use Rattle.strkw_report.specs.Refusals.{fractional_number};
-ghost use Rattle.strkw_keywords.specs.Compiled.{IsBuilt, IsCompiledAt, alone};
+ghost use Rattle.strkw_keywords.specs.Compiled.{IsBuilt, IsCompiledAt, single_entry};
 ghost use Rattle.strkw_keywords.specs.Keywords.{keyword_name};
 ghost use Rattle.strkw_keywords.specs.Object.{content_rule, gives, malformed, noted_text, nothing, schema_beside, schema_entry};
 ghost use Rattle.strkw_keywords.specs.Remarks.{remark_at};
@@ -85,7 +85,7 @@ pub(crate) fn build_text_annotation<B: EngineBuilder>(
     value: &Value,
 ) -> Result<Option<Validator<B::Engine>>, Refused>
     ensures { IsBuilt B.Engine.outcome (place_in ctx.now)
-        (alone keyword (noted_text (view value.now) (as_str (view value.now)))) result }
+        (single_entry keyword (noted_text (view value.now) (as_str (view value.now)))) result }
 {
     if value.as_str().is_none() {
         return Ok(None);
@@ -102,7 +102,7 @@ pub(crate) fn build_schema_annotation<B: EngineBuilder, O: Object>(
     parent: &O,
     value: &Value,
 ) -> Result<Option<Validator<B::Engine>>, Refused>
-    ensures { IsBuilt B.Engine.outcome (place_in ctx.now) (alone Keyword.ContentSchema
+    ensures { IsBuilt B.Engine.outcome (place_in ctx.now) (single_entry Keyword.ContentSchema
         (schema_entry ContentRule.Noted (O.members parent.now) (view value.now))) result }
 {
     if !notes_schema(parent.value(Keyword::ContentMediaType), value)? {
@@ -120,7 +120,7 @@ fn build_moved_schema<B: EngineBuilder>(
 ) -> Result<Option<Validator<B::Engine>>, Refused>
     ensures { (ms : Members) → option_map (λ v. view v.now) media_type.entry
         ≡ get_member (keyword_name Keyword.ContentMediaType) ms
-        → IsBuilt B.Engine.outcome (place_in ctx.now) (alone Keyword.ContentSchema
+        → IsBuilt B.Engine.outcome (place_in ctx.now) (single_entry Keyword.ContentSchema
         (schema_entry (content_rule ctx.now.draft) ms (view schema))) result }
 {
     if !matches!(ContentRule::of(ctx.draft), ContentRule::Noted)

@@ -3,7 +3,7 @@
 ghost use Rattle.std.specs.Prelude.{◌∷◌, ◌≡◌, IfOk, [], option_map};
 ghost use Rattle.serde_json.specs.View.{view};
 ghost use Rattle.strkw_keywords.specs.Choices.{choice_of};
-ghost use Rattle.strkw_keywords.specs.Compiled.{IsBuilt, alone};
+ghost use Rattle.strkw_keywords.specs.Compiled.{IsBuilt, single_entry};
 ghost use Rattle.strkw_keywords.specs.Demands.{HasFinding, encodes_media_type, is_encoded, is_media_type};
 ghost use Rattle.strkw_keywords.specs.Findings.{finding_of};
 ghost use Rattle.strkw_keywords.specs.Lists.{lists_of};
@@ -202,7 +202,7 @@ pub(crate) fn build_media_type<B: EngineBuilder, O: Object>(
     parent: &O,
     value: &Value,
 ) -> Result<Option<Validator<B::Engine>>, Refused>
-    ensures { IsBuilt B.Engine.outcome (place_in ctx.now) (alone Keyword.ContentMediaType
+    ensures { IsBuilt B.Engine.outcome (place_in ctx.now) (single_entry Keyword.ContentMediaType
         (media_type_entry ContentRule.Checked
         (settings_of B.takes B.outcome admits accepts is_encoding decoding ctx.now)
         (O.members parent.now) (view value.now))) result }
@@ -235,7 +235,7 @@ pub(crate) fn build_encoding<B: EngineBuilder, O: Object>(
     parent: &O,
     value: &Value,
 ) -> Result<Option<Validator<B::Engine>>, Refused>
-    ensures { IsBuilt B.Engine.outcome (place_in ctx.now) (alone Keyword.ContentEncoding
+    ensures { IsBuilt B.Engine.outcome (place_in ctx.now) (single_entry Keyword.ContentEncoding
         (encoding_entry ContentRule.Checked
         (settings_of B.takes B.outcome admits accepts is_encoding decoding ctx.now)
         (O.members parent.now) (view value.now))) result }

@@ -2,7 +2,7 @@ use Rattle.std.proofs.Common.{◌≡◌, ℕ, ◌+◌, ◌*◌, ◌≤◌, lengt
 use Rattle.json.specs.Json.{items, members, value}
 use Rattle.serde_json.specs.Data.{Members}
 use Rattle.serde_json.specs.Read.{of_items, of_members, converted}
-use Rattle.strkw_json.specs.Passing.{behind, after_items, after_members}
+use Rattle.strkw_json.specs.Passing.{tokens_left, after_items, after_members}
 use Rattle.strkw_json.proofs.check.+pass.Given as goal
 
 abbrev pub decreases-passes_value : goal.decreases-passes_value
@@ -21,7 +21,7 @@ abbrev pub invariant-passes_items-loop-tokens : goal.invariant-passes_items-loop
 invariant-passes_items-loop-tokens l = record {
   turns : ℕ;
   enough : length l.tokens ≤ turns;
-  same : after_items l.depth l.initial.tokens ≡ behind (converted of_items (items (value l.depth) turns l.tokens));
+  same : after_items l.depth l.initial.tokens ≡ tokens_left (converted of_items (items (value l.depth) turns l.tokens));
   fewer : length l.tokens ≤ length l.initial.tokens;
 }
 
@@ -33,7 +33,7 @@ invariant-passes_members-loop-key l = record {
   turns : ℕ;
   enough : length l.tokens ≤ turns;
   found : Members;
-  same : after_members l.depth l.initial.tokens ≡ behind (converted (λ ms. of_members ms found) (members (value l.depth) turns l.tokens));
+  same : after_members l.depth l.initial.tokens ≡ tokens_left (converted (λ ms. of_members ms found) (members (value l.depth) turns l.tokens));
   fewer : length l.tokens ≤ length l.initial.tokens;
 }
 
