@@ -1,8 +1,9 @@
 //! Whole schema objects: requests in, lines of answers out, as the program `strkw` has them.
 
-ghost use Rattle.std.specs.Prelude.{◌≡◌, ◌<◌, ℕ, List};
+ghost use Rattle.std.specs.Prelude.{◌≡◌, ◌≤◌, ℕ, List};
 ghost use Rattle.strkw_cli.specs.Answer.{IsOutput};
 ghost use Rattle.strkw_c.specs.Buffers.{IsPut, IsTooLong};
+ghost use Rattle.strkw_c.specs.declared.statuses.TheConstants.{DONE, NO_ROOM, OUT_OF_MEMORY};
 
 use crate::buffers::put;
 use crate::statuses::{DONE, NO_ROOM, OUT_OF_MEMORY};
@@ -19,11 +20,11 @@ pub extern "C" fn strkw_nonnull_answer(
     out: &mut [u8],
     written: &mut usize,
 ) -> u8
-    ensures status { result < 3 }
-    ensures done { result ≡ 0 → (answers : List ℕ) × IsOutput requests.now answers
+    ensures status { result ≤ NO_ROOM }
+    ensures done { result ≡ DONE → (answers : List ℕ) × IsOutput requests.now answers
         × IsPut answers out.old out.new written.new }
-    ensures refused { result ≡ 1 → (out.new ≡ out.old) × (written.new ≡ written.old) }
-    ensures short { result ≡ 2 → (answers : List ℕ) × IsOutput requests.now answers
+    ensures refused { result ≡ OUT_OF_MEMORY → (out.new ≡ out.old) × (written.new ≡ written.old) }
+    ensures short { result ≡ NO_ROOM → (answers : List ℕ) × IsOutput requests.now answers
         × IsTooLong answers out.old out.new written.new }
 {
     let Ok(input) = requests.to_vec(alloc) else {

@@ -5,6 +5,7 @@ ghost use Rattle.std.specs.Str.{IsUtf8};
 ghost use Rattle.strkw_json.specs.Json.{IsJson};
 ghost use Rattle.strkw_coding.specs.declared.codec.Codec.TheVariants as codec;
 ghost use Rattle.strkw_c.specs.Statuses.{Tells, TellsEncoding};
+ghost use Rattle.strkw_c.specs.declared.encodings.TheConstants.{NO, OUT_OF_MEMORY, YES};
 
 use crate::utf8::text_of;
 use std::alloc::{AllocError, Global};
@@ -19,7 +20,8 @@ const OUT_OF_MEMORY: u8 = 2;
 
 /// An answer as a number.
 pub(crate) fn status_of(answer: Result<bool, AllocError>) -> u8
-    ensures { MatchResult answer (λ b. result ≡ (if b then 1 else 0)) (λ _. result ≡ 2) }
+    ensures { MatchResult answer (λ b. result ≡ (if b then YES else NO))
+        (λ _. result ≡ OUT_OF_MEMORY) }
 {
     match answer {
         Ok(false) => NO,
