@@ -194,7 +194,7 @@ impl Gathered {
     {
         self.check_run(count)?;
         self.field
-            .extend_from_slice(&input.piece.unread()[..count])?;
+            .extend_from_slice(&input.piece.unread_bytes()[..count])?;
         input.take(count)
     }
 
@@ -213,9 +213,9 @@ impl Gathered {
             if input.peek()?.is_none() {
                 return Err(ReadFault::OpenQuote { line });
             }
-            let count = quoted_run(input.piece.unread());
+            let count = quoted_run(input.piece.unread_bytes());
             self.take_run(input, count)?;
-            if input.piece.unread().is_empty() {
+            if input.piece.unread_bytes().is_empty() {
                 continue;
             }
             let is_doubled = self.take_quote(input)?;
@@ -298,7 +298,7 @@ impl Gathered {
         ensures fails { (text : List ℕ) → rest_of R.remaining input.old ≡ Some text
             → IfErr result (FailsOutside delimiter.byte input.old.place st.InField self.old text) }
     {
-        let unread = input.piece.unread();
+        let unread = input.piece.unread_bytes();
         let end = unread[count];
         self.check_delimiter(delimiter, count, end)?;
         self.end_field(&unread[..count])?;
@@ -332,7 +332,7 @@ impl Gathered {
                 self.end_field(&[])?;
                 return Ok(FieldEnd::Record);
             }
-            let unread = input.piece.unread();
+            let unread = input.piece.unread_bytes();
             let count = plain_run(delimiter, unread);
             self.check_run(count)?;
             if count < unread.len() {
@@ -436,7 +436,7 @@ impl Gathered {
             → IfErr result (FailsInRecord delimiter.byte input.old.place self.old text) }
     {
         'fields: for _ in 0..usize::MAX {
-            let whole = self.take_whole(delimiter, input.piece.unread())?;
+            let whole = self.take_whole(delimiter, input.piece.unread_bytes())?;
             input.take_plain(whole.count);
             match whole.end {
                 FieldEnd::Delimiter => {}

@@ -49,10 +49,10 @@ impl<R: Read> Input<R> {
             × (o ≡ slice_get text 0)) }
         ensures fails { (text : List ℕ) → IfErr result (Fails self.old.place text) }
     {
-        if self.piece.unread().is_empty() {
+        if self.piece.unread_bytes().is_empty() {
             self.piece.refill(&mut self.source)?;
         }
-        Ok(self.piece.unread().first().copied())
+        Ok(self.piece.unread_bytes().first().copied())
     }
 
     /// Whether the next byte, which stays, is a quote.
@@ -82,7 +82,7 @@ impl<R: Read> Input<R> {
         ensures fails { (text : List ℕ) → rest_of R.remaining self.old ≡ Some text
             → IfErr result (Fails self.old.place text) }
     {
-        let byte = self.piece.unread()[0];
+        let byte = self.piece.unread_bytes()[0];
         self.place = self.place.place_behind(byte).ok_or(ReadFault::TooLong)?;
         self.piece.advance(1);
         Ok(())
@@ -98,7 +98,7 @@ impl<R: Read> Input<R> {
         ensures fails { (text : List ℕ) → rest_of R.remaining self.old ≡ Some text
             → IfErr result (Fails self.old.place text) }
     {
-        let taken = &self.piece.unread()[..count];
+        let taken = &self.piece.unread_bytes()[..count];
         self.place = self.place.behind_all(taken).ok_or(ReadFault::TooLong)?;
         self.piece.advance(count);
         Ok(())
@@ -131,7 +131,7 @@ impl<R: Read> Input<R> {
             if self.peek()?.is_none() {
                 return Ok(false);
             }
-            let count = line_bytes_run(self.piece.unread());
+            let count = line_bytes_run(self.piece.unread_bytes());
             if count == 0 {
                 return Ok(true);
             }
@@ -149,7 +149,7 @@ impl<R: Read> Input<R> {
         ensures fails { (text : List ℕ) → IfErr result (Fails self.old.place text) }
     {
         self.piece.read_head(&mut self.source)?;
-        let unread = self.piece.unread();
+        let unread = self.piece.unread_bytes();
         if unread.len() >= 3 && is_mark(unread[0], unread[1], unread[2]) {
             self.piece.advance(3);
         }

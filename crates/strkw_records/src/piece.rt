@@ -42,7 +42,7 @@ impl Piece {
 
     /// The bytes that are left.
     #[inline(always)]
-    pub(crate) fn unread(&self) -> &[u8]
+    pub(crate) fn unread_bytes(&self) -> &[u8]
         ensures { result.now ≡ self.now }
     {
         &self.bytes[self.at..self.filled]

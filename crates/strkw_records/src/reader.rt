@@ -100,7 +100,7 @@ impl<R: Read> RecordReader<R> {
         ensures fails { (text : List ℕ)
             → IfErr result (Explains R.remaining self.old self.new text) }
     {
-        if !self.has_begun && self.input.piece.unread().is_empty() {
+        if !self.has_begun && self.input.piece.unread_bytes().is_empty() {
             self.input.skip_mark()?;
         }
         self.has_begun = true;
@@ -154,7 +154,7 @@ impl<R: Read> RecordReader<R> {
     pub fn is_drained(&self) -> bool
         ensures { (result ≡ true) ↔ HasNoLineByte (behind_blank (at_hand self.now)) }
     {
-        let unread = self.input.piece.unread();
+        let unread = self.input.piece.unread_bytes();
         is_line_free(&unread[line_bytes_run(unread)..])
     }
 }

@@ -14,11 +14,11 @@ returns-in_err-take_byte-clause-fails g c text e =
 pub returns-then-end-delimiter-clause-ok : goal.returns-then-end-delimiter-clause-ok
 returns-then-end-delimiter-clause-ok g c text e =
     let past = c.take_plain.ensures.passes text e in
-    let comma = rw c.unread-unread.ensures at c.if-end-delimiter.true in
+    let comma = rw c.unread_bytes-unread.ensures at c.if-end-delimiter.true in
     let head = head-behind c.args.input.now.piece c.take_plain.new.self.piece c.args.count c.args.delimiter.byte
     c.take_plain.ensures.piece c.requires.within comma in
     let next = rw head at (c.in_ok-take_byte.ensures.passes _ past.left) in
-    let run = rw c.unread-unread.ensures at c.in_ok-end_field.ensures.fields in (
+    let run = rw c.unread_bytes-unread.ensures at c.in_ok-end_field.ensures.fields in (
       ends-comma c.args.delimiter.byte g.R.Read.remaining c.args.input.now c.take_plain.new.self c.take_byte.new.self text _ _ _ c.args.self.now
           c.end_field.new.self
           past next c.requires.run run c.in_ok-end_field.ensures.front,
@@ -28,11 +28,11 @@ returns-then-end-delimiter-clause-ok g c text e =
 pub returns-else-end-delimiter-clause-ok : goal.returns-else-end-delimiter-clause-ok
 returns-else-end-delimiter-clause-ok g c text e =
     let past = c.take_plain.ensures.passes text e in
-    let other = rw c.unread-unread.ensures at c.if-end-delimiter.false in
+    let other = rw c.unread_bytes-unread.ensures at c.if-end-delimiter.false in
     let head = head-behind c.args.input.now.piece c.take_plain.new.self.piece c.args.count (get_or c.args.input.now.piece c.args.count 0)
     c.take_plain.ensures.piece c.requires.within refl in
     let next = rw head at (c.in_ok-take_byte.ensures.passes _ past.left) in
-    let run = rw c.unread-unread.ensures at c.in_ok-end_field.ensures.fields in
+    let run = rw c.unread_bytes-unread.ensures at c.in_ok-end_field.ensures.fields in
     ends-line_end c.args.delimiter.byte c.args.delimiter.is_lawful g.R.Read.remaining c.args.input.now c.take_plain.new.self c.take_byte.new.self text _ _ _ _
     c.args.self.now c.end_field.new.self
     past next c.requires.run (line_end-of c.args.delimiter.byte _ other c.requires.stops) run
@@ -41,7 +41,7 @@ pub returns-in_err-check_delimiter-clause-fails : goal.returns-in_err-check_deli
 returns-in_err-check_delimiter-clause-fails g c text e =
     let (x, is, same) = err_from_is_err_and c.from_residual.result c.from_residual.ensures.1 in
     let (comma, long) = c.in_err-check_delimiter.ensures.long in
-    let here = rw c.unread-unread.ensures at comma in
+    let here = rw c.unread_bytes-unread.ensures at comma in
     let front = byte-front c.args.input.now.piece (g.R.Read.remaining c.args.input.now.source) text c.args.count c.args.delimiter.byte e
     c.requires.within here in
     let size = sym (take-length c.args.count c.args.input.now.piece (omega (arith, c.requires.within))) in
@@ -49,14 +49,14 @@ returns-in_err-check_delimiter-clause-fails g c text e =
 
 pub returns-then-end-delimiter-clause-counted : goal.returns-then-end-delimiter-clause-counted
 returns-then-end-delimiter-clause-counted g c =
-    let run = rw c.unread-unread.ensures at c.in_ok-end_field.ensures.fields in
+    let run = rw c.unread_bytes-unread.ensures at c.in_ok-end_field.ensures.fields in
     let size = sym (take-length c.args.count c.args.input.now.piece (omega (arith, c.requires.within))) in
-    let ended = rw (c.unread-unread.ensures, size) at c.in_ok-end_field.ensures.ended in
+    let ended = rw (c.unread_bytes-unread.ensures, size) at c.in_ok-end_field.ensures.ended in
     counted-comma c.args.self.now c.end_field.new.self c.args.count _ size c.requires.counted c.requires.room
     (c.in_ok-check_delimiter.ensures.ok c.if-end-delimiter.true) ended run c.in_ok-end_field.ensures.front
 
 pub returns-else-end-delimiter-clause-counted : goal.returns-else-end-delimiter-clause-counted
 returns-else-end-delimiter-clause-counted g c =
-    let run = rw c.unread-unread.ensures at c.in_ok-end_field.ensures.fields in
+    let run = rw c.unread_bytes-unread.ensures at c.in_ok-end_field.ensures.fields in
     let size = sym (take-length c.args.count c.args.input.now.piece (omega (arith, c.requires.within))) in
     within-end c.args.self.now c.args.count _ _ size c.requires.counted c.requires.room run

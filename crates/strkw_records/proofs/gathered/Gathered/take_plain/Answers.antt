@@ -64,8 +64,8 @@ returns-in_err-check_run-clause-fails g c text e =
     let here = gathers-moved c.args.delimiter.byte g.R.Read.remaining c.args.input.now c.pieces.input c.peek.new.self text st.InField st.InField
     c.args.self.now c.pieces.self h
     kept.0 c.peek.ensures.place in
-    let run = rw c.unread-unread.ensures at c.plain_run-count.ensures.run in
-    let within = rw c.unread-unread.ensures at c.plain_run-count.ensures.within in
+    let run = rw c.unread_bytes-unread.ensures at c.plain_run-count.ensures.run in
+    let within = rw c.unread_bytes-unread.ensures at c.plain_run-count.ensures.within in
     let parts = piece-front c.peek.new.self.piece (g.R.Read.remaining c.peek.new.self.source) h.rest c.plain_run-count.result kept.0 within in
     let size = take-length c.plain_run-count.result c.peek.new.self.piece within in
     rw (is, same) (outside-gathers c.args.delimiter.byte g.R.Read.remaining c.args.input.now c.peek.new.self text st.InField st.InField c.args.self.now
@@ -97,9 +97,9 @@ returns-then-count-unread-clause-fails g c text e =
 pub pieces-preserved : goal.pieces-preserved
 pieces-preserved g c =
     let counts = c.pieces.invariant.0 in
-    let whole : take c.plain_run-count.result c.unread-unread.result.now ≡ c.unread-unread.result.now = take_all _ _ c.if-count-unread.false in
-    let all : take c.plain_run-count.result c.peek.new.self.piece ≡ c.unread-unread.result.now = rw c.unread-unread.ensures at whole
-    ∙ sym c.unread-unread.ensures in
+    let whole : take c.plain_run-count.result c.unread_bytes-unread.result.now ≡ c.unread_bytes-unread.result.now = take_all _ _ c.if-count-unread.false in
+    let all : take c.plain_run-count.result c.peek.new.self.piece ≡ c.unread_bytes-unread.result.now = rw c.unread_bytes-unread.ensures at whole
+    ∙ sym c.unread_bytes-unread.ensures in
     let front : front_of_field (record {
       fields = c.pieces.self.fields;
       field = c.extend_from_slice.new.self;
@@ -109,10 +109,10 @@ pieces-preserved g c =
     })
     ≡ front_of_field c.pieces.self ++ take c.plain_run-count.result c.peek.new.self.piece =
     ap (λ (l : List ℕ). partial_of c.pieces.self.fields ++ l) c.in_ok-extend_from_slice.ensures.items
-    ∙ sym (append_assoc (partial_of c.pieces.self.fields) c.pieces.self.field.items c.unread-unread.result.now)
+    ∙ sym (append_assoc (partial_of c.pieces.self.fields) c.pieces.self.field.items c.unread_bytes-unread.result.now)
     ∙ ap (λ (l : List ℕ). front_of_field c.pieces.self ++ l) (sym all)
     in
-    let within = rw c.unread-unread.ensures at c.plain_run-count.ensures.within in
+    let within = rw c.unread_bytes-unread.ensures at c.plain_run-count.ensures.within in
     let size = take-length c.plain_run-count.result c.peek.new.self.piece within in (
       record {
         limits = counts.limits;
@@ -125,7 +125,7 @@ pieces-preserved g c =
           let here = gathers-moved c.args.delimiter.byte g.R.Read.remaining c.args.input.now c.pieces.input c.peek.new.self text st.InField st.InField
           c.args.self.now c.pieces.self h
           kept.0 c.peek.ensures.place in
-          let run = rw c.unread-unread.ensures at c.plain_run-count.ensures.run in
+          let run = rw c.unread_bytes-unread.ensures at c.plain_run-count.ensures.run in
           gathers-trans c.args.delimiter.byte g.R.Read.remaining c.args.input.now c.peek.new.self c.take_plain.new.self text st.InField st.InField
           st.InField c.args.self.now
           c.pieces.self

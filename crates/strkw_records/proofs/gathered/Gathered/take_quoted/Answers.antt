@@ -46,8 +46,8 @@ returns-in_err-take_run-clause-fails g c delimiter text e =
     let here = gathers-moved delimiter g.R.Read.remaining c.args.input.now c.pieces.input c.peek.new.self text st.InQuoted st.InQuoted
     c.args.self.now c.pieces.self q.0
     kept.0 c.peek.ensures.place in
-    let run = rw c.unread.ensures at (c.quoted_run-count.ensures.run delimiter) in
-    let within = rw c.unread.ensures at c.quoted_run-count.ensures.within in
+    let run = rw c.unread_bytes.ensures at (c.quoted_run-count.ensures.run delimiter) in
+    let within = rw c.unread_bytes.ensures at c.quoted_run-count.ensures.within in
     let parts = piece-front c.peek.new.self.piece (g.R.Read.remaining c.peek.new.self.source) q.0.rest c.quoted_run-count.result kept.0 within in
     let size = sym (take-length c.quoted_run-count.result c.peek.new.self.piece within) in
     rw (is, same) (inl (outside-gathers delimiter g.R.Read.remaining c.args.input.now c.peek.new.self text st.InQuoted st.InQuoted
@@ -65,7 +65,7 @@ pieces-preserved-then-is_empty g c = (
   λ delimiter text e.
       let q = c.pieces.invariant.1 delimiter text e in
       let kept = c.in_ok-peek.ensures.kept q.0.rest q.0.passes.left in
-      let run = rw c.unread.ensures at (c.quoted_run-count.ensures.run delimiter) in
+      let run = rw c.unread_bytes.ensures at (c.quoted_run-count.ensures.run delimiter) in
       let q1 : Quoted delimiter g.R.Read.remaining c.args.input.now c.take_run.new.input text c.args.self.now c.take_run.new.self =
       quoted-run delimiter g.R.Read.remaining c.args.input.now c.pieces.input c.peek.new.self c.take_run.new.input text c.args.self.now
       c.pieces.self c.take_run.new.self
@@ -79,9 +79,9 @@ pieces-preserved-then-is_empty g c = (
 
 pub take_quote-requires : goal.take_quote-requires
 take_quote-requires g c =
-    let some = rw c.unread-in-pieces.ensures at (positive _ (sym c.if-is_empty.ensures)) in
+    let some = rw c.unread_bytes-in-pieces.ensures at (positive _ (sym c.if-is_empty.ensures)) in
     let within = within-front c.peek.new.self.piece c.take_run.new.input.piece c.quoted_run-count.result c.in_ok-take_run.ensures.piece some in
-    let stops = rw c.unread.ensures at c.quoted_run-count.ensures.stops in
+    let stops = rw c.unread_bytes.ensures at c.quoted_run-count.ensures.stops in
     let front = head-behind c.peek.new.self.piece c.take_run.new.input.piece c.quoted_run-count.result quote c.in_ok-take_run.ensures.piece within
     (stops within) in
     record { counted = c.in_ok-take_run.ensures.counted.counted; some = some; front = front }
@@ -91,7 +91,7 @@ returns-in_err-is_doubled-clause-fails g c delimiter text e =
     let (x, is, same) = err_from_is_err_and c.from_residual-in_err-is_doubled.result c.from_residual-in_err-is_doubled.ensures.1 in
     let q = c.pieces.invariant.1 delimiter text e in
     let kept = c.in_ok-peek.ensures.kept q.0.rest q.0.passes.left in
-    let run = rw c.unread.ensures at (c.quoted_run-count.ensures.run delimiter) in
+    let run = rw c.unread_bytes.ensures at (c.quoted_run-count.ensures.run delimiter) in
     let q1 : Quoted delimiter g.R.Read.remaining c.args.input.now c.take_run.new.input text c.args.self.now c.take_run.new.self =
     quoted-run delimiter g.R.Read.remaining c.args.input.now c.pieces.input c.peek.new.self c.take_run.new.input text c.args.self.now
     c.pieces.self c.take_run.new.self q
@@ -112,7 +112,7 @@ pub returns-then-not-is_doubled-clause-ok : goal.returns-then-not-is_doubled-cla
 returns-then-not-is_doubled-clause-ok g c delimiter text e =
     let q = c.pieces.invariant.1 delimiter text e in
     let kept = c.in_ok-peek.ensures.kept q.0.rest q.0.passes.left in
-    let run = rw c.unread.ensures at (c.quoted_run-count.ensures.run delimiter) in
+    let run = rw c.unread_bytes.ensures at (c.quoted_run-count.ensures.run delimiter) in
     let q1 : Quoted delimiter g.R.Read.remaining c.args.input.now c.take_run.new.input text c.args.self.now c.take_run.new.self =
     quoted-run delimiter g.R.Read.remaining c.args.input.now c.pieces.input c.peek.new.self c.take_run.new.input text c.args.self.now
     c.pieces.self c.take_run.new.self q
@@ -134,7 +134,7 @@ pieces-preserved g c = (
   λ delimiter text e.
       let q = c.pieces.invariant.1 delimiter text e in
       let kept = c.in_ok-peek.ensures.kept q.0.rest q.0.passes.left in
-      let run = rw c.unread.ensures at (c.quoted_run-count.ensures.run delimiter) in
+      let run = rw c.unread_bytes.ensures at (c.quoted_run-count.ensures.run delimiter) in
       let q1 : Quoted delimiter g.R.Read.remaining c.args.input.now c.take_run.new.input text c.args.self.now c.take_run.new.self =
       quoted-run delimiter g.R.Read.remaining c.args.input.now c.pieces.input c.peek.new.self c.take_run.new.input text c.args.self.now
       c.pieces.self c.take_run.new.self q

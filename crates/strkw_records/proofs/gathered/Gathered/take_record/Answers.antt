@@ -19,7 +19,7 @@ pub returns-in-Record-clause-ok : goal.returns-in-Record-clause-ok
 returns-in-Record-clause-ok g c text e =
     let h = c.fields.invariant.2 text e in
     let past = c.take_plain.ensures.passes h.rest h.passes.left in
-    let whole = rw (c.unread.ensures, c.in-Record.is) at c.in_ok-whole.ensures.takes in
+    let whole = rw (c.unread_bytes.ensures, c.in-Record.is) at c.in_ok-whole.ensures.takes in
     let head = head-behind c.fields.input.piece c.take_plain.new.self.piece c.in_ok-whole.whole.count _ c.take_plain.ensures.piece whole.0 refl in
     on_ok_weaker c.take_byte.result (λ next.
     gathers-completes c.args.delimiter.byte g.R.Read.remaining c.args.input.now c.fields.input c.take_byte.new.self text st.StartField st.StartField
@@ -42,7 +42,7 @@ returns-in_err-take_field-clause-fails g c text e =
     let (x, is, same) = err_from_is_err_and c.from_residual-in_err-take_field.result c.from_residual-in_err-take_field.ensures.1 in
     let h = c.fields.invariant.2 text e in
     let past = c.take_plain.ensures.passes h.rest h.passes.left in
-    let whole = rw (c.unread.ensures, c.in-Delimiter.is) at c.in_ok-whole.ensures.takes in
+    let whole = rw (c.unread_bytes.ensures, c.in-Delimiter.is) at c.in_ok-whole.ensures.takes in
     let all = gathers-fields c.args.delimiter.byte g.R.Read.remaining c.args.input.now c.fields.input c.take_plain.new.self text _ _ c.args.self.now
     c.fields.self
     c.take_whole.new.self
@@ -56,7 +56,7 @@ pub returns-in-Record-2-clause-ok : goal.returns-in-Record-2-clause-ok
 returns-in-Record-2-clause-ok g c text e =
     let h = c.fields.invariant.2 text e in
     let past = c.take_plain.ensures.passes h.rest h.passes.left in
-    let whole = rw (c.unread.ensures, c.in-Delimiter.is) at c.in_ok-whole.ensures.takes in
+    let whole = rw (c.unread_bytes.ensures, c.in-Delimiter.is) at c.in_ok-whole.ensures.takes in
     let all = gathers-fields c.args.delimiter.byte g.R.Read.remaining c.args.input.now c.fields.input c.take_plain.new.self text _ _ c.args.self.now
     c.fields.self
     c.take_whole.new.self
@@ -73,7 +73,7 @@ fields-preserved g c = (
   λ text e.
       let h = c.fields.invariant.2 text e in
       let past = c.take_plain.ensures.passes h.rest h.passes.left in
-      let whole = rw (c.unread.ensures, c.in-Delimiter.is) at c.in_ok-whole.ensures.takes in
+      let whole = rw (c.unread_bytes.ensures, c.in-Delimiter.is) at c.in_ok-whole.ensures.takes in
       let all = gathers-fields c.args.delimiter.byte g.R.Read.remaining c.args.input.now c.fields.input c.take_plain.new.self text _ _ c.args.self.now
       c.fields.self
       c.take_whole.new.self

@@ -28,7 +28,7 @@ pub returns-then-count-eq0-clause-passes : goal.returns-then-count-eq0-clause-pa
 returns-then-count-eq0-clause-passes g c text e =
     let (x, rest, h, lines, count) = c.pieces.invariant text e in
     let kept = c.in_ok-peek.ensures.kept rest h.left in
-    let stops = rw c.unread.ensures at c.line_bytes_run-count.ensures.stops in
+    let stops = rw c.unread_bytes.ensures at c.line_bytes_run-count.ensures.stops in
     skipped-more g.R.Read.remaining c.args.self.now c.pieces.self c.peek.new.self text x rest c.peek.new.self.piece _ _ h kept.0 c.peek.ensures.place lines
     kept.1
     c.in_ok-peek.ensures.front c.if-is_none.ensures c.if-count-eq0.true stops
@@ -45,8 +45,8 @@ pieces-preserved g c text e =
     let (x, rest, h, lines, count) = c.pieces.invariant text e in
     let kept = c.in_ok-peek.ensures.kept rest h.left in
     let next = c.in_ok-take.ensures.passes rest kept.0 in
-    let run = rw c.unread.ensures at c.line_bytes_run-count.ensures.run in
-    let within = rw c.unread.ensures at c.line_bytes_run-count.ensures.within in
+    let run = rw c.unread_bytes.ensures at c.line_bytes_run-count.ensures.run in
+    let within = rw c.unread_bytes.ensures at c.line_bytes_run-count.ensures.within in
     let size = take-length c.line_bytes_run-count.result c.peek.new.self.piece within in
     let both = length-append x (take c.line_bytes_run-count.result c.peek.new.self.piece) in
     let here = passes-trans g.R.Read.remaining c.args.self.now c.pieces.self c.peek.new.self text x rest [] rest h

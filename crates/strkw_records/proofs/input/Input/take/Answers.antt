@@ -9,7 +9,7 @@ returns-in_err-self-clause-fails g c text e =
     let (x, is, same) = err_from_is_err_and c.from_residual.result c.from_residual.ensures.1 in
     let none : c.behind_all.result ≡ None = grind arith in
     let long : c.in_err-self.field-0.0 ≡ fault.TooLong = grind arith in
-    let past = rw c.unread.ensures at (rw none at c.behind_all.ensures.none) in
+    let past = rw c.unread_bytes.ensures at (rw none at c.behind_all.ensures.none) in
     let parts = piece-front c.args.self.now.piece (g.R.Read.remaining c.args.self.now.source) text c.args.count e c.requires in
     rw (is, same, long) (record { before = _; rest = _; splits = parts.0; past = inl past })
 
@@ -17,4 +17,4 @@ pub returns-clause-passes : goal.returns-clause-passes
 returns-clause-passes g c text e =
     let some : c.behind_all.result ≡ Some c.in_ok-self.field-0 = grind arith in
     passes-front g.R.Read.remaining c.args.self.now _ text c.args.count e c.requires c.advance.ensures refl
-    (rw c.unread.ensures at (rw some at c.behind_all.ensures.some))
+    (rw c.unread_bytes.ensures at (rw some at c.behind_all.ensures.some))

@@ -6,9 +6,9 @@ use Rattle.strkw_records.proofs.reader.RecordReader.is_drained.Goals as goal
 
 pub returns : goal.returns
 returns g c =
-    let unread = c.unread-unread.result.now in
+    let unread = c.unread_bytes-unread.result.now in
     let count = c.line_bytes_run.result in
     let run = c.line_bytes_run.ensures in
     let long : length (blank_front unread) ≡ count = blank_front-counted unread count run.within run.run run.stops in
     let behind : behind_blank unread ≡ drop count unread = ap (λ (n : ℕ). drop n unread) long in
-    rw (← c.unread-unread.ensures, behind, ← slice-end unread count) c.is_line_free.ensures
+    rw (← c.unread_bytes-unread.ensures, behind, ← slice-end unread count) c.is_line_free.ensures
