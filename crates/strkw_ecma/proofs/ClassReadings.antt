@@ -10,63 +10,61 @@ use Rattle.strkw_ecma.specs.Classes.{class_property, Ranges, no_ranges, with_one
 use Rattle.strkw_ecma.specs.Classes.{negation_spelling, ending_spelling, IsClassAtom, is_hyphen, is_caret, MayBegin, MayFollow, MayEnd, AreRanges}
 use Rattle.strkw_ecma.specs.Syntax.{Disjunction, bracketed}
 use Rattle.strkw_ecma.specs.machine.Reading.{Outer, Level, Last, State, Pending, fresh, one, dashed, Class, Mode, between, class_opened, in_class, with_mode}
-use Rattle.strkw_ecma.specs.machine.Reading.{with_atom, took, ranged, within, on_class_token, on_class_escape, with_coding, on_class_coding, when}
-use Rattle.strkw_ecma.specs.machine.Reading.{with_property, on_class_property, on_class, read_from}
+use Rattle.strkw_ecma.specs.machine.Reading.{with_atom, took, ranged, within, on_class_token, on_class_escape, on_class_coding, when}
+use Rattle.strkw_ecma.specs.machine.Reading.{class_coding, in_class_property, on_class_property, on_bracket, read_from}
 use Rattle.strkw_ecma.proofs.CodeReadings.{follow, code_tail, begun, reads_code}
 use Rattle.strkw_ecma.proofs.PropertyReadings.{follow_property, reads_property}
 use Rattle.strkw_ecma.specs.Properties.{Expression, expression_spelling, property_letter, IsExpression}
 use Rattle.strkw_ecma.specs.machine.PropertyReading.{PropertyPart, brace_awaited, PropertyRead, no_property_read, property_goes, property_ends, property_next}
 use Rattle.strkw_ecma.specs.declared.tree.CharSet.{CharSet}
-
--- a class that is being read: whether it is negated, its ranges, and what is pending
-abbrev class_of : Bool → Ranges → Pending → Class
-class_of n r p = record { negated = n; ranges = r; pending = p }
+use Rattle.strkw_ecma.specs.machine.Makers.{trees}
+use Rattle.strkw_ecma.proofs.BetweenTerms.{standing, class_so_far}
 
 -- behind the opening bracket and the `^`
-abbrev start : Bool → Mode
+abbrev start : Bool → Mode trees
 start false = class_opened
-start true = in_class (class_of true no_ranges fresh)
+start true = in_class (class_so_far true no_ranges fresh)
 
 -- behind the spelling of these
-abbrev place : Bool → Ranges → Mode
+abbrev place : Bool → Ranges → Mode trees
 place n no_ranges = start n
-place n (with_one r x) = in_class (class_of n r (one x))
-place n (with_range r x y) = in_class (class_of n (with_range r x y) fresh)
+place n (with_one r x) = in_class (class_so_far n r (one x))
+place n (with_range r x y) = in_class (class_so_far n (with_range r x y) fresh)
 
 -- where two atoms bound a range, the class gets it and nothing is pending
 ranged_some : (n : Bool) (r : Ranges) (x y : ClassAtom) (o : Option CharSet) → is_some o ≡ true
-    → ranged n r x y o ≡ Some (class_of n (with_range r x y) fresh)
+    → ranged {M = trees} n r x y o ≡ Some (class_so_far n (with_range r x y) fresh)
 ranged_some n r x y None h = absurd (true≢false (sym h))
 ranged_some n r x y (Some s) h = refl
 
-module _ (outer : Outer) (l : Level) (x : Last) where
+module _ (outer : Outer trees) (l : Level trees) (x : Last trees) where
   -- the state in a mode, with what is read before
-  abbrev at : Mode → State
-  at m = with_mode outer l x m
+  abbrev at : Mode trees → State trees
+  at m = with_mode (standing outer l x) m
 
   -- the tree that the rest is read as behind a state, where there is one
-  abbrev then : Option State → List ℕ → Option Disjunction
+  abbrev then : Option (State trees) → List ℕ → Option Disjunction
   then o cs = option_and_then (λ t. read_from t cs) o
 
   -- an escape by a number, from inside a class
-  module _ (n : Bool) (r : Ranges) (p : Pending) where
+  module _ (n : Bool) (r : Ranges) (p : Pending trees) where
     -- the tree that the rest is read as behind a part of it
-    abbrev behind_part : Coding → List ℕ → Option Disjunction
-    behind_part k cs = read_from (with_coding outer l x n r p k) cs
+    abbrev behind_part : Coding trees → List ℕ → Option Disjunction
+    behind_part k cs = read_from (at (class_coding (class_so_far n r p) k)) cs
 
     -- and behind the whole
     abbrev behind_whole : Code → List ℕ → Option Disjunction
-    behind_whole d cs = then (within outer l x (took n r p (class_coded d))) cs
+    behind_whole d cs = then (within (standing outer l x) (took n r p (class_coded d))) cs
 
     -- the rest behind a character of it is read as behind the part or the whole that this makes
-    follows : (o : Coded) (cs : List ℕ) → then (on_class_coding outer l x n r p o) cs ≡ follow behind_part behind_whole o cs
+    follows : (o : Coded trees) (cs : List ℕ) → then (on_class_coding (standing outer l x) (class_so_far n r p) o) cs ≡ follow behind_part behind_whole o cs
     follows fails cs = refl
     follows (goes k) cs = refl
     follows (makes d) cs = refl
 
     -- its backslash and its letter are read, and the tail is left
     code_begins : (d : Code) (cs : List ℕ)
-        → read_from (at (in_class (class_of n r p))) (byte "\\" ∷ (code_spelling d ++ cs)) ≡ begun behind_part behind_whole d (code_tail d ++ cs)
+        → read_from (at (in_class (class_so_far n r p))) (byte "\\" ∷ (code_spelling d ++ cs)) ≡ begun behind_part behind_whole d (code_tail d ++ cs)
     code_begins null_code cs = refl
     code_begins (letter_code c) cs = refl
     code_begins (byte_code ds) cs = refl
@@ -76,56 +74,56 @@ module _ (outer : Outer) (l : Level) (x : Last) where
 
     -- it is read from its spelling, and the class takes it where it may
     reads_class_code : (d : Code) → IsCode d → (cs : List ℕ)
-        → read_from (at (in_class (class_of n r p))) (class_atom_spelling (class_coded d) ++ cs) ≡ behind_whole d cs
+        → read_from (at (in_class (class_so_far n r p))) (class_atom_spelling (class_coded d) ++ cs) ≡ behind_whole d cs
     reads_class_code d h cs = code_begins d cs ∙ reads_code behind_part behind_whole (λ k c cs. follows (coding_next k c) cs) d h cs
 
     -- a property
     -- the tree that the rest is read as behind a part of it
     abbrev behind_property_part : PropertyPart → List ℕ → Option Disjunction
-    behind_property_part k cs = read_from (with_property outer l x n r p k) cs
+    behind_property_part k cs = read_from (at (in_class_property (class_so_far n r p) k)) cs
 
     -- and behind the whole
     abbrev behind_property : Bool → Expression → List ℕ → Option Disjunction
-    behind_property b e cs = then (on_class_property outer l x n r p (property_ends b e)) cs
+    behind_property b e cs = then (on_class_property (standing outer l x) (class_so_far n r p) (property_ends b e)) cs
 
     -- the rest behind a character of it is read as behind the part or the whole that this makes
     property_follows : (o : PropertyRead) (cs : List ℕ)
-        → then (on_class_property outer l x n r p o) cs ≡ follow_property behind_property_part behind_property o cs
+        → then (on_class_property (standing outer l x) (class_so_far n r p) o) cs ≡ follow_property behind_property_part behind_property o cs
     property_follows no_property_read cs = refl
     property_follows (property_goes k) cs = refl
     property_follows (property_ends b e) cs = refl
 
     -- its backslash and its letter are read
     property_begins : (b : Bool) (cs : List ℕ)
-        → read_from (at (in_class (class_of n r p))) (byte "\\" ∷ property_letter b ∷ cs) ≡ behind_property_part (brace_awaited b) cs
+        → read_from (at (in_class (class_so_far n r p))) (byte "\\" ∷ property_letter b ∷ cs) ≡ behind_property_part (brace_awaited b) cs
     property_begins false cs = refl
     property_begins true cs = refl
 
     -- it is read from its spelling, and the class takes it where it may
     reads_class_property : (b : Bool) (e : Expression) → IsExpression e → (cs : List ℕ)
-        → read_from (at (in_class (class_of n r p))) (class_atom_spelling (class_property b e) ++ cs)
-        ≡ then (within outer l x (took n r p (class_property b e))) cs
+        → read_from (at (in_class (class_so_far n r p))) (class_atom_spelling (class_property b e) ++ cs)
+        ≡ then (within (standing outer l x) (took n r p (class_property b e))) cs
     reads_class_property b e h cs =
         property_begins b (byte "{" ∷ ((expression_spelling e ++ byte "}" ∷ []) ++ cs))
         ∙ reads_property behind_property_part behind_property (λ k c cs. property_follows (property_next k c) cs) b e h.0 cs
-        ∙ ap (λ (t : Bool). then (when t (within outer l x (took n r p (class_property b e)))) cs) h.1
+        ∙ ap (λ (t : Bool). then (when t (within (standing outer l x) (took n r p (class_property b e)))) cs) h.1
 
   -- one atom, from inside a class
   -- each that is no `-` is read from its spelling, and the class takes it where it may
-  reads_inside : (n : Bool) (r : Ranges) (p : Pending) (y : ClassAtom) → IsClassAtom y → is_hyphen y ≡ false → (cs : List ℕ)
-      → read_from (at (in_class (class_of n r p))) (class_atom_spelling y ++ cs) ≡ then (within outer l x (took n r p y)) cs
-  reads_inside n r p (class_plain c) h w cs = ap (λ (k : ClassToken). then (on_class_token outer l x n r p c k) cs) h
+  reads_inside : (n : Bool) (r : Ranges) (p : Pending trees) (y : ClassAtom) → IsClassAtom y → is_hyphen y ≡ false → (cs : List ℕ)
+      → read_from (at (in_class (class_so_far n r p))) (class_atom_spelling y ++ cs) ≡ then (within (standing outer l x) (took n r p y)) cs
+  reads_inside n r p (class_plain c) h w cs = ap (λ (k : ClassToken). then (on_class_token (standing outer l x) (class_so_far n r p) c k) cs) h
   reads_inside n r p hyphen h w cs = absurd (true≢false w)
-  reads_inside n r p (class_escaped c) h w cs = ap (λ (k : Escape). then (on_class_escape outer l x n r p c k) cs) h
-  reads_inside n r p (class_control c) h w cs = ap (λ (k : Escape). then (on_class_escape outer l x n r p c k) cs) h
-  reads_inside n r p (class_set c) h w cs = ap (λ (k : Escape). then (on_class_escape outer l x n r p c k) cs) h
+  reads_inside n r p (class_escaped c) h w cs = ap (λ (k : Escape). then (on_class_escape (standing outer l x) (class_so_far n r p) c k) cs) h
+  reads_inside n r p (class_control c) h w cs = ap (λ (k : Escape). then (on_class_escape (standing outer l x) (class_so_far n r p) c k) cs) h
+  reads_inside n r p (class_set c) h w cs = ap (λ (k : Escape). then (on_class_escape (standing outer l x) (class_so_far n r p) c k) cs) h
   reads_inside n r p backspace h w cs = refl
   reads_inside n r p (class_coded d) h w cs = reads_class_code n r p d h cs
   reads_inside n r p (class_property b e) h w cs = reads_class_property n r p b e h cs
 
   -- one that may be a `-`: nothing is pending, or an atom and a `-`
   reads_fresh : (n : Bool) (r : Ranges) (y : ClassAtom) → IsClassAtom y → (cs : List ℕ)
-      → read_from (at (in_class (class_of n r fresh))) (class_atom_spelling y ++ cs) ≡ read_from (at (in_class (class_of n r (one y)))) cs
+      → read_from (at (in_class (class_so_far n r fresh))) (class_atom_spelling y ++ cs) ≡ read_from (at (in_class (class_so_far n r (one y)))) cs
   reads_fresh n r (class_plain c) h cs = reads_inside n r fresh (class_plain c) h refl cs
   reads_fresh n r hyphen h cs = refl
   reads_fresh n r (class_escaped c) h cs = reads_inside n r fresh (class_escaped c) h refl cs
@@ -137,7 +135,7 @@ module _ (outer : Outer) (l : Level) (x : Last) where
 
   -- the same behind an atom and a `-`, where it is to end a range
   reads_dashed : (n : Bool) (r : Ranges) (z y : ClassAtom) → IsClassAtom y → (cs : List ℕ)
-      → read_from (at (in_class (class_of n r (dashed z)))) (class_atom_spelling y ++ cs) ≡ then (within outer l x (took n r (dashed z) y)) cs
+      → read_from (at (in_class (class_so_far n r (dashed z)))) (class_atom_spelling y ++ cs) ≡ then (within (standing outer l x) (took n r (dashed z) y)) cs
   reads_dashed n r z (class_plain c) h cs = reads_inside n r (dashed z) (class_plain c) h refl cs
   reads_dashed n r z hyphen h cs = refl
   reads_dashed n r z (class_escaped c) h cs = reads_inside n r (dashed z) (class_escaped c) h refl cs
@@ -149,27 +147,27 @@ module _ (outer : Outer) (l : Level) (x : Last) where
 
   -- the first atom of a class that is not negated
   reads_first : (y : ClassAtom) → IsClassAtom y → is_caret y ≡ false → (cs : List ℕ)
-      → read_from (at class_opened) (class_atom_spelling y ++ cs) ≡ read_from (at (in_class (class_of false no_ranges (one y)))) cs
+      → read_from (at class_opened) (class_atom_spelling y ++ cs) ≡ read_from (at (in_class (class_so_far false no_ranges (one y)))) cs
   reads_first (class_plain c) h w cs =
-      ap (λ (b : Bool). then (on_class outer l x c b) cs) w
-      ∙ ap (λ (k : ClassToken). then (on_class_token outer l x false no_ranges fresh c k) cs) h
+      ap (λ (b : Bool). then (on_bracket (standing outer l x) c b) cs) w
+      ∙ ap (λ (k : ClassToken). then (on_class_token (standing outer l x) (class_so_far false no_ranges fresh) c k) cs) h
   reads_first hyphen h w cs = refl
-  reads_first (class_escaped c) h w cs = ap (λ (k : Escape). then (on_class_escape outer l x false no_ranges fresh c k) cs) h
-  reads_first (class_control c) h w cs = ap (λ (k : Escape). then (on_class_escape outer l x false no_ranges fresh c k) cs) h
-  reads_first (class_set c) h w cs = ap (λ (k : Escape). then (on_class_escape outer l x false no_ranges fresh c k) cs) h
+  reads_first (class_escaped c) h w cs = ap (λ (k : Escape). then (on_class_escape (standing outer l x) (class_so_far false no_ranges fresh) c k) cs) h
+  reads_first (class_control c) h w cs = ap (λ (k : Escape). then (on_class_escape (standing outer l x) (class_so_far false no_ranges fresh) c k) cs) h
+  reads_first (class_set c) h w cs = ap (λ (k : Escape). then (on_class_escape (standing outer l x) (class_so_far false no_ranges fresh) c k) cs) h
   reads_first backspace h w cs = refl
   reads_first (class_coded d) h w cs = reads_inside false no_ranges fresh (class_coded d) h refl cs
   reads_first (class_property b e) h w cs = reads_inside false no_ranges fresh (class_property b e) h refl cs
 
   -- the first atom of a class is read from its spelling, where a class may begin with it
   reads_start : (n : Bool) (y : ClassAtom) → IsClassAtom y → MayBegin n y → (cs : List ℕ)
-      → read_from (at (start n)) (class_atom_spelling y ++ cs) ≡ read_from (at (in_class (class_of n no_ranges (one y)))) cs
+      → read_from (at (start n)) (class_atom_spelling y ++ cs) ≡ read_from (at (in_class (class_so_far n no_ranges (one y)))) cs
   reads_start false y h w cs = reads_first y h w cs
   reads_start true y h w cs = reads_fresh true no_ranges y h cs
 
   -- an atom is read from its spelling, where it may follow what stands before it
   reads_one : (n : Bool) (r : Ranges) (y : ClassAtom) → IsClassAtom y → MayFollow n r y → (cs : List ℕ)
-      → read_from (at (place n r)) (class_atom_spelling y ++ cs) ≡ read_from (at (in_class (class_of n r (one y)))) cs
+      → read_from (at (place n r)) (class_atom_spelling y ++ cs) ≡ read_from (at (in_class (class_so_far n r (one y)))) cs
   reads_one n no_ranges y h w cs = reads_start n y h w cs
   reads_one n (with_one r z) y h w cs = reads_inside n r (one z) y h w cs
   reads_one n (with_range r a b) y h w cs = reads_fresh n (with_range r a b) y h cs
@@ -187,11 +185,11 @@ module _ (outer : Outer) (l : Level) (x : Last) where
       ∙ append_assoc (ranges_spelling r) (class_atom_spelling y) (back ++ cs))
       ∙ reads_ranges n r h.0 (class_atom_spelling y ++ (back ++ cs)) ∙ reads_one n r y h.1.0 h.1.1 (back ++ cs)
       ∙ reads_dashed n r y z h.2 cs
-      ∙ ap (λ (o : Option Class). then (within outer l x o) cs) (ranged_some n r y z (range (item y) (item z)) h.3)
+      ∙ ap (λ (o : Option (Class trees)). then (within (standing outer l x) o) cs) (ranged_some n r y z (range (item y) (item z)) h.3)
 
   -- the end of a class is read, and the class is the last atom
   closes : (n : Bool) (r : Ranges) (e : Bool) → MayEnd e r → (cs : List ℕ)
-      → read_from (at (place n r)) (ending_spelling e ++ cs) ≡ read_from (with_atom outer l x (bracketed n r e)) cs
+      → read_from (at (place n r)) (ending_spelling e ++ cs) ≡ read_from (with_atom (standing outer l x) (bracketed n r e)) cs
   closes false no_ranges false h cs = refl
   closes true no_ranges false h cs = refl
   closes n (with_one r y) false h cs = refl
@@ -208,7 +206,7 @@ module _ (outer : Outer) (l : Level) (x : Last) where
   -- a class is read from its spelling, and is the last atom
   pub reads_class : (n : Bool) (r : Ranges) (e : Bool) → AreRanges n r → MayEnd e r → (cs : List ℕ)
       → read_from (at between) (((negation_spelling n ++ ranges_spelling r) ++ ending_spelling e) ++ cs)
-      ≡ read_from (with_atom outer l x (bracketed n r e)) cs
+      ≡ read_from (with_atom (standing outer l x) (bracketed n r e)) cs
   reads_class n r e h w cs =
       ap (read_from (at between)) (append_assoc (negation_spelling n ++ ranges_spelling r) (ending_spelling e) cs
       ∙ append_assoc (negation_spelling n) (ranges_spelling r) (ending_spelling e ++ cs))

@@ -13,14 +13,17 @@ use Rattle.strkw_ecma.specs.Syntax.{Disjunction, Alternative, more, Term, Atom, 
 use Rattle.strkw_ecma.specs.Syntax.{term_spelling, atom_spelling}
 use Rattle.strkw_ecma.specs.machine.Reading.{Open, Outer, Level, Last, none, atom, counted, Pending, fresh, one, dashed, Class, Mode, between, escaping}
 use Rattle.strkw_ecma.specs.machine.Reading.{opening, extending, class_opened, Count, low, high, counting, in_class, class_escaping, coding, class_coding}
-use Rattle.strkw_ecma.specs.machine.Reading.{in_property, in_class_property, naming, name_escaping, name_coding, State, ended, joined, with_atom, took}
-use Rattle.strkw_ecma.specs.machine.Reading.{took_dash, ranged, class_read, within, on_class_token, on_class_escape, with_coding, on_class_coding, when}
-use Rattle.strkw_ecma.specs.machine.Reading.{with_property, on_class_property}
+use Rattle.strkw_ecma.specs.machine.Reading.{in_property, in_class_property, naming, name_escaping, name_coding, State, all_terms, joined, with_atom, took}
+use Rattle.strkw_ecma.specs.machine.Reading.{took_dash, ranged, whole_class, within, on_class_token, on_class_escape, on_class_coding, when}
+use Rattle.strkw_ecma.specs.machine.Reading.{with_mode, on_class_property}
 use Rattle.strkw_ecma.proofs.Letters.{char_of_letter, char_of_class}
 use Rattle.strkw_ecma.proofs.CodeReadings.{coding_spelling, IsCodedAs}
 use Rattle.strkw_ecma.specs.machine.PropertyReading.{PropertyPart, brace_awaited, PropertyRead, no_property_read, property_goes, property_ends}
 use Rattle.strkw_ecma.proofs.PropertyReadings.{part_spelling, IsReadAs}
 use Rattle.strkw_ecma.specs.declared.tree.CharSet.{CharSet}
+use Rattle.strkw_ecma.specs.machine.CodeReading.{value_or}
+use Rattle.strkw_ecma.specs.machine.Makers.{trees}
+use Rattle.strkw_ecma.proofs.BetweenTerms.{standing, class_so_far}
 
 -- a level as it is written: the alternatives before, and the terms of the last
 abbrev pub level_spelling : Option Disjunction → Alternative → List ℕ
@@ -28,37 +31,37 @@ level_spelling None a = alternative_spelling a
 level_spelling (Some d) a = spelling d ++ byte "|" ∷ alternative_spelling a
 
 -- the last term as it is written, with its quantifier, or nothing
-abbrev pub last_spelling : Last → List ℕ
+abbrev pub last_spelling : Last trees → List ℕ
 last_spelling none = []
 last_spelling (atom x) = atom_spelling x
-last_spelling (counted x q) = atom_spelling x ++ quantifier_spelling q
+last_spelling (counted (x, q)) = atom_spelling x ++ quantifier_spelling q
 
 -- the open groups and lookbehinds as they are written, with what stands before each in the level around it
-abbrev pub outer_spelling : List Open → List ℕ
+abbrev pub outer_spelling : List (Open trees) → List ℕ
 outer_spelling [] = []
-outer_spelling (o ∷ ls) = (outer_spelling ls ++ level_spelling o.earlier o.current) ++ enclosing_spelling o.enclosing
+outer_spelling (o ∷ ls) = (outer_spelling ls ++ level_spelling o.level.earlier o.level.current) ++ enclosing_spelling o.enclosing
 
 -- what may still belong to a range, as it is written
-abbrev pending_spelling : Pending → List ℕ
+abbrev pending_spelling : Pending trees → List ℕ
 pending_spelling fresh = []
 pending_spelling (one x) = class_atom_spelling x
 pending_spelling (dashed x) = class_atom_spelling x ++ byte "-" ∷ []
 
 -- the beginning of a class as it is written, with what is pending
-abbrev pub class_text : Bool → Ranges → Pending → List ℕ
+abbrev pub class_text : Bool → Ranges → Pending trees → List ℕ
 class_text n r p = (negation_spelling n ++ ranges_spelling r) ++ pending_spelling p
 
 -- the beginning of a count as it is written
-abbrev count_spelling : Count → List ℕ
-count_spelling (low ds) = byte "{" ∷ ds
-count_spelling (high ds es) = byte "{" ∷ (ds ++ byte "," ∷ es)
+abbrev count_spelling : Count trees → List ℕ
+count_spelling (low o) = byte "{" ∷ value_or [] o
+count_spelling (high ds o) = byte "{" ∷ (ds ++ byte "," ∷ value_or [] o)
 
 -- the beginning of a named group
 abbrev pub name_text : List NameChar → List ℕ
 name_text n = byte "(" ∷ byte "?" ∷ byte "<" ∷ name_spelling n
 
 -- what is read behind the last term, in each mode
-abbrev mode_spelling : Mode → List ℕ
+abbrev mode_spelling : Mode trees → List ℕ
 mode_spelling between = []
 mode_spelling escaping = byte "\\" ∷ []
 mode_spelling opening = byte "(" ∷ []
@@ -76,24 +79,24 @@ mode_spelling (name_escaping n) = name_text n ++ byte "\\" ∷ []
 mode_spelling (name_coding n k) = name_text n ++ byte "\\" ∷ coding_spelling k
 
 -- what a state has read
-abbrev pub spelled : State → List ℕ
+abbrev pub spelled : State trees → List ℕ
 spelled s = ((outer_spelling s.outer.groups ++ level_spelling s.level.earlier s.level.current) ++ last_spelling s.last) ++ mode_spelling s.mode
 
 -- terms to which the last is added are spelled with the last behind them
-pub ended_spelling : (a : Alternative) (x : Last) → alternative_spelling (ended a x) ≡ alternative_spelling a ++ last_spelling x
+pub ended_spelling : (a : Alternative) (x : Last trees) → alternative_spelling (all_terms a x) ≡ alternative_spelling a ++ last_spelling x
 ended_spelling a none = sym (append-nil _)
 ended_spelling a (atom x) = refl
-ended_spelling a (counted x q) = ap (λ z. alternative_spelling a ++ z) (append-nil _)
+ended_spelling a (counted (x, q)) = ap (λ z. alternative_spelling a ++ z) (append-nil _)
 
 -- and so is a level
-pub level_ended_spelling : (e : Option Disjunction) (a : Alternative) (x : Last)
-    → level_spelling e (ended a x) ≡ level_spelling e a ++ last_spelling x
+pub level_ended_spelling : (e : Option Disjunction) (a : Alternative) (x : Last trees)
+    → level_spelling e (all_terms a x) ≡ level_spelling e a ++ last_spelling x
 level_ended_spelling None a x = ended_spelling a x
 level_ended_spelling (Some d) a x =
     ap (λ z. spelling d ++ byte "|" ∷ z) (ended_spelling a x) ∙ sym (append_assoc (spelling d) (byte "|" ∷ alternative_spelling a) (last_spelling x))
 
 -- the alternatives of a level, joined, are spelled as the level is
-pub joined_spelling : (e : Option Disjunction) (a : Alternative) → spelling (joined e a) ≡ level_spelling e a
+pub joined_spelling : (e : Option Disjunction) (a : Alternative) → spelling (joined trees e a) ≡ level_spelling e a
 joined_spelling None a = refl
 joined_spelling (Some d) a = refl
 
@@ -103,17 +106,17 @@ more_spelling None a t = refl
 more_spelling (Some d) a t = sym (append_assoc (spelling d) (byte "|" ∷ alternative_spelling a) (term_spelling t))
 
 -- the state that was made has read the text
-abbrev pub HasRead : Option State → List ℕ → Type 0
+abbrev pub HasRead : Option (State trees) → List ℕ → Type 0
 HasRead None text = Unit {0}
 HasRead (Some t) text = spelled t ≡ text
 
 -- a state that has read the text has read it under a test too
-pub when_read : (b : Bool) (o : Option State) (text : List ℕ) → HasRead o text → HasRead (when b o) text
+pub when_read : (b : Bool) (o : Option (State trees)) (text : List ℕ) → HasRead o text → HasRead (when b o) text
 when_read false o text h = tt
 when_read true o text h = h
 
 -- the class that was made has read this
-abbrev HasTaken : Option Class → List ℕ → Type 0
+abbrev HasTaken : Option (Class trees) → List ℕ → Type 0
 HasTaken None text = Unit {0}
 HasTaken (Some k) text = class_text k.negated k.ranges k.pending ≡ text
 
@@ -130,40 +133,40 @@ ranged_read n r w y (Some s) = append-nil _ ∙ regroup (negation_spelling n) (r
         ∙ ap (λ z. (a ++ b) ++ z) (sym (append_assoc c (byte "-" ∷ []) d)) ∙ sym (append_assoc (a ++ b) (c ++ byte "-" ∷ []) d)
 
 -- a class behind an atom has read what it had, and the atom
-took_read : (n : Bool) (r : Ranges) (p : Pending) (y : ClassAtom) → HasTaken (took n r p y) (class_text n r p ++ class_atom_spelling y)
+took_read : (n : Bool) (r : Ranges) (p : Pending trees) (y : ClassAtom) → HasTaken (took n r p y) (class_text n r p ++ class_atom_spelling y)
 took_read n r fresh y = ap (λ z. z ++ class_atom_spelling y) (sym (append-nil (negation_spelling n ++ ranges_spelling r)))
 took_read n r (one w) y =
     ap (λ z. z ++ class_atom_spelling y) (sym (append_assoc (negation_spelling n) (ranges_spelling r) (class_atom_spelling w)))
 took_read n r (dashed w) y = ranged_read n r w y _
 
 -- and behind a dash, what it had and the dash
-dash_read : (n : Bool) (r : Ranges) (p : Pending) → HasTaken (took_dash n r p) (class_text n r p ++ byte "-" ∷ [])
+dash_read : (n : Bool) (r : Ranges) (p : Pending trees) → HasTaken (took_dash n r p) (class_text n r p ++ byte "-" ∷ [])
 dash_read n r fresh = took_read n r fresh hyphen
 dash_read n r (one w) = sym (append_assoc (negation_spelling n ++ ranges_spelling r) (class_atom_spelling w) (byte "-" ∷ []))
 dash_read n r (dashed w) = took_read n r (dashed w) hyphen
 
-module _ (outer : Outer) (l : Level) where
+module _ (outer : Outer trees) (l : Level trees) where
   -- what is read up to the end of the last term
-  abbrev pub before : Last → List ℕ
+  abbrev pub before : Last trees → List ℕ
   before x = (outer_spelling outer.groups ++ level_spelling l.earlier l.current) ++ last_spelling x
 
   -- it is the spelling with the last term taken into the level
-  pub whole : (x : Last) → outer_spelling outer.groups ++ level_spelling l.earlier (ended l.current x) ≡ before x
+  pub whole : (x : Last trees) → outer_spelling outer.groups ++ level_spelling l.earlier (all_terms l.current x) ≡ before x
   whole x =
       ap (λ z. outer_spelling outer.groups ++ z) (level_ended_spelling l.earlier l.current x)
       ∙ sym (append_assoc (outer_spelling outer.groups) (level_spelling l.earlier l.current) (last_spelling x))
 
   -- a state behind an atom has read what was before it, and the atom
-  pub atom_read : (x : Last) (a : Atom) → spelled (with_atom outer l x a) ≡ before x ++ atom_spelling a
+  pub atom_read : (x : Last trees) (a : Atom) → spelled (with_atom (standing outer l x) a) ≡ before x ++ atom_spelling a
   atom_read x a = append-nil _ ∙ ap (λ z. z ++ atom_spelling a) (whole x)
 
   -- a state in a class has read what stands before the class, and what the class has
-  within_read : (x : Last) (o : Option Class) (t : List ℕ) → HasTaken o t → (u : List ℕ) → before x ++ t ≡ u → HasRead (within outer l x o) u
+  within_read : (x : Last trees) (o : Option (Class trees)) (t : List ℕ) → HasTaken o t → (u : List ℕ) → before x ++ t ≡ u → HasRead (within (standing outer l x) o) u
   within_read x None t h u e = tt
   within_read x (Some k) t h u e = ap (λ z. before x ++ z) h ∙ e
 
   -- a class that is ended is spelled as what was read of it, and the closing bracket
-  class_atom_read : (x : Last) (n : Bool) (r : Ranges) (p : Pending) → atom_spelling (class_read n r p) ≡ class_text n r p ++ byte "]" ∷ []
+  class_atom_read : (x : Last trees) (n : Bool) (r : Ranges) (p : Pending trees) → atom_spelling (whole_class n r p) ≡ class_text n r p ++ byte "]" ∷ []
   class_atom_read x n r fresh = ap (λ z. z ++ byte "]" ∷ []) (sym (append-nil (negation_spelling n ++ ranges_spelling r)))
   class_atom_read x n r (one y) =
       ap (λ z. z ++ byte "]" ∷ []) (sym (append_assoc (negation_spelling n) (ranges_spelling r) (class_atom_spelling y)))
@@ -179,10 +182,10 @@ module _ (outer : Outer) (l : Level) where
           ∙ sym (append_assoc a (b ++ byte "-" ∷ []) (byte "]" ∷ []))
 
   -- behind a character in a class, the state has read what was read before, and the character
-  pub class_token_read : (x : Last) (n : Bool) (r : Ranges) (p : Pending) (c : ℕ) (k : ClassToken) → char_of_class k c ≡ c
-      → HasRead (on_class_token outer l x n r p c k) ((before x ++ class_text n r p) ++ c ∷ [])
+  pub class_token_read : (x : Last trees) (n : Bool) (r : Ranges) (p : Pending trees) (c : ℕ) (k : ClassToken) → char_of_class k c ≡ c
+      → HasRead (on_class_token (standing outer l x) (class_so_far n r p) c k) ((before x ++ class_text n r p) ++ c ∷ [])
   class_token_read x n r p c closing_bracket e =
-      atom_read x (class_read n r p) ∙ ap (λ z. before x ++ z) (class_atom_read x n r p)
+      atom_read x (whole_class n r p) ∙ ap (λ z. before x ++ z) (class_atom_read x n r p)
       ∙ sym (append_assoc (before x) (class_text n r p) (byte "]" ∷ [])) ∙ ap (λ z. (before x ++ class_text n r p) ++ z ∷ []) e
   class_token_read x n r p c class_escaper e =
       sym (append_assoc (before x) (class_text n r p) (byte "\\" ∷ [])) ∙ ap (λ z. (before x ++ class_text n r p) ++ z ∷ []) e
@@ -193,7 +196,7 @@ module _ (outer : Outer) (l : Level) where
       within_read x (took n r p (class_plain c)) _ (took_read n r p (class_plain c)) _ (sym (append_assoc (before x) (class_text n r p) (c ∷ [])))
 
   -- behind a backslash and s, where this and the letter c are spelled so
-  behind : (x : Last) (n : Bool) (r : Ranges) (p : Pending) (s : List ℕ) (c : ℕ) (t : List ℕ) → t ≡ byte "\\" ∷ (s ++ c ∷ [])
+  behind : (x : Last trees) (n : Bool) (r : Ranges) (p : Pending trees) (s : List ℕ) (c : ℕ) (t : List ℕ) → t ≡ byte "\\" ∷ (s ++ c ∷ [])
       → before x ++ (class_text n r p ++ t) ≡ (before x ++ (class_text n r p ++ byte "\\" ∷ s)) ++ c ∷ []
   behind x n r p s c t e =
       ap (λ z. before x ++ (class_text n r p ++ z)) e
@@ -201,18 +204,18 @@ module _ (outer : Outer) (l : Level) where
       ∙ sym (append_assoc (before x) (class_text n r p ++ byte "\\" ∷ s) (c ∷ []))
 
   -- behind an escape of one letter in a class, the backslash and the letter are read too
-  letter_read : (x : Last) (n : Bool) (r : Ranges) (p : Pending) (c : ℕ) (y : ClassAtom) → class_atom_spelling y ≡ byte "\\" ∷ c ∷ []
-      → HasRead (within outer l x (took n r p y)) ((before x ++ (class_text n r p ++ byte "\\" ∷ [])) ++ c ∷ [])
+  letter_read : (x : Last trees) (n : Bool) (r : Ranges) (p : Pending trees) (c : ℕ) (y : ClassAtom) → class_atom_spelling y ≡ byte "\\" ∷ c ∷ []
+      → HasRead (within (standing outer l x) (took n r p y)) ((before x ++ (class_text n r p ++ byte "\\" ∷ [])) ++ c ∷ [])
   letter_read x n r p c y e = within_read x (took n r p y) _ (took_read n r p y) _ (behind x n r p [] c _ e)
 
   -- and behind the letter that begins an escape by a number
-  coding_begun : (x : Last) (n : Bool) (r : Ranges) (p : Pending) (c : ℕ) (k : Coding) → coding_spelling k ≡ c ∷ []
-      → spelled (with_coding outer l x n r p k) ≡ (before x ++ (class_text n r p ++ byte "\\" ∷ [])) ++ c ∷ []
+  coding_begun : (x : Last trees) (n : Bool) (r : Ranges) (p : Pending trees) (c : ℕ) (k : Coding trees) → coding_spelling k ≡ c ∷ []
+      → spelled (with_mode (standing outer l x) (class_coding (class_so_far n r p) k)) ≡ (before x ++ (class_text n r p ++ byte "\\" ∷ [])) ++ c ∷ []
   coding_begun x n r p c k e = behind x n r p [] c (byte "\\" ∷ coding_spelling k) (ap (λ z. byte "\\" ∷ z) e)
 
   -- behind one more character of an escape by a number in a class, that is read too
-  pub class_coding_read : (x : Last) (n : Bool) (r : Ranges) (p : Pending) (k : Coding) (c : ℕ) (o : Coded) → IsCodedAs o (coding_spelling k ++ c ∷ [])
-      → HasRead (on_class_coding outer l x n r p o) ((before x ++ (class_text n r p ++ byte "\\" ∷ coding_spelling k)) ++ c ∷ [])
+  pub class_coding_read : (x : Last trees) (n : Bool) (r : Ranges) (p : Pending trees) (k : Coding trees) (c : ℕ) (o : Coded trees) → IsCodedAs o (coding_spelling k ++ c ∷ [])
+      → HasRead (on_class_coding (standing outer l x) (class_so_far n r p) o) ((before x ++ (class_text n r p ++ byte "\\" ∷ coding_spelling k)) ++ c ∷ [])
   class_coding_read x n r p k c fails h = tt
   class_coding_read x n r p k c (goes m) h = behind x n r p (coding_spelling k) c (byte "\\" ∷ coding_spelling m) (ap (λ z. byte "\\" ∷ z) h)
   class_coding_read x n r p k c (makes d) h =
@@ -220,25 +223,25 @@ module _ (outer : Outer) (l : Level) where
       (behind x n r p (coding_spelling k) c (class_atom_spelling (class_coded d)) (ap (λ z. byte "\\" ∷ z) h))
 
   -- behind the letter that begins a property in a class, the backslash and the letter are read too
-  property_begun : (x : Last) (n : Bool) (r : Ranges) (p : Pending) (c : ℕ) (b : Bool) → part_spelling (brace_awaited b) ≡ c ∷ []
-      → spelled (with_property outer l x n r p (brace_awaited b)) ≡ (before x ++ (class_text n r p ++ byte "\\" ∷ [])) ++ c ∷ []
+  property_begun : (x : Last trees) (n : Bool) (r : Ranges) (p : Pending trees) (c : ℕ) (b : Bool) → part_spelling (brace_awaited b) ≡ c ∷ []
+      → spelled (with_mode (standing outer l x) (in_class_property (class_so_far n r p) (brace_awaited b))) ≡ (before x ++ (class_text n r p ++ byte "\\" ∷ [])) ++ c ∷ []
   property_begun x n r p c b e = behind x n r p [] c (byte "\\" ∷ part_spelling (brace_awaited b)) (ap (λ z. byte "\\" ∷ z) e)
 
   -- behind one more character of a property in a class, that is read too
-  pub class_property_read : (x : Last) (n : Bool) (r : Ranges) (p : Pending) (k : PropertyPart) (c : ℕ) (o : PropertyRead)
+  pub class_property_read : (x : Last trees) (n : Bool) (r : Ranges) (p : Pending trees) (k : PropertyPart) (c : ℕ) (o : PropertyRead)
       → IsReadAs o (part_spelling k ++ c ∷ [])
-      → HasRead (on_class_property outer l x n r p o) ((before x ++ (class_text n r p ++ byte "\\" ∷ part_spelling k)) ++ c ∷ [])
+      → HasRead (on_class_property (standing outer l x) (class_so_far n r p) o) ((before x ++ (class_text n r p ++ byte "\\" ∷ part_spelling k)) ++ c ∷ [])
   class_property_read x n r p k c no_property_read h = tt
   class_property_read x n r p k c (property_goes m) h =
       behind x n r p (part_spelling k) c (byte "\\" ∷ part_spelling m) (ap (λ z. byte "\\" ∷ z) h)
   class_property_read x n r p k c (property_ends b e) h =
-      when_read _ (within outer l x (took n r p (class_property b e))) _
+      when_read _ (within (standing outer l x) (took n r p (class_property b e))) _
       (within_read x (took n r p (class_property b e)) _ (took_read n r p (class_property b e)) _
       (behind x n r p (part_spelling k) c (class_atom_spelling (class_property b e)) (ap (λ z. byte "\\" ∷ z) h)))
 
   -- behind a backslash and a character in a class, both are read too
-  pub class_escape_read : (x : Last) (n : Bool) (r : Ranges) (p : Pending) (c : ℕ) (k : Escape) → char_of_letter k c ≡ c
-      → HasRead (on_class_escape outer l x n r p c k) ((before x ++ (class_text n r p ++ byte "\\" ∷ [])) ++ c ∷ [])
+  pub class_escape_read : (x : Last trees) (n : Bool) (r : Ranges) (p : Pending trees) (c : ℕ) (k : Escape) → char_of_letter k c ≡ c
+      → HasRead (on_class_escape (standing outer l x) (class_so_far n r p) c k) ((before x ++ (class_text n r p ++ byte "\\" ∷ [])) ++ c ∷ [])
   class_escape_read x n r p c itself e = letter_read x n r p c (class_escaped c) refl
   class_escape_read x n r p c control e = letter_read x n r p c (class_control c) refl
   class_escape_read x n r p c set e = letter_read x n r p c (class_set c) refl

@@ -1,5 +1,5 @@
 -- Escapes by a number: each is read from its spelling, and what is read is spelled so and gives a character.
-use Rattle.std.proofs.Common.{◌≡◌, ℕ, ◌+◌, ◌*◌, ◌≤◌, ◌==◌, Bool, true, false, List, [], ◌∷◌, ◌++◌, Option, None, length, refl, sym, ap, subst, ◌∙◌, true≢false}
+use Rattle.std.proofs.Common.{◌≡◌, ℕ, ◌+◌, ◌*◌, ◌≤◌, ◌==◌, Bool, true, false, List, [], ◌∷◌, ◌++◌, Option, Some, None, length, refl, sym, ap, subst, ◌∙◌, true≢false}
 use Rattle.std.proofs.Common.{append_assoc, arith}
 use Rattle.std.proofs.lemmas.List.{append-nil, length_push}
 use Rattle.std.proofs.lemmas.Bool.{le-leb}
@@ -12,34 +12,48 @@ use Rattle.strkw_ecma.specs.Codes.{IsCode}
 use Rattle.strkw_ecma.specs.Names.{is_unicode}
 use Rattle.strkw_ecma.specs.machine.CodeReading.{Width, byte_width, unit_width, trail_width, Wanted, one_more, two_more, three_more, four_more, Coding}
 use Rattle.strkw_ecma.specs.machine.CodeReading.{letter_awaited, unit_opened, digits_of, lead_read, lead_escaped, point_opened, Coded, fails, goes, makes}
-use Rattle.strkw_ecma.specs.machine.CodeReading.{coded_if, made, with_lead, all_read, digit_read, is_next_digit, on_digit, on_unit, on_point, coding_next}
+use Rattle.strkw_ecma.specs.machine.CodeReading.{value_or, coded_if, made, with_lead, all_read, digit_read, digit_or_none, on_digit, on_unit, point_digit, on_point}
+use Rattle.strkw_ecma.specs.machine.CodeReading.{coding_next}
 use Rattle.strkw_ecma.specs.Syntax.{Disjunction}
 use Rattle.strkw_ecma.proofs.Steps.{and_true, and_left, and_right}
 use Rattle.strkw_ecma.proofs.Letters.{same_char, is_not}
+use Rattle.strkw_ecma.specs.machine.Makers.{trees, value_if, is_next_digit}
+
+-- what holds where no digit is taken, and of what comes of one that is, holds of what comes of it under a test
+digit_when : (P : Coded trees → Type 0) (w : Width trees) (n : Wanted) (ds : List ℕ) (b : Bool) → P fails
+    → (b ≡ true → P (digit_read w n ds)) → P (digit_or_none w n (value_if b ds))
+digit_when P w n ds false f h = f
+digit_when P w n ds true f h = h refl
+
+-- and so it is between braces
+point_when : (P : Coded trees → Type 0) (ds : List ℕ) (b : Bool) → P fails → (b ≡ true → P (goes (point_opened (Some ds))))
+    → P (point_digit (value_if b ds))
+point_when P ds false f h = f
+point_when P ds true f h = h refl
 
 -- what has been read, behind the backslash
-abbrev width_spelling : Width → List ℕ → List ℕ
+abbrev width_spelling : Width trees → List ℕ → List ℕ
 width_spelling byte_width ds = byte "x" ∷ ds
 width_spelling unit_width ds = byte "u" ∷ ds
 width_spelling (trail_width ds) es = byte "u" ∷ (ds ++ byte "\\" ∷ byte "u" ∷ es)
 
 -- the same of any part of an escape by a number
-abbrev pub coding_spelling : Coding → List ℕ
+abbrev pub coding_spelling : Coding trees → List ℕ
 coding_spelling letter_awaited = byte "c" ∷ []
 coding_spelling unit_opened = byte "u" ∷ []
 coding_spelling (digits_of w n ds) = width_spelling w ds
 coding_spelling (lead_read ds) = byte "u" ∷ ds
 coding_spelling (lead_escaped ds) = byte "u" ∷ (ds ++ byte "\\" ∷ [])
-coding_spelling (point_opened ds) = byte "u" ∷ byte "{" ∷ ds
+coding_spelling (point_opened o) = byte "u" ∷ byte "{" ∷ value_or [] o
 
 -- what comes of a character, a part or the whole, is spelled so
-abbrev pub IsCodedAs : Coded → List ℕ → Type 0
+abbrev pub IsCodedAs : Coded trees → List ℕ → Type 0
 IsCodedAs fails t = Unit {0}
 IsCodedAs (goes k) t = coding_spelling k ≡ t
 IsCodedAs (makes d) t = code_spelling d ≡ t
 
 -- what comes of a character under a test is spelled so, if it is where the test holds
-if_as : (b : Bool) (k : Coded) (t : List ℕ) → (b ≡ true → IsCodedAs k t) → IsCodedAs (coded_if b k) t
+if_as : (b : Bool) (k : Coded trees) (t : List ℕ) → (b ≡ true → IsCodedAs k t) → IsCodedAs (coded_if b k) t
 if_as false k t h = tt
 if_as true k t h = h refl
 
@@ -53,28 +67,29 @@ lead_as ds false t h = made_as (unit_code ds) t h
 lead_as ds true t h = h
 
 -- what is made of all digits of a number is spelled as they are
-all_read_as : (w : Width) (ds t : List ℕ) → width_spelling w ds ≡ t → IsCodedAs (all_read w ds) t
+all_read_as : (w : Width trees) (ds t : List ℕ) → width_spelling w ds ≡ t → IsCodedAs (all_read w ds) t
 all_read_as byte_width ds t h = made_as (byte_code ds) t h
 all_read_as unit_width ds t h = lead_as ds (is_lead (hex_number ds)) t h
 all_read_as (trail_width ds) es t h = if_as (is_trail (hex_number es)) (made (pair_code ds es)) t (λ _. made_as (pair_code ds es) t h)
 
 -- and so is what is made of digits, where more may be to come
-digit_read_as : (w : Width) (n : Wanted) (ds t : List ℕ) → width_spelling w ds ≡ t → IsCodedAs (digit_read w n ds) t
+digit_read_as : (w : Width trees) (n : Wanted) (ds t : List ℕ) → width_spelling w ds ≡ t → IsCodedAs (digit_read w n ds) t
 digit_read_as w one_more ds t h = all_read_as w ds t h
 digit_read_as w two_more ds t h = h
 digit_read_as w three_more ds t h = h
 digit_read_as w four_more ds t h = h
 
 -- digits with one more are spelled with that behind them
-width_push : (w : Width) (ds : List ℕ) (c : ℕ) → width_spelling w (ds ++ c ∷ []) ≡ width_spelling w ds ++ c ∷ []
+width_push : (w : Width trees) (ds : List ℕ) (c : ℕ) → width_spelling w (ds ++ c ∷ []) ≡ width_spelling w ds ++ c ∷ []
 width_push byte_width ds c = refl
 width_push unit_width ds c = refl
 width_push (trail_width ds) es c = ap (λ z. byte "u" ∷ z) (sym (append_assoc ds (byte "\\" ∷ byte "u" ∷ es) (c ∷ [])))
 
 -- what comes of a character among the digits is spelled with it
-on_digit_as : (w : Width) (n : Wanted) (ds : List ℕ) (c : ℕ) → IsCodedAs (on_digit w n ds c) (width_spelling w ds ++ c ∷ [])
+on_digit_as : (w : Width trees) (n : Wanted) (ds : List ℕ) (c : ℕ) → IsCodedAs (on_digit w n ds c) (width_spelling w ds ++ c ∷ [])
 on_digit_as w n ds c =
-    if_as (is_next_digit ds c) (digit_read w n (ds ++ c ∷ [])) _ (λ _. digit_read_as w n (ds ++ c ∷ []) _ (width_push w ds c))
+    digit_when (λ k. IsCodedAs k (width_spelling w ds ++ c ∷ [])) w n (ds ++ c ∷ []) (is_next_digit ds c) tt
+    (λ _. digit_read_as w n (ds ++ c ∷ []) _ (width_push w ds c))
 
 -- and so is what comes of one behind `\u`
 unit_as : (c : ℕ) (b : Bool) → (c == byte "{") ≡ b → IsCodedAs (on_unit c b) (byte "u" ∷ c ∷ [])
@@ -82,14 +97,17 @@ unit_as c false e = on_digit_as unit_width four_more [] c
 unit_as c true e = ap (λ z. byte "u" ∷ z ∷ []) (same_char c (byte "{") e)
 
 -- and what comes of one behind `\u{` and digits
-point_as : (ds : List ℕ) (c : ℕ) (b : Bool) → (c == byte "}") ≡ b → IsCodedAs (on_point ds c b) (byte "u" ∷ byte "{" ∷ (ds ++ c ∷ []))
-point_as ds c false e = if_as (is_next_digit ds c) (goes (point_opened (ds ++ c ∷ []))) _ (λ _. refl)
-point_as ds c true e =
-    if_as (has_digits ds) (made (point_code ds)) _
-    (λ _. made_as (point_code ds) _ (ap (λ z. byte "u" ∷ byte "{" ∷ (ds ++ z ∷ [])) (same_char c (byte "}") e)))
+point_as : (o : Option (List ℕ)) (c : ℕ) (b : Bool) → (c == byte "}") ≡ b
+    → IsCodedAs (on_point o c b) (byte "u" ∷ byte "{" ∷ (value_or [] o ++ c ∷ []))
+point_as o c false e =
+    let ds = value_or [] o ++ c ∷ [] in
+    point_when (λ k. IsCodedAs k (byte "u" ∷ byte "{" ∷ ds)) ds (is_next_digit (value_or [] o) c) tt (λ _. refl)
+point_as None c true e = tt
+point_as (Some ds) c true e =
+    made_as (point_code ds) _ (ap (λ z. byte "u" ∷ byte "{" ∷ (ds ++ z ∷ [])) (same_char c (byte "}") e))
 
 -- so what comes of the next character of an escape by a number is spelled with it
-pub coding_as : (k : Coding) (c : ℕ) → IsCodedAs (coding_next k c) (coding_spelling k ++ c ∷ [])
+pub coding_as : (k : Coding trees) (c : ℕ) → IsCodedAs (coding_next k c) (coding_spelling k ++ c ∷ [])
 coding_as letter_awaited c = if_as (is_ascii_alphabetic c) (made (letter_code c)) _ (λ _. made_as (letter_code c) _ refl)
 coding_as unit_opened c = unit_as c (c == byte "{") refl
 coding_as (digits_of w n ds) c = on_digit_as w n ds c
@@ -99,11 +117,11 @@ coding_as (lead_escaped ds) c =
     if_as (c == byte "u") (goes (digits_of (trail_width ds) four_more [])) _
     (λ e. ap (λ z. byte "u" ∷ (ds ++ byte "\\" ∷ z ∷ [])) (same_char c (byte "u") e)
     ∙ ap (λ z. byte "u" ∷ z) (sym (append_assoc ds (byte "\\" ∷ []) (c ∷ []))))
-coding_as (point_opened ds) c = point_as ds c (c == byte "}") refl
+coding_as (point_opened o) c = point_as o c (c == byte "}") refl
 
 -- what may have been read
 -- how many digits a number of this width has
-abbrev width_count : Width → ℕ
+abbrev width_count : Width trees → ℕ
 width_count byte_width = 2
 width_count unit_width = 4
 width_count (trail_width ds) = 4
@@ -120,28 +138,33 @@ abbrev IsLead : List ℕ → Type 0
 IsLead ds = AreDigits 4 ds × (is_lead (hex_number ds) ≡ true)
 
 -- what stands before a trailing surrogate is a leading one
-abbrev IsWidth : Width → Type 0
+abbrev IsWidth : Width trees → Type 0
 IsWidth byte_width = Unit {0}
 IsWidth unit_width = Unit {0}
 IsWidth (trail_width ds) = IsLead ds
 
+-- what stands between braces is digits
+abbrev IsPoint : Option (List ℕ) → Type 0
+IsPoint None = Unit {0}
+IsPoint (Some ds) = AreCodeDigits (point_code ds)
+
 -- this part of an escape by a number may have been read
-abbrev pub IsCoding : Coding → Type 0
+abbrev pub IsCoding : Coding trees → Type 0
 IsCoding letter_awaited = Unit {0}
 IsCoding unit_opened = Unit {0}
 IsCoding (digits_of w n ds) = IsWidth w × (are_hex_digits ds ≡ true) × (length ds + wanted_count n ≡ width_count w)
 IsCoding (lead_read ds) = IsLead ds
 IsCoding (lead_escaped ds) = IsLead ds
-IsCoding (point_opened ds) = are_hex_digits ds ≡ true
+IsCoding (point_opened o) = IsPoint o
 
 -- what comes of a character, if anything, is such a part, or an escape that gives a character
-abbrev pub IsCoded : Coded → Type 0
+abbrev pub IsCoded : Coded trees → Type 0
 IsCoded fails = Unit {0}
 IsCoded (goes k) = IsCoding k
 IsCoded (makes d) = IsCode d
 
 -- what comes of a character under a test is such, if it is where the test holds
-if_formed : (b : Bool) (k : Coded) → (b ≡ true → IsCoded k) → IsCoded (coded_if b k)
+if_formed : (b : Bool) (k : Coded trees) → (b ≡ true → IsCoded k) → IsCoded (coded_if b k)
 if_formed false k h = tt
 if_formed true k h = h refl
 
@@ -155,14 +178,14 @@ lead_formed ds false e h = made_formed (unit_code ds) h
 lead_formed ds true e h = (h, e)
 
 -- and what is made of all digits of a number
-all_read_formed : (w : Width) (ds : List ℕ) → IsWidth w → AreDigits (width_count w) ds → IsCoded (all_read w ds)
+all_read_formed : (w : Width trees) (ds : List ℕ) → IsWidth w → AreDigits (width_count w) ds → IsCoded (all_read w ds)
 all_read_formed byte_width ds v h = made_formed (byte_code ds) h
 all_read_formed unit_width ds v h = lead_formed ds _ refl h
 all_read_formed (trail_width ds) es v h =
     if_formed (is_trail (hex_number es)) (made (pair_code ds es)) (λ e. made_formed (pair_code ds es) (v, h, e))
 
 -- and what is made of digits with one more, as many of them as there may be
-digit_read_formed : (w : Width) (n : Wanted) (ds : List ℕ) → IsWidth w → are_hex_digits ds ≡ true
+digit_read_formed : (w : Width trees) (n : Wanted) (ds : List ℕ) → IsWidth w → are_hex_digits ds ≡ true
     → length ds + wanted_count n ≡ width_count w + 1 → IsCoded (digit_read w n ds)
 digit_read_formed w one_more ds v h e = all_read_formed w ds v (h, omega (arith, e))
 digit_read_formed w two_more ds v h e = (v, h, omega (arith, e))
@@ -175,41 +198,54 @@ hex_push_digit [] c h e = and_true _ _ e refl
 hex_push_digit (d ∷ ds) c h e = and_true _ _ (and_left (is_hex_digit d) _ h) (hex_push_digit ds c (and_right (is_hex_digit d) _ h) e)
 
 -- what comes of a character among the digits is a part that may have been read, or an escape
-on_digit_formed : (w : Width) (n : Wanted) (ds : List ℕ) (c : ℕ) → IsWidth w → are_hex_digits ds ≡ true
+on_digit_formed : (w : Width trees) (n : Wanted) (ds : List ℕ) (c : ℕ) → IsWidth w → are_hex_digits ds ≡ true
     → length ds + wanted_count n ≡ width_count w → IsCoded (on_digit w n ds c)
 on_digit_formed w n ds c v h e =
-    if_formed (is_next_digit ds c) (digit_read w n (ds ++ c ∷ []))
+    digit_when IsCoded w n (ds ++ c ∷ []) (is_next_digit ds c) tt
     (λ t. digit_read_formed w n (ds ++ c ∷ []) v (hex_push_digit ds c h (and_left (is_hex_digit c) _ t)) (omega (arith, length_push ds c, e)))
 
 -- and so is what comes of one behind `\u`
 unit_formed : (c : ℕ) (b : Bool) → IsCoded (on_unit c b)
 unit_formed c false = on_digit_formed unit_width four_more [] c tt refl refl
-unit_formed c true = refl
+unit_formed c true = tt
+
+-- what stands between braces is digits
+point_digits : (o : Option (List ℕ)) → IsPoint o → are_hex_digits (value_or [] o) ≡ true
+point_digits None h = refl
+point_digits (Some ds) h = h.0
+
+-- behind one more digit there are digits
+has_pushed : (ds : List ℕ) (c : ℕ) → has_digits (ds ++ c ∷ []) ≡ true
+has_pushed [] c = refl
+has_pushed (d ∷ ds) c = refl
 
 -- and what comes of one behind `\u{` and digits
-point_formed : (ds : List ℕ) (c : ℕ) (b : Bool) → are_hex_digits ds ≡ true → IsCoded (on_point ds c b)
-point_formed ds c false h =
-    if_formed (is_next_digit ds c) (goes (point_opened (ds ++ c ∷ []))) (λ t. hex_push_digit ds c h (and_left (is_hex_digit c) _ t))
-point_formed ds c true h = if_formed (has_digits ds) (made (point_code ds)) (λ t. made_formed (point_code ds) (h, t))
+point_formed : (o : Option (List ℕ)) (c : ℕ) (b : Bool) → IsPoint o → IsCoded (on_point o c b)
+point_formed o c false h =
+    let ds = value_or [] o in
+    point_when IsCoded (ds ++ c ∷ []) (is_next_digit ds c) tt
+    (λ t. (hex_push_digit ds c (point_digits o h) (and_left (is_hex_digit c) _ t), has_pushed ds c))
+point_formed None c true h = tt
+point_formed (Some ds) c true h = made_formed (point_code ds) h
 
 -- so what comes of a character behind a part that may have been read is such a part, or an escape
-pub coding_formed : (k : Coding) (c : ℕ) → IsCoding k → IsCoded (coding_next k c)
+pub coding_formed : (k : Coding trees) (c : ℕ) → IsCoding k → IsCoded (coding_next k c)
 coding_formed letter_awaited c h = if_formed (is_ascii_alphabetic c) (made (letter_code c)) (λ e. made_formed (letter_code c) e)
 coding_formed unit_opened c h = unit_formed c (c == byte "{")
 coding_formed (digits_of w n ds) c h = on_digit_formed w n ds c h.0 h.1 h.2
 coding_formed (lead_read ds) c h = if_formed (c == byte "\\") (goes (lead_escaped ds)) (λ e. h)
 coding_formed (lead_escaped ds) c h =
     if_formed (c == byte "u") (goes (digits_of (trail_width ds) four_more [])) (λ e. (h, refl, refl))
-coding_formed (point_opened ds) c h = point_formed ds c (c == byte "}") h
+coding_formed (point_opened o) c h = point_formed o c (c == byte "}") h
 
 -- what may have been read behind `\u`
-abbrev is_unicode_width : Width → Bool
+abbrev is_unicode_width : Width trees → Bool
 is_unicode_width byte_width = false
 is_unicode_width unit_width = true
 is_unicode_width (trail_width ds) = true
 
 -- the same of any part of an escape
-abbrev pub is_unicode_coding : Coding → Bool
+abbrev pub is_unicode_coding : Coding trees → Bool
 is_unicode_coding letter_awaited = false
 is_unicode_coding unit_opened = true
 is_unicode_coding (digits_of w n ds) = is_unicode_width w
@@ -218,13 +254,13 @@ is_unicode_coding (lead_escaped ds) = true
 is_unicode_coding (point_opened ds) = true
 
 -- what comes of a character, if anything, is a part or a whole of an escape with `\u`
-abbrev pub IsUnicode : Coded → Type 0
+abbrev pub IsUnicode : Coded trees → Type 0
 IsUnicode fails = Unit {0}
 IsUnicode (goes k) = is_unicode_coding k ≡ true
 IsUnicode (makes d) = is_unicode d ≡ true
 
 -- what is one with `\u` is so under a test too
-if_unicode : (b : Bool) (k : Coded) → IsUnicode k → IsUnicode (coded_if b k)
+if_unicode : (b : Bool) (k : Coded trees) → IsUnicode k → IsUnicode (coded_if b k)
 if_unicode false k h = tt
 if_unicode true k h = h
 
@@ -234,7 +270,7 @@ lead_unicode ds false = if_unicode (is_scalar (code_value (unit_code ds))) (make
 lead_unicode ds true = refl
 
 -- and what is made of all digits of a number with `\u`
-all_read_unicode : (w : Width) (ds : List ℕ) → is_unicode_width w ≡ true → IsUnicode (all_read w ds)
+all_read_unicode : (w : Width trees) (ds : List ℕ) → is_unicode_width w ≡ true → IsUnicode (all_read w ds)
 all_read_unicode byte_width ds h = absurd (true≢false (sym h))
 all_read_unicode unit_width ds h = lead_unicode ds (is_lead (hex_number ds))
 all_read_unicode (trail_width ds) es h =
@@ -242,16 +278,16 @@ all_read_unicode (trail_width ds) es h =
     (if_unicode (is_scalar (code_value (pair_code ds es))) (makes (pair_code ds es)) refl)
 
 -- and what is made of its digits, where more may be to come
-digit_read_unicode : (w : Width) (n : Wanted) (ds : List ℕ) → is_unicode_width w ≡ true → IsUnicode (digit_read w n ds)
+digit_read_unicode : (w : Width trees) (n : Wanted) (ds : List ℕ) → is_unicode_width w ≡ true → IsUnicode (digit_read w n ds)
 digit_read_unicode w one_more ds h = all_read_unicode w ds h
 digit_read_unicode w two_more ds h = h
 digit_read_unicode w three_more ds h = h
 digit_read_unicode w four_more ds h = h
 
 -- and what comes of a character among them
-on_digit_unicode : (w : Width) (n : Wanted) (ds : List ℕ) (c : ℕ) → is_unicode_width w ≡ true → IsUnicode (on_digit w n ds c)
+on_digit_unicode : (w : Width trees) (n : Wanted) (ds : List ℕ) (c : ℕ) → is_unicode_width w ≡ true → IsUnicode (on_digit w n ds c)
 on_digit_unicode w n ds c h =
-    if_unicode (is_next_digit ds c) (digit_read w n (ds ++ c ∷ [])) (digit_read_unicode w n (ds ++ c ∷ []) h)
+    digit_when IsUnicode w n (ds ++ c ∷ []) (is_next_digit ds c) tt (λ _. digit_read_unicode w n (ds ++ c ∷ []) h)
 
 -- and what comes of one behind `\u`
 unit_unicode : (c : ℕ) (b : Bool) → IsUnicode (on_unit c b)
@@ -259,19 +295,19 @@ unit_unicode c false = on_digit_unicode unit_width four_more [] c refl
 unit_unicode c true = refl
 
 -- and what comes of one behind `\u{` and digits
-point_unicode : (ds : List ℕ) (c : ℕ) (b : Bool) → IsUnicode (on_point ds c b)
-point_unicode ds c false = if_unicode (is_next_digit ds c) (goes (point_opened (ds ++ c ∷ []))) refl
-point_unicode ds c true =
-    if_unicode (has_digits ds) (made (point_code ds)) (if_unicode (is_scalar (code_value (point_code ds))) (makes (point_code ds)) refl)
+point_unicode : (o : Option (List ℕ)) (c : ℕ) (b : Bool) → IsUnicode (on_point o c b)
+point_unicode o c false = point_when IsUnicode (value_or [] o ++ c ∷ []) (is_next_digit (value_or [] o) c) tt (λ _. refl)
+point_unicode None c true = tt
+point_unicode (Some ds) c true = if_unicode (is_scalar (code_value (point_code ds))) (makes (point_code ds)) refl
 
 -- so what comes of a character behind a part with `\u` is one with `\u`
-pub coding_unicode : (k : Coding) (c : ℕ) → is_unicode_coding k ≡ true → IsUnicode (coding_next k c)
+pub coding_unicode : (k : Coding trees) (c : ℕ) → is_unicode_coding k ≡ true → IsUnicode (coding_next k c)
 coding_unicode letter_awaited c h = absurd (true≢false (sym h))
 coding_unicode unit_opened c h = unit_unicode c (c == byte "{")
 coding_unicode (digits_of w n ds) c h = on_digit_unicode w n ds c h
 coding_unicode (lead_read ds) c h = if_unicode (c == byte "\\") (goes (lead_escaped ds)) refl
 coding_unicode (lead_escaped ds) c h = if_unicode (c == byte "u") (goes (digits_of (trail_width ds) four_more [])) refl
-coding_unicode (point_opened ds) c h = point_unicode ds c (c == byte "}")
+coding_unicode (point_opened o) c h = point_unicode o c (c == byte "}")
 
 -- numbers
 -- the number of digits, and others behind them, goes on from the number of the first
@@ -318,7 +354,7 @@ abbrev pub Behind : Type 0 → Type 0
 Behind A = A → List ℕ → Option Disjunction
 
 -- the same behind what comes of a character, which may be nothing
-abbrev pub follow : Behind Coding → Behind Code → Behind Coded
+abbrev pub follow : Behind (Coding trees) → Behind Code → Behind (Coded trees)
 follow F G fails cs = None
 follow F G (goes k) cs = F k cs
 follow F G (makes d) cs = G d cs
@@ -333,7 +369,7 @@ code_tail (pair_code ds es) = ds ++ byte "\\" ∷ byte "u" ∷ es
 code_tail (point_code ds) = byte "{" ∷ (ds ++ byte "}" ∷ [])
 
 -- the rest of a pattern that is read, behind the backslash and the letter of an escape
-abbrev pub begun : Behind Coding → Behind Code → Behind Code
+abbrev pub begun : Behind (Coding trees) → Behind Code → Behind Code
 begun F G null_code cs = G null_code cs
 begun F G (letter_code c) cs = F letter_awaited cs
 begun F G (byte_code ds) cs = F (digits_of byte_width two_more []) cs
@@ -348,24 +384,25 @@ no_digits two_more e = omega (arith, e)
 no_digits three_more e = omega (arith, e)
 no_digits four_more e = omega (arith, e)
 
-module _ (F : Behind Coding) (G : Behind Code) (turn : (k : Coding) (c : ℕ) (cs : List ℕ) → F k (c ∷ cs) ≡ follow F G (coding_next k c) cs) where
+module _ (F : Behind (Coding trees)) (G : Behind Code) (turn : (k : Coding trees) (c : ℕ) (cs : List ℕ) → F k (c ∷ cs) ≡ follow F G (coding_next k c) cs) where
   -- an escape whose character a text can have is read as a whole one
   made_follows : (d : Code) → is_scalar (code_value d) ≡ true → (cs : List ℕ) → follow F G (made d) cs ≡ G d cs
   made_follows d h cs = ap (λ (b : Bool). follow F G (coded_if b (makes d)) cs) h
 
   -- a digit that makes no number above the greatest is read, and added to those before
-  one_digit : (w : Width) (n : Wanted) (ds : List ℕ) (d : ℕ) (cs : List ℕ) → is_hex_digit d ≡ true → hex_number (ds ++ d ∷ []) ≤ max_code_point
+  one_digit : (w : Width trees) (n : Wanted) (ds : List ℕ) (d : ℕ) (cs : List ℕ) → is_hex_digit d ≡ true → hex_number (ds ++ d ∷ []) ≤ max_code_point
       → F (digits_of w n ds) (d ∷ cs) ≡ follow F G (digit_read w n (ds ++ d ∷ [])) cs
   one_digit w n ds d cs h m =
       turn (digits_of w n ds) d cs
-      ∙ ap (λ (b : Bool). follow F G (coded_if b (digit_read w n (ds ++ d ∷ []))) cs) (and_true _ _ h (le-leb (hex_number (ds ++ d ∷ [])) max_code_point m))
+      ∙ ap (λ (b : Bool). follow F G (digit_or_none w n (value_if b (ds ++ d ∷ []))) cs)
+      (and_true _ _ h (le-leb (hex_number (ds ++ d ∷ [])) max_code_point m))
 
   -- a number not above the greatest is not above it with the brackets among its digits moved
   shifted : (ds : List ℕ) (d : ℕ) (es : List ℕ) → hex_number (ds ++ d ∷ es) ≤ max_code_point → hex_number ((ds ++ d ∷ []) ++ es) ≤ max_code_point
   shifted ds d es m = subst (λ (z : List ℕ). hex_number z ≤ max_code_point) (sym (append_assoc ds (d ∷ []) es)) m
 
   -- where the digits behind one are read to the last, they are with that one in front
-  joins : (w : Width) (n : Wanted) (ds : List ℕ) (d : ℕ) (es cs : List ℕ) → is_hex_digit d ≡ true → hex_number (ds ++ d ∷ es) ≤ max_code_point
+  joins : (w : Width trees) (n : Wanted) (ds : List ℕ) (d : ℕ) (es cs : List ℕ) → is_hex_digit d ≡ true → hex_number (ds ++ d ∷ es) ≤ max_code_point
       → follow F G (digit_read w n (ds ++ d ∷ [])) (es ++ cs) ≡ follow F G (all_read w ((ds ++ d ∷ []) ++ es)) cs
       → F (digits_of w n ds) (d ∷ (es ++ cs)) ≡ follow F G (all_read w (ds ++ d ∷ es)) cs
   joins w n ds d es cs h m rest =
@@ -373,7 +410,7 @@ module _ (F : Behind Coding) (G : Behind Code) (turn : (k : Coding) (c : ℕ) (c
       ∙ ap (λ (z : List ℕ). follow F G (all_read w z) cs) (append_assoc ds (d ∷ []) es)
 
   -- digits are read to the last, where there are as many as are to come
-  reads_digits : (w : Width) (n : Wanted) (ds es : List ℕ) → are_hex_digits es ≡ true → length es ≡ wanted_count n
+  reads_digits : (w : Width trees) (n : Wanted) (ds es : List ℕ) → are_hex_digits es ≡ true → length es ≡ wanted_count n
       → hex_number (ds ++ es) ≤ max_code_point → (cs : List ℕ) → F (digits_of w n ds) (es ++ cs) ≡ follow F G (all_read w (ds ++ es)) cs
   reads_digits w n ds [] h e m cs = absurd (no_digits n e)
   reads_digits w one_more ds (d ∷ []) h e m cs = one_digit w one_more ds d cs (and_left (is_hex_digit d) _ h) m
@@ -397,19 +434,32 @@ module _ (F : Behind Coding) (G : Behind Code) (turn : (k : Coding) (c : ℕ) (c
       ∙ ap (λ (b : Bool). follow F G (on_unit d b) (ds ++ cs)) (is_not is_hex_digit d (byte "{") (d == byte "{") refl (and_left (is_hex_digit d) _ h.0) refl)
       ∙ sym (turn (digits_of unit_width four_more []) d (ds ++ cs))
 
-  -- behind `\u{`, digits are read and added to those before, up to the greatest number
-  reads_point : (ds es : List ℕ) → are_hex_digits es ≡ true → hex_number (ds ++ es) ≤ max_code_point → (cs : List ℕ)
-      → F (point_opened ds) (es ++ cs) ≡ F (point_opened (ds ++ es)) cs
-  reads_point ds [] h m cs = ap (λ (z : List ℕ). F (point_opened z) cs) (sym (append-nil ds))
-  reads_point ds (d ∷ es) h m cs =
-      let hex = and_left (is_hex_digit d) _ h in
-      let small = front_small (ds ++ d ∷ []) es (shifted ds d es m) in
-      turn (point_opened ds) d (es ++ cs)
-      ∙ ap (λ (b : Bool). follow F G (on_point ds d b) (es ++ cs)) (is_not is_hex_digit d (byte "}") (d == byte "}") refl hex refl)
-      ∙ ap (λ (b : Bool). follow F G (coded_if b (goes (point_opened (ds ++ d ∷ [])))) (es ++ cs))
-      (and_true _ _ hex (le-leb (hex_number (ds ++ d ∷ [])) max_code_point small))
-      ∙ reads_point (ds ++ d ∷ []) es (and_right (is_hex_digit d) _ h) (shifted ds d es m) cs
-      ∙ ap (λ (z : List ℕ). F (point_opened z) cs) (append_assoc ds (d ∷ []) es)
+  -- behind `\u{`, a digit is read and added to those before, up to the greatest number
+  point_step : (o : Option (List ℕ)) (d : ℕ) → is_hex_digit d ≡ true → hex_number (value_or [] o ++ d ∷ []) ≤ max_code_point → (cs : List ℕ)
+      → F (point_opened o) (d ∷ cs) ≡ F (point_opened (Some (value_or [] o ++ d ∷ []))) cs
+  point_step o d h m cs =
+      let ds = value_or [] o in
+      turn (point_opened o) d cs
+      ∙ ap (λ (b : Bool). follow F G (on_point o d b) cs) (is_not is_hex_digit d (byte "}") (d == byte "}") refl h refl)
+      ∙ ap (λ (b : Bool). follow F G (point_digit (value_if b (ds ++ d ∷ []))) cs)
+      (and_true _ _ h (le-leb (hex_number (ds ++ d ∷ [])) max_code_point m))
+
+  -- and so are several, one behind the other
+  point_more : (ds es : List ℕ) → are_hex_digits es ≡ true → hex_number (ds ++ es) ≤ max_code_point → (cs : List ℕ)
+      → F (point_opened (Some ds)) (es ++ cs) ≡ F (point_opened (Some (ds ++ es))) cs
+  point_more ds [] h m cs = ap (λ (z : List ℕ). F (point_opened (Some z)) cs) (sym (append-nil ds))
+  point_more ds (d ∷ es) h m cs =
+      point_step (Some ds) d (and_left (is_hex_digit d) _ h) (front_small (ds ++ d ∷ []) es (shifted ds d es m)) (es ++ cs)
+      ∙ point_more (ds ++ d ∷ []) es (and_right (is_hex_digit d) _ h) (shifted ds d es m) cs
+      ∙ ap (λ (z : List ℕ). F (point_opened (Some z)) cs) (append_assoc ds (d ∷ []) es)
+
+  -- all of them are read, where there are any
+  reads_point : (ds : List ℕ) → AreCodeDigits (point_code ds) → hex_number ds ≤ max_code_point → (cs : List ℕ)
+      → F (point_opened None) (ds ++ cs) ≡ F (point_opened (Some ds)) cs
+  reads_point [] h m cs = absurd (true≢false (sym h.1))
+  reads_point (d ∷ ds) h m cs =
+      point_step None d (and_left (is_hex_digit d) _ h.0) (front_small (d ∷ []) ds m) (ds ++ cs)
+      ∙ point_more (d ∷ []) ds (and_right (is_hex_digit d) _ h.0) m cs
 
   -- of four digits
   -- behind `\u` they are read, as those of a leading surrogate or of a character
@@ -436,6 +486,6 @@ module _ (F : Behind Coding) (G : Behind Code) (turn : (k : Coding) (c : ℕ) (c
       ∙ reads_digits (trail_width ds) four_more [] es h.0.1.0 h.0.1.1 (trail_small (hex_number es) h.0.2) cs
       ∙ ap (λ (b : Bool). follow F G (coded_if b (made (pair_code ds es))) cs) h.0.2 ∙ made_follows (pair_code ds es) h.1 cs
   reads_code (point_code ds) h cs =
-      turn unit_opened (byte "{") ((ds ++ byte "}" ∷ []) ++ cs) ∙ ap (F (point_opened [])) (append_assoc ds (byte "}" ∷ []) cs)
-      ∙ reads_point [] ds h.0.0 (scalar_small (hex_number ds) h.1) (byte "}" ∷ cs) ∙ turn (point_opened ds) (byte "}") cs
-      ∙ ap (λ (b : Bool). follow F G (coded_if b (made (point_code ds))) cs) h.0.1 ∙ made_follows (point_code ds) h.1 cs
+      turn unit_opened (byte "{") ((ds ++ byte "}" ∷ []) ++ cs) ∙ ap (F (point_opened None)) (append_assoc ds (byte "}" ∷ []) cs)
+      ∙ reads_point ds h.0 (scalar_small (hex_number ds) h.1) (byte "}" ∷ cs) ∙ turn (point_opened (Some ds)) (byte "}") cs
+      ∙ made_follows (point_code ds) h.1 cs

@@ -9,7 +9,7 @@ use Rattle.strkw_pattern.specs.declared.engine.Outcome.TheVariants.{Match, NoMat
 use Rattle.strkw_ecma.specs.Names.{are_distinct}
 use Rattle.strkw_ecma.specs.Syntax.{Disjunction, names}
 use Rattle.strkw_ecma.specs.Syntax.{max_length}
-use Rattle.strkw_ecma.specs.machine.Reading.{read, read_short, read_pattern, tree_if, small_tree}
+use Rattle.strkw_ecma.specs.machine.Reading.{read_short, read_pattern, small}
 use Rattle.strkw_ecma.specs.Lookahead.{is_apart}
 use Rattle.strkw_ecma.specs.Front.{parts, steps_of_parts}
 use Rattle.strkw_ecma.specs.Size.{max_steps}
@@ -23,23 +23,25 @@ use Rattle.strkw_ecma.proofs.Spelled.{IsSpelled, sound}
 use Rattle.strkw_ecma.proofs.Formed.{IsFormed, read_formed}
 use Rattle.strkw_ecma.proofs.FrontMeaning.{found_parts, parts_are_exact}
 use Rattle.strkw_ecma.proofs.Unmarked.{unmarked_pattern, parts_clean}
+use Rattle.strkw_ecma.specs.machine.Reading.{when, read_from, initial}
+use Rattle.strkw_ecma.specs.machine.Makers.{trees}
 
 -- a tree that is not left out for its size is that of a pattern, if it is one when small
 small_of : (source : List ℕ) (d : Disjunction) (b : Bool) → nat_le (steps_of_parts (parts (pattern d))) max_steps ≡ b
     → (steps_of_parts (parts (pattern d)) ≤ max_steps → IsPattern source d)
-    → IsTrue (is_some (tree_if b d)) → (d : Disjunction) × IsPattern source d
+    → IsTrue (is_some (when b (Some d))) → (d : Disjunction) × IsPattern source d
 small_of source d false e p h = absurd (true≢false (sym h))
 small_of source d true e p h = (d, p (leb-true (steps_of_parts (parts (pattern d))) max_steps e))
 
 -- a tree is read only where no name is there twice
-distinct_of : (d : Disjunction) (b : Bool) → are_distinct (names d) ≡ b → is_some (tree_if b d) ≡ true → are_distinct (names d) ≡ true
+distinct_of : (d : Disjunction) (b : Bool) → are_distinct (names d) ≡ b → is_some (when b (Some d)) ≡ true → are_distinct (names d) ≡ true
 distinct_of d false e h = absurd (true≢false (sym h))
 distinct_of d true e h = e
 
 -- where the reader comes to a tree that is not left out, the text is a pattern
 derived_of : (source : List ℕ) (a b : Bool) (o : Option Disjunction) → is_apart source ≡ a → leb (length source) max_length ≡ b
-    → read source ≡ o → IsSpelled o source → IsFormed o
-    → IsTrue (is_some (if a then small_tree (if b then o else None) else None)) → (d : Disjunction) × IsPattern source d
+    → read_from (initial trees) source ≡ o → IsSpelled o source → IsFormed o
+    → IsTrue (is_some (if a then small trees (if b then o else None) else None)) → (d : Disjunction) × IsPattern source d
 derived_of source false b o a e r s f h = absurd (true≢false (sym h))
 derived_of source true false o a e r s f h = absurd (true≢false (sym h))
 derived_of source true true None a e r s f h = absurd (true≢false (sym h))
@@ -50,18 +52,18 @@ derived_of source true true (Some d) a e r s f h =
       spelled = s;
       short = leb-true (length source) max_length e;
       apart = a;
-      distinct = distinct_of d (are_distinct (names d)) refl (ap is_some (sym (complete d f) ∙ ap read s ∙ r));
+      distinct = distinct_of d (are_distinct (names d)) refl (ap is_some (sym (complete d f) ∙ ap (read_from (initial trees)) s ∙ r));
       small = m;
     }) h
 
 -- a pattern is read as its tree
-read_is : (source : List ℕ) (d : Disjunction) → IsPattern source d → read_pattern source ≡ Some d
+read_is : (source : List ℕ) (d : Disjunction) → IsPattern source d → read_pattern trees source ≡ Some d
 read_is source d p =
-    ap (λ (b : Bool). if b then small_tree (read_short source) else None) p.apart
-    ∙ ap (λ (b : Bool). small_tree (if b then read source else None)) (le-leb (length source) max_length p.short)
-    ∙ ap (λ (z : List ℕ). small_tree (read z)) (sym p.spelled) ∙ ap small_tree (complete d p.formed)
-    ∙ ap (λ (b : Bool). small_tree (tree_if b d)) p.distinct
-    ∙ ap (λ (b : Bool). tree_if b d) (le-leb (steps_of_parts (parts (pattern d))) max_steps p.small)
+    ap (λ (b : Bool). if b then small trees (read_short trees source) else None) p.apart
+    ∙ ap (λ (b : Bool). small trees (if b then read_from (initial trees) source else None)) (le-leb (length source) max_length p.short)
+    ∙ ap (λ (z : List ℕ). small trees (read_from (initial trees) z)) (sym p.spelled) ∙ ap (small trees) (complete d p.formed)
+    ∙ ap (λ (b : Bool). small trees (when b (Some d))) p.distinct
+    ∙ ap (λ (b : Bool). when b (Some d)) (le-leb (steps_of_parts (parts (pattern d))) max_steps p.small)
 
 -- the tree that there is, or else the first one
 tree_or : Disjunction → Option Disjunction → Disjunction
@@ -105,10 +107,10 @@ decided_of (Some d) text = by_answer _
 -- the laws hold of each text
 pub exact : (source : List ℕ) → IsExact source
 exact source = record {
-  derived = derived_of source (is_apart source) _ (read source) refl refl refl (sound source) (read_formed source);
+  derived = derived_of source (is_apart source) _ (read_from (initial trees) source) refl refl refl (sound source) (read_formed source);
   taken = λ d p. ap is_some (read_is source d p);
   one_tree = λ d e p q. same_tree d e (sym (read_is source d p) ∙ read_is source e q);
-  decided = decided_of (read_pattern source);
+  decided = decided_of (read_pattern trees source);
   meant = λ d p text.
       subst (λ (o : Option Disjunction). (outcome_of_read o text ≡ Match) ↔ Found (pattern d) text) (sym (read_is source d p))
       (both (match_of _)

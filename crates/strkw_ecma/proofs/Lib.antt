@@ -12,6 +12,7 @@ pub mod Search
 pub mod Shapes
 pub mod Needs
 pub mod Letters
+pub mod BetweenTerms
 pub mod Digits
 pub mod CodeReadings
 pub mod PropertyReadings

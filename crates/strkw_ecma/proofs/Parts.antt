@@ -9,7 +9,6 @@ use Rattle.std.specs.Str.{byte}
 use Rattle.strkw_ecma.specs.Escapes.{Escape, itself, control, set, boundary, no_boundary, null, letter, hexadecimal, unicode, property, no_property, unknown}
 use Rattle.strkw_ecma.specs.Escapes.{escape}
 use Rattle.strkw_ecma.specs.Codes.{null_code}
-use Rattle.strkw_ecma.specs.machine.CodeReading.{Coded, fails, goes, makes, coding_next}
 use Rattle.strkw_ecma.specs.Properties.{Expression, property_of}
 use Rattle.strkw_ecma.specs.machine.PropertyReading.{PropertyRead, no_property_read, property_goes, property_ends, property_next}
 use Rattle.strkw_ecma.specs.declared.properties.Property.{Property}
@@ -36,174 +35,168 @@ use Rattle.strkw_ecma.specs.Lookahead.{is_apart}
 use Rattle.strkw_ecma.specs.Front.{parts, steps_of_parts}
 use Rattle.strkw_ecma.proofs.Digits.{number_push}
 use Rattle.strkw_ecma.proofs.CodeImages.{coding_image, coded_image, next_coding_image}
-use Rattle.strkw_ecma.specs.machine.Reading as reading
-use Rattle.strkw_ecma.specs.machine.Parts as parts
-use Rattle.strkw_ecma.specs.machine.Reading.{Open, Outer, Level, State, with_count, when, longer, range_read, on_low, on_high, on_count, Mode, between}
-use Rattle.strkw_ecma.specs.machine.Reading.{with_mode, opened_within, on_group, on_extension, on_class, on_class_token, on_class_escape, on_coding}
-use Rattle.strkw_ecma.specs.machine.Reading.{on_class_coding, on_property, on_class_property, within, next_in, is_between, with_atom, with_term}
-use Rattle.strkw_ecma.specs.machine.Reading.{with_quantifier, questioned, opened, enclosed}
-use Rattle.strkw_ecma.specs.machine.Reading.{closed_in, with_name_char, name_read, look_read}
-use Rattle.strkw_ecma.specs.machine.Reading.{on_naming, on_name_escape}
-use Rattle.strkw_ecma.specs.machine.Reading.{on_name_coding, on_token, on_escape, next, read_from, initial, read, read_short, read_pattern, tree_if}
-use Rattle.strkw_ecma.specs.machine.Reading.{small_tree}
-use Rattle.strkw_ecma.specs.machine.Parts.{Side, Parts, after_count, after_low, after_high, after_high_brace, after_counting, small, value, ended, joined}
-use Rattle.strkw_ecma.specs.machine.Parts.{level_ended, new_level, after_atom}
-use Rattle.strkw_ecma.specs.machine.Parts.{after_term, after_bar, after_opening, after_enclosed}
-use Rattle.strkw_ecma.specs.machine.Parts.{closing_in, after_name_char}
-use Rattle.strkw_ecma.specs.machine.Parts.{after_name, after_look, after_naming, after_name_escape, after_name_coding, closes, after_closing, after_quantifier}
-use Rattle.strkw_ecma.specs.machine.Parts.{after_question, after_escape, after_token, after_group, after_extension, after_class_token, after_class_escape}
-use Rattle.strkw_ecma.specs.machine.Parts.{after_coding, after_class_coding, after_property, after_class_property, after_bracket, after_in, after_char}
-use Rattle.strkw_ecma.specs.machine.Parts.{at_close, pattern_from, no_parts, pattern_if, small_pattern}
+use Rattle.strkw_ecma.specs.machine.CodeReading.{Coded, fails, goes, makes, coding_next, value_or}
+use Rattle.strkw_ecma.specs.machine.Makers.{trees, patterns, value_if, enclosed_tree, enclosed_pattern}
+use Rattle.strkw_ecma.specs.machine.Reading.{Open, Outer, Level, Last, none, atom, counted, Pending, fresh, one, dashed, Class, Count, low, high, Mode, between}
+use Rattle.strkw_ecma.specs.machine.Reading.{escaping, opening, extending, class_opened, counting, coding, in_class, class_escaping, class_coding, in_property}
+use Rattle.strkw_ecma.specs.machine.Reading.{in_class_property, naming, name_escaping, name_coding, is_between, State, with_mode, when, all_terms, joined}
+use Rattle.strkw_ecma.specs.machine.Reading.{whole_level, level_so_far, new_level, with_atom, with_term, with_bar, with_open, opened_within, with_part, closed_in}
+use Rattle.strkw_ecma.specs.machine.Reading.{with_quantifier, with_question, on_token, on_escape, on_coding, on_property, on_group, on_extension, ranged, took}
+use Rattle.strkw_ecma.specs.machine.Reading.{took_dash, whole_class, within, on_class_token, on_class_escape, on_class_coding, on_class_property, on_bracket}
+use Rattle.strkw_ecma.specs.machine.Reading.{on_name_char, on_name_end, on_look, on_naming, on_name_escape, on_name_coding, with_count, with_digit, on_low}
+use Rattle.strkw_ecma.specs.machine.Reading.{on_range_end, on_high, on_count, next_in, next, closes, at_close, read_from, initial, read_short, small, read_pattern}
+use Rattle.strkw_ecma.specs.declared.reader.Enclosing.{Enclosing as CodeEnclosing}
+use Rattle.strkw_ecma.specs.declared.reader.Enclosing.TheVariants as code_enclosing
+use Rattle.strkw_ecma.proofs.BetweenTerms.{standing, class_so_far}
 
 -- a level with the patterns of its trees
-abbrev side : Level → Side
+abbrev side : Level trees → Level patterns
 side l = record { earlier = option_map pattern l.earlier; current = alternative_pattern l.current }
 
 -- a group or a lookbehind of the definitions, as the code's reader holds it
-abbrev pub enclosing_image : Enclosing → parts.Enclosing
-enclosing_image (of_group g) = parts.of_group
-enclosing_image (of_lookbehind n) = parts.of_behind n
-enclosing_image (of_lookahead n) = parts.of_ahead n
+abbrev pub enclosing_image : Enclosing → CodeEnclosing
+enclosing_image (of_group g) = code_enclosing.Group
+enclosing_image (of_lookbehind n) = code_enclosing.Behind n
+enclosing_image (of_lookahead n) = code_enclosing.Ahead n
 
 -- what is open, and the level around it with the patterns of its trees
-abbrev pub around : Open → parts.Open
+abbrev pub around : Open trees → Open patterns
 around o = record {
   enclosing = enclosing_image o.enclosing;
-  side = record { earlier = option_map pattern o.earlier; current = alternative_pattern o.current };
+  level = side o.level;
 }
 
 -- all that is open, and the names
-abbrev outer_image : Outer → parts.Outer
+abbrev outer_image : Outer trees → Outer patterns
 outer_image o = record { groups = map around o.groups; names = o.names }
 
 -- the last term as its pattern, with its quantifier where it has one
-abbrev pub last_image : reading.Last → parts.Last
-last_image reading.none = parts.none
-last_image (reading.atom a) = parts.atom (atom_pattern a)
-last_image (reading.counted a q) = parts.counted (quantified_pattern (times q) (atom_pattern a))
+abbrev pub last_image : Last trees → Last patterns
+last_image none = none
+last_image (atom a) = atom (atom_pattern a)
+last_image (counted (a, q)) = counted (quantified_pattern (times q) (atom_pattern a))
 
 -- what may belong to a range, with what each atom stands for
-abbrev pending_image : reading.Pending → parts.Pending
-pending_image reading.fresh = parts.fresh
-pending_image (reading.one x) = parts.one (item x)
-pending_image (reading.dashed x) = parts.dashed (item x)
+abbrev pending_image : Pending trees → Pending patterns
+pending_image fresh = fresh
+pending_image (one x) = one (item x)
+pending_image (dashed x) = dashed (item x)
 
 -- a class as far as it is read, with the sets that it stands for
-abbrev class_image : reading.Class → parts.Class
-class_image k = record { negated = k.negated; sets = sets_of k.ranges; pending = pending_image k.pending }
+abbrev class_image : Class trees → Class patterns
+class_image k = record { negated = k.negated; ranges = sets_of k.ranges; pending = pending_image k.pending }
 
 -- a count with the numbers of its digits
-abbrev count_image : reading.Count → parts.Count
-count_image (reading.low ds) = parts.low (number_of ds)
-count_image (reading.high ds es) = parts.high (number ds) (number_of es)
+abbrev count_image : Count trees → Count patterns
+count_image (low o) = low (option_map number o)
+count_image (high ds o) = high (number ds) (option_map number o)
 
 -- the mode of the code's reader, where that of the definitions is in this one
-abbrev mode_image : Mode → parts.Mode
-mode_image reading.between = parts.between
-mode_image reading.escaping = parts.escaping
-mode_image reading.opening = parts.opening
-mode_image reading.extending = parts.extending
-mode_image (reading.counting n) = parts.counting (count_image n)
-mode_image (reading.coding k) = parts.coding (coding_image k)
-mode_image reading.class_opened = parts.class_opened
-mode_image (reading.in_class k) = parts.in_class (class_image k)
-mode_image (reading.class_escaping k) = parts.class_escaping (class_image k)
-mode_image (reading.class_coding k d) = parts.class_coding (class_image k) (coding_image d)
-mode_image (reading.in_property k) = parts.in_property k
-mode_image (reading.in_class_property k d) = parts.in_class_property (class_image k) d
-mode_image (reading.naming n) = parts.naming (name_value n)
-mode_image (reading.name_escaping n) = parts.name_escaping (name_value n)
-mode_image (reading.name_coding n k) = parts.name_coding (name_value n) (coding_image k)
+abbrev mode_image : Mode trees → Mode patterns
+mode_image between = between
+mode_image escaping = escaping
+mode_image opening = opening
+mode_image extending = extending
+mode_image (counting n) = counting (count_image n)
+mode_image (coding k) = coding (coding_image k)
+mode_image class_opened = class_opened
+mode_image (in_class k) = in_class (class_image k)
+mode_image (class_escaping k) = class_escaping (class_image k)
+mode_image (class_coding k d) = class_coding (class_image k) (coding_image d)
+mode_image (in_property k) = in_property k
+mode_image (in_class_property k d) = in_class_property (class_image k) d
+mode_image (naming n) = naming (name_value n)
+mode_image (name_escaping n) = name_escaping (name_value n)
+mode_image (name_coding n k) = name_coding (name_value n) (coding_image k)
 
 -- what the reader of the code holds, where that of the definitions has this state
-abbrev pub image : State → Parts
+abbrev pub image : State trees → State patterns
 image s = record { outer = outer_image s.outer; level = side s.level; last = last_image s.last; mode = mode_image s.mode }
 
--- the state between terms, with these groups, this level and this last term
-abbrev state : Outer → Level → reading.Last → State
-state outer l x = record { outer = outer; level = l; last = x; mode = between }
-
 -- terms to which the last is added have the pattern that is made of theirs and its
-ended_image : (a : Alternative) (x : reading.Last) → alternative_pattern (reading.ended a x) ≡ ended (alternative_pattern a) (last_image x)
-ended_image a reading.none = refl
-ended_image a (reading.atom x) = refl
-ended_image a (reading.counted x q) = refl
+ended_image : (a : Alternative) (x : Last trees) → alternative_pattern (all_terms a x) ≡ all_terms (alternative_pattern a) (last_image x)
+ended_image a none = refl
+ended_image a (atom x) = refl
+ended_image a (counted (x, q)) = refl
 
 -- an alternative joined to those before has the pattern that is made of theirs and its
-joined_image : (e : Option Disjunction) (a : Alternative) → pattern (reading.joined e a) ≡ joined (option_map pattern e) (alternative_pattern a)
+joined_image : (e : Option Disjunction) (a : Alternative) → pattern (joined trees e a) ≡ joined patterns (option_map pattern e) (alternative_pattern a)
 joined_image None a = refl
 joined_image (Some d) a = refl
 
 -- and so has a whole level
-level_image : (l : Level) (x : reading.Last) → pattern (reading.level_ended l x) ≡ level_ended (side l) (last_image x)
-level_image l x = joined_image l.earlier (reading.ended l.current x) ∙ ap (joined (option_map pattern l.earlier)) (ended_image l.current x)
+level_image : (l : Level trees) (x : Last trees) → pattern (whole_level l x) ≡ whole_level (side l) (last_image x)
+level_image l x = joined_image l.earlier (all_terms l.current x) ∙ ap (joined patterns (option_map pattern l.earlier)) (ended_image l.current x)
 
-module _ (outer : Outer) (l : Level) (x : reading.Last) where
+-- a test may be asked before the image is taken or behind it
+when_image : (b : Bool) (o : Option (State trees)) → option_map image (when b o) ≡ when b (option_map image o)
+when_image false o = refl
+when_image true o = refl
+
+module _ (outer : Outer trees) (l : Level trees) (x : Last trees) where
   -- behind an atom the two readers agree: the image of the state is the parts behind the atom's pattern
-  atom_image : (a : Atom) → image (with_atom outer l x a) ≡ after_atom (image (state outer l x)) (atom_pattern a)
+  atom_image : (a : Atom) → image (with_atom (standing outer l x) a) ≡ with_atom (image (standing outer l x)) (atom_pattern a)
   atom_image a =
       ap (λ (p : Pattern). record {
         outer = outer_image outer;
         level = record { earlier = option_map pattern l.earlier; current = p };
-        last = parts.atom (atom_pattern a);
-        mode = parts.between;
+        last = atom (atom_pattern a);
+        mode = between;
       }) (ended_image l.current x)
 
   -- and behind a term that no quantifier may follow
-  term_image : (t : Term) → image (with_term outer l x t) ≡ after_term (image (state outer l x)) (term_pattern t)
+  term_image : (t : Term) → image (with_term (standing outer l x) t) ≡ with_term (image (standing outer l x)) (term_pattern t)
   term_image t =
       ap (λ (p : Pattern). record {
         outer = outer_image outer;
         level = record { earlier = option_map pattern l.earlier; current = cat p (term_pattern t) };
-        last = parts.none;
-        mode = parts.between;
+        last = none;
+        mode = between;
       }) (ended_image l.current x)
 
   -- and behind `|`
-  bar_image : (c : ℕ) → option_map image (on_token outer l x c bar) ≡ Some (after_bar (image (state outer l x)))
+  bar_image : (c : ℕ) → option_map image (on_token (standing outer l x) c bar) ≡ Some (with_bar (image (standing outer l x)))
   bar_image c =
       ap (λ (p : Pattern). Some (record {
         outer = outer_image outer;
         level = record { earlier = Some p; current = empty };
-        last = parts.none;
-        mode = parts.between;
+        last = none;
+        mode = between;
       }))
       (level_image l x)
 
-  -- with the name of the group
-  abbrev around_group : Enclosing → Parts
-  around_group g = image (state (record { groups = outer.groups; names = with_own_name outer.names g }) l x)
-
   -- the two readers agree on a group or a lookbehind that opens where a test holds
-  opened_image : (g : Enclosing) (b : Bool) → option_map image (opened outer l x g b) ≡ after_opening (around_group g) (enclosing_image g) b
+  opened_image : (g : Enclosing) (b : Bool)
+      → option_map image (with_open (standing outer l x) g b) ≡ with_open (image (standing outer l x)) (enclosing_image g) b
   opened_image g false = refl
   opened_image g true =
       ap (λ (p : Pattern). Some (record {
         outer = record {
           groups = record {
             enclosing = enclosing_image g;
-            side = record { earlier = option_map pattern l.earlier; current = p };
+            level = record { earlier = option_map pattern l.earlier; current = p };
           } ∷ map around outer.groups;
-          names = with_own_name outer.names g;
+          names = outer.names;
         };
-        level = new_level;
-        last = parts.none;
-        mode = parts.between;
+        level = new_level {M = patterns};
+        last = none;
+        mode = between;
       })) (ended_image l.current x)
 
   -- and on one that opens where it is not nested too deep
-  within_opened : (g : Enclosing) → option_map image (opened_within outer l x g) ≡ parts.opened_within (around_group g) (enclosing_image g)
+  within_opened : (g : Enclosing)
+      → option_map image (opened_within (standing outer l x) g) ≡ opened_within (image (standing outer l x)) (enclosing_image g)
   within_opened g =
       opened_image g _
-      ∙ ap (λ (n : ℕ). after_opening (around_group g) (enclosing_image g) (nat_lt n max_nesting)) (sym (length-map outer.groups around))
+      ∙ ap (λ (n : ℕ). with_open (image (standing outer l x)) (enclosing_image g) (nat_lt n max_nesting)) (sym (length-map outer.groups around))
 
   -- and on the state in a class, where there is a class
-  within_image : (o : Option reading.Class) → option_map image (within outer l x o) ≡ parts.within (image (state outer l x)) (option_map class_image o)
+  within_image : (o : Option (Class trees)) → option_map image (within (standing outer l x) o) ≡ within (image (standing outer l x)) (option_map class_image o)
   within_image None = refl
   within_image (Some k) = refl
 
   -- the two readers agree on a character behind a backslash
-  escape_image : (c : ℕ) (k : Escape) → option_map image (on_escape outer l x c k) ≡ after_escape (image (state outer l x)) c k
+  escape_image : (c : ℕ) (k : Escape) → option_map image (on_escape (standing outer l x) c k) ≡ on_escape (image (standing outer l x)) c k
   escape_image c itself = ap Some (atom_image (escaped c))
   escape_image c control = ap Some (atom_image (control_escape c))
   escape_image c set = ap Some (atom_image (set_escape c))
@@ -218,58 +211,49 @@ module _ (outer : Outer) (l : Level) (x : reading.Last) where
   escape_image c unknown = refl
 
   -- and on what comes of one more character of an escape by a number
-  coded_state_image : (o : Coded) → option_map image (on_coding outer l x o) ≡ after_coding (image (state outer l x)) (coded_image o)
+  coded_state_image : (o : Coded trees) → option_map image (on_coding (standing outer l x) o) ≡ on_coding (image (standing outer l x)) (coded_image o)
   coded_state_image fails = refl
   coded_state_image (goes k) = refl
   coded_state_image (makes d) = ap Some (atom_image (coded d))
 
-  -- the property that the expression is of, where it is of one
-  -- the two readers agree on its escape, and refuse it where there is no property
-  property_atom_image : (n : Bool) (e : Expression) (o : Option Property) → property_of e ≡ o
-      → option_map image (reading.when (is_some o) (Some (with_atom outer l x (property_escape n e))))
-      ≡ option_map (λ p. after_atom (image (state outer l x)) (class false false (PropertySet n p ∷ []))) o
-  property_atom_image n e None is = refl
-  property_atom_image n e (Some p) is =
-      ap Some (atom_image (property_escape n e))
-      ∙ ap (λ (o : Option Property). Some (after_atom (image (state outer l x)) (class false false (property_set n o)))) is
-
   -- and on what comes of one more character of such an escape
-  property_image : (o : PropertyRead) → option_map image (on_property outer l x o) ≡ after_property (image (state outer l x)) o
+  property_image : (o : PropertyRead) → option_map image (on_property (standing outer l x) o) ≡ on_property (image (standing outer l x)) o
   property_image no_property_read = refl
   property_image (property_goes k) = refl
-  property_image (property_ends n e) = property_atom_image n e _ refl
+  property_image (property_ends n e) =
+      when_image _ _ ∙ ap (λ (s : State patterns). when (is_some (property_of e)) (Some s)) (atom_image (property_escape n e))
 
 -- the two readers agree on a quantifier, whatever the last term is
-quantifier_image : (outer : Outer) (l : Level) (x : reading.Last) (q : Quantifier)
-    → option_map image (with_quantifier outer l x q) ≡ after_quantifier (image (state outer l x)) (last_image x) (times q)
-quantifier_image outer l reading.none q = refl
-quantifier_image outer l (reading.atom a) q = refl
-quantifier_image outer l (reading.counted a p) q = refl
+quantifier_image : (outer : Outer trees) (l : Level trees) (x : Last trees) (q : Quantifier)
+    → option_map image (with_quantifier (standing outer l x) x q) ≡ with_quantifier (image (standing outer l x)) (last_image x) (times q)
+quantifier_image outer l none q = refl
+quantifier_image outer l (atom a) q = refl
+quantifier_image outer l (counted (a, p)) q = refl
 
 -- and on a question mark
-question_image : (outer : Outer) (l : Level) (x : reading.Last)
-    → option_map image (questioned outer l x) ≡ after_question (image (state outer l x)) (last_image x)
-question_image outer l reading.none = refl
-question_image outer l (reading.atom a) = refl
-question_image outer l (reading.counted a q) = refl
+question_image : (outer : Outer trees) (l : Level trees) (x : Last trees)
+    → option_map image (with_question (standing outer l x) x) ≡ with_question (image (standing outer l x)) (last_image x)
+question_image outer l none = refl
+question_image outer l (atom a) = refl
+question_image outer l (counted (a, q)) = refl
 
 -- and behind the end of a group or a lookbehind with this tree
-enclosed_image : (outer : Outer) (l : Level) (g : Enclosing) (d : Disjunction)
-    → image (enclosed outer l g d) ≡ after_enclosed (outer_image outer) (side l) (enclosing_image g) (pattern d)
+enclosed_image : (outer : Outer trees) (l : Level trees) (g : Enclosing) (d : Disjunction)
+    → image (with_part outer l (enclosed_tree g d)) ≡ with_part (outer_image outer) (side l) (enclosed_pattern (enclosing_image g) (pattern d))
 enclosed_image outer l (of_group g) d = refl
 enclosed_image outer l (of_lookbehind n) d = refl
 enclosed_image outer l (of_lookahead n) d = refl
 
 -- and so where something is open
-closed_image : (os : List Open) (ns : List (List ℕ)) (d : Disjunction)
-    → option_map image (closed_in os ns d) ≡ closing_in (map around os) ns (pattern d)
+closed_image : (os : List (Open trees)) (ns : List (List ℕ)) (d : Disjunction)
+    → option_map image (closed_in os ns d) ≡ closed_in (map around os) ns (pattern d)
 closed_image [] ns d = refl
 closed_image (o ∷ os) ns d =
-    ap Some (enclosed_image (record { groups = os; names = ns }) (record { earlier = o.earlier; current = o.current }) o.enclosing d)
+    ap Some (enclosed_image (record { groups = os; names = ns }) o.level o.enclosing d)
 
 -- the two readers agree on a character between terms, whatever it is
-token_image : (outer : Outer) (l : Level) (x : reading.Last) (c : ℕ) (k : Token)
-    → option_map image (on_token outer l x c k) ≡ after_token (image (state outer l x)) c k
+token_image : (outer : Outer trees) (l : Level trees) (x : Last trees) (c : ℕ) (k : Token)
+    → option_map image (on_token (standing outer l x) c k) ≡ on_token (image (standing outer l x)) c k
 token_image outer l x c bar = bar_image outer l x c
 token_image outer l x c asterisk = quantifier_image outer l x zero_or_more
 token_image outer l x c plus = quantifier_image outer l x one_or_more
@@ -277,7 +261,7 @@ token_image outer l x c question = question_image outer l x
 token_image outer l x c caret = ap Some (term_image outer l x at_start)
 token_image outer l x c dollar = ap Some (term_image outer l x at_end)
 token_image outer l x c opening_token = refl
-token_image outer l x c closing = closed_image outer.groups outer.names _ ∙ ap (after_closing (outer_image outer)) (level_image l x)
+token_image outer l x c closing = closed_image outer.groups outer.names _ ∙ ap (closed_in (map around outer.groups) outer.names) (level_image l x)
 token_image outer l x c point = ap Some (atom_image outer l x dot)
 token_image outer l x c backslash = refl
 token_image outer l x c bracket = refl
@@ -286,48 +270,43 @@ token_image outer l x c character = ap Some (atom_image outer l x (plain c))
 token_image outer l x c other = refl
 
 -- and on the first character within a group that opens where a test holds
-first_image : (outer : Outer) (l : Level) (x : reading.Last) (c : ℕ) (b : Bool)
-    → option_map image (option_and_then (λ t. on_token t.outer t.level t.last c (token c)) (opened outer l x (of_group capturing) b))
-    ≡ option_and_then (λ t. after_token t c (token c)) (after_opening (image (state outer l x)) parts.of_group b)
+first_image : (outer : Outer trees) (l : Level trees) (x : Last trees) (c : ℕ) (b : Bool)
+    → option_map image (option_and_then (λ t. on_token t c (token c)) (with_open (standing outer l x) (of_group capturing) b))
+    ≡ option_and_then (λ t. on_token t c (token c)) (with_open (image (standing outer l x)) code_enclosing.Group b)
 first_image outer l x c false = refl
 first_image outer l x c true =
-    let o : Open = record { enclosing = of_group capturing; earlier = l.earlier; current = reading.ended l.current x } in
-    token_image (record { groups = o ∷ outer.groups; names = outer.names }) reading.new_level reading.none c (token c)
-    ∙ ap (λ (p : Pattern). after_token (record {
+    let o : Open trees = record { enclosing = of_group capturing; level = level_so_far l x } in
+    token_image (record { groups = o ∷ outer.groups; names = outer.names }) new_level none c (token c)
+    ∙ ap (λ (p : Pattern). on_token (record {
       outer = record {
         groups = record {
-          enclosing = parts.of_group;
-          side = record { earlier = option_map pattern l.earlier; current = p };
+          enclosing = code_enclosing.Group;
+          level = record { earlier = option_map pattern l.earlier; current = p };
         } ∷ map around outer.groups;
         names = outer.names;
       };
-      level = new_level;
-      last = parts.none;
-      mode = parts.between;
+      level = new_level {M = patterns};
+      last = none;
+      mode = between;
     }) c (token c)) (ended_image l.current x)
 
 -- and on the character behind `(`
-group_image : (outer : Outer) (l : Level) (x : reading.Last) (c : ℕ) (b : Bool)
-    → option_map image (on_group outer l x c b) ≡ after_group (image (state outer l x)) c b
+group_image : (outer : Outer trees) (l : Level trees) (x : Last trees) (c : ℕ) (b : Bool)
+    → option_map image (on_group (standing outer l x) c b) ≡ on_group (image (standing outer l x)) c b
 group_image outer l x c false =
     first_image outer l x c _
-    ∙ ap (λ (n : ℕ). option_and_then (λ t. after_token t c (token c)) (after_opening (image (state outer l x)) parts.of_group (nat_lt n max_nesting)))
+    ∙ ap (λ (n : ℕ). option_and_then (λ t. on_token t c (token c)) (with_open (image (standing outer l x)) code_enclosing.Group (nat_lt n max_nesting)))
     (sym (length-map outer.groups around))
 group_image outer l x c true = refl
 
 -- and on the one behind `(?`
-extension_image : (outer : Outer) (l : Level) (x : reading.Last) (k : Extension)
-    → option_map image (on_extension outer l x k) ≡ after_extension (image (state outer l x)) k
+extension_image : (outer : Outer trees) (l : Level trees) (x : Last trees) (k : Extension)
+    → option_map image (on_extension (standing outer l x) k) ≡ on_extension (image (standing outer l x)) k
 extension_image outer l x uncaptured = within_opened outer l x (of_group plain_group)
 extension_image outer l x name_opening = refl
 extension_image outer l x look_equals = within_opened outer l x (of_lookahead false)
 extension_image outer l x look_negation = within_opened outer l x (of_lookahead true)
 extension_image outer l x no_extension = refl
-
--- a test may be asked before the image is taken or behind it
-when_image : (b : Bool) (o : Option State) → option_map image (when b o) ≡ parts.when b (option_map image o)
-when_image false o = refl
-when_image true o = refl
 
 -- names
 -- a name with one more character has the value with that of the character behind it
@@ -335,28 +314,29 @@ name_push : (n : List NameChar) (y : NameChar) → name_value (n ++ y ∷ []) �
 name_push [] y = refl
 name_push (z ∷ n) y = ap (λ v. name_char_value z ∷ v) (name_push n y)
 
-module _ (outer : Outer) (l : Level) (x : reading.Last) where
+module _ (outer : Outer trees) (l : Level trees) (x : Last trees) where
   -- the two readers agree on one more character of a name
   name_char_image : (n : List NameChar) (y : NameChar)
-      → option_map image (with_name_char outer l x n y) ≡ after_name_char (image (state outer l x)) (name_value n) (name_char_value y)
+      → option_map image (on_name_char (standing outer l x) n y) ≡ on_name_char (image (standing outer l x)) (name_value n) (name_char_value y)
   name_char_image n y =
-      when_image _ (Some (with_mode outer l x (reading.naming (n ++ y ∷ []))))
-      ∙ ap (λ (v : List ℕ). parts.when (may_follow (name_value n) (name_char_value y)) (Some (parts.with_mode (image (state outer l x)) (parts.naming v))))
+      when_image _ (Some (with_mode (standing outer l x) (naming (n ++ y ∷ []))))
+      ∙ ap (λ (v : List ℕ). when (may_follow (name_value n) (name_char_value y)) (Some (with_mode (image (standing outer l x)) (naming v))))
       (name_push n y)
 
   -- and on the end of a name
-  name_end_image : (n : List NameChar) → option_map image (name_read outer l x n) ≡ after_name (image (state outer l x)) (name_value n)
+  name_end_image : (n : List NameChar) → option_map image (on_name_end (standing outer l x) n (name_value n)) ≡ on_name_end (image (standing outer l x)) (name_value n) (name_value n)
   name_end_image [] = refl
-  name_end_image (y ∷ n) = within_opened outer l x (of_group (named (y ∷ n)))
+  name_end_image (y ∷ n) =
+      within_opened (record { groups = outer.groups; names = outer.names ++ name_value (y ∷ n) ∷ [] }) l x (of_group (named (y ∷ n)))
 
   -- and on the beginning of a lookbehind
-  look_image : (n : List NameChar) (b : Bool) → option_map image (look_read outer l x n b) ≡ after_look (image (state outer l x)) (name_value n) b
+  look_image : (n : List NameChar) (b : Bool) → option_map image (on_look (standing outer l x) (name_value n) b) ≡ on_look (image (standing outer l x)) (name_value n) b
   look_image [] b = within_opened outer l x (of_lookbehind b)
   look_image (y ∷ n) b = refl
 
   -- and on a character in a name, whatever it is there
   naming_image : (n : List NameChar) (c : ℕ) (k : NameToken)
-      → option_map image (on_naming outer l x n c k) ≡ after_naming (image (state outer l x)) (name_value n) c k
+      → option_map image (on_naming (standing outer l x) n c k) ≡ on_naming (image (standing outer l x)) (name_value n) c k
   naming_image n c name_end = name_end_image n
   naming_image n c name_backslash = refl
   naming_image n c name_equals = look_image n false
@@ -365,141 +345,141 @@ module _ (outer : Outer) (l : Level) (x : reading.Last) where
 
   -- and on the one behind a backslash in a name
   name_escape_image : (n : List NameChar) (b : Bool)
-      → option_map image (on_name_escape outer l x n b) ≡ after_name_escape (image (state outer l x)) (name_value n) b
+      → option_map image (on_name_escape (standing outer l x) n b) ≡ on_name_escape (image (standing outer l x)) (name_value n) b
   name_escape_image n false = refl
   name_escape_image n true = refl
 
   -- and on what comes of one more character of an escape in a name
-  name_coded_image : (n : List NameChar) (o : Coded)
-      → option_map image (on_name_coding outer l x n o) ≡ after_name_coding (image (state outer l x)) (name_value n) (coded_image o)
+  name_coded_image : (n : List NameChar) (o : Coded trees)
+      → option_map image (on_name_coding (standing outer l x) n o) ≡ on_name_coding (image (standing outer l x)) (name_value n) (coded_image o)
   name_coded_image n fails = refl
   name_coded_image n (goes k) = refl
   name_coded_image n (makes d) = name_char_image n (by_code d)
 
 -- the two readers agree on a count behind the last term, and on whether that gets too large
-counted_image : (outer : Outer) (l : Level) (x : reading.Last) (q : Quantifier)
-    → option_map image (with_count outer l x q) ≡ after_count (image (state outer l x)) (last_image x) (times q)
-counted_image outer l reading.none q = refl
-counted_image outer l (reading.atom a) q =
-    when_image _ (with_quantifier outer l (reading.atom a) q)
-    ∙ ap (parts.when (nat_le (copies (times q) * steps (atom_pattern a)) max_term_steps)) (quantifier_image outer l (reading.atom a) q)
-counted_image outer l (reading.counted a p) q = refl
+counted_image : (outer : Outer trees) (l : Level trees) (x : Last trees) (q : Quantifier)
+    → option_map image (with_count (standing outer l x) x q) ≡ with_count (image (standing outer l x)) (last_image x) (times q)
+counted_image outer l none q = refl
+counted_image outer l (atom a) q =
+    when_image _ (with_quantifier (standing outer l (atom a)) (atom a) q)
+    ∙ ap (when (nat_le (copies (times q) * steps (atom_pattern a)) max_term_steps)) (quantifier_image outer l (atom a) q)
+counted_image outer l (counted (a, p)) q = refl
 
--- the number of digits is the one that is held of them, or 0 of none
-number_is : (ds : List ℕ) → number ds ≡ value (number_of ds)
-number_is [] = refl
-number_is (d ∷ ds) = refl
+-- the number of the digits that there are is the one that is held of them, or 0 of none
+number_is : (o : Option (List ℕ)) → number (value_or [] o) ≡ value_or 0 (option_map number o)
+number_is None = refl
+number_is (Some ds) = refl
 
--- of digits with one more there is a number
-pushed_is : (ds : List ℕ) (c : ℕ) → number_of (ds ++ c ∷ []) ≡ Some (number (ds ++ c ∷ []))
-pushed_is [] c = refl
-pushed_is (d ∷ ds) c = refl
+-- digits with one more have the number with that digit, where they are taken
+digit_image : (o : Option (List ℕ)) (c : ℕ) → option_map number (with_digit trees o c) ≡ with_digit patterns (option_map number o) c
+digit_image o c =
+    by_test (nat_le (number (value_or [] o ++ c ∷ [])) max_count)
+    ∙ ap (λ (k : ℕ). value_if (nat_le k max_count) k)
+    (number_push 0 (value_or [] o) c ∙ ap (λ (k : ℕ). k * 10 + (c - byte "0")) (number_is o))
+  where
+    -- the same by whether they are
+    by_test : (b : Bool)
+        → option_map number (value_if b (value_or [] o ++ c ∷ [])) ≡ value_if b (number (value_or [] o ++ c ∷ []))
+    by_test false = refl
+    by_test true = refl
 
-module _ (outer : Outer) (l : Level) (x : reading.Last) where
+module _ (outer : Outer trees) (l : Level trees) (x : Last trees) where
   -- one more digit, where m and n are the modes of digits and of their number
   -- the two readers agree on it
-  longer_image : (m : List ℕ → Mode) (n : ℕ → parts.Mode) → ((ds : List ℕ) (k : ℕ) → number_of ds ≡ Some k → mode_image (m ds) ≡ n k)
-      → (ds : List ℕ) (c : ℕ)
-      → option_map image (option_map (λ (es : List ℕ). with_mode outer l x (m es)) (reading.with_digit ds c))
-      ≡ option_map (λ (k : ℕ). parts.with_mode (image (state outer l x)) (n k)) (parts.with_digit (number_of ds) c)
-  longer_image m n same ds c =
-      by_test _ ∙ ap (λ (k : ℕ). option_map (λ (k : ℕ). parts.with_mode (image (state outer l x)) (n k)) (small k (nat_le k max_count)))
-      (number_push 0 ds c ∙ ap (λ (k : ℕ). k * 10 + (c - byte "0")) (number_is ds))
-    where
-      -- the same by whether the number is small enough
-      by_test : (b : Bool)
-          → option_map image (option_map (λ (es : List ℕ). with_mode outer l x (m es)) (longer ds c b))
-          ≡ option_map (λ (k : ℕ). parts.with_mode (image (state outer l x)) (n k)) (small (number (ds ++ c ∷ [])) b)
-      by_test false = refl
-      by_test true =
-          ap (λ (z : parts.Mode). Some (parts.with_mode (image (state outer l x)) z)) (same (ds ++ c ∷ []) _ (pushed_is ds c))
+  longer_image : (m : List ℕ → Mode trees) (n : ℕ → Mode patterns) → ((ds : List ℕ) → mode_image (m ds) ≡ n (number ds)) → (o : Option (List ℕ))
+      → option_map image (option_map (λ (ds : List ℕ). with_mode (standing outer l x) (m ds)) o)
+      ≡ option_map (λ (k : ℕ). with_mode (image (standing outer l x)) (n k)) (option_map number o)
+  longer_image m n same None = refl
+  longer_image m n same (Some ds) = ap (λ (z : Mode patterns). Some (with_mode (image (standing outer l x)) z)) (same ds)
 
   -- the two readers agree on a character in the first number of a count
-  low_image : (ds : List ℕ) (c : ℕ) (k : CountToken)
-      → option_map image (on_low outer l x ds c k) ≡ after_low (image (state outer l x)) (number_of ds) c k
-  low_image ds c digit = longer_image (λ es. reading.counting (reading.low es)) (λ n. parts.counting (parts.low (Some n)))
-      (λ es n e. ap (λ (o : Option ℕ). parts.counting (parts.low o)) e) ds c
-  low_image [] c comma = refl
-  low_image (d ∷ ds) c comma = refl
-  low_image [] c closing_brace = refl
-  low_image (d ∷ ds) c closing_brace = counted_image outer l x (exactly (d ∷ ds))
-  low_image ds c no_count = refl
+  low_image : (o : Option (List ℕ)) (c : ℕ) (k : CountToken)
+      → option_map image (on_low (standing outer l x) o c k) ≡ on_low (image (standing outer l x)) (option_map number o) c k
+  low_image o c digit =
+      longer_image (λ n. counting (low (Some n))) (λ n. counting (low (Some n))) (λ ds. refl) (with_digit trees o c)
+      ∙ ap (option_map (λ (n : ℕ). with_mode (image (standing outer l x)) (counting (low (Some n))))) (digit_image o c)
+  low_image None c comma = refl
+  low_image (Some ds) c comma = refl
+  low_image None c closing_brace = refl
+  low_image (Some ds) c closing_brace = counted_image outer l x (exactly ds)
+  low_image o c no_count = refl
 
   -- and on the brace that closes a count with a comma
-  range_image : (ds es : List ℕ)
-      → option_map image (range_read outer l x ds es) ≡ after_high_brace (image (state outer l x)) (number ds) (number_of es)
-  range_image ds [] = counted_image outer l x (at_least ds)
-  range_image ds (e ∷ es) =
-      when_image (nat_le (number ds) (number (e ∷ es))) (with_count outer l x (from_to ds (e ∷ es)))
-      ∙ ap (parts.when (nat_le (number ds) (number (e ∷ es)))) (counted_image outer l x (from_to ds (e ∷ es)))
+  range_image : (ds : List ℕ) (o : Option (List ℕ))
+      → option_map image (on_range_end (standing outer l x) ds o) ≡ on_range_end (image (standing outer l x)) (number ds) (option_map number o)
+  range_image ds None = counted_image outer l x (at_least ds)
+  range_image ds (Some es) =
+      when_image (nat_le (number ds) (number es)) (with_count (standing outer l x) x (from_to ds es))
+      ∙ ap (when (nat_le (number ds) (number es))) (counted_image outer l x (from_to ds es))
 
   -- and on any character behind the comma
-  high_image : (ds es : List ℕ) (c : ℕ) (k : CountToken)
-      → option_map image (on_high outer l x ds es c k) ≡ after_high (image (state outer l x)) (number ds) (number_of es) c k
-  high_image ds es c digit = longer_image (λ fs. reading.counting (reading.high ds fs)) (λ n. parts.counting (parts.high (number ds) (Some n)))
-      (λ fs n e. ap (λ (o : Option ℕ). parts.counting (parts.high (number ds) o)) e) es c
-  high_image ds es c comma = refl
-  high_image ds es c closing_brace = range_image ds es
-  high_image ds es c no_count = refl
+  high_image : (ds : List ℕ) (o : Option (List ℕ)) (c : ℕ) (k : CountToken)
+      → option_map image (on_high (standing outer l x) ds o c k) ≡ on_high (image (standing outer l x)) (number ds) (option_map number o) c k
+  high_image ds o c digit =
+      longer_image (λ n. counting (high ds (Some n))) (λ n. counting (high (number ds) (Some n))) (λ es. refl) (with_digit trees o c)
+      ∙ ap (option_map (λ (n : ℕ). with_mode (image (standing outer l x)) (counting (high (number ds) (Some n))))) (digit_image o c)
+  high_image ds o c comma = refl
+  high_image ds o c closing_brace = range_image ds o
+  high_image ds o c no_count = refl
 
   -- so they agree on any character of a count
-  counting_image : (n : reading.Count) (c : ℕ)
-      → option_map image (on_count outer l x n c) ≡ after_counting (image (state outer l x)) (count_image n) c
-  counting_image (reading.low ds) c = low_image ds c (count_token c)
-  counting_image (reading.high ds es) c = high_image ds es c (count_token c)
+  counting_image : (n : Count trees) (c : ℕ)
+      → option_map image (on_count (standing outer l x) n c) ≡ on_count (image (standing outer l x)) (count_image n) c
+  counting_image (low o) c = low_image o c (count_token c)
+  counting_image (high ds o) c = high_image ds o c (count_token c)
 
 -- the two readers agree on a class with a range of two atoms, where these bound one
 ranged_image : (n : Bool) (r : Ranges) (w y : ClassAtom) (o : Option CharSet) → o ≡ range (item w) (item y)
-    → option_map class_image (reading.ranged n r w y o) ≡ parts.ranged n (sets_of r) o
+    → option_map class_image (ranged n r w y o) ≡ ranged n (sets_of r) (item w) (item y) o
 ranged_image n r w y None e = refl
 ranged_image n r w y (Some s) e =
-    ap (λ (o : Option CharSet). Some (record { negated = n; sets = sets_of r ++ range_list o; pending = parts.fresh })) (sym e)
+    ap (λ (o : Option CharSet). Some (class_so_far n (sets_of r ++ range_list o) fresh)) (sym e)
 
 -- and on a class with one more atom
-took_image : (n : Bool) (r : Ranges) (p : reading.Pending) (y : ClassAtom)
-    → option_map class_image (reading.took n r p y) ≡ parts.took n (sets_of r) (pending_image p) (item y)
-took_image n r reading.fresh y = refl
-took_image n r (reading.one w) y = refl
-took_image n r (reading.dashed w) y = ranged_image n r w y _ refl
+took_image : (n : Bool) (r : Ranges) (p : Pending trees) (y : ClassAtom)
+    → option_map class_image (took n r p y) ≡ took n (sets_of r) (pending_image p) (item y)
+took_image n r fresh y = refl
+took_image n r (one w) y = refl
+took_image n r (dashed w) y = ranged_image n r w y _ refl
 
 -- and on a class with a `-` more
-dash_image : (n : Bool) (r : Ranges) (p : reading.Pending)
-    → option_map class_image (reading.took_dash n r p) ≡ parts.took_dash n (sets_of r) (pending_image p)
-dash_image n r reading.fresh = refl
-dash_image n r (reading.one w) = refl
-dash_image n r (reading.dashed w) = took_image n r (reading.dashed w) hyphen
+dash_image : (n : Bool) (r : Ranges) (p : Pending trees)
+    → option_map class_image (took_dash n r p) ≡ took_dash n (sets_of r) (pending_image p)
+dash_image n r fresh = refl
+dash_image n r (one w) = refl
+dash_image n r (dashed w) = took_image n r (dashed w) hyphen
 
 -- a whole class has the pattern that is made of its sets and what is pending
-read_class_image : (n : Bool) (r : Ranges) (p : reading.Pending)
-    → atom_pattern (reading.class_read n r p) ≡ parts.class_read n (sets_of r) (pending_image p)
-read_class_image n r reading.fresh = refl
-read_class_image n r (reading.one w) = refl
-read_class_image n r (reading.dashed w) = refl
+read_class_image : (n : Bool) (r : Ranges) (p : Pending trees)
+    → atom_pattern (whole_class n r p) ≡ whole_class n (sets_of r) (pending_image p)
+read_class_image n r fresh = refl
+read_class_image n r (one w) = refl
+read_class_image n r (dashed w) = refl
 
-module _ (outer : Outer) (l : Level) (x : reading.Last) where
+module _ (outer : Outer trees) (l : Level trees) (x : Last trees) where
   -- the two readers agree on the state in a class with one more atom
-  taken_image : (k : reading.Class) (y : ClassAtom)
-      → option_map image (within outer l x (reading.took k.negated k.ranges k.pending y))
-      ≡ parts.within (image (state outer l x)) (parts.took k.negated (sets_of k.ranges) (pending_image k.pending) (item y))
+  taken_image : (k : Class trees) (y : ClassAtom)
+      → option_map image (within (standing outer l x) (took k.negated k.ranges k.pending y))
+      ≡ within (image (standing outer l x)) (took k.negated (sets_of k.ranges) (pending_image k.pending) (item y))
   taken_image k y =
-      within_image outer l x _ ∙ ap (parts.within (image (state outer l x))) (took_image k.negated k.ranges k.pending y)
+      within_image outer l x _ ∙ ap (within (image (standing outer l x))) (took_image k.negated k.ranges k.pending y)
 
   -- and on a character in a class, whatever it is there
-  class_token_image : (k : reading.Class) (c : ℕ) (t : ClassToken)
-      → option_map image (on_class_token outer l x k.negated k.ranges k.pending c t)
-      ≡ after_class_token (image (state outer l x)) (class_image k) c t
+  class_token_image : (k : Class trees) (c : ℕ) (t : ClassToken)
+      → option_map image (on_class_token (standing outer l x) k c t)
+      ≡ on_class_token (image (standing outer l x)) (class_image k) c t
   class_token_image k c closing_bracket =
-      ap Some (atom_image outer l x (reading.class_read k.negated k.ranges k.pending))
-      ∙ ap (λ (p : Pattern). Some (after_atom (image (state outer l x)) p)) (read_class_image k.negated k.ranges k.pending)
+      ap Some (atom_image outer l x (whole_class k.negated k.ranges k.pending))
+      ∙ ap (λ (p : Pattern). Some (with_atom (image (standing outer l x)) p)) (read_class_image k.negated k.ranges k.pending)
   class_token_image k c class_escaper = refl
   class_token_image k c dash =
-      within_image outer l x _ ∙ ap (parts.within (image (state outer l x))) (dash_image k.negated k.ranges k.pending)
+      within_image outer l x _ ∙ ap (within (image (standing outer l x))) (dash_image k.negated k.ranges k.pending)
   class_token_image k c class_char = taken_image k (class_plain c)
 
   -- and on the one behind a backslash in a class
-  class_escape_image : (k : reading.Class) (c : ℕ) (t : Escape)
-      → option_map image (on_class_escape outer l x k.negated k.ranges k.pending c t)
-      ≡ after_class_escape (image (state outer l x)) (class_image k) c t
+  class_escape_image : (k : Class trees) (c : ℕ) (t : Escape)
+      → option_map image (on_class_escape (standing outer l x) k c t)
+      ≡ on_class_escape (image (standing outer l x)) (class_image k) c t
   class_escape_image k c itself = taken_image k (class_escaped c)
   class_escape_image k c control = taken_image k (class_control c)
   class_escape_image k c set = taken_image k (class_set c)
@@ -514,71 +494,60 @@ module _ (outer : Outer) (l : Level) (x : reading.Last) where
   class_escape_image k c unknown = refl
 
   -- and on what comes of one more character of an escape by a number in a class
-  class_coded_image : (k : reading.Class) (o : Coded)
-      → option_map image (on_class_coding outer l x k.negated k.ranges k.pending o)
-      ≡ after_class_coding (image (state outer l x)) (class_image k) (coded_image o)
+  class_coded_image : (k : Class trees) (o : Coded trees)
+      → option_map image (on_class_coding (standing outer l x) k o)
+      ≡ on_class_coding (image (standing outer l x)) (class_image k) (coded_image o)
   class_coded_image k fails = refl
   class_coded_image k (goes d) = refl
   class_coded_image k (makes d) = taken_image k (class_coded d)
 
-  -- and on a property in a class, where its expression is of one
-  property_item_image : (k : reading.Class) (n : Bool) (e : Expression) (o : Option Property) → property_of e ≡ o
-      → option_map image (reading.when (is_some o) (within outer l x (reading.took k.negated k.ranges k.pending (class_property n e))))
-      ≡ option_and_then (λ p. parts.within (image (state outer l x))
-      (parts.took k.negated (sets_of k.ranges) (pending_image k.pending) (set_item (PropertySet n p ∷ [])))) o
-  property_item_image k n e None is = refl
-  property_item_image k n e (Some p) is =
-      taken_image k (class_property n e)
-      ∙ ap (λ (o : Option Property). parts.within (image (state outer l x))
-      (parts.took k.negated (sets_of k.ranges) (pending_image k.pending) (set_item (property_set n o)))) is
-
   -- and on what comes of one more character of such an escape
-  class_property_image : (k : reading.Class) (o : PropertyRead)
-      → option_map image (on_class_property outer l x k.negated k.ranges k.pending o)
-      ≡ after_class_property (image (state outer l x)) (class_image k) o
+  class_property_image : (k : Class trees) (o : PropertyRead)
+      → option_map image (on_class_property (standing outer l x) k o)
+      ≡ on_class_property (image (standing outer l x)) (class_image k) o
   class_property_image k no_property_read = refl
   class_property_image k (property_goes d) = refl
-  class_property_image k (property_ends n e) = property_item_image k n e _ refl
+  class_property_image k (property_ends n e) = when_image _ _ ∙ ap (when (is_some (property_of e))) (taken_image k (class_property n e))
 
   -- a class with nothing in it, which is not negated
-  abbrev first_class : reading.Class
-  first_class = record { negated = false; ranges = no_ranges; pending = reading.fresh }
+  abbrev first_class : Class trees
+  first_class = class_so_far false no_ranges fresh
 
   -- the two readers agree on the character behind `[`
-  bracket_image : (c : ℕ) (b : Bool) → option_map image (on_class outer l x c b) ≡ after_bracket (image (state outer l x)) c b
+  bracket_image : (c : ℕ) (b : Bool) → option_map image (on_bracket (standing outer l x) c b) ≡ on_bracket (image (standing outer l x)) c b
   bracket_image c false = class_token_image first_class c (class_token c)
   bracket_image c true = refl
 
   -- so the two readers agree on the next character in each mode
-  pub next_image : (m : Mode) (c : ℕ) → option_map image (next_in outer l x m c) ≡ after_in (image (state outer l x)) (mode_image m) c
-  next_image reading.between c = token_image outer l x c (token c)
-  next_image reading.escaping c = escape_image outer l x c (escape c)
-  next_image reading.opening c = group_image outer l x c (c == byte "?")
-  next_image reading.extending c = extension_image outer l x (extension c)
-  next_image (reading.counting n) c = counting_image outer l x n c
-  next_image (reading.coding k) c =
-      coded_state_image outer l x (coding_next k c) ∙ ap (after_coding (image (state outer l x))) (next_coding_image k c)
-  next_image reading.class_opened c = bracket_image c (c == byte "^")
-  next_image (reading.in_class k) c = class_token_image k c (class_token c)
-  next_image (reading.class_escaping k) c = class_escape_image k c (class_escape c)
-  next_image (reading.class_coding k d) c =
-      class_coded_image k (coding_next d c) ∙ ap (after_class_coding (image (state outer l x)) (class_image k)) (next_coding_image d c)
-  next_image (reading.in_property k) c = property_image outer l x (property_next k c)
-  next_image (reading.in_class_property k d) c = class_property_image k (property_next d c)
-  next_image (reading.naming n) c = naming_image outer l x n c (name_token c)
-  next_image (reading.name_escaping n) c = name_escape_image outer l x n (c == byte "u")
-  next_image (reading.name_coding n k) c =
-      name_coded_image outer l x n (coding_next k c) ∙ ap (after_name_coding (image (state outer l x)) (name_value n)) (next_coding_image k c)
+  pub next_image : (m : Mode trees) (c : ℕ) → option_map image (next_in (standing outer l x) m c) ≡ next_in (image (standing outer l x)) (mode_image m) c
+  next_image between c = token_image outer l x c (token c)
+  next_image escaping c = escape_image outer l x c (escape c)
+  next_image opening c = group_image outer l x c (c == byte "?")
+  next_image extending c = extension_image outer l x (extension c)
+  next_image (counting n) c = counting_image outer l x n c
+  next_image (coding k) c =
+      coded_state_image outer l x (coding_next k c) ∙ ap (on_coding (image (standing outer l x))) (next_coding_image k c)
+  next_image class_opened c = bracket_image c (c == byte "^")
+  next_image (in_class k) c = class_token_image k c (class_token c)
+  next_image (class_escaping k) c = class_escape_image k c (class_escape c)
+  next_image (class_coding k d) c =
+      class_coded_image k (coding_next d c) ∙ ap (on_class_coding (image (standing outer l x)) (class_image k)) (next_coding_image d c)
+  next_image (in_property k) c = property_image outer l x (property_next k c)
+  next_image (in_class_property k d) c = class_property_image k (property_next d c)
+  next_image (naming n) c = naming_image outer l x n c (name_token c)
+  next_image (name_escaping n) c = name_escape_image outer l x n (c == byte "u")
+  next_image (name_coding n k) c =
+      name_coded_image outer l x n (coding_next k c) ∙ ap (on_name_coding (image (standing outer l x)) (name_value n)) (next_coding_image k c)
 
 -- the pattern may be taken before a test is asked or behind it
-tree_image : (b : Bool) (d : Disjunction) → option_map pattern (tree_if b d) ≡ pattern_if b (pattern d)
-tree_image false d = refl
-tree_image true d = refl
+tree_image : (b : Bool) (o : Option Disjunction) → option_map pattern (when b o) ≡ when b (option_map pattern o)
+tree_image false o = refl
+tree_image true o = refl
 
 -- at the end of a text the pattern of the tree is the one that the image gives
-close_image : (os : List Open) (l : Level) (x : reading.Last) (b : Bool)
-    → option_map pattern (reading.closes os l x b) ≡ closes (map around os) (side l) (last_image x) b
-close_image [] l x b = tree_image b (reading.level_ended l x) ∙ ap (pattern_if b) (level_image l x)
+close_image : (os : List (Open trees)) (l : Level trees) (x : Last trees) (b : Bool)
+    → option_map pattern (closes os l x b) ≡ closes (map around os) (side l) (last_image x) b
+close_image [] l x b = tree_image b (Some (whole_level l x)) ∙ ap (λ (p : Pattern). when b (Some p)) (level_image l x)
 close_image (o ∷ os) l x b = refl
 
 -- the pattern at the end, where there is one
@@ -588,43 +557,43 @@ none_closes None h = refl
 none_closes (Some p) h = absurd (true≢false h)
 
 -- where there is a pattern at the end, it is that of the whole level
-pub closes_with : (os : List parts.Open) (l : Side) (x : parts.Last) (b : Bool) → is_some (closes os l x b) ≡ true → Some (level_ended l x) ≡ closes os l x b
+pub closes_with : (os : List (Open patterns)) (l : Level patterns) (x : Last patterns) (b : Bool) → is_some (closes os l x b) ≡ true → Some (whole_level l x) ≡ closes os l x b
 closes_with [] l x true h = refl
 closes_with [] l x false h = absurd (true≢false (sym h))
 closes_with (o ∷ os) l x b h = absurd (true≢false (sym h))
 
 -- a mode is that between terms exactly where its image is
-same_between : (m : Mode) → is_between m ≡ parts.is_between (mode_image m)
-same_between reading.between = refl
-same_between reading.escaping = refl
-same_between reading.opening = refl
-same_between reading.extending = refl
-same_between (reading.counting n) = refl
-same_between reading.class_opened = refl
-same_between (reading.in_class k) = refl
-same_between (reading.class_escaping k) = refl
-same_between (reading.coding k) = refl
-same_between (reading.class_coding k d) = refl
-same_between (reading.in_property k) = refl
-same_between (reading.in_class_property k d) = refl
-same_between (reading.naming n) = refl
-same_between (reading.name_escaping n) = refl
-same_between (reading.name_coding n k) = refl
+same_between : (m : Mode trees) → is_between m ≡ is_between (mode_image m)
+same_between between = refl
+same_between escaping = refl
+same_between opening = refl
+same_between extending = refl
+same_between (counting n) = refl
+same_between class_opened = refl
+same_between (in_class k) = refl
+same_between (class_escaping k) = refl
+same_between (coding k) = refl
+same_between (class_coding k d) = refl
+same_between (in_property k) = refl
+same_between (in_class_property k d) = refl
+same_between (naming n) = refl
+same_between (name_escaping n) = refl
+same_between (name_coding n k) = refl
 
 -- where the readers agree on the rest behind each state, they do behind one that may be missing
-one_more : (cs : List ℕ) → ((t : State) → option_map pattern (read_from t cs) ≡ pattern_from (image t) cs) → (o : Option State)
-    → option_map pattern (option_and_then (λ t. read_from t cs) o) ≡ option_and_then (λ t. pattern_from t cs) (option_map image o)
+one_more : (cs : List ℕ) → ((t : State trees) → option_map pattern (read_from t cs) ≡ read_from (image t) cs) → (o : Option (State trees))
+    → option_map pattern (option_and_then (λ t. read_from t cs) o) ≡ option_and_then (λ t. read_from t cs) (option_map image o)
 one_more cs ih None = refl
 one_more cs ih (Some t) = ih t
 
 -- the two readers agree on the rest of a text: the tree that is read has the pattern that is read
-from_image : (cs : List ℕ) (s : State) → option_map pattern (read_from s cs) ≡ pattern_from (image s) cs
+from_image : (cs : List ℕ) (s : State trees) → option_map pattern (read_from s cs) ≡ read_from (image s) cs
 from_image [] s =
     close_image s.outer.groups s.level s.last (is_between s.mode && are_distinct s.outer.names)
-    ∙ ap (at_close (outer_image s.outer) (side s.level) (last_image s.last)) (same_between s.mode)
+    ∙ ap (λ (b : Bool). closes (map around s.outer.groups) (side s.level) (last_image s.last) (b && are_distinct s.outer.names)) (same_between s.mode)
 from_image (c ∷ cs) s =
     one_more cs (from_image cs) (next s c)
-    ∙ ap (option_and_then (λ t. pattern_from t cs)) (next_image s.outer s.level s.last s.mode c)
+    ∙ ap (option_and_then (λ t. read_from t cs)) (next_image s.outer s.level s.last s.mode c)
 
 -- where no pattern is, there is none under a test either
 none_within : (b : Bool) (o : Option Disjunction) → option_map pattern o ≡ None → None ≡ option_map pattern (if b then o else None)
@@ -633,54 +602,54 @@ none_within false o e = refl
 
 -- the loop: the parts at place k, behind which the character c stands
 -- the rest of the text behind the parts comes to what the whole text does
-abbrev pub IsOnWay : Parts → List ℕ → ℕ → Type 0
-IsOnWay s text k = pattern_from s (drop k text) ≡ pattern_from no_parts text
+abbrev pub IsOnWay : State patterns → List ℕ → ℕ → Type 0
+IsOnWay s text k = read_from s (drop k text) ≡ read_from (initial patterns) text
 
 -- the rest behind the parts comes to what the rest behind the next character does
-after_turn : (s : Parts) (text : List ℕ) (k c : ℕ) → k < length text → c ≡ get_or text k c
-    → pattern_from s (drop k text) ≡ option_and_then (λ t. pattern_from t (drop (k + 1) text)) (after_char s c)
+after_turn : (s : State patterns) (text : List ℕ) (k c : ℕ) → k < length text → c ≡ get_or text k c
+    → read_from s (drop k text) ≡ option_and_then (λ t. read_from t (drop (k + 1) text)) (next s c)
 after_turn s text k c h e =
-    at_drop_more (pattern_from s) text k c h
-    ∙ ap (λ (z : ℕ). option_and_then (λ t. pattern_from t (drop (k + 1) text)) (after_char s z)) (sym e)
+    at_drop_more (read_from s) text k c h
+    ∙ ap (λ (z : ℕ). option_and_then (λ t. read_from t (drop (k + 1) text)) (next s z)) (sym e)
 
-module _ (s : Parts) (text : List ℕ) (k c : ℕ) (h : k < length text) (e : c ≡ get_or text k c) (w : IsOnWay s text k) where
+module _ (s : State patterns) (text : List ℕ) (k c : ℕ) (h : k < length text) (e : c ≡ get_or text k c) (w : IsOnWay s text k) where
   -- the parts that the next character makes are on the way at the next place
-  pub goes_on : (t : Parts) → Some t ≡ after_char s c → (n : ℕ) → n ≡ k + 1 → IsOnWay t text n
+  pub goes_on : (t : State patterns) → Some t ≡ next s c → (n : ℕ) → n ≡ k + 1 → IsOnWay t text n
   goes_on t a n is =
-      ap (λ (m : ℕ). pattern_from t (drop m text)) is
-      ∙ ap (option_and_then (λ r. pattern_from r (drop (k + 1) text))) a ∙ sym (after_turn s text k c h e) ∙ w
+      ap (λ (m : ℕ). read_from t (drop m text)) is
+      ∙ ap (option_and_then (λ r. read_from r (drop (k + 1) text))) a ∙ sym (after_turn s text k c h e) ∙ w
 
   -- where the next character makes no parts, nothing is read of the text
-  pub stops : None ≡ after_char s c → None ≡ option_map pattern (read_short text)
+  pub stops : None ≡ next s c → None ≡ option_map pattern (read_short trees text)
   stops a =
-      let none : pattern_from no_parts text ≡ None =
-      sym w ∙ after_turn s text k c h e ∙ ap (option_and_then (λ r. pattern_from r (drop (k + 1) text))) (sym a) in
-      none_within (nat_le (length text) max_length) (read text) (from_image text initial ∙ none)
+      let none : read_from (initial patterns) text ≡ None =
+      sym w ∙ after_turn s text k c h e ∙ ap (option_and_then (λ r. read_from r (drop (k + 1) text))) (sym a) in
+      none_within (nat_le (length text) max_length) (read_from (initial trees) text) (from_image text (initial trees) ∙ none)
 
 -- nothing is read of a text that is too long
-pub too_long : (text : List ℕ) → max_length < length text → None ≡ option_map pattern (read_short text)
-too_long text h = ap (λ (b : Bool). option_map pattern (if b then read text else None)) (sym (lt-leb (length text) max_length h))
+pub too_long : (text : List ℕ) → max_length < length text → None ≡ option_map pattern (read_short trees text)
+too_long text h = ap (λ (b : Bool). option_map pattern (if b then read_from (initial trees) text else None)) (sym (lt-leb (length text) max_length h))
 
 -- at the end of a text that is not too long, the parts give the pattern of what is read
-pub whole : (s : Parts) (text : List ℕ) (k : ℕ) → length text ≤ k → length text ≤ max_length → IsOnWay s text k
-    → at_close s.outer s.level s.last (parts.is_between s.mode) ≡ option_map pattern (read_short text)
+pub whole : (s : State patterns) (text : List ℕ) (k : ℕ) → length text ≤ k → length text ≤ max_length → IsOnWay s text k
+    → at_close s ≡ option_map pattern (read_short trees text)
 whole s text k h short w =
-    sym (at_drop_all (pattern_from s) text k h) ∙ w ∙ sym (from_image text initial)
-    ∙ ap (λ (b : Bool). option_map pattern (if b then read text else None)) (sym (le-leb (length text) max_length short))
+    sym (at_drop_all (read_from s) text k h) ∙ w ∙ sym (from_image text (initial trees))
+    ∙ ap (λ (b : Bool). option_map pattern (if b then read_from (initial trees) text else None)) (sym (le-leb (length text) max_length short))
 
 -- what is not too large
 -- a tree is kept as such exactly where its pattern is
-small_image : (o : Option Disjunction) → option_map pattern (small_tree o) ≡ small_pattern (option_map pattern o)
+small_image : (o : Option Disjunction) → option_map pattern (small trees o) ≡ small patterns (option_map pattern o)
 small_image None = refl
-small_image (Some d) = tree_image (nat_le (steps_of_parts (parts (pattern d))) max_steps) d
+small_image (Some d) = tree_image (nat_le (steps_of_parts (parts (pattern d))) max_steps) (Some d)
 
 -- where no digit stands behind `\0`, the pattern of the text is what is read, unless that is too large
-pub read_whole : (text : List ℕ) (o p : Option Pattern) → true ≡ is_apart text → o ≡ option_map pattern (read_short text)
-    → p ≡ small_pattern o → p ≡ option_map pattern (read_pattern text)
+pub read_whole : (text : List ℕ) (o p : Option Pattern) → true ≡ is_apart text → o ≡ option_map pattern (read_short trees text)
+    → p ≡ small patterns o → p ≡ option_map pattern (read_pattern trees text)
 read_whole text o p a e f =
-    f ∙ ap small_pattern e ∙ sym (small_image (read_short text))
-    ∙ ap (λ (b : Bool). option_map pattern (if b then small_tree (read_short text) else None)) a
+    f ∙ ap (small patterns) e ∙ sym (small_image (read_short trees text))
+    ∙ ap (λ (b : Bool). option_map pattern (if b then small trees (read_short trees text) else None)) a
 
 -- a text with a digit behind some `\0` has no pattern
-pub not_apart : (text : List ℕ) → false ≡ is_apart text → None ≡ option_map pattern (read_pattern text)
-not_apart text a = ap (λ (b : Bool). option_map pattern (if b then small_tree (read_short text) else None)) a
+pub not_apart : (text : List ℕ) → false ≡ is_apart text → None ≡ option_map pattern (read_pattern trees text)
+not_apart text a = ap (λ (b : Bool). option_map pattern (if b then small trees (read_short trees text) else None)) a

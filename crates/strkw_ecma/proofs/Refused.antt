@@ -17,9 +17,9 @@ use Rattle.strkw_ecma.specs.Names.{NameToken, name_end, name_backslash, name_equ
 use Rattle.strkw_ecma.specs.machine.PropertyReading.{PropertyPart, brace_awaited, in_braces}
 use Rattle.strkw_ecma.specs.machine.Reading.{Open, Outer, Level, State, Last, none, atom, counted, Count, low, high, Mode, between, escaping, opening}
 use Rattle.strkw_ecma.specs.machine.Reading.{extending, class_opened, counting, coding, in_class, class_escaping, class_coding, in_property, in_class_property}
-use Rattle.strkw_ecma.specs.machine.Reading.{naming, name_escaping, name_coding, initial, level_ended, joined, ended, with_mode, opened_within, opened}
-use Rattle.strkw_ecma.specs.machine.Reading.{with_count, when, longer, on_low, on_high, on_count, on_extension}
-use Rattle.strkw_ecma.specs.machine.Reading.{on_naming, next_in, read, read_short, small_tree, tree_if}
+use Rattle.strkw_ecma.specs.machine.Reading.{naming, name_escaping, name_coding, initial, whole_level, joined, all_terms, with_mode, opened_within, with_open}
+use Rattle.strkw_ecma.specs.machine.Reading.{with_count, when, on_low, on_high, on_count, on_extension}
+use Rattle.strkw_ecma.specs.machine.Reading.{on_naming, next_in, read_short, read_from, small, with_name as add_name}
 use Rattle.strkw_ecma.specs.Lookahead.{is_apart}
 use Rattle.strkw_ecma.specs.Front.{parts, steps_of_parts}
 use Rattle.strkw_ecma.specs.machine.Outcomes.{takes_pattern}
@@ -29,9 +29,7 @@ use Rattle.strkw_ecma.specs.machine.RefusalParts.{count_refusal}
 use Rattle.strkw_ecma.specs.machine.RefusalParts.{part_refusal, refusal_at}
 use Rattle.strkw_ecma.specs.declared.refusals.PatternRefusal.{PatternRefusal}
 use Rattle.strkw_ecma.specs.declared.refusals.PatternRefusal.TheVariants.{BackReference, IdentityEscape, Property, TooDeep, TooLarge}
-use Rattle.strkw_ecma.specs.machine.Parts as parts
 use Rattle.strkw_ecma.specs.machine.Reading as reading
-use Rattle.strkw_ecma.specs.machine.Parts.{Parts, after_char}
 use Rattle.strkw_ecma.proofs.Steps.{and_left, and_right}
 use Rattle.strkw_ecma.proofs.Letters.{same_char, char_of_extension, char_of_extension_token, char_of_name, char_of_name_token, char_of_count}
 use Rattle.strkw_ecma.proofs.Letters.{char_of_count_token}
@@ -40,19 +38,23 @@ use Rattle.strkw_ecma.proofs.PropertyReadings.{part_spelling, IsPart}
 use Rattle.strkw_ecma.proofs.ClassSpelled.{level_spelling, outer_spelling, class_text, name_text, spelled, joined_spelling, before, HasRead}
 use Rattle.strkw_ecma.proofs.Spelled.{level_whole, next_read, IsSpelled, sound}
 use Rattle.strkw_ecma.proofs.Formed.{IsLevel, IsLast, AreLevels, IsCount, IsNamePart, IsMode, IsState, Makes, ended_formed, level_formed, next_formed, IsFormed}
-use Rattle.strkw_ecma.proofs.Formed.{read_formed}
+use Rattle.strkw_ecma.proofs.Formed.{read_formed, MayBeNumber, number_digits}
 use Rattle.strkw_ecma.proofs.Parts.{image, last_image, around, next_image}
 use Rattle.strkw_ecma.proofs.Walks.{at_place}
+use Rattle.strkw_ecma.specs.Numbers.{IsNumber}
+use Rattle.strkw_ecma.specs.machine.CodeReading.{value_or}
+use Rattle.strkw_ecma.specs.machine.Makers.{patterns, value_if, trees}
+use Rattle.strkw_ecma.proofs.BetweenTerms.{standing}
 
 -- well-formed open groups and lookbehinds, and a well-formed tree within them, are spelled as what a pattern may begin with
-beginning : (os : List Open) (d : Disjunction) → AreLevels os → IsWellFormed (length os) d → IsBeginning (length os) (outer_spelling os ++ spelling d)
+beginning : (os : List (Open trees)) (d : Disjunction) → AreLevels os → IsWellFormed (length os) d → IsBeginning (length os) (outer_spelling os ++ spelling d)
 beginning [] d f w = (d, w, refl)
 beginning (o ∷ os) d f w = (
-  outer_spelling os ++ level_spelling o.earlier o.current,
+  outer_spelling os ++ level_spelling o.level.earlier o.level.current,
   o.enclosing,
   d,
-  subst (IsBeginning (length os)) (ap (λ z. outer_spelling os ++ z) (joined_spelling o.earlier o.current))
-      (beginning os (joined o.earlier o.current) f.1 (level_formed (length os) o.earlier o.current f.0.0.0 f.0.0.1)),
+  subst (IsBeginning (length os)) (ap (λ z. outer_spelling os ++ z) (joined_spelling o.level.earlier o.level.current))
+      (beginning os (joined trees o.level.earlier o.level.current) f.1 (level_formed (length os) o.level.earlier o.level.current f.0.0.0 f.0.0.1)),
   f.0.1,
   w,
   refl,
@@ -87,17 +89,17 @@ not_some : {T : Type 0} (t : T) → Some t ≡ None → ⊥
 not_some t e = true≢false (ap is_some e)
 
 -- where a test leaves out a state that is there, it does not hold
-when_none : (b : Bool) (t : State) → when b (Some t) ≡ None → b ≡ false
+when_none : (b : Bool) (t : State trees) → when b (Some t) ≡ None → b ≡ false
 when_none false t e = refl
 when_none true t e = absurd (not_some t e)
 
 -- a count of which too many nodes would come
 -- where a count is refused behind the last term, what is told of it is so
-term_told : (outer : Outer) (l : Level) (x : Last) → AreLevels outer.groups → IsLevel (length outer.groups) l → IsLast (length outer.groups) x
-    → (q : Quantifier) (rest text : List ℕ) → with_count outer l x q ≡ None → (before outer l x ++ quantifier_spelling q) ++ rest ≡ text
+term_told : (outer : Outer trees) (l : Level trees) (x : Last trees) → AreLevels outer.groups → IsLevel (length outer.groups) l → IsLast (length outer.groups) x
+    → (q : Quantifier) (rest text : List ℕ) → with_count (standing outer l x) x q ≡ None → (before outer l x ++ quantifier_spelling q) ++ rest ≡ text
     → IsReason text (term_refusal (last_image x))
 term_told outer l none f g h q rest text refused e = tt
-term_told outer l (counted a p) f g h q rest text refused e = tt
+term_told outer l (counted (a, p)) f g h q rest text refused e = tt
 term_told outer l (atom a) f g h q rest text refused e =
     let front = outer_spelling outer.groups ++ level_spelling l.earlier l.current in (
       length outer.groups,
@@ -109,25 +111,25 @@ term_told outer l (atom a) f g h q rest text refused e =
         front,
         rest,
         subst (IsBeginning (length outer.groups)) (ap (λ z. outer_spelling outer.groups ++ z) (joined_spelling l.earlier l.current))
-            (beginning outer.groups (joined l.earlier l.current) f (level_formed (length outer.groups) l.earlier l.current g.0 g.1)),
+            (beginning outer.groups (joined trees l.earlier l.current) f (level_formed (length outer.groups) l.earlier l.current g.0 g.1)),
         sym (append_assoc front (atom_spelling a ++ quantifier_spelling q) rest)
             ∙ ap (λ z. z ++ rest) (sym (append_assoc front (atom_spelling a) (quantifier_spelling q))) ∙ e,
       ),
     )
 
 -- where one more digit is refused, the test does not hold
-longer_none : {T : Type 0} (m : List ℕ → T) (ds : List ℕ) (c : ℕ) (b : Bool) → option_map m (longer ds c b) ≡ None → b ≡ false
-longer_none m ds c false e = refl
-longer_none m ds c true e = absurd (not_some _ e)
+longer_none : {T : Type 0} (m : List ℕ → T) (ds : List ℕ) (b : Bool) → option_map m (value_if b ds) ≡ None → b ≡ false
+longer_none m ds false e = refl
+longer_none m ds true e = absurd (not_some _ e)
 
-module _ (outer : Outer) (l : Level) (x : Last) (f : AreLevels outer.groups) (g : IsLevel (length outer.groups) l) (h : IsLast (length outer.groups) x)
+module _ (outer : Outer trees) (l : Level trees) (x : Last trees) (f : AreLevels outer.groups) (g : IsLevel (length outer.groups) l) (h : IsLast (length outer.groups) x)
     (c : ℕ) (rest text : List ℕ) where
   -- what is read up to the end of the last term is what a pattern may begin with
   begins : IsBeginning (length outer.groups) (before outer l x)
   begins =
       subst (IsBeginning (length outer.groups)) (level_whole outer l x)
-      (beginning outer.groups (level_ended l x) f
-      (level_formed (length outer.groups) l.earlier (ended l.current x) g.0 (ended_formed (length outer.groups) l.current x g.1 h)))
+      (beginning outer.groups (whole_level l x) f
+      (level_formed (length outer.groups) l.earlier (all_terms l.current x) g.0 (ended_formed (length outer.groups) l.current x g.1 h)))
 
   -- what is read behind the last term, with the next character, stands where a term may
   term_behind : (m : List ℕ) → (before outer l x ++ m) ++ c ∷ rest ≡ text → HasTermWithin (length outer.groups) (m ++ c ∷ []) text
@@ -139,9 +141,9 @@ module _ (outer : Outer) (l : Level) (x : Last) (f : AreLevels outer.groups) (g 
   too_deep k w t e = (length outer.groups, k, ltb-false _ _ e, w, t)
 
   -- where it is not opened, the test does not hold
-  not_opened : (k : Enclosing) (b : Bool) → opened outer l x k b ≡ None → b ≡ false
-  not_opened k false e = refl
-  not_opened k true e = absurd (not_some _ e)
+  not_opened : (s : State trees) (k : Enclosing) (b : Bool) → with_open s k b ≡ None → b ≡ false
+  not_opened s k false e = refl
+  not_opened s k true e = absurd (not_some _ e)
 
   -- what is told of the depth behind an opening parenthesis is so
   depth_told : (before outer l x ++ byte "(" ∷ []) ++ c ∷ rest ≡ text
@@ -156,17 +158,17 @@ module _ (outer : Outer) (l : Level) (x : Last) (f : AreLevels outer.groups) (g 
           too_deep (of_group capturing) tt (before outer l x, c ∷ rest, begins, regroup (before outer l x) (byte "(" ∷ []) (c ∷ rest) text e) is
 
   -- what is not opened where a term may stand is too deep
-  look_too_deep : (k : Enclosing) → IsEnclosing k → opened_within outer l x k ≡ None
+  look_too_deep : (k : Enclosing) → IsEnclosing k → opened_within (standing outer l x) k ≡ None
       → HasTermWithin (length outer.groups) (enclosing_spelling k) text → IsReason text TooDeep
-  look_too_deep k w refused t = too_deep k w t (not_opened k _ refused)
+  look_too_deep k w refused t = too_deep k w t (not_opened (standing outer l x) k _ refused)
 
   -- what is told of a character that is refused behind `(?` is so
-  extension_told : (k : Extension) → char_of_extension k c ≡ c → on_extension outer l x k ≡ None
+  extension_told : (k : Extension) → char_of_extension k c ≡ c → on_extension (standing outer l x) k ≡ None
       → (before outer l x ++ byte "(" ∷ byte "?" ∷ []) ++ c ∷ rest ≡ text → IsReason text (extension_refusal k)
   extension_told uncaptured is refused e =
       too_deep (of_group plain_group) tt
       (subst (λ z. HasTermWithin (length outer.groups) (byte "(" ∷ byte "?" ∷ z ∷ []) text) (sym is) (term_behind (byte "(" ∷ byte "?" ∷ []) e))
-      (not_opened (of_group plain_group) _ refused)
+      (not_opened (standing outer l x) (of_group plain_group) _ refused)
   extension_told name_opening is refused e = tt
   extension_told look_equals is refused e =
       look_too_deep (of_lookahead false) tt refused
@@ -177,7 +179,7 @@ module _ (outer : Outer) (l : Level) (x : Last) (f : AreLevels outer.groups) (g 
   extension_told no_extension is refused e = tt
 
   -- what is told of a character that is refused behind `(?<` and a part of a name is so
-  name_told : (n : List NameChar) (k : NameToken) → char_of_name k c ≡ c → IsNamePart n → on_naming outer l x n c k ≡ None
+  name_told : (n : List NameChar) (k : NameToken) → char_of_name k c ≡ c → IsNamePart n → on_naming (standing outer l x) n c k ≡ None
       → (before outer l x ++ name_text n) ++ c ∷ rest ≡ text → IsReason text (name_refusal (name_value n) c k)
   name_told [] name_end is w refused e = tt
   name_told [] name_backslash is w refused e = tt
@@ -191,7 +193,7 @@ module _ (outer : Outer) (l : Level) (x : Last) (f : AreLevels outer.groups) (g 
   name_told (y ∷ n) name_end is w refused e =
       too_deep (of_group (named (y ∷ n))) w
       (subst (λ z. HasTermWithin (length outer.groups) (name_text (y ∷ n) ++ z ∷ []) text) (sym is) (term_behind (name_text (y ∷ n)) e))
-      (not_opened (of_group (named (y ∷ n))) _ refused)
+      (not_opened (add_name (standing outer l x) (name_value (y ∷ n))) (of_group (named (y ∷ n))) _ refused)
   name_told (y ∷ n) name_backslash is w refused e = tt
   name_told (y ∷ n) name_equals is w refused e = tt
   name_told (y ∷ n) name_negation is w refused e = tt
@@ -206,26 +208,27 @@ module _ (outer : Outer) (l : Level) (x : Last) (f : AreLevels outer.groups) (g 
       ∙ one_behind (before outer l x) m c rest text e
 
   -- what is told of a character that is refused in the first number of a count is so
-  low_told : (ds : List ℕ) (k : CountToken) → count_token c ≡ k → char_of_count k c ≡ c → IsCount (low ds) → on_low outer l x ds c k ≡ None
-      → (before outer l x ++ byte "{" ∷ ds) ++ c ∷ rest ≡ text → IsReason text (count_refusal (last_image x) (parts.low (number_of ds)) k)
-  low_told ds digit token is w refused e = (
-    ds ++ c ∷ [],
-    digits_push ds c w.0 (is_digit_of c token),
-    leb-false _ _ (longer_none _ ds c _ refused),
-    inl (length outer.groups, term_behind (byte "{" ∷ ds) e),
-  )
-  low_told ds comma token is w refused e = tt
-  low_told [] closing_brace token is w refused e = tt
-  low_told (d ∷ ds) closing_brace token is w refused e =
-      term_told outer l x f g h (exactly (d ∷ ds)) rest text refused (ended_by (byte "{" ∷ (d ∷ ds)) is e)
-  low_told ds no_count token is w refused e = tt
+  low_told : (o : Option (List ℕ)) (k : CountToken) → count_token c ≡ k → char_of_count k c ≡ c → MayBeNumber o → on_low (standing outer l x) o c k ≡ None
+      → (before outer l x ++ byte "{" ∷ value_or [] o) ++ c ∷ rest ≡ text → IsReason text (count_refusal (last_image x) (low (option_map number o)) k)
+  low_told o digit token is w refused e =
+      let ds = value_or [] o in (
+        ds ++ c ∷ [],
+        digits_push ds c (number_digits o w) (is_digit_of c token),
+        leb-false _ _ (longer_none _ (ds ++ c ∷ []) _ refused),
+        inl (length outer.groups, term_behind (byte "{" ∷ ds) e),
+      )
+  low_told o comma token is w refused e = tt
+  low_told None closing_brace token is w refused e = tt
+  low_told (Some ds) closing_brace token is w refused e =
+      term_told outer l x f g h (exactly ds) rest text refused (ended_by (byte "{" ∷ ds) is e)
+  low_told o no_count token is w refused e = tt
 
   -- both numbers, the second with one character more
   both_behind : (ds es : List ℕ) (d : ℕ) → byte "{" ∷ ((ds ++ byte "," ∷ es) ++ d ∷ []) ≡ byte "{" ∷ (ds ++ byte "," ∷ (es ++ d ∷ []))
   both_behind ds es d = ap (λ z. byte "{" ∷ z) (append_assoc ds (byte "," ∷ es) (d ∷ []))
 
   -- what is told where a count of two numbers is refused at the brace that ends it is so
-  range_told : (ds es : List ℕ) (b : Bool) → when b (with_count outer l x (from_to ds es)) ≡ None → byte "}" ≡ c
+  range_told : (ds es : List ℕ) (b : Bool) → when b (with_count (standing outer l x) x (from_to ds es)) ≡ None → byte "}" ≡ c
       → (before outer l x ++ byte "{" ∷ (ds ++ byte "," ∷ es)) ++ c ∷ rest ≡ text → IsReason text (range_refusal (last_image x) b)
   range_told ds es false refused is e = tt
   range_told ds es true refused is e =
@@ -233,29 +236,31 @@ module _ (outer : Outer) (l : Level) (x : Last) (f : AreLevels outer.groups) (g 
       (ap (λ z. (before outer l x ++ z) ++ rest) (sym (both_behind ds es (byte "}"))) ∙ ended_by (byte "{" ∷ (ds ++ byte "," ∷ es)) is e)
 
   -- what is told of a character that is refused behind the comma of a count is so
-  high_told : (ds es : List ℕ) (k : CountToken) → count_token c ≡ k → char_of_count k c ≡ c → IsCount (high ds es)
-      → on_high outer l x ds es c k ≡ None → (before outer l x ++ byte "{" ∷ (ds ++ byte "," ∷ es)) ++ c ∷ rest ≡ text
-      → IsReason text (count_refusal (last_image x) (parts.high (number ds) (number_of es)) k)
-  high_told ds es digit token is w refused e = (
-    es ++ c ∷ [],
-    digits_push es c w.1 (is_digit_of c token),
-    leb-false _ _ (longer_none _ es c _ refused),
-    inr (
-      ds,
-      w.0,
-      (
-        length outer.groups,
-        subst (λ z. HasTermWithin (length outer.groups) z text) (both_behind ds es c)
-            (term_behind (byte "{" ∷ (ds ++ byte "," ∷ es)) e),
-      ),
-    ),
-  )
-  high_told ds es comma token is w refused e = tt
-  high_told ds [] closing_brace token is w refused e =
+  high_told : (ds : List ℕ) (o : Option (List ℕ)) (k : CountToken) → count_token c ≡ k → char_of_count k c ≡ c → IsNumber ds → MayBeNumber o
+      → on_high (standing outer l x) ds o c k ≡ None
+      → (before outer l x ++ byte "{" ∷ (ds ++ byte "," ∷ value_or [] o)) ++ c ∷ rest ≡ text
+      → IsReason text (count_refusal (last_image x) (high (number ds) (option_map number o)) k)
+  high_told ds o digit token is v w refused e =
+      let es = value_or [] o in (
+        es ++ c ∷ [],
+        digits_push es c (number_digits o w) (is_digit_of c token),
+        leb-false _ _ (longer_none _ (es ++ c ∷ []) _ refused),
+        inr (
+          ds,
+          v,
+          (
+            length outer.groups,
+            subst (λ z. HasTermWithin (length outer.groups) z text) (both_behind ds es c)
+                (term_behind (byte "{" ∷ (ds ++ byte "," ∷ es)) e),
+          ),
+        ),
+      )
+  high_told ds o comma token is v w refused e = tt
+  high_told ds None closing_brace token is v w refused e =
       term_told outer l x f g h (at_least ds) rest text refused
       (ap (λ z. (before outer l x ++ z) ++ rest) (sym (both_behind ds [] (byte "}"))) ∙ ended_by (byte "{" ∷ (ds ++ byte "," ∷ [])) is e)
-  high_told ds (d ∷ es) closing_brace token is w refused e = range_told ds (d ∷ es) _ refused is e
-  high_told ds es no_count token is w refused e = tt
+  high_told ds (Some es) closing_brace token is v w refused e = range_told ds es _ refused is e
+  high_told ds o no_count token is v w refused e = tt
 
 -- what is told of a character behind a part of a property is so
 part_told : (a : List ℕ) (k : PropertyPart) (c : ℕ) (rest text : List ℕ) → IsPart k → (a ++ byte "\\" ∷ part_spelling k) ++ c ∷ rest ≡ text
@@ -272,18 +277,18 @@ part_told a (in_braces n p) c rest text w e =
     ))
 
 -- what is told of a character that is refused in a count is so
-counting_told : (outer : Outer) (l : Level) (x : Last) → AreLevels outer.groups → IsLevel (length outer.groups) l → IsLast (length outer.groups) x
-    → (n : Count) → IsCount n → (c : ℕ) (rest text : List ℕ) → on_count outer l x n c ≡ None
-    → spelled (with_mode outer l x (counting n)) ++ c ∷ rest ≡ text → IsReason text (refusal_at (image (with_mode outer l x (counting n))) c)
-counting_told outer l x f g h (low ds) w c rest text refused e =
-    low_told outer l x f g h c rest text ds (count_token c) refl (char_of_count_token c) w refused e
-counting_told outer l x f g h (high ds es) w c rest text refused e =
-    high_told outer l x f g h c rest text ds es (count_token c) refl (char_of_count_token c) w refused e
+counting_told : (outer : Outer trees) (l : Level trees) (x : Last trees) → AreLevels outer.groups → IsLevel (length outer.groups) l → IsLast (length outer.groups) x
+    → (n : Count trees) → IsCount n → (c : ℕ) (rest text : List ℕ) → on_count (standing outer l x) n c ≡ None
+    → spelled (with_mode (standing outer l x) (counting n)) ++ c ∷ rest ≡ text → IsReason text (refusal_at (image (with_mode (standing outer l x) (counting n))) c)
+counting_told outer l x f g h (low o) w c rest text refused e =
+    low_told outer l x f g h c rest text o (count_token c) refl (char_of_count_token c) w refused e
+counting_told outer l x f g h (high ds o) w c rest text refused e =
+    high_told outer l x f g h c rest text ds o (count_token c) refl (char_of_count_token c) w.0 w.1 refused e
 
 -- what is told of a character that the reader refuses is so, in each of its modes
-stops : (outer : Outer) (l : Level) (x : Last) → AreLevels outer.groups → IsLevel (length outer.groups) l → IsLast (length outer.groups) x
-    → (m : Mode) → IsMode m → (c : ℕ) (rest text : List ℕ) → next_in outer l x m c ≡ None
-    → spelled (with_mode outer l x m) ++ c ∷ rest ≡ text → IsReason text (refusal_at (image (with_mode outer l x m)) c)
+stops : (outer : Outer trees) (l : Level trees) (x : Last trees) → AreLevels outer.groups → IsLevel (length outer.groups) l → IsLast (length outer.groups) x
+    → (m : Mode trees) → IsMode m → (c : ℕ) (rest text : List ℕ) → next_in (standing outer l x) m c ≡ None
+    → spelled (with_mode (standing outer l x) m) ++ c ∷ rest ≡ text → IsReason text (refusal_at (image (with_mode (standing outer l x) m)) c)
 stops outer l x f g h between w c rest text refused e = tt
 stops outer l x f g h escaping w c rest text refused e =
     escape_told text c (length outer.groups, term_behind outer l x f g h c rest text (byte "\\" ∷ []) e)
@@ -306,51 +311,51 @@ stops outer l x f g h (name_escaping n) w c rest text refused e = tt
 stops outer l x f g h (name_coding n k) w c rest text refused e = tt
 
 -- at place k of the text the code's reader stands as that of the definitions, which has read what is before it
-abbrev pub Stands : List ℕ → ℕ → Parts → Type 0
-Stands text k p = (s : State) × (image s ≡ p) × IsState s × (spelled s ++ drop k text ≡ text)
+abbrev pub Stands : List ℕ → ℕ → State patterns → Type 0
+Stands text k p = (s : State trees) × (image s ≡ p) × IsState s × (spelled s ++ drop k text ≡ text)
 
 -- at the beginning of a text the code's reader stands with nothing read
-pub starts : (text : List ℕ) → Stands text 0 parts.no_parts
-starts text = (initial, refl, (tt, (tt, tt), tt, tt), refl)
+pub starts : (text : List ℕ) → Stands text 0 (initial patterns)
+starts text = (initial trees, refl, (tt, (tt, tt), tt, tt), refl)
 
 -- the parts that there are, or else the first ones
-parts_or : Parts → Option Parts → Parts
+parts_or : State patterns → Option (State patterns) → State patterns
 parts_or d None = d
 parts_or d (Some r) = r
 
 -- parts that are the same as options are the same
-same_parts : (p q : Parts) → Some p ≡ Some q → p ≡ q
+same_parts : (p q : State patterns) → Some p ≡ Some q → p ≡ q
 unfolding parts_or
 same_parts p q e = ap (parts_or p) e
 
 -- where an option of a state has no image, it has no state
-none_mapped : (o : Option State) → None ≡ option_map image o → o ≡ None
+none_mapped : (o : Option (State trees)) → None ≡ option_map image o → o ≡ None
 none_mapped None e = refl
 none_mapped (Some t) e = absurd (not_some _ (sym e))
 
-module _ (text : List ℕ) (k next c : ℕ) (within : k < length text) (is : c ≡ get_or text k c) (follows : next ≡ suc k) (p : Parts)
+module _ (text : List ℕ) (k next c : ℕ) (within : k < length text) (is : c ≡ get_or text k c) (follows : next ≡ suc k) (p : State patterns)
     (stands : Stands text k p) where
   -- the state of the definitions' reader at place k
-  abbrev s : State
+  abbrev s : State trees
   s = stands.0
 
   -- the image of its state behind the character is what the code's reader comes to
-  stepped : option_map image (reading.next s c) ≡ after_char p c
-  stepped = next_image s.outer s.level s.last s.mode c ∙ ap (λ (r : Parts). after_char r c) stands.1
+  stepped : option_map image (reading.next s c) ≡ reading.next p c
+  stepped = next_image s.outer s.level s.last s.mode c ∙ ap (λ (r : State patterns). reading.next r c) stands.1
 
   -- what it has read, the character and what stands behind are the text
   here : spelled s ++ c ∷ drop next text ≡ text
   here = ap (λ z. spelled s ++ z) (sym (at_place text k next c within is follows)) ∙ stands.3
 
   -- where the code's reader refuses the character, what is told of it is so
-  pub stops_so : None ≡ after_char p c → IsReason text (refusal_at p c)
+  pub stops_so : None ≡ reading.next p c → IsReason text (refusal_at p c)
   stops_so refused =
       subst (λ r. IsReason text (refusal_at r c)) stands.1
       (stops s.outer s.level s.last stands.2.0 stands.2.1 stands.2.2 s.mode stands.2.3 c (drop next text) text
       (none_mapped (reading.next s c) (refused ∙ sym stepped)) here)
 
   -- the image of a formed state that has read the character too stands at the next place
-  goes : (q : Parts) (o : Option State) → Some q ≡ option_map image o → Makes o → HasRead o (spelled s ++ c ∷ []) → Stands text next q
+  goes : (q : State patterns) (o : Option (State trees)) → Some q ≡ option_map image o → Makes o → HasRead o (spelled s ++ c ∷ []) → Stands text next q
   goes q None e w r = absurd (not_some _ e)
   goes q (Some t) e w r = (
     t,
@@ -360,7 +365,7 @@ module _ (text : List ℕ) (k next c : ℕ) (within : k < length text) (is : c �
   )
 
   -- where the code's reader takes the character, it stands at the next place
-  pub goes_so : (q : Parts) → Some q ≡ after_char p c → Stands text next q
+  pub goes_so : (q : State patterns) → Some q ≡ reading.next p c → Stands text next q
   goes_so q e =
       goes q (reading.next s c) (e ∙ sym stepped)
       (next_formed s.outer s.level s.last stands.2.0 stands.2.1 stands.2.2 s.mode c stands.2.3)
@@ -368,25 +373,25 @@ module _ (text : List ℕ) (k next c : ℕ) (within : k < length text) (is : c �
 
 -- where all is read that may be, and the pattern is not taken, it is too large
 -- a tree that is left out is so for its size
-left_out : (b : Bool) (d : Disjunction) → is_some (tree_if b d) ≡ false → b ≡ false
+left_out : (b : Bool) (d : Disjunction) → is_some (when b (Some d)) ≡ false → b ≡ false
 left_out false d refused = refl
 left_out true d refused = absurd (true≢false refused)
 
 -- a well-formed tree of a text that is left out makes `TooLarge` a reason
 large_of : (text : List ℕ) (o : Option Disjunction) (p : Pattern) → IsSpelled o text → IsFormed o → Some p ≡ option_map pattern o
-    → is_some (small_tree o) ≡ false → IsReason text TooLarge
+    → is_some (small trees o) ≡ false → IsReason text TooLarge
 large_of text None p w f some refused = absurd (not_some p some)
 large_of text (Some d) p w f some refused =
     (d, f, w, leb-false _ _ (left_out (nat_le (steps_of_parts (parts (pattern d))) max_steps) d refused))
 
 -- a text that is short is read as it is
-all_read : (text : List ℕ) → length text ≤ max_length → read_short text ≡ read text
-all_read text short = ap (λ (b : Bool). if b then read text else None) (le-leb (length text) max_length short)
+all_read : (text : List ℕ) → length text ≤ max_length → read_short trees text ≡ read_from (initial trees) text
+all_read text short = ap (λ (b : Bool). if b then read_from (initial trees) text else None) (le-leb (length text) max_length short)
 
 -- a text that is short, apart and read as a tree, and is not taken, is too large
-pub too_large : (text : List ℕ) (p : Pattern) → length text ≤ max_length → Some p ≡ option_map pattern (read_short text) → is_apart text ≡ true
+pub too_large : (text : List ℕ) (p : Pattern) → length text ≤ max_length → Some p ≡ option_map pattern (read_short trees text) → is_apart text ≡ true
     → takes_pattern text ≡ false → IsReason text TooLarge
 too_large text p short some apart refused =
-    large_of text (read text) p (sound text) (read_formed text) (some ∙ ap (option_map pattern) (all_read text short))
-    (ap (λ o. is_some (small_tree o)) (sym (all_read text short))
-    ∙ ap (λ (b : Bool). is_some (if b then small_tree (read_short text) else None)) (sym apart) ∙ refused)
+    large_of text (read_from (initial trees) text) p (sound text) (read_formed text) (some ∙ ap (option_map pattern) (all_read text short))
+    (ap (λ o. is_some (small trees o)) (sym (all_read text short))
+    ∙ ap (λ (b : Bool). is_some (if b then small trees (read_short trees text) else None)) (sym apart) ∙ refused)

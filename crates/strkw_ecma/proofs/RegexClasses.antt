@@ -14,7 +14,7 @@ use Rattle.strkw_ecma.specs.Sets.{control_char}
 use Rattle.strkw_ecma.specs.declared.tree.CharSet.{CharSet}
 use Rattle.strkw_ecma.specs.declared.tree.CharSet.TheVariants.{Range}
 use Rattle.strkw_ecma.specs.Regex.{IsClassItem, is_lead_item, is_trail_item, ends_in_lead, MayStandBehind, AreItems, bracketed, leaf_spelling, IsLeaf}
-use Rattle.strkw_ecma.specs.machine.CodeParts.{pair_value}
+use Rattle.strkw_ecma.specs.machine.Makers.{pair_value}
 use Rattle.strkw_ecma.specs.machine.Recognising.{Item, set_item, char_item, lead_item, trail_item, Pending, fresh, one, dashed, ranged, item_value, is_bounded}
 use Rattle.strkw_ecma.specs.machine.Recognising.{is_range, pending_if, took_behind, took_dashed, took_ranged, took, took_dash, may_close, number_item}
 use Rattle.strkw_ecma.proofs.RegexWritten.{form}

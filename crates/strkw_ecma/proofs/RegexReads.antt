@@ -23,8 +23,8 @@ use Rattle.strkw_ecma.specs.Syntax as syntax
 use Rattle.strkw_ecma.specs.Regex.{AreDecimal, IsRepetition, IsEscape, is_property, IsPropertyExpression, begins_with_zero, begins_with_digit}
 use Rattle.strkw_ecma.specs.machine.CodeReading as reading
 use Rattle.strkw_ecma.specs.machine.CodeReading.{Wanted, one_more, two_more, three_more, four_more}
-use Rattle.strkw_ecma.specs.machine.CodeParts as code_parts
-use Rattle.strkw_ecma.specs.machine.CodeParts.{with_hex_digit, coding_next}
+use Rattle.strkw_ecma.specs.machine.Makers.{trees, patterns, value_if}
+use Rattle.strkw_ecma.specs.machine.CodeReading.{value_or}
 use Rattle.strkw_ecma.specs.machine.PropertyReading.{PropertyPart, brace_awaited, PropertyRead, no_property_read, property_goes, property_ends, property_next}
 use Rattle.strkw_ecma.specs.machine.Recognising.{Last, none, atom, counted, Form, unit_form, other_form, NumberPart, letter_awaited, unit_opened, digits_of}
 use Rattle.strkw_ecma.specs.machine.Recognising.{point_opened, NumberRead, no_number, number_goes, number_ends, number_next, digit_read, digit_or_none}
@@ -68,7 +68,7 @@ module _ (F : NumberPart → List ℕ → Bool) (G : Form → ℕ → List ℕ �
       → F (digits_of f w v) (d ∷ cs) ≡ follow_number F G (digit_read f w (v * 16 + digit_value d)) cs
   one_digit f w v d cs h m =
       turn (digits_of f w v) d cs
-      ∙ ap (λ (b : Bool). follow_number F G (digit_or_none f w (code_parts.number_if b (v * 16 + digit_value d))) cs)
+      ∙ ap (λ (b : Bool). follow_number F G (digit_or_none f w (value_if b (v * 16 + digit_value d))) cs)
       (and_true _ _ h (le-leb (v * 16 + digit_value d) max_code_point m))
 
   -- all digits of a number are read, where there are as many as are to come
@@ -101,15 +101,15 @@ module _ (F : NumberPart → List ℕ → Bool) (G : Form → ℕ → List ℕ �
   reads_unit ds h cs = opens_digits ds h.0 cs ∙ reads_digits unit_form four_more 0 ds h.0.0 h.0.1 h.1 cs
 
   -- behind `\u{` digits are read, up to the greatest number
-  reads_point : (o : Option ℕ) (es : List ℕ) → are_hex_digits es ≡ true → hex_number_from (code_parts.value_or_zero o) es ≤ max_code_point
-      → has_digits es ≡ true → (cs : List ℕ) → F (point_opened o) (es ++ byte "}" ∷ cs) ≡ G other_form (hex_number_from (code_parts.value_or_zero o) es) cs
+  reads_point : (o : Option ℕ) (es : List ℕ) → are_hex_digits es ≡ true → hex_number_from (value_or 0 o) es ≤ max_code_point
+      → has_digits es ≡ true → (cs : List ℕ) → F (point_opened o) (es ++ byte "}" ∷ cs) ≡ G other_form (hex_number_from (value_or 0 o) es) cs
   reads_point o [] h m k cs = absurd (true≢false (sym k))
   reads_point o (d ∷ es) h m k cs =
-      let v = code_parts.value_or_zero o * 16 + digit_value d in
+      let v = value_or 0 o * 16 + digit_value d in
       let hex = and_left (is_hex_digit d) _ h in
       turn (point_opened o) d (es ++ byte "}" ∷ cs)
       ∙ ap (λ (b : Bool). follow_number F G (on_point o d b) (es ++ byte "}" ∷ cs)) (is_not is_hex_digit d (byte "}") (d == byte "}") refl hex refl)
-      ∙ ap (λ (b : Bool). follow_number F G (point_digit (code_parts.number_if b v)) (es ++ byte "}" ∷ cs))
+      ∙ ap (λ (b : Bool). follow_number F G (point_digit (value_if b v)) (es ++ byte "}" ∷ cs))
       (and_true _ _ hex (le-leb v max_code_point (omega (arith, hex_grows v es, m))))
       ∙ reads_rest v es (and_right (is_hex_digit d) _ h) m
     where
@@ -122,7 +122,7 @@ module _ (F : NumberPart → List ℕ → Bool) (G : Form → ℕ → List ℕ �
           let hex = and_left (is_hex_digit d) _ h in
           turn (point_opened (Some v)) d (es ++ byte "}" ∷ cs)
           ∙ ap (λ (b : Bool). follow_number F G (on_point (Some v) d b) (es ++ byte "}" ∷ cs)) (is_not is_hex_digit d (byte "}") (d == byte "}") refl hex refl)
-          ∙ ap (λ (b : Bool). follow_number F G (point_digit (code_parts.number_if b u)) (es ++ byte "}" ∷ cs))
+          ∙ ap (λ (b : Bool). follow_number F G (point_digit (value_if b u)) (es ++ byte "}" ∷ cs))
           (and_true _ _ hex (le-leb u max_code_point (omega (arith, hex_grows u es, m))))
           ∙ reads_rest u es (and_right (is_hex_digit d) _ h) m
 
@@ -222,7 +222,7 @@ module _ (s : Standing) where
 -- names
 module _ (s : Standing) (g : Naming) (n : List ℕ) where
   -- behind a part of an escape in a name, and behind a whole one
-  abbrev name_behind : reading.Coding → List ℕ → Option syntax.Disjunction
+  abbrev name_behind : reading.Coding trees → List ℕ → Option syntax.Disjunction
   name_behind k cs = wrap (run s (name_coding g n (coding_image k)) cs)
 
   -- behind a whole one
@@ -230,7 +230,7 @@ module _ (s : Standing) (g : Naming) (n : List ℕ) where
   name_whole d cs = wrap (after (with_name_char s g n (code_value d)) cs)
 
   -- the rest is taken behind a character of one as behind what comes of it
-  name_turns : (o : reading.Coded) (cs : List ℕ) → wrap (after (on_name_coding s g n (coded_image o)) cs) ≡ follow name_behind name_whole o cs
+  name_turns : (o : reading.Coded trees) (cs : List ℕ) → wrap (after (on_name_coding s g n (coded_image o)) cs) ≡ follow name_behind name_whole o cs
   name_turns reading.fails cs = refl
   name_turns (reading.goes k) cs = refl
   name_turns (reading.makes d) cs = refl

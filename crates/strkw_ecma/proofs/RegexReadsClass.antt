@@ -14,7 +14,7 @@ use Rattle.strkw_ecma.specs.Classes.{is_caret, MayEnd}
 use Rattle.strkw_ecma.specs.Regex.{IsEscape, is_property, IsPropertyExpression, IsClassItem, is_lead_item, is_trail_item, MayStandBehind, AreItems, bracketed}
 use Rattle.strkw_ecma.specs.Regex.{leaf_spelling, IsLeaf}
 use Rattle.strkw_ecma.specs.Syntax as syntax
-use Rattle.strkw_ecma.specs.machine.CodeParts.{pair_value}
+use Rattle.strkw_ecma.specs.machine.Makers.{pair_value}
 use Rattle.strkw_ecma.specs.machine.PropertyReading.{PropertyPart, brace_awaited, PropertyRead, no_property_read, property_goes, property_ends, property_next}
 use Rattle.strkw_ecma.specs.machine.Recognising.{atom, Form, NumberPart, NumberRead, no_number, number_goes, number_ends, number_next, unit_opened}
 use Rattle.strkw_ecma.specs.machine.Recognising.{Standing, Mode, between, class_opened, in_class, class_numbering, in_class_property}

@@ -27,7 +27,8 @@ use Rattle.strkw_ecma.specs.Regex.{called as calls_for, bracketed, Part, bar, ed
 use Rattle.strkw_ecma.specs.Regex.{IsRepetition, IsClassItem, is_property, begins_with_zero, IsPart, MayPrecede, AreParts, capture_limit}
 use Rattle.strkw_ecma.specs.machine.CodeReading as reading
 use Rattle.strkw_ecma.specs.machine.CodeReading.{two_more}
-use Rattle.strkw_ecma.specs.machine.CodeParts.{coding_next, unit_opened as name_unit_opened}
+use Rattle.strkw_ecma.specs.machine.Makers.{trees, patterns}
+use Rattle.strkw_ecma.specs.machine.CodeReading.{coding_next, unit_opened as name_unit_opened}
 use Rattle.strkw_ecma.specs.machine.PropertyReading.{PropertyRead, no_property_read, property_goes, property_ends, property_next, brace_awaited}
 use Rattle.strkw_ecma.specs.machine.Recognising.{Last, none, atom, counted, NumberRead, no_number, number_goes, number_ends, number_next, letter_awaited}
 use Rattle.strkw_ecma.specs.machine.Recognising.{unit_opened, digits_of, other_form, Naming, of_group, of_reference, Standing, Count, low, high, Mode, between}
@@ -93,7 +94,7 @@ Written (in_class_property p k) w =
 Written (naming g n) w = NameText g n w
 Written (name_escaping g n) w = (v : List ℕ) × NameText g n v × (w ≡ v ++ byte "\\" ∷ [])
 Written (name_coding g n k) w =
-    (v : List ℕ) × (j : reading.Coding) × NameText g n v × IsCoding j × (is_unicode_coding j ≡ true) × (coding_image j ≡ k)
+    (v : List ℕ) × (j : reading.Coding trees) × NameText g n v × IsCoding j × (is_unicode_coding j ≡ true) × (coding_image j ≡ k)
     × (w ≡ v ++ byte "\\" ∷ coding_spelling j)
 Written (referring n) w = (ds : List ℕ) × AreDecimal ds × (begins_with_zero ds ≡ false) × (held (number ds) ≡ n) × (w ≡ byte "\\" ∷ ds)
 
@@ -309,7 +310,7 @@ name_escape_follows s g n v c true e h =
     )
 
 -- and behind a part of an escape there, or a whole one
-name_coded_follows : (s : Standing) (g : Naming) (n v u : List ℕ) (o : reading.Coded) → NameText g n v → IsCoded o → IsUnicode o → IsCodedAs o u
+name_coded_follows : (s : Standing) (g : Naming) (n v u : List ℕ) (o : reading.Coded trees) → NameText g n v → IsCoded o → IsUnicode o → IsCodedAs o u
     → Follows s (v ++ byte "\\" ∷ u) (on_name_coding s g n (coded_image o))
 name_coded_follows s g n v u reading.fails h f w e = tt
 name_coded_follows s g n v u (reading.goes k) h f w e =

@@ -1,5 +1,5 @@
 -- What a state of the recogniser may have read, and what comes of one more character outside of classes.
-use Rattle.std.proofs.Common.{◌≡◌, ℕ, ◌+◌, ◌*◌, ◌%◌, ◌≤◌, nat_le, ◌==◌, Bool, true, false, ◌&&◌, List, [], ◌∷◌, ◌++◌}
+use Rattle.std.proofs.Common.{◌≡◌, ℕ, ◌+◌, ◌*◌, ◌%◌, ◌≤◌, nat_le, ◌==◌, Bool, true, false, ◌&&◌, List, [], ◌∷◌, ◌++◌, Option, Some, None}
 use Rattle.std.proofs.Common.{length, refl, sym, ap, subst, ◌∙◌, arith}
 use Rattle.std.proofs.lemmas.Bool.{leb-true}
 use Rattle.std.proofs.lemmas.List.{length_push}
@@ -9,16 +9,31 @@ use Rattle.strkw_ecma.specs.Codes.{Code, null_code, letter_code, byte_code, unit
 use Rattle.strkw_ecma.specs.Codes.{hex_number, max_code_point, code_spelling, code_value}
 use Rattle.strkw_ecma.specs.Regex.{IsEscape}
 use Rattle.strkw_ecma.specs.machine.CodeReading.{Wanted, one_more, two_more, three_more, four_more}
-use Rattle.strkw_ecma.specs.machine.CodeParts.{Coding, with_hex_digit, coding_next}
-use Rattle.strkw_ecma.specs.machine.CodeParts as code_parts
+use Rattle.strkw_ecma.specs.machine.Makers.{value_if, hex_with}
+use Rattle.strkw_ecma.specs.machine.CodeReading.{value_or}
 use Rattle.strkw_ecma.specs.machine.Recognising.{Form, unit_form, other_form, NumberPart, letter_awaited, unit_opened, digits_of}
 use Rattle.strkw_ecma.specs.machine.Recognising.{point_opened, NumberRead, no_number, number_goes, number_ends}
 use Rattle.strkw_ecma.specs.machine.Recognising.{digit_read, digit_or_none, number_if}
 use Rattle.strkw_ecma.specs.machine.Recognising.{on_unit, point_digit, on_point, number_next}
 use Rattle.strkw_ecma.proofs.Letters.{same_char}
 use Rattle.strkw_ecma.proofs.CodeReadings.{wanted_count, hex_push_digit}
-use Rattle.strkw_ecma.proofs.CodeImages.{hex_number_of, hex_push, pushed_is, number_is}
+use Rattle.strkw_ecma.proofs.CodeImages.{hex_push}
 use Rattle.strkw_ecma.proofs.Steps.{and_left, and_right}
+
+-- the number, where there are digits
+abbrev hex_number_of : List ℕ → Option ℕ
+hex_number_of [] = None
+hex_number_of (d ∷ ds) = Some (hex_number (d ∷ ds))
+
+-- of digits with one more there is a number
+pushed_is : (ds : List ℕ) (c : ℕ) → hex_number_of (ds ++ c ∷ []) ≡ Some (hex_number (ds ++ c ∷ []))
+pushed_is [] c = refl
+pushed_is (d ∷ ds) c = refl
+
+-- the number of digits is the one that is held of them, or 0 of none
+number_is : (ds : List ℕ) → hex_number ds ≡ value_or 0 (hex_number_of ds)
+number_is [] = refl
+number_is (d ∷ ds) = refl
 
 -- of an escape by a number
 -- the letter behind the backslash, and how many digits there are
@@ -75,14 +90,14 @@ digits_read f four_more ds h l m = (ds, h, omega (arith, l), refl, refl)
 
 -- so it is with one digit more
 digit_follows : (f : Form) (w : Wanted) (ds : List ℕ) (c : ℕ) → are_hex_digits ds ≡ true → length ds + wanted_count w ≡ form_count f
-    → NumberReadText (digit_or_none f w (with_hex_digit (hex_number ds) c)) (form_letter f ∷ (ds ++ c ∷ []))
+    → NumberReadText (digit_or_none f w (hex_with (hex_number ds) c)) (form_letter f ∷ (ds ++ c ∷ []))
 digit_follows f w ds c h l =
-    subst (λ n. NumberReadText (digit_or_none f w (code_parts.number_if (is_hex_digit c && nat_le n max_code_point) n)) (form_letter f ∷ (ds ++ c ∷ [])))
+    subst (λ n. NumberReadText (digit_or_none f w (value_if (is_hex_digit c && nat_le n max_code_point) n)) (form_letter f ∷ (ds ++ c ∷ [])))
     (hex_push 0 ds c) (by_test (is_hex_digit c && nat_le (hex_number (ds ++ c ∷ [])) max_code_point) refl)
   where
     -- by whether it is one that makes no number above the greatest
     by_test : (b : Bool) → (is_hex_digit c && nat_le (hex_number (ds ++ c ∷ [])) max_code_point) ≡ b
-        → NumberReadText (digit_or_none f w (code_parts.number_if b (hex_number (ds ++ c ∷ [])))) (form_letter f ∷ (ds ++ c ∷ []))
+        → NumberReadText (digit_or_none f w (value_if b (hex_number (ds ++ c ∷ [])))) (form_letter f ∷ (ds ++ c ∷ []))
     by_test false e = tt
     by_test true e =
         digits_read f w (ds ++ c ∷ []) (hex_push_digit ds c h (and_left (is_hex_digit c) _ e)) (omega (arith, length_push ds c, l))
@@ -92,13 +107,13 @@ digit_follows f w ds c h l =
 point_follows : (ds : List ℕ) (c : ℕ) (b : Bool) → (c == byte "}") ≡ b → are_hex_digits ds ≡ true → hex_number ds ≤ max_code_point
     → NumberReadText (on_point (hex_number_of ds) c b) (byte "u" ∷ byte "{" ∷ (ds ++ c ∷ []))
 point_follows ds c false k h m =
-    subst (λ n. NumberReadText (point_digit (code_parts.number_if (is_hex_digit c && nat_le n max_code_point) n)) (byte "u" ∷ byte "{" ∷ (ds ++ c ∷ [])))
+    subst (λ n. NumberReadText (point_digit (value_if (is_hex_digit c && nat_le n max_code_point) n)) (byte "u" ∷ byte "{" ∷ (ds ++ c ∷ [])))
     (hex_push 0 ds c ∙ ap (λ n. n * 16 + digit_value c) (number_is ds))
     (by_test (is_hex_digit c && nat_le (hex_number (ds ++ c ∷ [])) max_code_point) refl)
   where
     -- by whether it is a digit that makes no number above the greatest
     by_test : (b : Bool) → (is_hex_digit c && nat_le (hex_number (ds ++ c ∷ [])) max_code_point) ≡ b
-        → NumberReadText (point_digit (code_parts.number_if b (hex_number (ds ++ c ∷ [])))) (byte "u" ∷ byte "{" ∷ (ds ++ c ∷ []))
+        → NumberReadText (point_digit (value_if b (hex_number (ds ++ c ∷ [])))) (byte "u" ∷ byte "{" ∷ (ds ++ c ∷ []))
     by_test false e = tt
     by_test true e = (
       ds ++ c ∷ [],

@@ -18,16 +18,15 @@ use Rattle.strkw_ecma.specs.Syntax.{set_escape, coded, property_escape, dot, gro
 use Rattle.strkw_ecma.specs.Syntax.{opening as opening_token, closing, point, backslash, bracket, brace, character, other, token, quantifier_spelling}
 use Rattle.strkw_ecma.specs.Syntax.{group_spelling, lookbehind_spelling, lookahead_spelling, enclosing_spelling, spelling, term_spelling, atom_spelling}
 use Rattle.strkw_ecma.specs.machine.Reading.{Open, Outer, Level, Last, none, atom, counted, fresh, Mode, between, escaping, opening, extending, class_opened}
-use Rattle.strkw_ecma.specs.machine.Reading.{Count, low, high, counting, with_count, longer, on_low, on_high, on_count, range_read, in_class, class_escaping}
-use Rattle.strkw_ecma.specs.machine.Reading.{coding, class_coding, in_property, in_class_property, naming, name_escaping, name_coding, with_name_char}
-use Rattle.strkw_ecma.specs.machine.Reading.{name_read, look_read, on_naming, on_name_escape}
-use Rattle.strkw_ecma.specs.machine.Reading.{on_name_coding, on_coding, on_property, tree_if}
+use Rattle.strkw_ecma.specs.machine.Reading.{Count, low, high, counting, with_count, on_low, on_high, on_count, on_range_end, in_class, class_escaping}
+use Rattle.strkw_ecma.specs.machine.Reading.{coding, class_coding, in_property, in_class_property, naming, name_escaping, name_coding, on_name_char}
+use Rattle.strkw_ecma.specs.machine.Reading.{on_name_end, on_look, on_naming, on_name_escape}
+use Rattle.strkw_ecma.specs.machine.Reading.{on_name_coding, on_coding, on_property}
 use Rattle.strkw_ecma.specs.machine.Reading.{closes, is_between, State}
-use Rattle.strkw_ecma.specs.machine.Reading.{ended, level_ended, new_level, with_atom, with_term}
-use Rattle.strkw_ecma.specs.machine.Reading.{with_mode, enclosed, closed_in, closed}
-use Rattle.strkw_ecma.specs.machine.Reading.{with_quantifier, questioned}
-use Rattle.strkw_ecma.specs.machine.Reading.{opened, opened_within, on_token, on_group, on_extension, on_escape, on_class, next, next_in, read_from, initial}
-use Rattle.strkw_ecma.specs.machine.Reading.{read}
+use Rattle.strkw_ecma.specs.machine.Reading.{all_terms, whole_level, new_level, with_atom, with_term}
+use Rattle.strkw_ecma.specs.machine.Reading.{with_mode, with_part, closed_in}
+use Rattle.strkw_ecma.specs.machine.Reading.{with_quantifier, with_question}
+use Rattle.strkw_ecma.specs.machine.Reading.{with_open, opened_within, on_token, on_group, on_extension, on_escape, on_bracket, next, next_in, read_from, initial}
 use Rattle.strkw_ecma.specs.Numbers.{number, number_of, max_count, CountToken, digit, comma, closing_brace, no_count, count_token}
 use Rattle.strkw_ecma.specs.Size.{steps, max_term_steps}
 use Rattle.strkw_ecma.specs.Patterns.{atom_pattern, times, copies}
@@ -38,48 +37,52 @@ use Rattle.strkw_ecma.proofs.ClassSpelled.{more_spelling, before, whole, atom_re
 use Rattle.strkw_ecma.proofs.CodeReadings.{coding_spelling, IsCodedAs, coding_as}
 use Rattle.strkw_ecma.specs.machine.PropertyReading.{PropertyPart, PropertyRead, no_property_read, property_goes, property_ends, property_next}
 use Rattle.strkw_ecma.proofs.PropertyReadings.{part_spelling, IsReadAs, property_as}
+use Rattle.strkw_ecma.specs.machine.Reading.{when}
+use Rattle.strkw_ecma.specs.machine.CodeReading.{value_or}
+use Rattle.strkw_ecma.specs.machine.Makers.{trees, value_if, enclosed_tree}
+use Rattle.strkw_ecma.proofs.BetweenTerms.{standing}
 
-module _ (outer : Outer) (l : Level) where
+module _ (outer : Outer trees) (l : Level trees) where
   -- what is read before the last term
   abbrev level_text : List ℕ
   level_text = outer_spelling outer.groups ++ level_spelling l.earlier l.current
 
   -- a state behind a term has read what was before it, and the term
-  term_read : (x : Last) (t : Term) → spelled (with_term outer l x t) ≡ before outer l x ++ term_spelling t
+  term_read : (x : Last trees) (t : Term) → spelled (with_term (standing outer l x) t) ≡ before outer l x ++ term_spelling t
   term_read x t =
-      append-nil _ ∙ append-nil _ ∙ ap (λ z. outer_spelling outer.groups ++ z) (more_spelling l.earlier (ended l.current x) t)
-      ∙ sym (append_assoc (outer_spelling outer.groups) (level_spelling l.earlier (ended l.current x)) (term_spelling t))
+      append-nil _ ∙ append-nil _ ∙ ap (λ z. outer_spelling outer.groups ++ z) (more_spelling l.earlier (all_terms l.current x) t)
+      ∙ sym (append_assoc (outer_spelling outer.groups) (level_spelling l.earlier (all_terms l.current x)) (term_spelling t))
       ∙ ap (λ z. z ++ term_spelling t) (whole outer l x)
 
   -- where no last term is before it, a term is read behind the level
-  term_alone : (t : Term) → spelled (with_term outer l none t) ≡ level_text ++ term_spelling t
+  term_alone : (t : Term) → spelled (with_term (standing outer l none) t) ≡ level_text ++ term_spelling t
   term_alone t = term_read none t ∙ ap (λ z. z ++ term_spelling t) (append-nil level_text)
 
   -- the groups and the tree of the whole level are spelled as what is read
-  pub level_whole : (x : Last) → outer_spelling outer.groups ++ spelling (level_ended l x) ≡ before outer l x
-  level_whole x = ap (λ z. outer_spelling outer.groups ++ z) (joined_spelling l.earlier (ended l.current x)) ∙ whole outer l x
+  pub level_whole : (x : Last trees) → outer_spelling outer.groups ++ spelling (whole_level l x) ≡ before outer l x
+  level_whole x = ap (λ z. outer_spelling outer.groups ++ z) (joined_spelling l.earlier (all_terms l.current x)) ∙ whole outer l x
 
   -- a state behind a quantifier has read what was before it, and the quantifier
-  quantifier_read : (x : Last) (q : Quantifier) → HasRead (with_quantifier outer l x q) (before outer l x ++ quantifier_spelling q)
+  quantifier_read : (x : Last trees) (q : Quantifier) → HasRead (with_quantifier (standing outer l x) x q) (before outer l x ++ quantifier_spelling q)
   quantifier_read none q = tt
   quantifier_read (atom a) q = append-nil _ ∙ sym (append_assoc level_text (atom_spelling a) (quantifier_spelling q))
-  quantifier_read (counted a p) q = tt
+  quantifier_read (counted (a, p)) q = tt
 
   -- and so has one behind a question mark
-  question_read : (x : Last) → HasRead (questioned outer l x) (before outer l x ++ byte "?" ∷ [])
+  question_read : (x : Last trees) → HasRead (with_question (standing outer l x) x) (before outer l x ++ byte "?" ∷ [])
   question_read none = tt
   question_read (atom a) = quantifier_read (atom a) zero_or_one
-  question_read (counted a q) =
+  question_read (counted (a, q)) =
       term_alone (quantified a q lazy) ∙ sym (append_assoc level_text (atom_spelling a ++ quantifier_spelling q) (byte "?" ∷ []))
 
   -- and one behind `|`
-  bar_read : (x : Last) → HasRead (on_token outer l x (byte "|") bar) (before outer l x ++ byte "|" ∷ [])
+  bar_read : (x : Last trees) → HasRead (on_token (standing outer l x) (byte "|") bar) (before outer l x ++ byte "|" ∷ [])
   bar_read x =
-      append-nil _ ∙ append-nil _ ∙ sym (append_assoc (outer_spelling outer.groups) (spelling (level_ended l x)) (byte "|" ∷ []))
+      append-nil _ ∙ append-nil _ ∙ sym (append_assoc (outer_spelling outer.groups) (spelling (whole_level l x)) (byte "|" ∷ []))
       ∙ ap (λ z. z ++ byte "|" ∷ []) (level_whole x)
 
   -- and one behind the beginning of a group or a lookbehind
-  open_read : (x : Last) (g : Enclosing) (b : Bool) → HasRead (opened outer l x g b) (before outer l x ++ enclosing_spelling g)
+  open_read : (x : Last trees) (g : Enclosing) (b : Bool) → HasRead (with_open (standing outer l x) g b) (before outer l x ++ enclosing_spelling g)
   open_read x g false = tt
   open_read x g true = append-nil _ ∙ append-nil _ ∙ append-nil _ ∙ ap (λ z. z ++ enclosing_spelling g) (whole outer l x)
 
@@ -92,62 +95,58 @@ enclosed_text front kind inner b s text is e whole =
     ∙ sym (append_assoc front (kind ++ inner) (byte ")" ∷ []))
     ∙ ap (λ z. z ++ byte ")" ∷ []) (sym (append_assoc front kind inner) ∙ whole)
 
-module _ (os : List Open) (ns : List (List ℕ)) (o : Open) (l : Level) (x : Last) where
+module _ (os : List (Open trees)) (ns : List (List ℕ)) (o : Open trees) (l : Level trees) (x : Last trees) where
   -- what is open around it, and what is open with it
-  abbrev outside : Outer
+  abbrev outside : Outer trees
   outside = record { groups = os; names = ns }
 
   -- with it
-  abbrev inside : Outer
+  abbrev inside : Outer trees
   inside = record { groups = o ∷ os; names = ns }
-
-  -- the level around it
-  abbrev level_around : Level
-  level_around = record { earlier = o.earlier; current = o.current }
 
   -- the state behind it has read the parenthesis too, whichever of the two it is
   enclosed_read : (g : Enclosing) → o.enclosing ≡ g
-      → spelled (enclosed outside level_around g (level_ended l x)) ≡ before inside l x ++ byte ")" ∷ []
+      → spelled (with_part outside o.level (enclosed_tree g (whole_level l x))) ≡ before inside l x ++ byte ")" ∷ []
   enclosed_read (of_group g) is =
-      enclosed_text (outer_spelling os ++ level_spelling o.earlier o.current) (group_spelling g) (spelling (level_ended l x)) _ _ _
-      (atom_read outside level_around none (group g (level_ended l x))) (append-nil _)
-      (ap (λ k. ((outer_spelling os ++ level_spelling o.earlier o.current) ++ enclosing_spelling k) ++ spelling (level_ended l x)) (sym is)
+      enclosed_text (outer_spelling os ++ level_spelling o.level.earlier o.level.current) (group_spelling g) (spelling (whole_level l x)) _ _ _
+      (atom_read outside o.level none (group g (whole_level l x))) (append-nil _)
+      (ap (λ k. ((outer_spelling os ++ level_spelling o.level.earlier o.level.current) ++ enclosing_spelling k) ++ spelling (whole_level l x)) (sym is)
       ∙ level_whole inside l x)
   enclosed_read (of_lookbehind n) is =
-      enclosed_text (outer_spelling os ++ level_spelling o.earlier o.current) (lookbehind_spelling n) (spelling (level_ended l x)) _ _ _
-      (term_read outside level_around none (looks_behind n (level_ended l x))) (append-nil _)
-      (ap (λ k. ((outer_spelling os ++ level_spelling o.earlier o.current) ++ enclosing_spelling k) ++ spelling (level_ended l x)) (sym is)
+      enclosed_text (outer_spelling os ++ level_spelling o.level.earlier o.level.current) (lookbehind_spelling n) (spelling (whole_level l x)) _ _ _
+      (term_read outside o.level none (looks_behind n (whole_level l x))) (append-nil _)
+      (ap (λ k. ((outer_spelling os ++ level_spelling o.level.earlier o.level.current) ++ enclosing_spelling k) ++ spelling (whole_level l x)) (sym is)
       ∙ level_whole inside l x)
   enclosed_read (of_lookahead n) is =
-      enclosed_text (outer_spelling os ++ level_spelling o.earlier o.current) (lookahead_spelling n) (spelling (level_ended l x)) _ _ _
-      (term_read outside level_around none (looks_ahead n (level_ended l x))) (append-nil _)
-      (ap (λ k. ((outer_spelling os ++ level_spelling o.earlier o.current) ++ enclosing_spelling k) ++ spelling (level_ended l x)) (sym is)
+      enclosed_text (outer_spelling os ++ level_spelling o.level.earlier o.level.current) (lookahead_spelling n) (spelling (whole_level l x)) _ _ _
+      (term_read outside o.level none (looks_ahead n (whole_level l x))) (append-nil _)
+      (ap (λ k. ((outer_spelling os ++ level_spelling o.level.earlier o.level.current) ++ enclosing_spelling k) ++ spelling (whole_level l x)) (sym is)
       ∙ level_whole inside l x)
 
 -- so has a state that is made where something is open
-close_in_read : (os : List Open) (ns : List (List ℕ)) (l : Level) (x : Last)
-    → HasRead (closed_in os ns (level_ended l x)) (before (record { groups = os; names = ns }) l x ++ byte ")" ∷ [])
+close_in_read : (os : List (Open trees)) (ns : List (List ℕ)) (l : Level trees) (x : Last trees)
+    → HasRead (closed_in os ns (whole_level l x)) (before (record { groups = os; names = ns }) l x ++ byte ")" ∷ [])
 close_in_read [] ns l x = tt
 close_in_read (o ∷ os) ns l x = enclosed_read os ns o l x o.enclosing refl
 
 -- the same by all that is open
-close_read : (outer : Outer) (l : Level) (x : Last) → HasRead (closed outer (level_ended l x)) (before outer l x ++ byte ")" ∷ [])
+close_read : (outer : Outer trees) (l : Level trees) (x : Last trees) → HasRead (closed_in outer.groups outer.names (whole_level l x)) (before outer l x ++ byte ")" ∷ [])
 close_read outer l x = close_in_read outer.groups outer.names l x
 
 -- a state behind a character between terms has read what was before it, and the character
-token_read : (outer : Outer) (l : Level) (x : Last) (c : ℕ) (k : Token) → char_of k c ≡ c
-    → HasRead (on_token outer l x c k) (before outer l x ++ c ∷ [])
-token_read outer l x c bar e = subst (λ z. HasRead (on_token outer l x c bar) (before outer l x ++ z ∷ [])) e (bar_read outer l x)
+token_read : (outer : Outer trees) (l : Level trees) (x : Last trees) (c : ℕ) (k : Token) → char_of k c ≡ c
+    → HasRead (on_token (standing outer l x) c k) (before outer l x ++ c ∷ [])
+token_read outer l x c bar e = subst (λ z. HasRead (on_token (standing outer l x) c bar) (before outer l x ++ z ∷ [])) e (bar_read outer l x)
 token_read outer l x c asterisk e =
-    subst (λ z. HasRead (with_quantifier outer l x zero_or_more) (before outer l x ++ z ∷ [])) e (quantifier_read outer l x zero_or_more)
+    subst (λ z. HasRead (with_quantifier (standing outer l x) x zero_or_more) (before outer l x ++ z ∷ [])) e (quantifier_read outer l x zero_or_more)
 token_read outer l x c plus e =
-    subst (λ z. HasRead (with_quantifier outer l x one_or_more) (before outer l x ++ z ∷ [])) e (quantifier_read outer l x one_or_more)
-token_read outer l x c question e = subst (λ z. HasRead (questioned outer l x) (before outer l x ++ z ∷ [])) e (question_read outer l x)
-token_read outer l x c caret e = subst (λ z. HasRead (on_token outer l x c caret) (before outer l x ++ z ∷ [])) e (term_read outer l x at_start)
-token_read outer l x c dollar e = subst (λ z. HasRead (on_token outer l x c dollar) (before outer l x ++ z ∷ [])) e (term_read outer l x at_end)
+    subst (λ z. HasRead (with_quantifier (standing outer l x) x one_or_more) (before outer l x ++ z ∷ [])) e (quantifier_read outer l x one_or_more)
+token_read outer l x c question e = subst (λ z. HasRead (with_question (standing outer l x) x) (before outer l x ++ z ∷ [])) e (question_read outer l x)
+token_read outer l x c caret e = subst (λ z. HasRead (on_token (standing outer l x) c caret) (before outer l x ++ z ∷ [])) e (term_read outer l x at_start)
+token_read outer l x c dollar e = subst (λ z. HasRead (on_token (standing outer l x) c dollar) (before outer l x ++ z ∷ [])) e (term_read outer l x at_end)
 token_read outer l x c opening_token e = ap (λ z. before outer l x ++ z ∷ []) e
-token_read outer l x c closing e = subst (λ z. HasRead (closed outer (level_ended l x)) (before outer l x ++ z ∷ [])) e (close_read outer l x)
-token_read outer l x c point e = subst (λ z. HasRead (on_token outer l x c point) (before outer l x ++ z ∷ [])) e (atom_read outer l x dot)
+token_read outer l x c closing e = subst (λ z. HasRead (closed_in outer.groups outer.names (whole_level l x)) (before outer l x ++ z ∷ [])) e (close_read outer l x)
+token_read outer l x c point e = subst (λ z. HasRead (on_token (standing outer l x) c point) (before outer l x ++ z ∷ [])) e (atom_read outer l x dot)
 token_read outer l x c backslash e = ap (λ z. before outer l x ++ z ∷ []) e
 token_read outer l x c bracket e = ap (λ z. before outer l x ++ z ∷ []) e
 token_read outer l x c brace e = ap (λ z. before outer l x ++ z ∷ []) e
@@ -155,8 +154,8 @@ token_read outer l x c character e = atom_read outer l x (plain c)
 token_read outer l x c other e = tt
 
 -- behind a character that follows a backslash, that is read too
-escape_read : (outer : Outer) (l : Level) (x : Last) (c : ℕ) (k : Escape) → char_of_letter k c ≡ c
-    → HasRead (on_escape outer l x c k) ((before outer l x ++ byte "\\" ∷ []) ++ c ∷ [])
+escape_read : (outer : Outer trees) (l : Level trees) (x : Last trees) (c : ℕ) (k : Escape) → char_of_letter k c ≡ c
+    → HasRead (on_escape (standing outer l x) c k) ((before outer l x ++ byte "\\" ∷ []) ++ c ∷ [])
 escape_read outer l x c itself e = atom_read outer l x (escaped c) ∙ sym (append_assoc (before outer l x) (byte "\\" ∷ []) (c ∷ []))
 escape_read outer l x c control e =
     atom_read outer l x (control_escape c) ∙ sym (append_assoc (before outer l x) (byte "\\" ∷ []) (c ∷ []))
@@ -183,8 +182,8 @@ escape_read outer l x c no_property e =
 escape_read outer l x c unknown e = tt
 
 -- and behind one more character of an escape by a number
-coding_read : (outer : Outer) (l : Level) (x : Last) (k : Coding) (c : ℕ) (o : Coded) → IsCodedAs o (coding_spelling k ++ c ∷ [])
-    → HasRead (on_coding outer l x o) ((before outer l x ++ byte "\\" ∷ coding_spelling k) ++ c ∷ [])
+coding_read : (outer : Outer trees) (l : Level trees) (x : Last trees) (k : Coding trees) (c : ℕ) (o : Coded trees) → IsCodedAs o (coding_spelling k ++ c ∷ [])
+    → HasRead (on_coding (standing outer l x) o) ((before outer l x ++ byte "\\" ∷ coding_spelling k) ++ c ∷ [])
 coding_read outer l x k c fails h = tt
 coding_read outer l x k c (goes m) h =
     ap (λ z. before outer l x ++ byte "\\" ∷ z) h ∙ sym (append_assoc (before outer l x) (byte "\\" ∷ coding_spelling k) (c ∷ []))
@@ -193,93 +192,94 @@ coding_read outer l x k c (makes d) h =
     ∙ sym (append_assoc (before outer l x) (byte "\\" ∷ coding_spelling k) (c ∷ []))
 
 -- and behind one more character of the escape of a property
-property_read : (outer : Outer) (l : Level) (x : Last) (k : PropertyPart) (c : ℕ) (o : PropertyRead) → IsReadAs o (part_spelling k ++ c ∷ [])
-    → HasRead (on_property outer l x o) ((before outer l x ++ byte "\\" ∷ part_spelling k) ++ c ∷ [])
+property_read : (outer : Outer trees) (l : Level trees) (x : Last trees) (k : PropertyPart) (c : ℕ) (o : PropertyRead) → IsReadAs o (part_spelling k ++ c ∷ [])
+    → HasRead (on_property (standing outer l x) o) ((before outer l x ++ byte "\\" ∷ part_spelling k) ++ c ∷ [])
 property_read outer l x k c no_property_read h = tt
 property_read outer l x k c (property_goes m) h =
     ap (λ z. before outer l x ++ byte "\\" ∷ z) h ∙ sym (append_assoc (before outer l x) (byte "\\" ∷ part_spelling k) (c ∷ []))
 property_read outer l x k c (property_ends n e) h =
-    when_read _ (Some (with_atom outer l x (property_escape n e))) _
+    when_read _ (Some (with_atom (standing outer l x) (property_escape n e))) _
     (atom_read outer l x (property_escape n e) ∙ ap (λ z. before outer l x ++ byte "\\" ∷ z) h
     ∙ sym (append_assoc (before outer l x) (byte "\\" ∷ part_spelling k) (c ∷ [])))
 
 -- behind `(`: the group is open, and the character is read within it
-first_read : (outer : Outer) (l : Level) (x : Last) (c : ℕ) (b : Bool)
-    → HasRead (option_and_then (λ t. on_token t.outer t.level t.last c (token c)) (opened outer l x (of_group capturing) b))
+first_read : (outer : Outer trees) (l : Level trees) (x : Last trees) (c : ℕ) (b : Bool)
+    → HasRead (option_and_then (λ t. on_token t c (token c)) (with_open (standing outer l x) (of_group capturing) b))
     ((before outer l x ++ byte "(" ∷ []) ++ c ∷ [])
 first_read outer l x c false = tt
 first_read outer l x c true =
-    let o : Open = record { enclosing = of_group capturing; earlier = l.earlier; current = ended l.current x } in
-    let inner : Outer = record { groups = o ∷ outer.groups; names = outer.names } in
-    subst (λ z. HasRead (on_token inner new_level none c (token c)) (z ++ c ∷ []))
+    let o : Open trees = record { enclosing = of_group capturing; level = record { earlier = l.earlier; current = all_terms l.current x } } in
+    let inner : Outer trees = record { groups = o ∷ outer.groups; names = outer.names } in
+    subst (λ z. HasRead (on_token (standing inner new_level none) c (token c)) (z ++ c ∷ []))
     (append-nil _ ∙ append-nil _ ∙ ap (λ z. z ++ byte "(" ∷ []) (whole outer l x)) (token_read inner new_level none c (token c) (char_of_token c))
 
 -- behind the character that follows `(`, that is read too
-group_read : (outer : Outer) (l : Level) (x : Last) (c : ℕ) (b : Bool) → (c == byte "?") ≡ b
-    → HasRead (on_group outer l x c b) ((before outer l x ++ byte "(" ∷ []) ++ c ∷ [])
+group_read : (outer : Outer trees) (l : Level trees) (x : Last trees) (c : ℕ) (b : Bool) → (c == byte "?") ≡ b
+    → HasRead (on_group (standing outer l x) c b) ((before outer l x ++ byte "(" ∷ []) ++ c ∷ [])
 group_read outer l x c false e = first_read outer l x c _
 group_read outer l x c true e =
     ap (λ z. before outer l x ++ byte "(" ∷ z ∷ []) (same_char c (byte "?") e) ∙ sym (append_assoc (before outer l x) (byte "(" ∷ []) (c ∷ []))
 
 -- and behind the one that follows `(?`
-extension_read : (outer : Outer) (l : Level) (x : Last) (c : ℕ) (k : Extension) → char_of_extension k c ≡ c
-    → HasRead (on_extension outer l x k) ((before outer l x ++ byte "(" ∷ byte "?" ∷ []) ++ c ∷ [])
+extension_read : (outer : Outer trees) (l : Level trees) (x : Last trees) (c : ℕ) (k : Extension) → char_of_extension k c ≡ c
+    → HasRead (on_extension (standing outer l x) k) ((before outer l x ++ byte "(" ∷ byte "?" ∷ []) ++ c ∷ [])
 extension_read outer l x c uncaptured e =
-    subst (HasRead (opened_within outer l x (of_group plain_group)))
+    subst (HasRead (opened_within (standing outer l x) (of_group plain_group)))
     (ap (λ z. before outer l x ++ byte "(" ∷ byte "?" ∷ z ∷ []) e ∙ sym (append_assoc (before outer l x) (byte "(" ∷ byte "?" ∷ []) (c ∷ [])))
     (open_read outer l x (of_group plain_group) _)
 extension_read outer l x c name_opening e =
     ap (λ z. before outer l x ++ byte "(" ∷ byte "?" ∷ z ∷ []) e ∙ sym (append_assoc (before outer l x) (byte "(" ∷ byte "?" ∷ []) (c ∷ []))
 extension_read outer l x c look_equals e =
-    subst (HasRead (opened_within outer l x (of_lookahead false)))
+    subst (HasRead (opened_within (standing outer l x) (of_lookahead false)))
     (ap (λ z. before outer l x ++ byte "(" ∷ byte "?" ∷ z ∷ []) e ∙ sym (append_assoc (before outer l x) (byte "(" ∷ byte "?" ∷ []) (c ∷ [])))
     (open_read outer l x (of_lookahead false) _)
 extension_read outer l x c look_negation e =
-    subst (HasRead (opened_within outer l x (of_lookahead true)))
+    subst (HasRead (opened_within (standing outer l x) (of_lookahead true)))
     (ap (λ z. before outer l x ++ byte "(" ∷ byte "?" ∷ z ∷ []) e ∙ sym (append_assoc (before outer l x) (byte "(" ∷ byte "?" ∷ []) (c ∷ [])))
     (open_read outer l x (of_lookahead true) _)
 extension_read outer l x c no_extension e = tt
 
 -- and behind the one that follows `[`
-bracket_read : (outer : Outer) (l : Level) (x : Last) (c : ℕ) (b : Bool) → (c == byte "^") ≡ b
-    → HasRead (on_class outer l x c b) ((before outer l x ++ byte "[" ∷ []) ++ c ∷ [])
+bracket_read : (outer : Outer trees) (l : Level trees) (x : Last trees) (c : ℕ) (b : Bool) → (c == byte "^") ≡ b
+    → HasRead (on_bracket (standing outer l x) c b) ((before outer l x ++ byte "[" ∷ []) ++ c ∷ [])
 bracket_read outer l x c false e = class_token_read outer l x false no_ranges fresh c (class_token c) (char_of_class_token c)
 bracket_read outer l x c true e =
     ap (λ z. before outer l x ++ byte "[" ∷ z ∷ []) (same_char c (byte "^") e) ∙ sym (append_assoc (before outer l x) (byte "[" ∷ []) (c ∷ []))
 
 -- counts
-module _ (outer : Outer) (l : Level) where
+module _ (outer : Outer trees) (l : Level trees) where
   -- a state behind a count has read what was before it, and the count
-  count_read : (x : Last) (q : Quantifier) → HasRead (with_count outer l x q) (before outer l x ++ quantifier_spelling q)
+  count_read : (x : Last trees) (q : Quantifier) → HasRead (with_count (standing outer l x) x q) (before outer l x ++ quantifier_spelling q)
   count_read none q = tt
   count_read (atom a) q =
-      when_read (nat_le (copies (times q) * steps (atom_pattern a)) max_term_steps) (with_quantifier outer l (atom a) q)
+      when_read (nat_le (copies (times q) * steps (atom_pattern a)) max_term_steps) (with_quantifier (standing outer l (atom a)) (atom a) q)
       (before outer l (atom a) ++ quantifier_spelling q) (quantifier_read outer l (atom a) q)
-  count_read (counted a p) q = tt
+  count_read (counted (a, p)) q = tt
 
   -- a state with one more digit has read this, where it is spelled so
-  longer_read : (x : Last) (m : List ℕ → Mode) (text : List ℕ) (ds : List ℕ) (c : ℕ) (b : Bool)
-      → spelled (with_mode outer l x (m (ds ++ c ∷ []))) ≡ text
-      → HasRead (option_map (λ (es : List ℕ). with_mode outer l x (m es)) (longer ds c b)) text
-  longer_read x m text ds c false h = tt
-  longer_read x m text ds c true h = h
+  longer_read : (x : Last trees) (m : List ℕ → Mode trees) (text ds : List ℕ) (b : Bool)
+      → spelled (with_mode (standing outer l x) (m ds)) ≡ text
+      → HasRead (option_map (λ (n : List ℕ). with_mode (standing outer l x) (m n)) (value_if b ds)) text
+  longer_read x m text ds false h = tt
+  longer_read x m text ds true h = h
 
   -- behind a character in the first number of a count, that is read too
-  low_read : (x : Last) (ds : List ℕ) (c : ℕ) (k : CountToken) → char_of_count k c ≡ c
-      → HasRead (on_low outer l x ds c k) ((before outer l x ++ byte "{" ∷ ds) ++ c ∷ [])
-  low_read x ds c digit e =
-      longer_read x (λ es. counting (low es)) ((before outer l x ++ byte "{" ∷ ds) ++ c ∷ []) ds c (nat_le (number (ds ++ c ∷ [])) max_count)
-      (sym (append_assoc (before outer l x) (byte "{" ∷ ds) (c ∷ [])))
-  low_read x ds c comma e =
-      when_read (is_some (number_of ds)) (Some (with_mode outer l x (counting (high ds [])))) ((before outer l x ++ byte "{" ∷ ds) ++ c ∷ [])
-      (sym (append_assoc (before outer l x) (byte "{" ∷ ds) (byte "," ∷ []))
-      ∙ ap (λ z. (before outer l x ++ byte "{" ∷ ds) ++ z ∷ []) e)
-  low_read x ds c closing_brace e =
-      when_read (is_some (number_of ds)) (with_count outer l x (exactly ds)) ((before outer l x ++ byte "{" ∷ ds) ++ c ∷ [])
-      (subst (HasRead (with_count outer l x (exactly ds)))
+  low_read : (x : Last trees) (o : Option (List ℕ)) (c : ℕ) (k : CountToken) → char_of_count k c ≡ c
+      → HasRead (on_low (standing outer l x) o c k) ((before outer l x ++ byte "{" ∷ value_or [] o) ++ c ∷ [])
+  low_read x o c digit e =
+      let ds = value_or [] o ++ c ∷ [] in
+      longer_read x (λ n. counting (low (Some n))) ((before outer l x ++ byte "{" ∷ value_or [] o) ++ c ∷ []) ds (nat_le (number ds) max_count)
+      (sym (append_assoc (before outer l x) (byte "{" ∷ value_or [] o) (c ∷ [])))
+  low_read x None c comma e = tt
+  low_read x (Some ds) c comma e =
+      sym (append_assoc (before outer l x) (byte "{" ∷ ds) (byte "," ∷ []))
+      ∙ ap (λ z. (before outer l x ++ byte "{" ∷ ds) ++ z ∷ []) e
+  low_read x None c closing_brace e = tt
+  low_read x (Some ds) c closing_brace e =
+      subst (HasRead (with_count (standing outer l x) x (exactly ds)))
       (sym (append_assoc (before outer l x) (byte "{" ∷ ds) (byte "}" ∷ [])) ∙ ap (λ z. (before outer l x ++ byte "{" ∷ ds) ++ z ∷ []) e)
-      (count_read x (exactly ds)))
-  low_read x ds c no_count e = tt
+      (count_read x (exactly ds))
+  low_read x o c no_count e = tt
 
   -- behind both numbers, and a character after them
   -- the brackets may be moved to the front
@@ -288,32 +288,33 @@ module _ (outer : Outer) (l : Level) where
       ap (λ z. a ++ byte "{" ∷ z) (sym (append_assoc ds (byte "," ∷ es) cs)) ∙ sym (append_assoc a (byte "{" ∷ (ds ++ byte "," ∷ es)) cs)
 
   -- behind the brace that closes a count with a comma, that is read too
-  range_count_read : (x : Last) (ds es : List ℕ)
-      → HasRead (range_read outer l x ds es) ((before outer l x ++ (byte "{" ∷ (ds ++ byte "," ∷ es))) ++ byte "}" ∷ [])
-  range_count_read x ds [] =
-      subst (HasRead (with_count outer l x (at_least ds))) (regroup (before outer l x) ds [] (byte "}" ∷ [])) (count_read x (at_least ds))
-  range_count_read x ds (e ∷ es) =
-      when_read (nat_le (number ds) (number (e ∷ es))) (with_count outer l x (from_to ds (e ∷ es)))
-      ((before outer l x ++ (byte "{" ∷ (ds ++ byte "," ∷ (e ∷ es)))) ++ byte "}" ∷ [])
-      (subst (HasRead (with_count outer l x (from_to ds (e ∷ es)))) (regroup (before outer l x) ds (e ∷ es) (byte "}" ∷ []))
-      (count_read x (from_to ds (e ∷ es))))
+  range_count_read : (x : Last trees) (ds : List ℕ) (o : Option (List ℕ))
+      → HasRead (on_range_end (standing outer l x) ds o) ((before outer l x ++ (byte "{" ∷ (ds ++ byte "," ∷ value_or [] o))) ++ byte "}" ∷ [])
+  range_count_read x ds None =
+      subst (HasRead (with_count (standing outer l x) x (at_least ds))) (regroup (before outer l x) ds [] (byte "}" ∷ [])) (count_read x (at_least ds))
+  range_count_read x ds (Some es) =
+      when_read (nat_le (number ds) (number es)) (with_count (standing outer l x) x (from_to ds es))
+      ((before outer l x ++ (byte "{" ∷ (ds ++ byte "," ∷ es))) ++ byte "}" ∷ [])
+      (subst (HasRead (with_count (standing outer l x) x (from_to ds es))) (regroup (before outer l x) ds es (byte "}" ∷ []))
+      (count_read x (from_to ds es)))
 
   -- and behind any character that follows the comma
-  high_read : (x : Last) (ds es : List ℕ) (c : ℕ) (k : CountToken) → char_of_count k c ≡ c
-      → HasRead (on_high outer l x ds es c k) ((before outer l x ++ (byte "{" ∷ (ds ++ byte "," ∷ es))) ++ c ∷ [])
-  high_read x ds es c digit e =
-      longer_read x (λ fs. counting (high ds fs)) ((before outer l x ++ (byte "{" ∷ (ds ++ byte "," ∷ es))) ++ c ∷ []) es c
-      (nat_le (number (es ++ c ∷ [])) max_count) (regroup (before outer l x) ds es (c ∷ []))
-  high_read x ds es c comma e = tt
-  high_read x ds es c closing_brace e =
-      subst (λ z. HasRead (range_read outer l x ds es) ((before outer l x ++ (byte "{" ∷ (ds ++ byte "," ∷ es))) ++ z ∷ [])) e
-      (range_count_read x ds es)
-  high_read x ds es c no_count e = tt
+  high_read : (x : Last trees) (ds : List ℕ) (o : Option (List ℕ)) (c : ℕ) (k : CountToken) → char_of_count k c ≡ c
+      → HasRead (on_high (standing outer l x) ds o c k) ((before outer l x ++ (byte "{" ∷ (ds ++ byte "," ∷ value_or [] o))) ++ c ∷ [])
+  high_read x ds o c digit e =
+      let es = value_or [] o ++ c ∷ [] in
+      longer_read x (λ n. counting (high ds (Some n))) ((before outer l x ++ (byte "{" ∷ (ds ++ byte "," ∷ value_or [] o))) ++ c ∷ []) es
+      (nat_le (number es) max_count) (regroup (before outer l x) ds (value_or [] o) (c ∷ []))
+  high_read x ds o c comma e = tt
+  high_read x ds o c closing_brace e =
+      subst (λ z. HasRead (on_range_end (standing outer l x) ds o) ((before outer l x ++ (byte "{" ∷ (ds ++ byte "," ∷ value_or [] o))) ++ z ∷ [])) e
+      (range_count_read x ds o)
+  high_read x ds o c no_count e = tt
 
   -- so behind any character of a count, that is read too
-  counting_read : (x : Last) (n : Count) (c : ℕ) → HasRead (on_count outer l x n c) (spelled (with_mode outer l x (counting n)) ++ c ∷ [])
-  counting_read x (low ds) c = low_read x ds c (count_token c) (char_of_count_token c)
-  counting_read x (high ds es) c = high_read x ds es c (count_token c) (char_of_count_token c)
+  counting_read : (x : Last trees) (n : Count trees) (c : ℕ) → HasRead (on_count (standing outer l x) n c) (spelled (with_mode (standing outer l x) (counting n)) ++ c ∷ [])
+  counting_read x (low o) c = low_read x o c (count_token c) (char_of_count_token c)
+  counting_read x (high ds o) c = high_read x ds o c (count_token c) (char_of_count_token c)
 
 -- names
 -- a name with one more character is spelled with that behind it
@@ -322,12 +323,12 @@ name_push [] y = append-nil _
 name_push (z ∷ n) y =
     ap (λ z'. name_char_spelling z ++ z') (name_push n y) ∙ sym (append_assoc (name_char_spelling z) (name_spelling n) (name_char_spelling y))
 
-module _ (outer : Outer) (l : Level) (x : Last) (n : List NameChar) where
+module _ (outer : Outer trees) (l : Level trees) (x : Last trees) (n : List NameChar) where
   -- a state behind a character of a name, whose spelling is s and c, has read that too
   name_char_read : (y : NameChar) (s : List ℕ) (c : ℕ) → name_char_spelling y ≡ s ++ c ∷ []
-      → HasRead (with_name_char outer l x n y) ((before outer l x ++ (name_text n ++ s)) ++ c ∷ [])
+      → HasRead (on_name_char (standing outer l x) n y) ((before outer l x ++ (name_text n ++ s)) ++ c ∷ [])
   name_char_read y s c e =
-      when_read (may_follow (name_value n) (name_char_value y)) (Some (with_mode outer l x (naming (n ++ y ∷ []))))
+      when_read (may_follow (name_value n) (name_char_value y)) (Some (with_mode (standing outer l x) (naming (n ++ y ∷ []))))
       ((before outer l x ++ (name_text n ++ s)) ++ c ∷ [])
       (ap (λ z. before outer l x ++ byte "(" ∷ byte "?" ∷ byte "<" ∷ z) (name_push n y)
       ∙ ap (λ z. before outer l x ++ (name_text n ++ z)) e
@@ -345,26 +346,27 @@ module _ (outer : Outer) (l : Level) (x : Last) (n : List NameChar) where
 
   -- behind the character that follows a backslash in a name, that is read too
   name_escape_read : (c : ℕ) (b : Bool) → (c == byte "u") ≡ b
-      → HasRead (on_name_escape outer l x n b) ((before outer l x ++ (name_text n ++ byte "\\" ∷ [])) ++ c ∷ [])
+      → HasRead (on_name_escape (standing outer l x) n b) ((before outer l x ++ (name_text n ++ byte "\\" ∷ [])) ++ c ∷ [])
   name_escape_read c false e = tt
   name_escape_read c true e =
       name_behind (byte "\\" ∷ []) c (byte "\\" ∷ byte "u" ∷ []) (ap (λ z. byte "\\" ∷ z ∷ []) (same_char c (byte "u") e))
 
   -- and behind one more character of an escape there
-  name_coding_read : (k : Coding) (c : ℕ) (o : Coded) → IsCodedAs o (coding_spelling k ++ c ∷ [])
-      → HasRead (on_name_coding outer l x n o) ((before outer l x ++ (name_text n ++ byte "\\" ∷ coding_spelling k)) ++ c ∷ [])
+  name_coding_read : (k : Coding trees) (c : ℕ) (o : Coded trees) → IsCodedAs o (coding_spelling k ++ c ∷ [])
+      → HasRead (on_name_coding (standing outer l x) n o) ((before outer l x ++ (name_text n ++ byte "\\" ∷ coding_spelling k)) ++ c ∷ [])
   name_coding_read k c fails h = tt
   name_coding_read k c (goes m) h =
       name_behind (byte "\\" ∷ coding_spelling k) c (byte "\\" ∷ coding_spelling m) (ap (λ z. byte "\\" ∷ z) h)
   name_coding_read k c (makes d) h = name_char_read (by_code d) (byte "\\" ∷ coding_spelling k) c (ap (λ z. byte "\\" ∷ z) h)
 
 -- a state behind the end of a name has read the name, and `>`
-name_end_read : (outer : Outer) (l : Level) (x : Last) (n : List NameChar)
-    → HasRead (name_read outer l x n) ((before outer l x ++ name_text n) ++ byte ">" ∷ [])
+name_end_read : (outer : Outer trees) (l : Level trees) (x : Last trees) (n : List NameChar)
+    → HasRead (on_name_end (standing outer l x) n (name_value n)) ((before outer l x ++ name_text n) ++ byte ">" ∷ [])
 name_end_read outer l x [] = tt
 name_end_read outer l x (y ∷ n) =
-    subst (HasRead (opened_within outer l x (of_group (named (y ∷ n))))) (sym (append_assoc (before outer l x) (name_text (y ∷ n)) (byte ">" ∷ [])))
-    (open_read outer l x (of_group (named (y ∷ n))) _)
+    let o : Outer trees = record { groups = outer.groups; names = outer.names ++ name_value (y ∷ n) ∷ [] } in
+    subst (HasRead (opened_within (standing o l x) (of_group (named (y ∷ n))))) (sym (append_assoc (before outer l x) (name_text (y ∷ n)) (byte ">" ∷ [])))
+    (open_read o l x (of_group (named (y ∷ n))) _)
 
 -- the character that tells whether a lookbehind is negated
 abbrev sign : Bool → ℕ
@@ -372,36 +374,36 @@ sign false = byte "="
 sign true = byte "!"
 
 -- a state behind it, where no name stands before it, has read that too
-look_begin_read : (outer : Outer) (l : Level) (x : Last) (n : List NameChar) (b : Bool)
-    → HasRead (look_read outer l x n b) ((before outer l x ++ name_text n) ++ sign b ∷ [])
+look_begin_read : (outer : Outer trees) (l : Level trees) (x : Last trees) (n : List NameChar) (b : Bool)
+    → HasRead (on_look (standing outer l x) (name_value n) b) ((before outer l x ++ name_text n) ++ sign b ∷ [])
 look_begin_read outer l x [] false =
-    subst (HasRead (opened_within outer l x (of_lookbehind false))) (sym (append_assoc (before outer l x) (name_text []) (byte "=" ∷ [])))
+    subst (HasRead (opened_within (standing outer l x) (of_lookbehind false))) (sym (append_assoc (before outer l x) (name_text []) (byte "=" ∷ [])))
     (open_read outer l x (of_lookbehind false) _)
 look_begin_read outer l x [] true =
-    subst (HasRead (opened_within outer l x (of_lookbehind true))) (sym (append_assoc (before outer l x) (name_text []) (byte "!" ∷ [])))
+    subst (HasRead (opened_within (standing outer l x) (of_lookbehind true))) (sym (append_assoc (before outer l x) (name_text []) (byte "!" ∷ [])))
     (open_read outer l x (of_lookbehind true) _)
 look_begin_read outer l x (y ∷ n) b = tt
 
 -- behind any character in a name, that is read too
-naming_read : (outer : Outer) (l : Level) (x : Last) (n : List NameChar) (c : ℕ) (k : NameToken) → char_of_name k c ≡ c
-    → HasRead (on_naming outer l x n c k) ((before outer l x ++ name_text n) ++ c ∷ [])
+naming_read : (outer : Outer trees) (l : Level trees) (x : Last trees) (n : List NameChar) (c : ℕ) (k : NameToken) → char_of_name k c ≡ c
+    → HasRead (on_naming (standing outer l x) n c k) ((before outer l x ++ name_text n) ++ c ∷ [])
 naming_read outer l x n c name_end e =
-    subst (λ z. HasRead (name_read outer l x n) ((before outer l x ++ name_text n) ++ z ∷ [])) e (name_end_read outer l x n)
+    subst (λ z. HasRead (on_name_end (standing outer l x) n (name_value n)) ((before outer l x ++ name_text n) ++ z ∷ [])) e (name_end_read outer l x n)
 naming_read outer l x n c name_backslash e =
     sym (append_assoc (before outer l x) (name_text n) (byte "\\" ∷ [])) ∙ ap (λ z. (before outer l x ++ name_text n) ++ z ∷ []) e
 naming_read outer l x n c name_equals e =
-    subst (λ z. HasRead (look_read outer l x n false) ((before outer l x ++ name_text n) ++ z ∷ [])) e (look_begin_read outer l x n false)
+    subst (λ z. HasRead (on_look (standing outer l x) (name_value n) false) ((before outer l x ++ name_text n) ++ z ∷ [])) e (look_begin_read outer l x n false)
 naming_read outer l x n c name_negation e =
-    subst (λ z. HasRead (look_read outer l x n true) ((before outer l x ++ name_text n) ++ z ∷ [])) e (look_begin_read outer l x n true)
+    subst (λ z. HasRead (on_look (standing outer l x) (name_value n) true) ((before outer l x ++ name_text n) ++ z ∷ [])) e (look_begin_read outer l x n true)
 naming_read outer l x n c name_character e =
-    subst (λ z. HasRead (with_name_char outer l x n (verbatim c)) ((before outer l x ++ z) ++ c ∷ [])) (append-nil (name_text n))
+    subst (λ z. HasRead (on_name_char (standing outer l x) n (verbatim c)) ((before outer l x ++ z) ++ c ∷ [])) (append-nil (name_text n))
     (name_char_read outer l x n (verbatim c) [] c refl)
 
 -- so in each mode a state behind the next character has read what was before it, and the character
-pub next_read : (outer : Outer) (l : Level) (x : Last) (m : Mode) (c : ℕ)
-    → HasRead (next_in outer l x m c) (spelled (with_mode outer l x m) ++ c ∷ [])
+pub next_read : (outer : Outer trees) (l : Level trees) (x : Last trees) (m : Mode trees) (c : ℕ)
+    → HasRead (next_in (standing outer l x) m c) (spelled (with_mode (standing outer l x) m) ++ c ∷ [])
 next_read outer l x between c =
-    subst (λ z. HasRead (on_token outer l x c (token c)) (z ++ c ∷ [])) (sym (append-nil _)) (token_read outer l x c (token c) (char_of_token c))
+    subst (λ z. HasRead (on_token (standing outer l x) c (token c)) (z ++ c ∷ [])) (sym (append-nil _)) (token_read outer l x c (token c) (char_of_token c))
 next_read outer l x escaping c = escape_read outer l x c (escape c) (char_of_escape c)
 next_read outer l x opening c = group_read outer l x c _ refl
 next_read outer l x extending c = extension_read outer l x c (extension c) (char_of_extension_token c)
@@ -427,15 +429,15 @@ IsSpelled None text = Unit {0}
 IsSpelled (Some d) text = spelling d ≡ text
 
 -- a tree that is spelled so is spelled so under a test too
-if_read : (b : Bool) (d : Disjunction) (text : List ℕ) → spelling d ≡ text → IsSpelled (tree_if b d) text
+if_read : (b : Bool) (d : Disjunction) (text : List ℕ) → spelling d ≡ text → IsSpelled (when b (Some d)) text
 if_read false d text h = tt
 if_read true d text h = h
 
 -- at the end the tree is spelled as what the state has read
-at_close_read : (os : List Open) (ns : List (List ℕ)) (l : Level) (x : Last) (m : Mode) (b : Bool)
-    → IsSpelled (closes os l x (is_between m && b)) (spelled (with_mode (record { groups = os; names = ns }) l x m) ++ [])
+at_close_read : (os : List (Open trees)) (ns : List (List ℕ)) (l : Level trees) (x : Last trees) (m : Mode trees) (b : Bool)
+    → IsSpelled (closes os l x (is_between m && b)) (spelled (with_mode (standing (record { groups = os; names = ns }) l x) m) ++ [])
 at_close_read [] ns l x between b =
-    if_read b (level_ended l x) _ (level_whole (record { groups = []; names = ns }) l x ∙ sym (append-nil _) ∙ sym (append-nil _))
+    if_read b (whole_level l x) _ (level_whole (record { groups = []; names = ns }) l x ∙ sym (append-nil _) ∙ sym (append-nil _))
 at_close_read [] ns l x escaping b = tt
 at_close_read [] ns l x opening b = tt
 at_close_read [] ns l x extending b = tt
@@ -453,17 +455,17 @@ at_close_read [] ns l x (name_coding n k) b = tt
 at_close_read (o ∷ os) ns l x m b = tt
 
 -- if the tree of the rest is spelled so behind each state, it is behind one that may be missing
-one_more : (s : State) (c : ℕ) (cs : List ℕ) → ((t : State) → IsSpelled (read_from t cs) (spelled t ++ cs))
-    → (o : Option State) → HasRead o (spelled s ++ c ∷ []) → IsSpelled (option_and_then (λ t. read_from t cs) o) (spelled s ++ c ∷ cs)
+one_more : (s : State trees) (c : ℕ) (cs : List ℕ) → ((t : State trees) → IsSpelled (read_from t cs) (spelled t ++ cs))
+    → (o : Option (State trees)) → HasRead o (spelled s ++ c ∷ []) → IsSpelled (option_and_then (λ t. read_from t cs) o) (spelled s ++ c ∷ cs)
 one_more s c cs ih None h = tt
 one_more s c cs ih (Some t) h =
     subst (IsSpelled (read_from t cs)) (ap (λ z. z ++ cs) h ∙ append_assoc (spelled s) (c ∷ []) cs) (ih t)
 
 -- a tree that is read is spelled as what the state has read, and the rest
-rest_read : (cs : List ℕ) (s : State) → IsSpelled (read_from s cs) (spelled s ++ cs)
+rest_read : (cs : List ℕ) (s : State trees) → IsSpelled (read_from s cs) (spelled s ++ cs)
 rest_read [] s = at_close_read s.outer.groups s.outer.names s.level s.last s.mode (are_distinct s.outer.names)
 rest_read (c ∷ cs) s = one_more s c cs (rest_read cs) (next s c) (next_read s.outer s.level s.last s.mode c)
 
 -- what is read is spelled as the text
-pub sound : (text : List ℕ) → IsSpelled (read text) text
-sound text = rest_read text initial
+pub sound : (text : List ℕ) → IsSpelled (read_from (initial trees) text) text
+sound text = rest_read text (initial trees)

@@ -15,7 +15,8 @@ use Rattle.strkw_ecma.specs.Mirror.{mirror, facing, along, is_backward, sought, 
 use Rattle.strkw_ecma.specs.Front.{Part, parts, steps_of_parts}
 use Rattle.strkw_ecma.specs.machine.Marks.{unmarked}
 use Rattle.strkw_ecma.specs.machine.Sizes.{capped}
-use Rattle.strkw_ecma.specs.machine.Parts.{small_pattern, pattern_if}
+use Rattle.strkw_ecma.specs.machine.Reading.{small, when}
+use Rattle.strkw_ecma.specs.machine.Makers.{patterns}
 use Rattle.strkw_ecma.specs.machine.Search.{found_in, search, are_parts_found, are_parts_clean}
 use Rattle.strkw_ecma.specs.machine.Outcomes.{outcome_of_read}
 use Rattle.strkw_ecma.specs.machine.Engine.{are_found_by, engine_outcome}
@@ -137,23 +138,23 @@ found_same (x ∷ xs) (a ∷ us) text u c =
     (found_same xs us text u.1 (and_right (unmarked (sought a.pattern)) _ c))
 
 -- a pattern that is small is taken
-taken_so : (p : Pattern) → steps_of_parts (parts p) ≤ max_steps → small_pattern (Some p) ≡ Some p
-taken_so p small = ap (λ (b : Bool). pattern_if b p) (le-leb (steps_of_parts (parts p)) max_steps small)
+taken_so : (p : Pattern) → steps_of_parts (parts p) ≤ max_steps → small patterns (Some p) ≡ Some p
+taken_so p small = ap (λ (b : Bool). when b (Some p)) (le-leb (steps_of_parts (parts p)) max_steps small)
 
 -- and one that is not small is not
-not_small : (p : Pattern) → nat_le (steps_of_parts (parts p)) max_steps ≡ false → small_pattern (Some p) ≡ None
-not_small p large = ap (λ (b : Bool). pattern_if b p) large
+not_small : (p : Pattern) → nat_le (steps_of_parts (parts p)) max_steps ≡ false → small patterns (Some p) ≡ None
+not_small p large = ap (λ (b : Bool). when b (Some p)) large
 
 module _ (v : Vec CodePass Global) (p : Pattern) (are : ArePasses (passes_of v.items) (parts p)) where
   -- what is looked for of a pattern that is taken
   pub comes_to : (s : ℕ) → s ≡ capped (steps_of_passes (passes_of v.items)) → s ≤ max_steps
-      → ComesTo (Some v) (small_pattern (Some p))
+      → ComesTo (Some v) (small patterns (Some p))
   comes_to s is h =
       let small : steps_of_parts (parts p) ≤ max_steps = omega (arith, is, h, steps_same (passes_of v.items) (parts p) are) in
       subst (ComesTo (Some v)) (sym (taken_so p small)) record { passes = are; small = small }
 
   -- nothing is, where it is not small
-  pub none_small : (s : ℕ) → s ≡ capped (steps_of_passes (passes_of v.items)) → max_steps < s → ComesTo None (small_pattern (Some p))
+  pub none_small : (s : ℕ) → s ≡ capped (steps_of_passes (passes_of v.items)) → max_steps < s → ComesTo None (small patterns (Some p))
   none_small s is h =
       let large : max_steps < steps_of_parts (parts p) = omega (arith, is, h, steps_same (passes_of v.items) (parts p) are) in
       subst (ComesTo None) (sym (not_small p (lt-leb (steps_of_parts (parts p)) max_steps large))) tt

@@ -5,8 +5,10 @@ pub mod Walk
 pub mod Machine
 pub mod Sizes
 pub mod Fronts
-pub mod CodeReading
 pub mod PropertyReading
+pub mod Maker
+pub mod Makers
+pub mod CodeReading
 pub mod CodeParts
 pub mod Reading
 pub mod Recognising

@@ -1,7 +1,9 @@
 //! Escapes that give a character by a number, read character by character behind their letter.
 
 ghost use Rattle.std.specs.Prelude.{◌≡◌};
-ghost use Rattle.strkw_ecma.specs.machine.CodeParts.{made as spec_made, pair_value as spec_pair_value, all_read as spec_all_read, digit_read as spec_digit_read, with_hex_digit as spec_with_hex_digit, digit_or_none, point_digit, value_or_zero, coding_next};
+ghost use Rattle.strkw_ecma.specs.machine.Makers.{pair_value as spec_pair_value, hex_with};
+ghost use Rattle.strkw_ecma.specs.machine.CodeReading.{made as spec_made, all_read as spec_all_read, digit_read as spec_digit_read, on_digit as spec_on_digit, point_digit, value_or, coding_next};
+ghost use Rattle.strkw_ecma.specs.machine.CodeParts.{width_of, coding_of, coded_of};
 
 const MAX_CODE_POINT: u32 = 0x10FFFF;
 
@@ -44,7 +46,7 @@ pub(crate) enum Coded {
 
 // The character with this number, where a text can have it.
 fn made(number: u32) -> Coded
-    ensures { result ≡ spec_made number }
+    ensures { coded_of result ≡ spec_made number }
 {
     match char::from_u32(number) {
         Some(c) => Coded::Makes(c),
@@ -63,7 +65,7 @@ pub(crate) fn pair(lead: u16, trail: u16) -> u32
 
 // The number with one more digit, where that is none above the greatest.
 pub(crate) fn with_hex_digit(number: u32, c: char) -> Option<u32>
-    ensures { result ≡ spec_with_hex_digit number c }
+    ensures { result ≡ hex_with number c }
 {
     let digit = c.to_digit(16)?;
     if number > MAX_CODE_POINT {
@@ -80,7 +82,7 @@ pub(crate) fn with_hex_digit(number: u32, c: char) -> Option<u32>
 impl Width {
     // Where no digit is still to come.
     fn all_read(self, number: u32) -> Coded
-        ensures { result ≡ spec_all_read self number }
+        ensures { coded_of result ≡ spec_all_read (width_of self) number }
     {
         match self {
             Width::Byte => made(number),
@@ -103,7 +105,7 @@ impl Width {
 
     // Behind one more digit.
     fn digit_read(self, wanted: Wanted, number: u32) -> Coded
-        ensures { result ≡ spec_digit_read self wanted number }
+        ensures { coded_of result ≡ spec_digit_read (width_of self) wanted number }
     {
         match wanted {
             Wanted::One => self.all_read(number),
@@ -114,8 +116,7 @@ impl Width {
     }
 
     fn on_digit(self, wanted: Wanted, number: u32, c: char) -> Coded
-        ensures { result
-            ≡ digit_or_none self wanted (spec_with_hex_digit number c) }
+        ensures { coded_of result ≡ spec_on_digit (width_of self) wanted number c }
     {
         match with_hex_digit(number, c) {
             Some(longer) => self.digit_read(wanted, longer),
@@ -125,7 +126,7 @@ impl Width {
 }
 
 fn on_point_digit(number: Option<u32>, c: char) -> Coded
-    ensures { result ≡ point_digit (spec_with_hex_digit (value_or_zero number) c) }
+    ensures { coded_of result ≡ point_digit (hex_with (value_or 0 number) c) }
 {
     match with_hex_digit(number.unwrap_or(0), c) {
         Some(longer) => Coded::Goes(Coding::PointOpened(Some(longer))),
@@ -136,7 +137,7 @@ fn on_point_digit(number: Option<u32>, c: char) -> Coded
 impl Coding {
     // After one more character.
     pub(crate) fn next(self, c: char) -> Coded
-        ensures { result ≡ coding_next self c }
+        ensures { coded_of result ≡ coding_next (coding_of self) c }
     {
         match self {
             Coding::Letter if c.is_ascii_alphabetic() => made(u32::from(c) % 32),

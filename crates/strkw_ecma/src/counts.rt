@@ -1,7 +1,8 @@
 //! The numbers of a count.
 
 ghost use Rattle.std.specs.Prelude.{◌≡◌};
-ghost use Rattle.strkw_ecma.specs.machine.Parts.{with_digit as spec_with_digit};
+ghost use Rattle.strkw_ecma.specs.machine.Reading.{with_digit as spec_with_digit};
+ghost use Rattle.strkw_ecma.specs.machine.Makers.{patterns};
 
 // The greatest count.
 pub(crate) const MAX_COUNT: u32 = 1000;
@@ -15,7 +16,7 @@ pub(crate) enum Count {
 
 // The number with one more digit, where it is not too great.
 pub(crate) fn with_digit(number: Option<u32>, c: char) -> Option<u32>
-    ensures { result ≡ spec_with_digit number c }
+    ensures { result ≡ spec_with_digit patterns number c }
 {
     let before = number.unwrap_or(0);
     if before > MAX_COUNT {

@@ -3,7 +3,8 @@
 ghost use Rattle.std.specs.Prelude.{◌≡◌, ◌∷◌, ◌++◌, true, List, IfOk, IfSome, option_map};
 ghost use Rattle.strkw_ecma.specs.Front.{Part, parts};
 ghost use Rattle.strkw_ecma.specs.machine.Fronts.{part_view, parts_view};
-ghost use Rattle.strkw_ecma.specs.machine.Parts.{small_pattern};
+ghost use Rattle.strkw_ecma.specs.machine.Makers.{patterns};
+ghost use Rattle.strkw_ecma.specs.machine.Reading.{small};
 ghost use Rattle.strkw_ecma.specs.machine.Passes.{ArePasses, ComesTo, IsPass, pass_of, passes_of, steps_of_passes};
 ghost use Rattle.strkw_ecma.specs.machine.Shape.{is_plain, outlined};
 ghost use Rattle.strkw_ecma.specs.machine.Sizes.{capped};
@@ -92,7 +93,7 @@ pub(crate) fn passes_if_taken(
 ) -> Result<Option<Vec<Pass>>, AllocError>
     requires { IfSome outline (λ o. is_plain o ≡ true) }
     ensures { IfOk result (λ made.
-        ComesTo made (small_pattern (option_map outlined outline))) }
+        ComesTo made (small patterns (option_map outlined outline))) }
 {
     let Some(outline) = outline else {
         return Ok(None);

@@ -7,10 +7,11 @@ ghost use Rattle.strkw_ecma.specs.machine.Shape.{is_plain, outlined};
 ghost use Rattle.strkw_ecma.specs.Syntax.{token as spec_token};
 ghost use Rattle.strkw_ecma.specs.Names.{extension as spec_extension};
 ghost use Rattle.strkw_ecma.specs.Escapes.{escape as spec_escape};
-ghost use Rattle.strkw_ecma.specs.machine.Reading.{read_pattern, read_short as spec_read_short};
+ghost use Rattle.strkw_ecma.specs.machine.Makers.{trees, patterns};
+ghost use Rattle.strkw_ecma.specs.machine.Reading.{read_pattern, read_short as spec_read_short, initial, when, with_mode, at_close, is_between};
+ghost use Rattle.strkw_ecma.specs.machine.Reading.{on_escape, on_token, on_group, on_extension, next as spec_next};
 ghost use Rattle.strkw_ecma.specs.machine.Passes.{ComesTo};
-ghost use Rattle.strkw_ecma.specs.machine.Parts.{parts_of, mode_of, no_parts, when, with_mode, at_close, is_between};
-ghost use Rattle.strkw_ecma.specs.machine.Parts.{after_escape, after_token, after_group, after_extension, after_char};
+ghost use Rattle.strkw_ecma.specs.machine.Parts.{parts_of, mode_of};
 
 mod classing;
 mod coding;
@@ -113,7 +114,7 @@ struct Reader {
 
 impl Reader {
     fn new(alloc: Global) -> Reader
-        ensures { parts_of result ≡ no_parts }
+        ensures { parts_of result ≡ initial patterns }
     {
         Reader {
             outer: Outer {
@@ -137,7 +138,7 @@ impl Reader {
 
     fn take_escape(&mut self, alloc: Global, c: char) -> Result<bool, AllocError>
         ensures { IfOk result (λ taken. when taken (Some (parts_of self.new))
-            ≡ after_escape (parts_of self.old) c (spec_escape c)) }
+            ≡ on_escape (parts_of self.old) c (spec_escape c)) }
     {
         match Escape::of(c) {
             Escape::Boundary => self.add_term(alloc, Outline::Boundary)?,
@@ -160,7 +161,7 @@ impl Reader {
 
     fn plain(&mut self, alloc: Global, c: char) -> Result<bool, AllocError>
         ensures { IfOk result (λ taken. when taken (Some (parts_of self.new))
-            ≡ after_token (parts_of self.old) c (spec_token c)) }
+            ≡ on_token (parts_of self.old) c (spec_token c)) }
     {
         match Token::of(c) {
             Token::Bar => self.add_alternative(alloc)?,
@@ -184,7 +185,7 @@ impl Reader {
     // Behind `(`.
     fn in_group(&mut self, alloc: Global, c: char) -> Result<bool, AllocError>
         ensures { IfOk result (λ taken. when taken (Some (parts_of self.new))
-            ≡ after_group (parts_of self.old) c (c == byte "?")) }
+            ≡ on_group (parts_of self.old) c (c == byte "?")) }
     {
         if c == '?' {
             self.set_mode(Mode::Extending);
@@ -200,7 +201,7 @@ impl Reader {
     // Behind `(?`.
     fn take_extension(&mut self, alloc: Global, c: char) -> Result<bool, AllocError>
         ensures { IfOk result (λ taken. when taken (Some (parts_of self.new))
-            ≡ after_extension (parts_of self.old) (spec_extension c)) }
+            ≡ on_extension (parts_of self.old) (spec_extension c)) }
     {
         match Extension::of(c) {
             Extension::Uncaptured => self.open(alloc, Enclosing::Group),
@@ -218,7 +219,7 @@ impl Reader {
     // is of no more use.
     fn next(&mut self, alloc: Global, c: char) -> Result<bool, AllocError>
         ensures { IfOk result (λ taken. when taken (Some (parts_of self.new))
-            ≡ after_char (parts_of self.old) c) }
+            ≡ spec_next (parts_of self.old) c) }
     {
         match mem::replace(&mut self.mode, Mode::Between) {
             Mode::Between => self.plain(alloc, c),
@@ -242,17 +243,14 @@ impl Reader {
 
     // Whether the pattern may end: no group is open, nothing is under way, and no name is there twice.
     fn may_end(&self) -> bool
-        ensures { let s = parts_of self.now in result
-            ≡ is_some (at_close s.outer s.level s.last (is_between s.mode)) }
+        ensures { result ≡ is_some (at_close (parts_of self.now)) }
     {
         self.outer.groups.is_empty() && self.mode.is_between() && are_distinct(&self.outer.names)
     }
 
     // The tree, where the pattern may end. It is taken out of this reader.
     fn end(&mut self, alloc: Global) -> Result<Option<Outline>, AllocError>
-        ensures tree { let s = parts_of self.old in
-            IfOk result (λ t. option_map outlined t
-            ≡ at_close s.outer s.level s.last (is_between s.mode)) }
+        ensures tree { IfOk result (λ t. option_map outlined t ≡ at_close (parts_of self.old)) }
         ensures plain { IfOk result (λ o. IfSome o (λ t. is_plain t ≡ true)) }
     {
         if !self.may_end() {
@@ -264,9 +262,9 @@ impl Reader {
 
     // The tree of a whole text, which this reader, a new one, reads.
     fn read(&mut self, alloc: Global, source: &str) -> Result<Option<Outline>, AllocError>
-        requires { parts_of self.old ≡ no_parts }
+        requires { parts_of self.old ≡ initial patterns }
         ensures tree { IfOk result (λ t. option_map outlined t
-            ≡ option_map pattern (spec_read_short (chars source.now))) }
+            ≡ option_map pattern (spec_read_short trees (chars source.now))) }
         ensures plain { IfOk result (λ o. IfSome o (λ t. is_plain t ≡ true)) }
     {
         let mut count = 0;
@@ -287,7 +285,7 @@ impl Reader {
 // too large, and which lookaheads look for too much.
 pub(crate) fn read_passes(alloc: Global, source: &str) -> Result<Option<Vec<Pass>>, AllocError>
     ensures { IfOk result (λ made.
-        ComesTo made (option_map pattern (read_pattern (chars source.now)))) }
+        ComesTo made (option_map pattern (read_pattern trees (chars source.now)))) }
 {
     if !is_apart(source) {
         return Ok(None);
@@ -297,7 +295,7 @@ pub(crate) fn read_passes(alloc: Global, source: &str) -> Result<Option<Vec<Pass
 
 fn read_short(alloc: Global, source: &str) -> Result<Option<Outline>, AllocError>
     ensures tree { IfOk result (λ t. option_map outlined t
-        ≡ option_map pattern (spec_read_short (chars source.now))) }
+        ≡ option_map pattern (spec_read_short trees (chars source.now))) }
     ensures plain { IfOk result (λ o. IfSome o (λ t. is_plain t ≡ true)) }
 {
     let mut reader = Reader::new(alloc);

@@ -1,10 +1,9 @@
 -- How an escape by a number is read, behind its backslash and letter.
-use Rattle.std.specs.Prelude.{ℕ, nat_le, ◌==◌, Bool, true, false, ◌&&◌, List, [], ◌∷◌, ◌++◌}
+use Rattle.std.specs.Prelude.{ℕ, ◌==◌, Bool, true, false, Option, Some, None}
 use Rattle.std.specs.Char.{is_ascii_alphabetic}
 use Rattle.std.specs.Str.{byte}
-use Rattle.strkw_ecma.specs.Codes.{Code, letter_code, byte_code, unit_code, pair_code, point_code}
-use Rattle.strkw_ecma.specs.Codes.{code_value, is_hex_digit, hex_number, max_code_point, is_lead}
-use Rattle.strkw_ecma.specs.Codes.{is_trail, is_scalar, has_digits}
+use Rattle.strkw_ecma.specs.Codes.{is_lead, is_trail, is_scalar}
+use Rattle.strkw_ecma.specs.machine.Maker.{Maker}
 -- how many digits are still to come
 pub use Rattle.strkw_ecma.specs.declared.codes.Wanted.{Wanted}
 pub use Rattle.strkw_ecma.specs.declared.codes.Wanted.TheVariants.{One as one_more, Two as two_more}
@@ -12,67 +11,83 @@ pub use Rattle.strkw_ecma.specs.declared.codes.Wanted.TheVariants.{Three as thre
 pub use Rattle.strkw_ecma.specs.declared.codes.Wanted.TheVariants.{Four as four_more}
 
 -- what a number of so many digits is: that of `\x`, of `\u`, or of `\u` behind a leading surrogate
-pub data Width : Type 0 where
-  byte_width unit_width : Width
-  trail_width : List ℕ → Width
+pub data Width (M : Maker) : Type 0 where
+  byte_width unit_width : Width M
+  trail_width : M.Hex → Width M
 
 -- the digits that have been read; a leading surrogate, behind which `\` is to come and then `u`;
 -- behind `\u{`
-pub data Coding : Type 0 where
-  letter_awaited unit_opened : Coding
-  digits_of : Width → Wanted → List ℕ → Coding
-  lead_read : List ℕ → Coding
-  lead_escaped : List ℕ → Coding
-  point_opened : List ℕ → Coding
+pub data Coding (M : Maker) : Type 0 where
+  letter_awaited unit_opened : Coding M
+  digits_of : Width M → Wanted → M.Hex → Coding M
+  lead_read : M.Hex → Coding M
+  lead_escaped : M.Hex → Coding M
+  point_opened : Option M.Hex → Coding M
 
 -- what comes of one more character
-pub data Coded : Type 0 where
-  fails : Coded
-  goes : Coding → Coded
-  makes : Code → Coded
+pub data Coded (M : Maker) : Type 0 where
+  fails : Coded M
+  goes : Coding M → Coded M
+  makes : M.Code → Coded M
 
-abbrev pub coded_if : Bool → Coded → Coded
+-- the value, or the other where there is none
+abbrev pub value_or : {A : Type 0} → A → Option A → A
+value_or x None = x
+value_or x (Some y) = y
+
+abbrev pub coded_if : {M : Maker} → Bool → Coded M → Coded M
 coded_if false k = fails
 coded_if true k = k
 
-abbrev pub made : Code → Coded
-made d = coded_if (is_scalar (code_value d)) (makes d)
+abbrev pub made : {M : Maker} → M.Code → Coded M
+made {M} d = coded_if (is_scalar (M.code_value d)) (makes d)
 
-abbrev pub with_lead : List ℕ → Bool → Coded
-with_lead ds false = made (unit_code ds)
+abbrev pub with_lead : {M : Maker} → M.Hex → Bool → Coded M
+with_lead {M} ds false = made (M.unit_code ds)
 with_lead ds true = goes (lead_read ds)
 
-abbrev pub all_read : Width → List ℕ → Coded
-all_read byte_width ds = made (byte_code ds)
-all_read unit_width ds = with_lead ds (is_lead (hex_number ds))
-all_read (trail_width ds) es = coded_if (is_trail (hex_number es)) (made (pair_code ds es))
+abbrev pub all_read : {M : Maker} → Width M → M.Hex → Coded M
+all_read {M} byte_width ds = made (M.byte_code ds)
+all_read {M} unit_width ds = with_lead ds (is_lead (M.hex_value ds))
+all_read {M} (trail_width ds) es =
+    coded_if (is_trail (M.hex_value es)) (made (M.pair_code ds es))
 
-abbrev pub digit_read : Width → Wanted → List ℕ → Coded
+abbrev pub digit_read : {M : Maker} → Width M → Wanted → M.Hex → Coded M
 digit_read w one_more ds = all_read w ds
 digit_read w two_more ds = goes (digits_of w one_more ds)
 digit_read w three_more ds = goes (digits_of w two_more ds)
 digit_read w four_more ds = goes (digits_of w three_more ds)
 
--- a digit that makes no number above the greatest
-abbrev pub is_next_digit : List ℕ → ℕ → Bool
-is_next_digit ds c = is_hex_digit c && nat_le (hex_number (ds ++ c ∷ [])) max_code_point
+-- behind one more digit, where there is one
+abbrev pub digit_or_none : {M : Maker} → Width M → Wanted → Option M.Hex → Coded M
+digit_or_none w n None = fails
+digit_or_none w n (Some ds) = digit_read w n ds
 
-abbrev pub on_digit : Width → Wanted → List ℕ → ℕ → Coded
-on_digit w n ds c = coded_if (is_next_digit ds c) (digit_read w n (ds ++ c ∷ []))
+abbrev pub on_digit : {M : Maker} → Width M → Wanted → M.Hex → ℕ → Coded M
+on_digit {M} w n ds c = digit_or_none w n (M.with_hex_digit ds c)
 
-abbrev pub on_unit : ℕ → Bool → Coded
-on_unit c false = on_digit unit_width four_more [] c
-on_unit c true = goes (point_opened [])
+abbrev pub on_unit : {M : Maker} → ℕ → Bool → Coded M
+on_unit {M} c false = on_digit unit_width four_more M.no_hex c
+on_unit c true = goes (point_opened None)
 
-abbrev pub on_point : List ℕ → ℕ → Bool → Coded
-on_point ds c false = coded_if (is_next_digit ds c) (goes (point_opened (ds ++ c ∷ [])))
-on_point ds c true = coded_if (has_digits ds) (made (point_code ds))
+-- between braces: behind one more digit, where there is one, and behind the last
+abbrev pub point_digit : {M : Maker} → Option M.Hex → Coded M
+point_digit None = fails
+point_digit (Some ds) = goes (point_opened (Some ds))
 
-abbrev pub coding_next : Coding → ℕ → Coded
-coding_next letter_awaited c = coded_if (is_ascii_alphabetic c) (made (letter_code c))
+abbrev pub point_end : {M : Maker} → Option M.Hex → Coded M
+point_end None = fails
+point_end {M} (Some ds) = made (M.point_code ds)
+
+abbrev pub on_point : {M : Maker} → Option M.Hex → ℕ → Bool → Coded M
+on_point {M} o c false = point_digit (M.with_hex_digit (value_or M.no_hex o) c)
+on_point o c true = point_end o
+
+abbrev pub coding_next : {M : Maker} → Coding M → ℕ → Coded M
+coding_next {M} letter_awaited c = coded_if (is_ascii_alphabetic c) (made (M.letter_code c))
 coding_next unit_opened c = on_unit c (c == byte "{")
 coding_next (digits_of w n ds) c = on_digit w n ds c
 coding_next (lead_read ds) c = coded_if (c == byte "\\") (goes (lead_escaped ds))
-coding_next (lead_escaped ds) c = coded_if (c == byte "u")
-    (goes (digits_of (trail_width ds) four_more []))
-coding_next (point_opened ds) c = on_point ds c (c == byte "}")
+coding_next {M} (lead_escaped ds) c = coded_if (c == byte "u")
+    (goes (digits_of (trail_width ds) four_more M.no_hex))
+coding_next (point_opened o) c = on_point o c (c == byte "}")

@@ -5,6 +5,7 @@ use Rattle.strkw_pattern.specs.declared.engine.Outcome.{Outcome}
 use Rattle.strkw_pattern.specs.declared.engine.Outcome.TheVariants.{NoMatch}
 use Rattle.strkw_ecma.specs.Tree.{Pattern}
 use Rattle.strkw_ecma.specs.Syntax.{Disjunction}
+use Rattle.strkw_ecma.specs.machine.Makers.{trees}
 use Rattle.strkw_ecma.specs.machine.Reading.{read_pattern}
 use Rattle.strkw_ecma.specs.Front.{parts}
 use Rattle.strkw_ecma.specs.machine.Search.{are_parts_found}
@@ -20,7 +21,7 @@ outcome_of_read (Some d) text = search_outcome (pattern d) text
 
 -- the builder's: of the text of a pattern
 abbrev pub takes_pattern : List ℕ → Bool
-takes_pattern source = is_some (read_pattern source)
+takes_pattern source = is_some (read_pattern trees source)
 
 abbrev pub pattern_outcome : List ℕ → List ℕ → Outcome
-pattern_outcome source = outcome_of_read (read_pattern source)
+pattern_outcome source = outcome_of_read (read_pattern trees source)

@@ -25,10 +25,11 @@ use Rattle.strkw_ecma.specs.Syntax.{opening as opening_token, point, backslash, 
 use Rattle.strkw_ecma.specs.Syntax.{character, other, token}
 use Rattle.strkw_ecma.specs.Sets.{control_char}
 use Rattle.strkw_ecma.specs.Regex.{is_property, capture_limit}
+use Rattle.strkw_ecma.specs.machine.Makers.{patterns, hex_with, pair_value}
 use Rattle.strkw_ecma.specs.machine.CodeReading.{Wanted, one_more, two_more, three_more, four_more}
-use Rattle.strkw_ecma.specs.machine.CodeParts.{Coding, Coded, fails, goes, makes, coding_next}
-use Rattle.strkw_ecma.specs.machine.CodeParts.{unit_opened as name_unit_opened, with_hex_digit}
-use Rattle.strkw_ecma.specs.machine.CodeParts.{value_or_zero, pair_value}
+use Rattle.strkw_ecma.specs.machine.CodeReading.{Coding, Coded, fails, goes, makes, coding_next}
+use Rattle.strkw_ecma.specs.machine.CodeReading.{unit_opened as name_unit_opened, value_or}
+use Rattle.strkw_ecma.specs.machine.CodeParts.{coding_of}
 use Rattle.strkw_ecma.specs.machine.PropertyReading.{PropertyPart, brace_awaited, PropertyRead}
 use Rattle.strkw_ecma.specs.machine.PropertyReading.{no_property_read, property_goes, property_ends}
 use Rattle.strkw_ecma.specs.machine.PropertyReading.{property_next}
@@ -98,7 +99,7 @@ pub data Mode : Type 0 where
   in_class_property : Pending → PropertyPart → Mode
   naming : Naming → List ℕ → Mode
   name_escaping : Naming → List ℕ → Mode
-  name_coding : Naming → List ℕ → Coding → Mode
+  name_coding : Naming → List ℕ → Coding patterns → Mode
   referring : ℕ → Mode
 
 pub record State : Type 0 where
@@ -283,7 +284,7 @@ number_if false r = no_number
 number_if true r = r
 
 abbrev pub on_unit : ℕ → Bool → NumberRead
-on_unit c false = digit_or_none unit_form four_more (with_hex_digit 0 c)
+on_unit c false = digit_or_none unit_form four_more (hex_with 0 c)
 on_unit c true = number_goes (point_opened None)
 
 abbrev pub point_digit : Option ℕ → NumberRead
@@ -295,13 +296,13 @@ point_ends None = no_number
 point_ends (Some n) = number_ends other_form n
 
 abbrev pub on_point : Option ℕ → ℕ → Bool → NumberRead
-on_point o c false = point_digit (with_hex_digit (value_or_zero o) c)
+on_point o c false = point_digit (hex_with (value_or 0 o) c)
 on_point o c true = point_ends o
 
 abbrev pub number_next : NumberPart → ℕ → NumberRead
 number_next letter_awaited c = number_if (is_ascii_alphabetic c) (number_ends other_form (c % 32))
 number_next unit_opened c = on_unit c (c == byte "{")
-number_next (digits_of f w n) c = digit_or_none f w (with_hex_digit n c)
+number_next (digits_of f w n) c = digit_or_none f w (hex_with n c)
 number_next (point_opened o) c = on_point o c (c == byte "}")
 
 abbrev pub on_number : Standing → NumberRead → Option State
@@ -358,7 +359,7 @@ abbrev pub on_name_escape : Standing → Naming → List ℕ → Bool → Option
 on_name_escape s g n false = None
 on_name_escape s g n true = Some (at s (name_coding g n name_unit_opened))
 
-abbrev pub on_name_coding : Standing → Naming → List ℕ → Coded → Option State
+abbrev pub on_name_coding : Standing → Naming → List ℕ → Coded patterns → Option State
 on_name_coding s g n fails = None
 on_name_coding s g n (goes k) = Some (at s (name_coding g n k))
 on_name_coding s g n (makes c) = with_name_char s g n c
@@ -572,7 +573,7 @@ mode_of (code_mode.Property k) = in_property (part_of k)
 mode_of (code_mode.ClassProperty p k) = in_class_property p (part_of k)
 mode_of (code_mode.Naming g n) = naming g n.items
 mode_of (code_mode.NameEscaping g n) = name_escaping g n.items
-mode_of (code_mode.NameCoding g n k) = name_coding g n.items k
+mode_of (code_mode.NameCoding g n k) = name_coding g n.items (coding_of k)
 mode_of (code_mode.Referring n) = referring n
 
 abbrev pub state_of : Recogniser → State

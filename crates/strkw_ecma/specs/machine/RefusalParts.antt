@@ -9,11 +9,12 @@ use Rattle.strkw_ecma.specs.Names.{look_negation, no_extension, extension}
 use Rattle.strkw_ecma.specs.Names.{NameToken, name_end, name_backslash, name_equals, name_negation}
 use Rattle.strkw_ecma.specs.Names.{name_character, name_token}
 use Rattle.strkw_ecma.specs.machine.PropertyReading.{PropertyPart, brace_awaited, in_braces}
-use Rattle.strkw_ecma.specs.machine.Parts.{Last, none, atom, counted, Count, low, high, Mode}
-use Rattle.strkw_ecma.specs.machine.Parts.{between, escaping, opening, extending, class_opened}
-use Rattle.strkw_ecma.specs.machine.Parts.{counting, coding, in_class, class_escaping, class_coding}
-use Rattle.strkw_ecma.specs.machine.Parts.{in_property, in_class_property, naming, name_escaping}
-use Rattle.strkw_ecma.specs.machine.Parts.{name_coding, Parts}
+use Rattle.strkw_ecma.specs.machine.Reading.{Last, none, atom, counted, Count, low, high, Mode}
+use Rattle.strkw_ecma.specs.machine.Reading.{between, escaping, opening, extending, class_opened}
+use Rattle.strkw_ecma.specs.machine.Reading.{counting, coding, in_class, class_escaping, class_coding}
+use Rattle.strkw_ecma.specs.machine.Reading.{in_property, in_class_property, naming, name_escaping}
+use Rattle.strkw_ecma.specs.machine.Reading.{name_coding, State}
+use Rattle.strkw_ecma.specs.machine.Makers.{patterns}
 use Rattle.strkw_ecma.specs.Refusals.{is_reference, is_needlessly_escaped, is_unknown}
 use Rattle.strkw_ecma.specs.declared.refusals.PatternRefusal.{PatternRefusal}
 use Rattle.strkw_ecma.specs.declared.refusals.PatternRefusal.TheVariants.{BackReference}
@@ -37,7 +38,7 @@ abbrev pub one_deeper : Bool → PatternRefusal
 one_deeper true = NotTaken
 one_deeper false = TooDeep
 
-abbrev pub depth_refusal : Parts → PatternRefusal
+abbrev pub depth_refusal : State patterns → PatternRefusal
 depth_refusal s = one_deeper (nat_lt (length s.outer.groups) max_nesting)
 
 -- behind `(?`. What may stand there is refused where it is too deep
@@ -60,16 +61,16 @@ name_refusal (d ∷ ds) c name_negation = NotTaken
 name_refusal n c name_character = NotTaken
 
 -- of a count behind this
-abbrev pub term_refusal : Last → PatternRefusal
+abbrev pub term_refusal : Last patterns → PatternRefusal
 term_refusal none = NotTaken
 term_refusal (atom p) = TermTooLarge
 term_refusal (counted p) = NotTaken
 
-abbrev pub range_refusal : Last → Bool → PatternRefusal
+abbrev pub range_refusal : Last patterns → Bool → PatternRefusal
 range_refusal x false = NotTaken
 range_refusal x true = term_refusal x
 
-abbrev pub count_refusal : Last → Count → CountToken → PatternRefusal
+abbrev pub count_refusal : Last patterns → Count patterns → CountToken → PatternRefusal
 count_refusal x k digit = CountTooGreat
 count_refusal x k comma = NotTaken
 count_refusal x (low None) closing_brace = NotTaken
@@ -82,7 +83,7 @@ abbrev pub part_refusal : PropertyPart → ℕ → PatternRefusal
 part_refusal (brace_awaited n) c = NotTaken
 part_refusal (in_braces n e) c = told_if (c == byte "}" && is_unknown e) Property
 
-abbrev pub refusal_in : Parts → Mode → ℕ → PatternRefusal
+abbrev pub refusal_in : State patterns → Mode patterns → ℕ → PatternRefusal
 refusal_in s between c = NotTaken
 refusal_in s escaping c = escape_refusal c
 refusal_in s opening c = depth_refusal s
@@ -99,5 +100,5 @@ refusal_in s (naming n) c = name_refusal n c (name_token c)
 refusal_in s (name_escaping n) c = NotTaken
 refusal_in s (name_coding n k) c = NotTaken
 
-abbrev pub refusal_at : Parts → ℕ → PatternRefusal
+abbrev pub refusal_at : State patterns → ℕ → PatternRefusal
 refusal_at s c = refusal_in s s.mode c

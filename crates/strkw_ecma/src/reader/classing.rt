@@ -3,8 +3,8 @@
 ghost use Rattle.std.specs.Prelude.{◌≡◌, ◌==◌, Some, IfOk, option_map};
 ghost use Rattle.std.specs.Str.{byte};
 ghost use Rattle.strkw_ecma.specs.Classes.{class_token as spec_class_token, class_escape as spec_class_escape};
-ghost use Rattle.strkw_ecma.specs.machine.Parts.{parts_of, class_of, when, within};
-ghost use Rattle.strkw_ecma.specs.machine.Parts.{after_class_token, after_class_escape, after_bracket};
+ghost use Rattle.strkw_ecma.specs.machine.Reading.{when, within, on_class_token, on_class_escape, on_bracket};
+ghost use Rattle.strkw_ecma.specs.machine.Parts.{parts_of, class_of};
 
 use super::{Mode, Reader};
 use crate::classes::{ClassReader, Item};
@@ -36,7 +36,7 @@ impl Reader {
         c: char,
     ) -> Result<bool, AllocError>
         ensures { IfOk result (λ taken. when taken (Some (parts_of self.new))
-            ≡ after_class_token (parts_of self.old) (class_of class) c (spec_class_token c)) }
+            ≡ on_class_token (parts_of self.old) (class_of class) c (spec_class_token c)) }
     {
         match ClassToken::of(c) {
             ClassToken::Closing => {
@@ -54,7 +54,7 @@ impl Reader {
 
     pub(super) fn class_escaped(&mut self, class: ClassReader, c: char) -> Result<bool, AllocError>
         ensures { IfOk result (λ taken. when taken (Some (parts_of self.new))
-            ≡ after_class_escape (parts_of self.old) (class_of class) c (spec_class_escape c)) }
+            ≡ on_class_escape (parts_of self.old) (class_of class) c (spec_class_escape c)) }
     {
         let item = match Escape::of_class(c) {
             Escape::Itself => Item::Char(c),
@@ -91,7 +91,7 @@ impl Reader {
     // Behind `[`.
     pub(super) fn in_bracket(&mut self, alloc: Global, c: char) -> Result<bool, AllocError>
         ensures { IfOk result (λ taken. when taken (Some (parts_of self.new))
-            ≡ after_bracket (parts_of self.old) c (c == byte "^")) }
+            ≡ on_bracket (parts_of self.old) c (c == byte "^")) }
     {
         if c == '^' {
             let class = ClassReader::new(alloc, true);

@@ -1,7 +1,9 @@
 //! How an escape by a number is read, in a pattern and in a class.
 
 ghost use Rattle.std.specs.Prelude.{◌≡◌, Some, IfOk};
-ghost use Rattle.strkw_ecma.specs.machine.Parts.{parts_of, class_of, after_coding, after_class_coding, when};
+ghost use Rattle.strkw_ecma.specs.machine.CodeParts.{coded_of};
+ghost use Rattle.strkw_ecma.specs.machine.Reading.{when, on_coding, on_class_coding};
+ghost use Rattle.strkw_ecma.specs.machine.Parts.{parts_of, class_of};
 
 use super::{Mode, Reader};
 use crate::classes::{ClassReader, Item};
@@ -11,7 +13,7 @@ use std::alloc::{AllocError, Global};
 impl Reader {
     pub(super) fn take_code(&mut self, alloc: Global, coded: Coded) -> Result<bool, AllocError>
         ensures { IfOk result (λ taken. when taken (Some (parts_of self.new))
-            ≡ after_coding (parts_of self.old) coded) }
+            ≡ on_coding (parts_of self.old) (coded_of coded)) }
     {
         match coded {
             Coded::Fails => return Ok(false),
@@ -27,7 +29,7 @@ impl Reader {
         coded: Coded,
     ) -> Result<bool, AllocError>
         ensures { IfOk result (λ taken. when taken (Some (parts_of self.new))
-            ≡ after_class_coding (parts_of self.old) (class_of class) coded) }
+            ≡ on_class_coding (parts_of self.old) (class_of class) (coded_of coded)) }
     {
         match coded {
             Coded::Fails => Ok(false),

@@ -3,7 +3,8 @@
 ghost use Rattle.std.specs.Prelude.{◌≡◌, Some, IfOk};
 ghost use Rattle.strkw_ecma.specs.Numbers.{count_token as spec_count_token};
 ghost use Rattle.strkw_ecma.specs.machine.Shape.{quantifier_of};
-ghost use Rattle.strkw_ecma.specs.machine.Parts.{parts_of, last_of, after_count, after_low, after_high, when};
+ghost use Rattle.strkw_ecma.specs.machine.Reading.{when, with_count, on_low, on_high};
+ghost use Rattle.strkw_ecma.specs.machine.Parts.{parts_of, last_of};
 
 use super::{Last, Mode, Reader};
 use crate::counts::{Count, with_digit};
@@ -15,7 +16,7 @@ impl Reader {
     // A quantifier with counts, where its copies take no more steps than may be.
     fn with_count(&mut self, alloc: Global, quantifier: Quantifier) -> Result<bool, AllocError>
         ensures { IfOk result (λ taken. when taken (Some (parts_of self.new))
-            ≡ after_count (parts_of self.old) (last_of self.old.last) (quantifier_of quantifier)) }
+            ≡ with_count (parts_of self.old) (last_of self.old.last) (quantifier_of quantifier)) }
     {
         match &self.last {
             Last::Atom(atom) => {
@@ -36,7 +37,7 @@ impl Reader {
         c: char,
     ) -> Result<bool, AllocError>
         ensures { IfOk result (λ taken. when taken (Some (parts_of self.new))
-            ≡ after_low (parts_of self.old) first c (spec_count_token c)) }
+            ≡ on_low (parts_of self.old) first c (spec_count_token c)) }
     {
         match (CountToken::of(c), first) {
             (CountToken::Digit, _) => match with_digit(first, c) {
@@ -67,7 +68,7 @@ impl Reader {
         c: char,
     ) -> Result<bool, AllocError>
         ensures { IfOk result (λ taken. when taken (Some (parts_of self.new))
-            ≡ after_high (parts_of self.old) first second c (spec_count_token c)) }
+            ≡ on_high (parts_of self.old) first second c (spec_count_token c)) }
     {
         match CountToken::of(c) {
             CountToken::Digit => match with_digit(second, c) {

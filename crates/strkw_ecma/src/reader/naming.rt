@@ -3,8 +3,9 @@
 ghost use Rattle.std.specs.Prelude.{◌≡◌, ◌==◌, Some, IfOk};
 ghost use Rattle.std.specs.Str.{byte};
 ghost use Rattle.strkw_ecma.specs.Names.{name_token as spec_name_token};
-ghost use Rattle.strkw_ecma.specs.machine.Parts.{parts_of, when, after_name, after_look, after_name_char};
-ghost use Rattle.strkw_ecma.specs.machine.Parts.{after_naming, after_name_escape, after_name_coding};
+ghost use Rattle.strkw_ecma.specs.machine.CodeParts.{coded_of};
+ghost use Rattle.strkw_ecma.specs.machine.Reading.{when, on_name_char, on_name_end, on_look, on_naming, on_name_escape, on_name_coding};
+ghost use Rattle.strkw_ecma.specs.machine.Parts.{parts_of};
 
 use super::{Enclosing, Mode, Reader};
 use crate::codes::{Coded, Coding};
@@ -15,7 +16,7 @@ use std::alloc::{AllocError, Global};
 impl Reader {
     fn add_name_char(&mut self, name: Vec<char>, c: char) -> Result<bool, AllocError>
         ensures { IfOk result (λ taken. when taken (Some (parts_of self.new))
-            ≡ after_name_char (parts_of self.old) name.items c) }
+            ≡ on_name_char (parts_of self.old) name.items c) }
     {
         if !may_follow(&name, c) {
             return Ok(false);
@@ -29,7 +30,7 @@ impl Reader {
     // Behind the `>` of the name.
     fn take_name(&mut self, alloc: Global, name: Vec<char>) -> Result<bool, AllocError>
         ensures { IfOk result (λ taken. when taken (Some (parts_of self.new))
-            ≡ after_name (parts_of self.old) name.items) }
+            ≡ on_name_end (parts_of self.old) name.items name.items) }
     {
         if name.is_empty() {
             return Ok(false);
@@ -41,7 +42,7 @@ impl Reader {
     // Behind the `=` or `!` of a lookbehind, which no name may stand before.
     fn take_look(&mut self, alloc: Global, name: &[char], negated: bool) -> Result<bool, AllocError>
         ensures { IfOk result (λ taken. when taken (Some (parts_of self.new))
-            ≡ after_look (parts_of self.old) name.now negated) }
+            ≡ on_look (parts_of self.old) name.now negated) }
     {
         if name.is_empty() {
             self.open(alloc, Enclosing::Behind(negated))
@@ -57,7 +58,7 @@ impl Reader {
         c: char,
     ) -> Result<bool, AllocError>
         ensures { IfOk result (λ taken. when taken (Some (parts_of self.new))
-            ≡ after_naming (parts_of self.old) name.items c (spec_name_token c)) }
+            ≡ on_naming (parts_of self.old) name.items c (spec_name_token c)) }
     {
         match NameToken::of(c) {
             NameToken::End => self.take_name(alloc, name),
@@ -73,7 +74,7 @@ impl Reader {
 
     pub(super) fn name_escaped(&mut self, name: Vec<char>, c: char) -> Result<bool, AllocError>
         ensures { IfOk result (λ taken. when taken (Some (parts_of self.new))
-            ≡ after_name_escape (parts_of self.old) name.items (c == byte "u")) }
+            ≡ on_name_escape (parts_of self.old) name.items (c == byte "u")) }
     {
         if c == 'u' {
             self.set_mode(Mode::NameCoding(name, Coding::UnitOpened));
@@ -85,7 +86,7 @@ impl Reader {
 
     pub(super) fn name_coded(&mut self, name: Vec<char>, coded: Coded) -> Result<bool, AllocError>
         ensures { IfOk result (λ taken. when taken (Some (parts_of self.new))
-            ≡ after_name_coding (parts_of self.old) name.items coded) }
+            ≡ on_name_coding (parts_of self.old) name.items (coded_of coded)) }
     {
         match coded {
             Coded::Fails => Ok(false),

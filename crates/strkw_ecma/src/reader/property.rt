@@ -2,7 +2,8 @@
 
 ghost use Rattle.std.specs.Prelude.{◌≡◌, Some, IfOk};
 ghost use Rattle.strkw_ecma.specs.machine.PropertyReading.{property_next};
-ghost use Rattle.strkw_ecma.specs.machine.Parts.{parts_of, class_of, part_of, after_property, after_class_property, when};
+ghost use Rattle.strkw_ecma.specs.machine.Reading.{when, on_property, on_class_property};
+ghost use Rattle.strkw_ecma.specs.machine.Parts.{parts_of, class_of, part_of};
 
 use super::{Mode, Reader};
 use crate::classes::{ClassReader, Item};
@@ -18,7 +19,7 @@ impl Reader {
         c: char,
     ) -> Result<bool, AllocError>
         ensures { IfOk result (λ taken. when taken (Some (parts_of self.new))
-            ≡ after_property (parts_of self.old) (property_next (part_of part) c)) }
+            ≡ on_property (parts_of self.old) (property_next (part_of part) c)) }
     {
         match part.next(alloc, c)? {
             PropertyRead::Fails => Ok(false),
@@ -44,7 +45,7 @@ impl Reader {
         c: char,
     ) -> Result<bool, AllocError>
         ensures { IfOk result (λ taken. when taken (Some (parts_of self.new))
-            ≡ after_class_property (parts_of self.old) (class_of class)
+            ≡ on_class_property (parts_of self.old) (class_of class)
             (property_next (part_of part) c)) }
     {
         match part.next(alloc, c)? {

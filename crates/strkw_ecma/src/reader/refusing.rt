@@ -6,7 +6,9 @@ ghost use Rattle.strkw_ecma.specs.Syntax.{max_length};
 ghost use Rattle.strkw_ecma.specs.Numbers.{count_token as spec_count_token};
 ghost use Rattle.strkw_ecma.specs.Names.{extension as spec_extension, name_token as spec_name_token};
 ghost use Rattle.strkw_ecma.specs.machine.Outcomes.{takes_pattern};
-ghost use Rattle.strkw_ecma.specs.machine.Parts.{parts_of, no_parts, last_of, part_of, expression_of};
+ghost use Rattle.strkw_ecma.specs.machine.Parts.{parts_of, last_of, count_of, part_of, expression_of};
+ghost use Rattle.strkw_ecma.specs.machine.Makers.{patterns};
+ghost use Rattle.strkw_ecma.specs.machine.Reading.{initial};
 ghost use Rattle.strkw_ecma.specs.Refusals.{IsReason, is_unknown as spec_is_unknown};
 ghost use Rattle.strkw_ecma.specs.machine.RefusalParts.{escape_refusal, depth_refusal, extension_refusal, name_refusal, term_refusal, count_refusal, part_refusal, refusal_at};
 
@@ -93,7 +95,7 @@ impl Reader {
 
     fn count_refusal(&self, count: Count, c: char) -> PatternRefusal
         ensures { result
-            ≡ count_refusal (last_of self.now.last) count (spec_count_token c) }
+            ≡ count_refusal (last_of self.now.last) (count_of count) (spec_count_token c) }
     {
         match (CountToken::of(c), count) {
             (CountToken::Digit, _) => PatternRefusal::CountTooGreat,
@@ -124,7 +126,7 @@ impl Reader {
 
     // Why a pattern that this reader, a new one, reads is not taken.
     fn refusal_of(&mut self, alloc: Global, source: &str) -> Result<PatternRefusal, AllocError>
-        requires new { parts_of self.old ≡ no_parts }
+        requires new { parts_of self.old ≡ initial patterns }
         requires short { length (chars source.now) ≤ max_length }
         requires refused { takes_pattern (chars source.now) ≡ false }
         ensures { IfOk result (IsReason (chars source.now)) }

@@ -4,9 +4,10 @@ ghost use Rattle.std.specs.Prelude.{◌≡◌, true, Some, IfOk};
 ghost use Rattle.strkw_ecma.specs.Tree.{empty};
 ghost use Rattle.strkw_ecma.specs.Patterns.{one_char as spec_one_char};
 ghost use Rattle.strkw_ecma.specs.machine.Shape.{is_plain, outlined, quantifier_of};
-ghost use Rattle.strkw_ecma.specs.machine.Parts.{parts_of, side_of, outer_of, last_of, none, atom, when};
-ghost use Rattle.strkw_ecma.specs.machine.Parts.{level_ended, level_so_far, opened_within, after_closing, after_enclosed};
-ghost use Rattle.strkw_ecma.specs.machine.Parts.{after_atom, after_term, after_bar, after_quantifier, after_question};
+ghost use Rattle.strkw_ecma.specs.machine.Makers.{enclosed_pattern};
+ghost use Rattle.strkw_ecma.specs.machine.Reading.{when, none, atom, whole_level, level_so_far, opened_within, closed, with_part};
+ghost use Rattle.strkw_ecma.specs.machine.Reading.{with_atom, with_term, with_bar, with_quantifier, with_question};
+ghost use Rattle.strkw_ecma.specs.machine.Parts.{parts_of, level_of, outer_of, last_of};
 
 use super::{Enclosing, Last, Level, MAX_NESTING, Mode, Open, Reader};
 use crate::outline::{Outline, Quantifier};
@@ -17,8 +18,8 @@ use std::mem;
 impl Level {
     // One more term.
     fn add(&mut self, alloc: Global, term: Outline) -> Result<(), AllocError>
-        ensures { IfOk result (λ _. side_of self.new
-            ≡ level_so_far (side_of self.old) (atom (outlined term))) }
+        ensures { IfOk result (λ _. level_of self.new
+            ≡ level_so_far (level_of self.old) (atom (outlined term))) }
     {
         let before = mem::replace(&mut self.current, Outline::Empty);
         self.current = before.then(alloc, term)?;
@@ -27,8 +28,8 @@ impl Level {
 
     // The last term, where there is one: no more may follow it.
     fn add_last(&mut self, alloc: Global, last: Last) -> Result<(), AllocError>
-        ensures { IfOk result (λ _. side_of self.new
-            ≡ level_so_far (side_of self.old) (last_of last)) }
+        ensures { IfOk result (λ _. level_of self.new
+            ≡ level_so_far (level_of self.old) (last_of last)) }
     {
         match last {
             Last::None => Ok(()),
@@ -40,7 +41,7 @@ impl Level {
     // All its alternatives, where this is the last term. They are taken out of it.
     pub(super) fn take(&mut self, alloc: Global, last: Last) -> Result<Outline, AllocError>
         ensures whole { IfOk result (λ t. outlined t
-            ≡ level_ended (side_of self.old) (last_of last)) }
+            ≡ whole_level (level_of self.old) (last_of last)) }
         ensures emptied { IfOk result (λ _. outlined self.new.current ≡ empty) }
         ensures plain { IfOk result (λ t. is_plain t ≡ true) }
     {
@@ -56,7 +57,7 @@ impl Level {
 impl Reader {
     pub(super) fn add_atom(&mut self, alloc: Global, atom: Outline) -> Result<(), AllocError>
         ensures { IfOk result (λ _. parts_of self.new
-            ≡ after_atom (parts_of self.old) (outlined atom)) }
+            ≡ with_atom (parts_of self.old) (outlined atom)) }
     {
         let last = mem::replace(&mut self.last, Last::Atom(atom));
         self.level.add_last(alloc, last)?;
@@ -66,7 +67,7 @@ impl Reader {
 
     pub(super) fn add_char(&mut self, alloc: Global, c: char) -> Result<(), AllocError>
         ensures { IfOk result (λ _. parts_of self.new
-            ≡ after_atom (parts_of self.old) (spec_one_char c)) }
+            ≡ with_atom (parts_of self.old) (spec_one_char c)) }
     {
         self.add_atom(alloc, one_char(alloc, c)?)
     }
@@ -74,7 +75,7 @@ impl Reader {
     // A term that no quantifier may follow.
     pub(super) fn add_term(&mut self, alloc: Global, term: Outline) -> Result<(), AllocError>
         ensures { IfOk result (λ _. parts_of self.new
-            ≡ after_term (parts_of self.old) (outlined term)) }
+            ≡ with_term (parts_of self.old) (outlined term)) }
     {
         let last = mem::replace(&mut self.last, Last::None);
         self.level.add_last(alloc, last)?;
@@ -84,7 +85,7 @@ impl Reader {
     }
 
     pub(super) fn add_alternative(&mut self, alloc: Global) -> Result<(), AllocError>
-        ensures { IfOk result (λ _. parts_of self.new ≡ after_bar (parts_of self.old)) }
+        ensures { IfOk result (λ _. parts_of self.new ≡ with_bar (parts_of self.old)) }
     {
         let last = mem::replace(&mut self.last, Last::None);
         let earlier = self.level.take(alloc, last)?;
@@ -100,7 +101,7 @@ impl Reader {
         quantifier: Quantifier,
     ) -> Result<bool, AllocError>
         ensures { IfOk result (λ taken. when taken (Some (parts_of self.new))
-            ≡ after_quantifier (parts_of self.old) (last_of self.old.last)
+            ≡ with_quantifier (parts_of self.old) (last_of self.old.last)
             (quantifier_of quantifier)) }
     {
         let Last::Atom(atom) = mem::replace(&mut self.last, Last::None) else {
@@ -114,7 +115,7 @@ impl Reader {
     // Behind a quantifier it makes that one lazy, which changes no answer.
     pub(super) fn take_question(&mut self, alloc: Global) -> Result<bool, AllocError>
         ensures { IfOk result (λ taken. when taken (Some (parts_of self.new))
-            ≡ after_question (parts_of self.old) (last_of self.old.last)) }
+            ≡ with_question (parts_of self.old) (last_of self.old.last)) }
     {
         match mem::replace(&mut self.last, Last::None) {
             Last::None => return Ok(false),
@@ -155,8 +156,8 @@ impl Reader {
     ) -> Result<(), AllocError>
         requires { last_of self.old.last ≡ none }
         ensures { IfOk result (λ _. parts_of self.new
-            ≡ after_enclosed (outer_of self.old.outer) (side_of self.old.level) enclosing
-            (outlined body)) }
+            ≡ with_part (outer_of self.old.outer) (level_of self.old.level)
+            (enclosed_pattern enclosing (outlined body))) }
     {
         match enclosing {
             Enclosing::Group => self.add_atom(alloc, body),
@@ -167,8 +168,7 @@ impl Reader {
 
     pub(super) fn close(&mut self, alloc: Global) -> Result<bool, AllocError>
         ensures { IfOk result (λ taken. when taken (Some (parts_of self.new))
-            ≡ after_closing (parts_of self.old).outer (level_ended (side_of self.old.level)
-            (last_of self.old.last))) }
+            ≡ closed (parts_of self.old)) }
     {
         let last = mem::replace(&mut self.last, Last::None);
         let body = self.level.take(alloc, last)?;

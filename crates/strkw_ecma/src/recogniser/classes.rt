@@ -1,7 +1,7 @@
 //! What stands in a class of characters, item by item: whether its ranges are in order.
 
 ghost use Rattle.std.specs.Prelude.{◌≡◌};
-ghost use Rattle.strkw_ecma.specs.machine.CodeParts.{pair_value as spec_pair_value};
+ghost use Rattle.strkw_ecma.specs.machine.Makers.{pair_value as spec_pair_value};
 ghost use Rattle.strkw_ecma.specs.machine.Recognising.{item_value, is_range as spec_is_range, took, took_dash, may_close as spec_may_close};
 ghost use Rattle.strkw_ecma.specs.machine.Recognising.{took_behind, took_dashed, took_ranged, number_item};
 

@@ -3,7 +3,7 @@
 ghost use Rattle.std.specs.Prelude.{◌≡◌, ◌==◌, Some, IfOk};
 ghost use Rattle.std.specs.Str.{byte};
 ghost use Rattle.strkw_ecma.specs.Names.{name_token as spec_name_token};
-ghost use Rattle.strkw_ecma.specs.machine.CodeParts.{coding_next};
+ghost use Rattle.strkw_ecma.specs.machine.CodeParts.{coded_of};
 ghost use Rattle.strkw_ecma.specs.machine.Recognising.{standing_of, state_of, state_if, with_name_char, name_read, look_read, on_naming, on_name_escape, on_name_coding};
 
 use super::{Mode, Recogniser};
@@ -114,7 +114,7 @@ impl Recogniser {
         coded: Coded,
     ) -> Result<bool, AllocError>
         ensures { IfOk result (λ taken. state_if taken (Some (state_of self.new))
-            ≡ on_name_coding (standing_of self.old.standing) naming name.items coded) }
+            ≡ on_name_coding (standing_of self.old.standing) naming name.items (coded_of coded)) }
     {
         match coded {
             Coded::Fails => Ok(false),

@@ -2,7 +2,8 @@
 //! letter.
 
 ghost use Rattle.std.specs.Prelude.{◌≡◌};
-ghost use Rattle.strkw_ecma.specs.machine.CodeParts.{with_hex_digit as spec_with_hex_digit, value_or_zero};
+ghost use Rattle.strkw_ecma.specs.machine.Makers.{hex_with};
+ghost use Rattle.strkw_ecma.specs.machine.CodeReading.{value_or};
 ghost use Rattle.strkw_ecma.specs.machine.Recognising.{digit_read as spec_digit_read, digit_or_none, point_digit, number_next};
 
 use crate::codes::{Wanted, with_hex_digit};
@@ -45,7 +46,7 @@ impl Form {
     }
 
     fn on_digit(self, wanted: Wanted, number: u32, c: char) -> NumberRead
-        ensures { result ≡ digit_or_none self wanted (spec_with_hex_digit number c) }
+        ensures { result ≡ digit_or_none self wanted (hex_with number c) }
     {
         match with_hex_digit(number, c) {
             Some(longer) => self.digit_read(wanted, longer),
@@ -55,7 +56,7 @@ impl Form {
 }
 
 fn on_point_digit(number: Option<u32>, c: char) -> NumberRead
-    ensures { result ≡ point_digit (spec_with_hex_digit (value_or_zero number) c) }
+    ensures { result ≡ point_digit (hex_with (value_or 0 number) c) }
 {
     match with_hex_digit(number.unwrap_or(0), c) {
         Some(longer) => NumberRead::Goes(NumberPart::PointOpened(Some(longer))),

@@ -2,13 +2,14 @@ use Rattle.std.proofs.Common.{sym, subst, Some, None, option_map}
 use Rattle.std.specs.Str.{chars}
 use Rattle.strkw_ecma.specs.Patterns.{pattern}
 use Rattle.strkw_ecma.specs.machine.Passes.{ComesTo}
+use Rattle.strkw_ecma.specs.machine.Makers.{trees}
 use Rattle.strkw_ecma.specs.machine.Reading.{read_pattern}
 use Rattle.strkw_ecma.proofs.Taken.{read_clean, read_faced, read_small, read_outcome, comes_some}
 use Rattle.strkw_ecma.proofs.engine.EcmaPatternsEngineBuilder.build.Goals as goal
 
 pub of-requires : goal.of-requires
 of-requires c =
-    let tree = read_pattern (chars c.args.pattern.now) in
+    let tree = read_pattern trees (chars c.args.pattern.now) in
     let read : ComesTo (Some c.in-Ok-Some.passes) (option_map pattern tree) =
     subst (λ o. ComesTo o (option_map pattern tree)) c.in-Ok-Some.field-0-is c.in-Ok-Some.ensures in
     record {
@@ -19,21 +20,21 @@ of-requires c =
 
 pub returns-in-Ok-clause-built : goal.returns-in-Ok-clause-built
 returns-in-Ok-clause-built c =
-    let tree = read_pattern (chars c.args.pattern.now) in
+    let tree = read_pattern trees (chars c.args.pattern.now) in
     let read : ComesTo (Some c.in-Ok-Some.passes) (option_map pattern tree) =
     subst (λ o. ComesTo o (option_map pattern tree)) c.in-Ok-Some.field-0-is c.in-Ok-Some.ensures in
     read_outcome c.in-Ok-Some.passes c.in-Ok.engine c.in-Ok.ensures tree read
 
 pub returns-in-Ok-clause-taken : goal.returns-in-Ok-clause-taken
 returns-in-Ok-clause-taken c =
-    let tree = read_pattern (chars c.args.pattern.now) in
+    let tree = read_pattern trees (chars c.args.pattern.now) in
     let read : ComesTo (Some c.in-Ok-Some.passes) (option_map pattern tree) =
     subst (λ o. ComesTo o (option_map pattern tree)) c.in-Ok-Some.field-0-is c.in-Ok-Some.ensures in
     sym (comes_some (Some c.in-Ok-Some.passes) tree read)
 
 pub returns-in-Ok-None-clause-refused : goal.returns-in-Ok-None-clause-refused
 returns-in-Ok-None-clause-refused c =
-    let tree = read_pattern (chars c.args.pattern.now) in
+    let tree = read_pattern trees (chars c.args.pattern.now) in
     let read : ComesTo None (option_map pattern tree) =
     subst (λ o. ComesTo o (option_map pattern tree)) c.in-Ok-None.field-0-is c.in-Ok-None.ensures in
     λ _. sym (comes_some None tree read)

@@ -1,5 +1,6 @@
 use Rattle.std.proofs.Common.{Some, ap, sym, ◌∙◌}
-use Rattle.strkw_ecma.specs.machine.Parts.{parts_of, side_of, last_of, level_ended}
+use Rattle.strkw_ecma.specs.machine.Reading.{whole_level}
+use Rattle.strkw_ecma.specs.machine.Parts.{parts_of, level_of, last_of}
 use Rattle.strkw_ecma.proofs.Parts.{none_closes, closes_with}
 use Rattle.strkw_ecma.proofs.reader.Reader.end.Goals as goal
 
@@ -10,7 +11,7 @@ pub returns : goal.returns
 returns c =
     let s = parts_of c.args.self.now in
     record {
-      tree = ap Some (c.in_ok-take.ensures.whole ∙ ap (λ l. level_ended (side_of c.args.self.now.level) (last_of l)) c.replace-last.ensures.value)
+      tree = ap Some (c.in_ok-take.ensures.whole ∙ ap (λ l. whole_level (level_of c.args.self.now.level) (last_of l)) c.replace-last.ensures.value)
           ∙ closes_with s.outer.groups s.level s.last _ (sym c.may_end.ensures ∙ c.if-not-may_end.false);
       plain = c.in_ok-take.ensures.plain;
     }

@@ -3,7 +3,8 @@ use Rattle.std.specs.Str.{chars}
 use Rattle.std.proofs.lemmas.Iterator.{YieldsList-from_chars}
 use Rattle.std.proofs.lemmas.List.{length_push}
 use Rattle.std.proofs.lemmas.Iterator.Consumers.{YieldsList-turn, YieldsList-end}
-use Rattle.strkw_ecma.specs.machine.Parts.{parts_of, after_char, when}
+use Rattle.strkw_ecma.specs.machine.Reading.{next as spec_next, when}
+use Rattle.strkw_ecma.specs.machine.Parts.{parts_of}
 use Rattle.strkw_ecma.proofs.Parts.{goes_on, stops, too_long, whole}
 use Rattle.strkw_ecma.proofs.reader.Reader.read.Goals as goal
 
@@ -29,7 +30,7 @@ loop-c-preserved c =
     c.next.ensures.steps in
     let next = length_push c.loop-c.yielded c.in-Some.c in
     let text = chars c.args.source.now in
-    let step : Some (parts_of c.next-in-loop-c.new.self) ≡ after_char (parts_of c.loop-c.self) c.in-Some.c =
+    let step : Some (parts_of c.next-in-loop-c.new.self) ≡ spec_next (parts_of c.loop-c.self) c.in-Some.c =
     ap (λ taken. when taken (Some (parts_of c.next-in-loop-c.new.self))) (sym c.if-not-branch.false) ∙ c.in_ok-next.ensures in
     record {
       counted = omega (arith, next, c.loop-c.invariant.counted);

@@ -4,7 +4,8 @@ use Rattle.std.proofs.lemmas.Iterator.{YieldsList-from_chars}
 use Rattle.std.proofs.lemmas.List.{length_push}
 use Rattle.std.proofs.lemmas.Iterator.Consumers.{YieldsList-turn, YieldsList-end}
 use Rattle.strkw_ecma.specs.machine.Shape.{outlined}
-use Rattle.strkw_ecma.specs.machine.Parts.{parts_of, after_char, pattern_from, when}
+use Rattle.strkw_ecma.specs.machine.Reading.{next as spec_next, read_from, when}
+use Rattle.strkw_ecma.specs.machine.Parts.{parts_of}
 use Rattle.strkw_ecma.specs.Refusals.{IsReason}
 use Rattle.strkw_ecma.proofs.Parts.{goes_on, whole}
 use Rattle.strkw_ecma.proofs.Refused.{Stands, starts, stops_so, goes_so, too_large}
@@ -26,7 +27,7 @@ loop-c-preserved c =
     c.in-Some.c c.in-Some.is c.next.ensures.steps in
     let next = length_push c.loop-c.yielded c.in-Some.c in
     let text = chars c.args.source.now in
-    let step : Some (parts_of c.next-in-loop-c.new.self) ≡ after_char (parts_of c.loop-c.self) c.in-Some.c =
+    let step : Some (parts_of c.next-in-loop-c.new.self) ≡ spec_next (parts_of c.loop-c.self) c.in-Some.c =
     ap (λ taken. when taken (Some (parts_of c.next-in-loop-c.new.self))) (sym c.if-not-branch.false) ∙ c.in_ok-next.ensures in
     record {
       way = goes_on (parts_of c.loop-c.self) text (length c.loop-c.yielded) c.in-Some.c turn.0 turn.1 c.loop-c.invariant.way _ step _ next;
@@ -36,7 +37,7 @@ loop-c-preserved c =
 
 pub loop-c-init : goal.loop-c-init
 loop-c-init c = record {
-  way = ap (λ r. pattern_from r (chars c.args.source.now)) c.requires.new;
+  way = ap (λ r. read_from r (chars c.args.source.now)) c.requires.new;
   stands = subst (Stands (chars c.args.source.now) 0) (sym c.requires.new) (starts (chars c.args.source.now));
 }
 
